@@ -1,0 +1,101 @@
+-- Values worked out by hand, computed from the definitions.
+use Rattle.std.proofs.Common.{◌≡◌, true, false, refl, pos, negsuc}
+use Rattle.std.specs.Prelude.{None, Some}
+use Rattle.f8_spec.specs.Words.{decimal_value, wrapped, displaced, with_high, with_low}
+use Rattle.f8_spec.specs.Flags.{clear_status, status_byte, after_sum}
+use Rattle.f8_spec.specs.Instructions.{decoded, clocks_of}
+use Rattle.f8_spec.specs.ShiftTimer.{shifted_timer}
+use Rattle.f8_spec.specs.declared.instructions.Op.TheVariants.{Lis, Bf, Ds, Ins, Pi}
+
+-- a branch at 0001 by -3 leads below 0, and wraps
+branch_below_zero : displaced 0x0001 0xFD ≡ 0xFFFE
+branch_below_zero = refl
+
+-- a branch at 0003 by -2 leads to 0001
+branch_to_self : displaced 0x0003 0xFE ≡ 0x0001
+branch_to_self = refl
+
+past_the_end : wrapped 0xFFFF (pos 1) ≡ 0x0000
+past_the_end = refl
+
+below_zero : wrapped 0x0000 (negsuc 0) ≡ 0xFFFF
+below_zero = refl
+
+high_half : with_high 0x1234 0xAB ≡ 0xAB34
+high_half = refl
+
+low_half : with_low 0x1234 0xAB ≡ 0x12AB
+low_half = refl
+
+-- 0 less 1 is FF, and no flag is set
+decrement_of_zero : status_byte (after_sum clear_status 0x00 0xFF false) ≡ 0x00
+decrement_of_zero = refl
+
+-- 0 compared with 0: sign, carry and zero
+compare_of_zero : status_byte (after_sum clear_status 0x00 0xFF true) ≡ 0x07
+compare_of_zero = refl
+
+-- decimal sums, with 66 added to the first number beforehand
+decimal_67 : decimal_value 0x01 0x67 ≡ 0x02
+decimal_67 = refl
+
+decimal_6A : decimal_value 0x05 0x6A ≡ 0x09
+decimal_6A = refl
+
+decimal_flags : status_byte (after_sum clear_status 0x01 0x67 false) ≡ 0x01
+decimal_flags = refl
+
+-- the timer's states from FE on, and the one before it
+timer_FE : shifted_timer 0xFE ≡ 0xFD
+timer_FE = refl
+
+timer_FD : shifted_timer 0xFD ≡ 0xFB
+timer_FD = refl
+
+timer_FB : shifted_timer 0xFB ≡ 0xF7
+timer_FB = refl
+
+timer_F7 : shifted_timer 0xF7 ≡ 0xEE
+timer_F7 = refl
+
+timer_EE : shifted_timer 0xEE ≡ 0xDC
+timer_EE = refl
+
+timer_DC : shifted_timer 0xDC ≡ 0xB8
+timer_DC = refl
+
+timer_7F : shifted_timer 0x7F ≡ 0xFE
+timer_7F = refl
+
+timer_FF : shifted_timer 0xFF ≡ 0xFF
+timer_FF = refl
+
+-- the first and the last code of each range of opcodes that is cut
+decode_ranges : decoded 0x7F ≡ Some (Lis 15)
+unfolding decoded
+decode_ranges = refl
+
+decode_branch : decoded 0x90 ≡ Some (Bf 0)
+unfolding decoded
+decode_branch = refl
+
+decode_reserved : decoded 0x3F ≡ None
+unfolding decoded
+decode_reserved = refl
+
+decode_ins : decoded 0xA4 ≡ Some (Ins 4)
+unfolding decoded
+decode_ins = refl
+
+decode_ins_reserved : decoded 0xA2 ≡ None
+unfolding decoded
+decode_ins_reserved = refl
+
+decrement_clocks : clocks_of (Ds 0) false ≡ 6
+decrement_clocks = refl
+
+branch_clocks : clocks_of (Bf 0) true ≡ 14
+branch_clocks = refl
+
+call_clocks : clocks_of Pi false ≡ 26
+call_clocks = refl
