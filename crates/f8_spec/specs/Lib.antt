@@ -5,3 +5,5 @@ pub mod BusCodes
 pub mod MicroSteps
 pub mod ShiftTimer
 pub mod ChipState
+pub mod Built
+pub mod Spelling

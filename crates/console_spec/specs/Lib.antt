@@ -1,0 +1,5 @@
+pub mod AddressSpace
+pub mod Processor
+pub mod BusAccesses
+pub mod Run
+pub mod RunText
