@@ -1,7 +1,10 @@
 -- How a run goes on: what a turn of a loop over its instructions needs.
-use Rattle.std.proofs.Common.{◌≡◌, ℕ, suc, ◌+◌, ◌-◌, ◌<◌, ◌≤◌, List, ap, ◌∙◌, arith}
-use Rattle.console_spec.specs.Processor.{State}
-use Rattle.console_spec.specs.Run.{Stop, Done, Goes, Stops, run, next, goes_on}
+use Rattle.std.proofs.Common.{◌≡◌, ℕ, Bool, true, suc, ◌+◌, ◌-◌, ◌<◌, ◌≤◌, List, ap, ◌∙◌, arith}
+use Rattle.std.specs.Prelude.{if◌then◌else◌, Some, None}
+use Rattle.console_spec.specs.AddressSpace.{is_held}
+use Rattle.console_spec.specs.BusAccesses.{access}
+use Rattle.console_spec.specs.Processor.{State, at_power, after_reset}
+use Rattle.console_spec.specs.Run.{Stop, Done, Goes, Stops, run, played, next, goes_on, served_or_stop}
 
 -- of n instructions the i-th is left
 left_over : (n i : ℕ) → i < n → n - i ≡ suc (n - (i + 1))
@@ -25,3 +28,9 @@ unfolding run
 run-done rom n i s h =
     let none_left : n - i ≡ 0 = omega arith in
     ap (λ k. run rom k s) none_left
+
+-- where reset is served, the run begins after it
+pub played-served : (rom : List ℕ) (fill n : ℕ) → is_held rom 0 ≡ true → played rom fill n ≡ run rom n (after_reset (at_power fill))
+unfolding played
+played-served rom fill n held =
+    ap (λ (b : Bool). goes_on (λ s. run rom n s) (at_power fill) (served_or_stop (if b then None else Some (access 0x00 0)) (after_reset (at_power fill)))) held
