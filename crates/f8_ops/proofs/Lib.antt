@@ -1,0 +1,3 @@
+pub mod ValuesBelow
+pub mod OpcodeTable
+pub mod CodeTable

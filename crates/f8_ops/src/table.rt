@@ -1,0 +1,97 @@
+ghost use Rattle.std.specs.Prelude.{◌≡◌};
+ghost use Rattle.f8_spec.specs.Instructions.{row_of, row_clocks, length_of, clocks_of, is_shielding};
+
+use f8_spec::{Op, Row};
+
+/// The row of the instruction table that an instruction belongs to: by it go length, bus steps and clocks.
+pub fn row_of(op: Op) -> Row
+    ensures { result ≡ row_of op }
+{
+    match op {
+        Op::LrKP => Row::StackToK,
+        Op::LrPK => Row::StackFromK,
+        Op::Pk => Row::CallK,
+        Op::LrP0Q => Row::JumpQ,
+        Op::LrQDc | Op::LrHDc => Row::DataToPair,
+        Op::LrDcQ => Row::DataFromQ,
+        Op::LrDcH => Row::DataFromH,
+        Op::Lm | Op::Am | Op::Amd | Op::Nm | Op::Om | Op::Xm | Op::Cm => Row::ReadData,
+        Op::St => Row::StoreData,
+        Op::Pop => Row::Return,
+        Op::Li | Op::Ni | Op::Oi | Op::Xi | Op::Ai | Op::Ci => Row::Immediate,
+        Op::In => Row::PortIn,
+        Op::Out => Row::PortOut,
+        Op::Pi => Row::Call,
+        Op::Jmp => Row::Jump,
+        Op::Dci => Row::LoadData,
+        Op::Xdc => Row::Exchange,
+        Op::Adc => Row::AddData,
+        Op::Ds { .. } => Row::PlainLong,
+        Op::Bt { .. } | Op::Bf { .. } => Row::Branch,
+        Op::Br7 => Row::BranchIsar,
+        Op::Di | Op::Ei | Op::LrWJ | Op::Asd { .. } => Row::Idle,
+        Op::Ins { n } | Op::Outs { n } if n < 2 => Row::Idle,
+        Op::Ins { .. } => Row::ShortIn,
+        Op::Outs { .. } => Row::ShortOut,
+        _ => Row::Plain,
+    }
+}
+
+/// The bytes of an instruction, its opcode counted: 1 to 3 (Fairchild F8 User's Guide, instruction set).
+pub fn length(op: Op) -> u8
+    ensures { result ≡ length_of op }
+{
+    match row_of(op) {
+        Row::Immediate | Row::PortIn | Row::PortOut | Row::Branch | Row::BranchIsar => 2,
+        Row::Call | Row::Jump | Row::LoadData => 3,
+        _ => 1,
+    }
+}
+
+/// The clocks of an instruction, in Φ, the fetch of the next opcode counted: the sum over its bus steps, whose lists are this
+/// project's own, after the Fairchild F8 User's Guide. `taken` says that a branch is taken, and counts at `BT`, `BF` and `BR7`
+/// alone.
+pub fn phi(op: Op, taken: bool) -> u8
+    ensures { result ≡ clocks_of op taken }
+{
+    row_phi(row_of(op), taken)
+}
+
+fn row_phi(row: Row, taken: bool) -> u8
+    ensures { result ≡ row_clocks row taken }
+{
+    match row {
+        Row::Plain => 4,
+        Row::PlainLong => 6,
+        Row::Idle | Row::Return | Row::Exchange => 8,
+        Row::ReadData | Row::StoreData | Row::Immediate | Row::AddData => 10,
+        Row::BranchIsar => if taken { 10 } else { 8 },
+        Row::Branch => if taken { 14 } else { 12 },
+        Row::StackToK
+        | Row::StackFromK
+        | Row::CallK
+        | Row::JumpQ
+        | Row::DataToPair
+        | Row::DataFromQ
+        | Row::DataFromH
+        | Row::PortIn
+        | Row::PortOut
+        | Row::ShortIn
+        | Row::ShortOut => 16,
+        Row::Jump => 22,
+        Row::LoadData => 24,
+        Row::Call => 26,
+    }
+}
+
+/// No interrupt is taken at the end of the instruction: so at `PK`, `PI`, `POP`, `JMP`, `EI`, `LR W,J`, `OUT`, and `OUTS` of the
+/// ports from 4 on. The list is this project's own, after the Fairchild F8 User's Guide.
+pub fn shields(op: Op) -> bool
+    ensures { result ≡ is_shielding op }
+{
+    match op {
+        Op::Pk | Op::Pi | Op::Pop | Op::Jmp | Op::Ei | Op::LrWJ | Op::Out => true,
+        Op::Outs { n } => n >= 4,
+        _ => false,
+    }
+}
