@@ -1,0 +1,54 @@
+use super::{ChipKind, ChipSpec, Counters, FitFault, Offer, Romc};
+use std::alloc::Global;
+
+/// A storage chip on the bus (Mostek 3851 and 3853 data sheets). Each keeps a program counter, a stack register and data counters of
+/// its own, hears every bus step, and answers where its own copy lies in its own space. In a bus step every chip first offers, and
+/// then, if the step is served, every chip settles.
+///
+/// Contracts see a chip as its `state`: the view, the steps heard where it tells them, and its patch.
+pub trait Chip: Drop {
+    ghost use Rattle.std.specs.Prelude.{◌≡◌, ◌≢◌, ◌↔◌, OnOk, OnErr, IsErrOf};
+    ghost use Rattle.f8_spec.specs.ChipState.{ChipState, MayHear, PowersOn, Settles, held_byte, offered, told_counters};
+    ghost use Rattle.chip_face.specs.Fitting.{Fits, IsSpec, kind_of};
+    ghost use Rattle.chip_face.specs.Steps.{IsBuiltCode, IsStepLength};
+
+    ghost state: { Self → ChipState };
+
+    /// The kind of the chip, which stays.
+    fn kind(&self) -> ChipKind
+        ensures { result ≡ (state self.now).view.kind };
+
+    /// Makes the chip the specified one, before power-on. `WrongKind` comes exactly where the specification is for another kind of
+    /// chip, and after any fault the chip is as it was.
+    fn fit(&mut self, alloc: Global, spec: &ChipSpec) -> Result<(), FitFault>
+        requires { IsSpec spec.now }
+        ensures ok { OnOk result (Fits spec.now (state self.old) (state self.new)) }
+        ensures wrong_kind { IsErrOf result FitFault.WrongKind ↔ (kind_of spec.now ≢ (state self.old).view.kind) }
+        ensures err { OnErr result (state self.new ≡ state self.old) };
+
+    /// Power-on: every counter at `start`, every RAM byte `fill`.
+    fn power(&mut self, fill: u8, start: u16)
+        ensures { PowersOn fill start (state self.old) (state self.new) };
+
+    /// What the chip drives in a step with this code, and its own address at which it does, or `None`. `first` marks the chip whose
+    /// interrupt is acknowledged.
+    fn offer(&self, romc: Romc, first: bool) -> Option<Offer>
+        requires built { IsBuiltCode romc }
+        requires may_hear { MayHear romc first (state self.now).view }
+        ensures { result ≡ offered romc first (state self.now).view };
+
+    /// Hears a bus step: its code, its byte, and its length in Φ, which is 4 or 6. So far no timer moves.
+    fn settle(&mut self, romc: Romc, byte: u8, phi: u8, first: bool)
+        requires built { IsBuiltCode romc }
+        requires step_length { IsStepLength phi }
+        requires may_hear { MayHear romc first (state self.old).view }
+        ensures { Settles 0 (record { romc = romc; byte = byte; clocks = phi; first = first }) (state self.old) (state self.new) };
+
+    /// The chip's own counters. A 3851 has no second data counter.
+    fn counters(&self) -> Counters
+        ensures { result ≡ told_counters (state self.now).view };
+
+    /// The byte at an address that the chip holds, and `None` at another.
+    fn peek(&self, at: u16) -> Option<u8>
+        ensures { result ≡ held_byte (state self.now).view at };
+}

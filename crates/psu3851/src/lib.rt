@@ -1,0 +1,7 @@
+//! The 3851, program storage unit (Mostek 3851 data sheet): 1,024 bytes of ROM, a program counter, a stack register and one data
+//! counter.
+#![tactic(auto)]
+
+mod chip;
+
+pub use chip::Psu;
