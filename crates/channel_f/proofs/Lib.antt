@@ -1,0 +1,2 @@
+pub mod RomViews
+pub mod SinkLaws

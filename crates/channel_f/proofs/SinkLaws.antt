@@ -1,0 +1,71 @@
+-- What a sink gained piece by piece.
+use Rattle.std.proofs.Common.{◌≡◌, ℕ, ◌+◌, ◌<◌, ◌≤◌, List, [], ◌++◌, length, drop, get_or, Option, refl, sym, ap, ◌∙◌, append_assoc}
+use Rattle.std.proofs.lemmas.List.{append-nil, at_drop_more, at_drop_all}
+use Rattle.console_spec.specs.RunText.{text_of}
+use Rattle.channel_f.specs.SinkRules.{Adds, AddsPart}
+
+-- nothing was put
+pub adds_none : (told : Option (List ℕ)) → Adds told told []
+adds_none told = record { told = λ now e. (now, e, sym (append-nil now)) }
+
+-- one piece after another
+pub adds_then : (a b c : Option (List ℕ)) (x y : List ℕ) → Adds a b x → Adds b c y → Adds a c (x ++ y)
+adds_then a b c x y first second = record {
+  told = λ now e.
+      let s = second.told now e in
+      let f = first.told s.0 s.1 in
+      (f.0, f.1, s.2 ∙ ap (λ (bytes : List ℕ). bytes ++ y) f.2 ∙ append_assoc f.0 x y);
+}
+
+-- one piece, and then a first part of the next
+pub adds_part_then : (a b c : Option (List ℕ)) (x y z : List ℕ) → Adds a b x → AddsPart b c y → AddsPart a c (x ++ (y ++ z))
+adds_part_then a b c x y z first second = record {
+  told = λ now e.
+      let s = second.told now e in
+      let f = first.told s.0 s.3 in (
+        f.0,
+        x ++ s.1,
+        s.2 ++ z,
+        f.1,
+        ap (λ (bytes : List ℕ). x ++ (bytes ++ z)) s.4 ∙ ap (λ (bytes : List ℕ). x ++ bytes) (append_assoc s.1 s.2 z) ∙ sym (append_assoc x s.1 (s.2 ++ z)),
+        s.5 ∙ ap (λ (bytes : List ℕ). bytes ++ s.1) f.2 ∙ append_assoc f.0 x s.1,
+      );
+}
+
+-- What was put so far is a first part of all, and the rest is left.
+pub record Taken (old new : Option (List ℕ)) (all rest : List ℕ) : Type 0 where
+  pub first : List ℕ
+  pub whole : all ≡ first ++ rest
+  pub adds : Adds old new first
+
+pub taken_none : (told : Option (List ℕ)) (all : List ℕ) → Taken told told all all
+taken_none told all = record { first = []; whole = refl; adds = adds_none told }
+
+pub taken_more : (a b c : Option (List ℕ)) (all piece rest : List ℕ) → Taken a b all (piece ++ rest) → Adds b c piece → Taken a c all rest
+taken_more a b c all piece rest taken adds = record {
+  first = taken.first ++ piece;
+  whole = taken.whole ∙ sym (append_assoc taken.first piece rest);
+  adds = adds_then a b c taken.first piece taken.adds adds;
+}
+
+pub taken_all : (a b : Option (List ℕ)) (all : List ℕ) → Taken a b all [] → Adds a b all
+taken_all a b all taken = record {
+  told = λ now e.
+      let f = taken.adds.told now e in
+      (f.0, f.1, f.2 ∙ ap (λ (bytes : List ℕ). f.0 ++ bytes) (sym (append-nil taken.first) ∙ sym taken.whole));
+}
+
+pub taken_part : (a b c : Option (List ℕ)) (all piece rest : List ℕ) → Taken a b all (piece ++ rest) → AddsPart b c piece → AddsPart a c all
+taken_part a b c all piece rest taken part =
+    rw taken.whole (adds_part_then a b c taken.first piece rest taken.adds part)
+
+-- the text of the lines from a place on begins with the line there
+pub text_of-drop : (lines : List (List ℕ)) (i : ℕ) (line : List ℕ) → i < length lines → line ≡ get_or lines i line →
+    text_of (drop i lines) ≡ line ++ text_of (drop (i + 1) lines)
+unfolding text_of
+text_of-drop lines i line within here =
+    at_drop_more text_of lines i line within ∙ ap (λ (first : List ℕ). first ++ text_of (drop (i + 1) lines)) (sym here)
+
+pub text_of-drop_all : (lines : List (List ℕ)) (i : ℕ) → length lines ≤ i → text_of (drop i lines) ≡ []
+unfolding text_of
+text_of-drop_all lines i past = at_drop_all text_of lines i past

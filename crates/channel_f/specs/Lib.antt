@@ -1,0 +1,7 @@
+pub mod SinkRules
+pub mod MemorySinks
+pub mod CommandLine
+pub mod Games
+pub mod Statuses
+pub mod Cores
+pub mod Answers

@@ -1,0 +1,123 @@
+ghost use Rattle.std.specs.Prelude.{◌≡◌, ◌<◌};
+ghost use Rattle.console_spec.specs.RunText.{verdict_line as spelled_verdict, stop_line as spelled_stop, regs_line as spelled_regs, scratch_line as spelled_scratch, total_line as spelled_total};
+ghost use Rattle.console_spec.specs.Run.{Done, Undriven, Unbuilt};
+ghost use Rattle.channel_f.specs.Answers.{words_line as spelled_words};
+
+use super::line::Line;
+use console_spec::Regs;
+
+/// `error words`: the words are none of those that the program knows.
+#[tactic(auto, unfolding(crate::specs::Answers::words_line))]
+pub fn error_words() -> Line
+    ensures { result ≡ spelled_words }
+{
+    let mut line = Line::new();
+    line.text(b"error words\n");
+    line
+}
+
+/// `verdict unchecked`: nothing was checked beforehand.
+#[tactic(auto, unfolding(console_spec::specs::RunText::verdict_line))]
+pub fn verdict_line() -> Line
+    ensures { result ≡ spelled_verdict }
+{
+    let mut line = Line::new();
+    line.text(b"verdict unchecked\n");
+    line
+}
+
+/// `stop done`: all instructions that were asked for are done.
+#[tactic(auto, unfolding(console_spec::specs::RunText::stop_line))]
+pub fn stop_done_line() -> Line
+    ensures { result ≡ spelled_stop Done }
+{
+    let mut line = Line::new();
+    line.text(b"stop done\n");
+    line
+}
+
+/// `stop undriven`: no chip drives a step with this code at this address.
+#[tactic(auto, unfolding(console_spec::specs::RunText::stop_line))]
+pub fn stop_undriven_line(romc: u8, at: u16) -> Line
+    ensures { result ≡ spelled_stop (Undriven romc at) }
+{
+    let mut line = Line::new();
+    line.text(b"stop undriven romc ");
+    line.hex2(romc);
+    line.text(b" at ");
+    line.hex4(at);
+    line.text(b"\n");
+    line
+}
+
+/// `stop unbuilt`: at this address stands an opcode that isn't built.
+#[tactic(auto, unfolding(console_spec::specs::RunText::stop_line))]
+pub fn stop_unbuilt_line(at: u16, code: u8) -> Line
+    ensures { result ≡ spelled_stop (Unbuilt at code) }
+{
+    let mut line = Line::new();
+    line.text(b"stop unbuilt ");
+    line.hex2(code);
+    line.text(b" at ");
+    line.hex4(at);
+    line.text(b"\n");
+    line
+}
+
+/// The counters, the accumulator, ISAR in octal digits, and the status word. ISAR is below 64.
+#[tactic(auto, unfolding(console_spec::specs::RunText::regs_line))]
+pub fn regs_line(regs: &Regs) -> Line
+    requires { regs.now.isar < 64 }
+    ensures { result ≡ spelled_regs regs.now }
+{
+    let mut line = Line::new();
+    line.text(b"regs P=");
+    line.hex4(regs.p);
+    line.text(b" P1=");
+    line.hex4(regs.p1);
+    line.text(b" D0=");
+    line.hex4(regs.d0);
+    line.text(b" D1=");
+    line.hex4(regs.d1);
+    line.text(b" A=");
+    line.hex2(regs.a);
+    line.text(b" IS=");
+    line.octal2(regs.isar);
+    line.text(b" W=");
+    line.hex2(regs.w);
+    line.text(b"\n");
+    line
+}
+
+/// A row of 16 bytes of the scratchpad, by its number, which is below 4.
+#[tactic(auto, unfolding(console_spec::specs::RunText::scratch_line))]
+pub fn scratch_line(regs: &Regs, row: u8) -> Line
+    requires { row < 4 }
+    ensures { result ≡ spelled_scratch regs.now row }
+{
+    let mut line = Line::new();
+    line.text(b"s");
+    line.byte(b'0' + row);
+    line.text(b"0");
+    let start = 16 * row as usize;
+    for byte in &regs.scratch[start..start + 16] {
+        line.byte(b' ');
+        line.hex2(*byte);
+    }
+    line.text(b"\n");
+    line
+}
+
+/// The instructions done and their clocks, in Φ.
+#[tactic(auto, unfolding(console_spec::specs::RunText::total_line))]
+pub fn total_line(count: u32, phi: u64) -> Line
+    ensures { result ≡ spelled_total count phi }
+{
+    let mut line = Line::new();
+    line.text(b"total ");
+    line.decimal(u64::from(count));
+    line.text(b" instructions ");
+    line.decimal(phi);
+    line.text(b" phi\n");
+    line
+}

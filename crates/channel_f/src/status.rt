@@ -1,0 +1,30 @@
+/// How the program ends, with its exit status.
+#[derive(Clone, Copy)]
+pub enum Status {
+    /// All instructions that were asked for are done.
+    Done = 0,
+    /// The words are none of the program's.
+    Words = 1,
+    /// A bus step wasn't served.
+    Fault = 3,
+    /// The sink failed.
+    Sink = 5,
+    /// Memory was wanting, and nothing was written.
+    Memory = 6,
+    /// An opcode that isn't built was met.
+    Unbuilt = 9,
+    /// The system didn't give the words.
+    NoWords = 10,
+}
+
+impl Status {
+    ghost use Rattle.std.specs.Prelude.{◌≡◌};
+    ghost use Rattle.channel_f.specs.Statuses.{exit_code};
+
+    /// The number of the status.
+    pub fn code(self) -> u8
+        ensures { result ≡ exit_code self }
+    {
+        self as u8
+    }
+}
