@@ -1,0 +1,5 @@
+pub mod Bytes
+pub mod Lexemes
+pub mod Tokens
+pub mod Spelling
+pub mod Grammar
