@@ -10,6 +10,8 @@ mod out_sink;
 mod run;
 mod sink;
 mod status;
+#[cfg(test)]
+mod tests;
 mod top;
 mod words;
 
