@@ -1,20 +1,31 @@
--- The instructions that a run carries out so far. At the opcode of another one, and at a reserved opcode, a run stops. This is
--- this project's own, and shrinks to nothing as the project grows.
-use Rattle.std.specs.Prelude.{◌≡◌, ℕ, ◌-◌, ◌<◌, ◌&&◌, nat_lt, nat_le, ◌==◌, if◌then◌else◌, Option, Some, None}
+-- The instructions that a run carries out so far. At the opcode of another one a run stops. This is this project's own, and shrinks to
+-- nothing as the project grows. A reserved opcode is counted as built, since it stops a run by its own name.
+use Rattle.std.specs.Prelude.{ℕ, Bool, true, false, Option, Some, None}
+use Rattle.f8_spec.specs.Instructions.{decoded, row_of}
 use Rattle.f8_spec.specs.declared.instructions.Op.{Op}
-use Rattle.f8_spec.specs.declared.instructions.Op.TheVariants.{Nop, Lis, Bf}
+use Rattle.f8_spec.specs.declared.instructions.Op.TheVariants.{Ins, Outs}
+use Rattle.f8_spec.specs.declared.instructions.Row.{Row}
+use Rattle.f8_spec.specs.declared.instructions.Row.TheVariants.{Plain, PlainLong, Idle, Immediate, Branch, BranchIsar}
 
--- the instruction with an opcode, where it is built
-abbrev pub built_op : ℕ → Option Op
-built_op code =
-    if code == 0x2B then Some Nop else
-    if nat_le 0x70 code && nat_lt code 0x80 then Some (Lis (code - 0x70)) else
-    if code == 0x90 then Some (Bf 0) else
-    None
+-- the rows of the instructions that need no counter but the program counter, and no port
+abbrev pub is_built_row : Row → Bool
+is_built_row Plain = true
+is_built_row PlainLong = true
+is_built_row Idle = true
+is_built_row Immediate = true
+is_built_row Branch = true
+is_built_row BranchIsar = true
+is_built_row row = false
 
--- the instruction is one of those
-abbrev pub IsBuilt : Op → Type 0
-IsBuilt Nop = Unit {0}
-IsBuilt (Lis n) = n < 16
-IsBuilt (Bf t) = t ≡ 0
-IsBuilt op = ⊥
+abbrev pub is_built_op : Op → Bool
+is_built_op (Ins n) = false
+is_built_op (Outs n) = false
+is_built_op op = is_built_row (row_of op)
+
+abbrev pub is_built_as : Option Op → Bool
+is_built_as None = true
+is_built_as (Some op) = is_built_op op
+
+-- what an opcode does is built
+abbrev pub is_built : ℕ → Bool
+is_built code = is_built_as (decoded code)

@@ -6,6 +6,7 @@ use Rattle.f8_spec.specs.declared.bus.Driver.{Driver}
 use Rattle.f8_spec.specs.declared.bus.Driver.TheVariants.{Memory, CounterByte, Vector, Port, Cpu, Nobody}
 use Rattle.f8_spec.specs.declared.bus.Counter.{Counter}
 use Rattle.f8_spec.specs.declared.bus.Counter.TheVariants.{Pc0, Pc1, Dc0, NoCounter}
+use Rattle.f8_spec.specs.declared.bus.Counters.{Counters}
 
 -- the four counters of a storage chip, or of the probe
 pub record Count : Type 0 where
@@ -17,6 +18,10 @@ pub record Count : Type 0 where
 -- all four at one address
 abbrev pub count_at : ℕ → Count
 count_at at = record { pc0 = at; pc1 = at; dc0 = at; dc1 = at }
+
+-- the counters as a chip tells them, by whether it has a second data counter
+abbrev pub told_count : Bool → Count → Counters
+told_count has_second c = record { pc0 = c.pc0; pc1 = c.pc1; dc0 = c.dc0; dc1 = if has_second then Some c.dc1 else None }
 
 -- Who drives the byte. The code 1C alone does not tell whether the CPU places a byte there.
 abbrev pub driver_of : ℕ → Driver

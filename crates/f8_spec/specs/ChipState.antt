@@ -1,8 +1,8 @@
 -- A storage chip as contracts see it, and what each call does to it (Mostek 3851 and 3853 data sheets for the roles). That a 3851
 -- has no second data counter, the rules of requests, and what power-on leaves are this project's own.
-use Rattle.std.specs.Prelude.{ℕ, zero, suc, ◌+◌, ◌-◌, ◌*◌, ◌/◌, ◌%◌, ◌≡◌, Bool, true, false, ◌&&◌, ◌||◌, nat_lt, nat_le, ◌==◌, if◌then◌else◌, List, [], ◌∷◌, ◌++◌, map, take, drop, replicate, slice_get, slice_set, slice_index, bit_or, Option, Some, None, option_map, option_and_then, is_some}
+use Rattle.std.specs.Prelude.{ℕ, zero, suc, ◌+◌, ◌-◌, ◌*◌, ◌/◌, ◌%◌, ◌≡◌, Bool, true, false, ◌&&◌, ◌||◌, nat_lt, nat_le, ◌==◌, if◌then◌else◌, List, [], ◌∷◌, ◌++◌, take, drop, replicate, slice_get, slice_set, slice_index, bit_or, Option, Some, None, option_map, option_and_then, is_some}
 use Rattle.f8_spec.specs.Words.{with_high, with_low}
-use Rattle.f8_spec.specs.BusCodes.{Count, count_at, driver_of, counter_of, counter_value, moved_by}
+use Rattle.f8_spec.specs.BusCodes.{Count, count_at, told_count, driver_of, counter_of, counter_value, moved_by}
 use Rattle.f8_spec.specs.ShiftTimer.{shifted_timer, expires_next}
 use Rattle.f8_spec.specs.declared.bus.Counters.{Counters}
 use Rattle.f8_spec.specs.declared.bus.Driver.{Driver}
@@ -65,6 +65,10 @@ pub record ChipState : Type 0 where
   pub heard_steps : Option (List HeardStep)
   pub patch : Option (ℕ × ℕ)
 
+-- a 0 for each data port
+abbrev pub clear_data_ports : ChipKind → List ℕ
+clear_data_ports kind = if has_data_ports kind then 0 ∷ 0 ∷ [] else []
+
 -- a chip that holds no address and has no port; its counters are 0
 abbrev pub blank_view : ChipKind → ChipView
 blank_view kind = record {
@@ -72,8 +76,8 @@ blank_view kind = record {
   pages = [];
   bytes = [];
   counters = count_at 0;
-  latches = if has_data_ports kind then 0 ∷ 0 ∷ [] else [];
-  key_bytes = if has_data_ports kind then 0 ∷ 0 ∷ [] else [];
+  latches = clear_data_ports kind;
+  key_bytes = clear_data_ports kind;
   control = 0;
   timer = 255;
   phase = 0;
@@ -86,12 +90,7 @@ blank_view kind = record {
 
 -- the counters that the chip tells
 abbrev pub told_counters : ChipView → Counters
-told_counters v = record {
-  pc0 = v.counters.pc0;
-  pc1 = v.counters.pc1;
-  dc0 = v.counters.dc0;
-  dc1 = if has_second_counter v.kind then Some v.counters.dc1 else None;
-}
+told_counters v = told_count (has_second_counter v.kind) v.counters
 
 -- ---- memory
 
@@ -125,9 +124,13 @@ holds v at = is_some (place_of v.pages (at / 256))
 abbrev pub has_ram_at : ChipView → ℕ → Bool
 has_ram_at v at = is_sort_at is_ram v.pages at
 
+-- the byte at an address in one of some pages, and none at another address
+abbrev pub byte_in : List Page → List ℕ → ℕ → Option ℕ
+byte_in pages bytes at = option_map (λ place. slice_index bytes (place * 256 + at % 256)) (place_of pages (at / 256))
+
 -- the byte at a held address, and none at another
 abbrev pub held_byte : ChipView → ℕ → Option ℕ
-held_byte v at = option_and_then (λ place. slice_get v.bytes (place * 256 + at % 256)) (place_of v.pages (at / 256))
+held_byte v at = byte_in v.pages v.bytes at
 
 -- the bytes with one changed, at a place among the pages
 abbrev pub bytes_with_at : List ℕ → ℕ → ℕ → Option ℕ → List ℕ
@@ -170,12 +173,13 @@ role_at kind offset =
     if offset == 0 then VectorHigh else
     VectorLow
 
-abbrev pub role_from : ChipKind → ℕ → ℕ → Option PortRole
-role_from kind port first = if nat_le first port && nat_lt port (first + 4) then Some (role_at kind (port - first)) else None
+-- the place of a port among the four from a first one on, and none of another port
+abbrev pub offset_from : ℕ → ℕ → Option ℕ
+offset_from port first = if nat_le first port && nat_lt port (first + 4) then Some (port - first) else None
 
 -- the role of a port at the chip, and none where the chip does not have it
 abbrev pub port_role : ChipView → ℕ → Option PortRole
-port_role v port = option_and_then (role_from v.kind port) v.ports
+port_role v port = option_map (role_at v.kind) (option_and_then (offset_from port) v.ports)
 
 abbrev pub latch_place : PortRole → Option ℕ
 latch_place (DataPort place) = Some place
@@ -187,6 +191,10 @@ latch_place TimerPort = None
 -- the place of a data port's latch, and none where the port is not a data port of the chip
 abbrev pub data_port : ChipView → ℕ → Option ℕ
 data_port v port = option_and_then latch_place (port_role v port)
+
+-- the latch of a data port, and none where the port is not a data port of the chip
+abbrev pub latch_at : ChipView → ℕ → Option ℕ
+latch_at v port = option_map (slice_index v.latches) (data_port v port)
 
 -- a data port reads as its latch or its key byte
 abbrev pub read_port : ChipView → ℕ → ℕ
@@ -263,10 +271,14 @@ timer_passed (suc n) v =
       request = v.request || (takes_expiries v && expires_next v.timer);
     }
 
+-- a byte stored at an address: it is lost where the chip has no RAM there
+abbrev pub stored : ℕ → ℕ → ChipView → ChipView
+stored at byte v = if has_ram_at v at then record v { bytes = bytes_with v.pages v.bytes at byte } else v
+
 -- the effect of a code on what is not a counter: a store, the end of the acknowledged request, and a port write
 abbrev pub effect : ℕ → ℕ → Bool → ChipView → ChipView
 effect romc byte first v =
-    if romc == 0x05 then (if has_ram_at v v.counters.dc0 then record v { bytes = bytes_with v.pages v.bytes v.counters.dc0 byte } else v) else
+    if romc == 0x05 then stored v.counters.dc0 byte v else
     if romc == 0x13 then (if first then record v { request = false } else v) else
     if romc == 0x1A then port_written_if (port_role v v.last) byte v else
     v
@@ -309,8 +321,8 @@ abbrev pub powered : ℕ → ℕ → ChipView → ChipView
 powered fill start v = record v {
   bytes = filled_bytes fill v.pages v.bytes;
   counters = count_at start;
-  latches = map (λ _. 0) v.latches;
-  key_bytes = map (λ _. 0) v.key_bytes;
+  latches = clear_data_ports v.kind;
+  key_bytes = clear_data_ports v.kind;
   control = 0;
   timer = 255;
   phase = 0;
@@ -319,10 +331,11 @@ powered fill start v = record v {
   last = 0;
 }
 
--- where the steps heard are told after power-on, there are none
+-- where the steps heard are told after power-on, there are none; they are not told where they were not before
 pub record PowersOn (fill start : ℕ) (old new : ChipState) : Type 0 where
   pub view : new.view ≡ powered fill start old.view
   pub heard : (now : List HeardStep) → new.heard_steps ≡ Some now → now ≡ []
+  pub untold : old.heard_steps ≡ None → new.heard_steps ≡ None
   pub patch : new.patch ≡ old.patch
 
 abbrev pub keyed_at : Option ℕ → ℕ → ChipView → ChipView
@@ -336,3 +349,15 @@ keyed port byte v = keyed_at (data_port v port) byte v
 -- an external pulse: lost unless control lets it in
 abbrev pub pulsed : ChipView → ChipView
 pulsed v = if takes_pulses v then record v { request = true } else v
+
+-- a chip after a key byte; the steps that it tells and its patch stay
+pub record TakesKeys (port byte : ℕ) (old new : ChipState) : Type 0 where
+  pub view : new.view ≡ keyed port byte old.view
+  pub heard : new.heard_steps ≡ old.heard_steps
+  pub patch : new.patch ≡ old.patch
+
+-- a chip after an external pulse; the steps that it tells and its patch stay
+pub record TakesPulse (old new : ChipState) : Type 0 where
+  pub view : new.view ≡ pulsed old.view
+  pub heard : new.heard_steps ≡ old.heard_steps
+  pub patch : new.patch ≡ old.patch

@@ -5,5 +5,7 @@ pub mod BusCodes
 pub mod MicroSteps
 pub mod ShiftTimer
 pub mod ChipState
+pub mod BusArbitration
+pub mod OrderLaw
 pub mod Built
 pub mod Spelling

@@ -15,6 +15,31 @@ pub enum Driver {
     Nobody,
 }
 
+/// How a bus step is arbitrated among the storage chips. That a step is served only where exactly one chip answers in it, at the address
+/// of the probe's counter, is this project's own.
+#[derive(Clone, Copy, Debug, PartialEq, Eq)]
+pub enum BusRule {
+    /// The chip that holds the address in its own counter drives the byte: codes 00 to 03, 06, 07, 09, 0B, 0C, 0E, 11, 1E and 1F.
+    Read,
+    /// The chip whose own data counter lies in its RAM takes the byte: code 05.
+    Store,
+    /// The chip that has the port as a data port drives the byte: code 1B.
+    PortRead,
+    /// The chip that has the port takes the byte: code 1A.
+    PortWrite,
+    /// The chip whose interrupt is acknowledged drives the byte: codes 0F and 13.
+    Vector,
+    /// No storage chip drives or takes a byte: all other codes.
+    NoChip,
+}
+
+/// A chip that drives or takes a byte in a bus step: its socket, and the address in its own counter or the port's number.
+#[derive(Clone, Copy, Debug, PartialEq, Eq)]
+pub struct Party {
+    pub socket: u8,
+    pub at: u16,
+}
+
 /// The counter by which a bus step goes.
 #[derive(Clone, Copy, Debug, PartialEq, Eq)]
 pub enum Counter {

@@ -6,7 +6,7 @@ mod bus;
 mod chips;
 mod instructions;
 
-pub use bus::{Counter, Counters, Driver};
+pub use bus::{BusRule, Counter, Counters, Driver, Party};
 pub use chips::{ChipKind, Offer, Page, PageSort};
 pub use instructions::{Op, Row};
 use thiserror::Error;
