@@ -1,2 +1,5 @@
+pub mod InputLaws
+pub mod OneChip
 pub mod RunLaws
+pub mod Walks
 pub mod WorkedRuns

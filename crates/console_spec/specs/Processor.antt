@@ -1,15 +1,18 @@
 -- The F8 as one flat machine (Fairchild F8 User's Guide): one program counter, one stack register and two data counters, with no
--- chips and no bus codes. So far it has the instructions that are built.
-use Rattle.std.specs.Prelude.{ℕ, ◌+◌, ◌/◌, ◌%◌, Bool, false, not, ◌&&◌, ◌||◌, ◌==◌, if◌then◌else◌, List, replicate}
-use Rattle.f8_spec.specs.Words.{places_on, displaced}
-use Rattle.f8_spec.specs.Flags.{Status, clear_status, status_byte}
+-- chips and no bus codes.
+use Rattle.std.specs.Prelude.{ℕ, ◌+◌, ◌-◌, ◌*◌, ◌/◌, ◌%◌, Bool, true, false, not, ◌&&◌, ◌||◌, ◌==◌, nat_lt, if◌then◌else◌, bit_and, bit_or, bit_xor, List, replicate, slice_index, slice_set}
+use Rattle.f8_spec.specs.Words.{word, places_on, displaced, sum_value, decimal_value}
+use Rattle.f8_spec.specs.Flags.{Status, clear_status, status_byte, status_of, after_result, after_sum}
 use Rattle.f8_spec.specs.Instructions.{row_of, row_length, clocks_of}
+use Rattle.f8_spec.specs.MicroSteps.{Source, Opcode, Operand, SecondOperand, KeptOperand, DataByte, DataHigh, DataLow, StackHigh, StackLow, KHigh, KLow, QHigh, QLow, HHigh, HLow, Accumulator, PortNumber, PortByte, VectorHigh, VectorLow, NoByte}
 use Rattle.f8_spec.specs.declared.instructions.Op.{Op}
-use Rattle.f8_spec.specs.declared.instructions.Op.TheVariants.{Lis, Bf}
+use Rattle.f8_spec.specs.declared.instructions.Op.TheVariants.{LrAKu, LrAKl, LrAQu, LrAQl, LrKuA, LrKlA, LrQuA, LrQlA, LrKP, LrAIs, LrIsA, LrQDc, LrHDc, Sr1, Sl1, Sr4, Sl4, Lm, Com, Lnk, Di, Ei, LrWJ, LrJW, Inc, Li, Ni, Oi, Xi, Ai, Ci, In, Pi, Jmp, Ds, LrAR, LrRA, Lisu, Lisl, Lis, Bt, Am, Amd, Nm, Om, Xm, Cm, Br7, Bf, Ins, Outs, As, Asd, Xs, Ns}
 use Rattle.f8_spec.specs.declared.instructions.Row.{Row}
-use Rattle.f8_spec.specs.declared.instructions.Row.TheVariants.{Branch}
+use Rattle.f8_spec.specs.declared.instructions.Row.TheVariants.{StackFromK, CallK, JumpQ, DataFromQ, DataFromH, ReadData, StoreData, Return, Immediate, PortIn, Call, Jump, LoadData, Exchange, AddData, Branch, BranchIsar, ShortIn, Idle}
 use Rattle.console_spec.specs.AddressSpace.{byte_at}
 use Rattle.console_spec.specs.declared.Regs.{Regs}
+
+-- ---- the state
 
 -- the one set of counters: the address of the instruction that comes next, the stack register and the two data counters
 pub record Flow : Type 0 where
@@ -45,40 +48,274 @@ at_power fill = record {
 abbrev pub after_reset : State → State
 after_reset s = record s { phi = s.phi + 14 }
 
+-- ---- registers
+
+abbrev pub scratch_byte : ℕ → Registers → ℕ
+scratch_byte number m = slice_index m.scratchpad number
+
+abbrev pub with_scratch : ℕ → ℕ → Registers → Registers
+with_scratch number byte m = record m { scratchpad = slice_set m.scratchpad number byte }
+
+-- two registers, the high byte in the lower one
+abbrev pub with_pair : ℕ → ℕ → ℕ → Registers → Registers
+with_pair number high low m = with_scratch (number + 1) low (with_scratch number high m)
+
+-- the register that a field names: from 12 on the one that ISAR points to
+abbrev pub register_of : ℕ → Registers → ℕ
+register_of field m = if nat_lt field 12 then field else m.isar
+
+abbrev pub field_byte : ℕ → Registers → ℕ
+field_byte field m = scratch_byte (register_of field m) m
+
+-- The field 13 steps the low octal digit of ISAR up, and 14 down. The digit wraps, and the high one stays.
+abbrev pub stepped_isar : ℕ → ℕ → ℕ
+stepped_isar field isar =
+    if field == 13 then isar / 8 * 8 + (isar + 1) % 8 else
+    if field == 14 then isar / 8 * 8 + (isar + 7) % 8 else
+    isar
+
+abbrev pub with_isar_stepped : ℕ → Registers → Registers
+with_isar_stepped field m = record m { isar = stepped_isar field m.isar }
+
+-- ---- results
+
+-- a result of logic, of a shift or of a port read in the accumulator
+abbrev pub with_result : ℕ → Registers → Registers
+with_result value m = record m { accumulator = value; status = after_result m.status value }
+
+-- a sum with the accumulator in the accumulator
+abbrev pub with_sum : ℕ → Bool → Registers → Registers
+with_sum byte carry m = record m {
+  accumulator = sum_value m.accumulator byte carry;
+  status = after_sum m.status m.accumulator byte carry;
+}
+
+-- the decimal sum: the flags are those of the binary one
+abbrev pub with_decimal_sum : ℕ → Registers → Registers
+with_decimal_sum byte m = record m {
+  accumulator = decimal_value m.accumulator byte;
+  status = after_sum m.status m.accumulator byte false;
+}
+
+-- A comparison: the flags of the one sum of the byte, the complement of the accumulator and 1. That this is one sum, with its corner
+-- where the accumulator is 0, is this project's own.
+abbrev pub compared : ℕ → Registers → Registers
+compared byte m = record m { status = after_sum m.status byte (255 - m.accumulator) true }
+
+-- a register less 1: the sum with 255
+abbrev pub decremented : ℕ → Registers → Registers
+decremented field m = record (with_scratch (register_of field m) (sum_value (field_byte field m) 255 false) m) {
+  status = after_sum m.status (field_byte field m) 255 false;
+}
+
+-- The registers after an instruction that uses one byte: the one behind its opcode, the one at the data counter, or that of its port.
+-- An instruction that is not named here leaves them, but for the pairs of registers below.
+unfoldable pub effect : Op → ℕ → Registers → Registers
+effect LrAKu byte m = record m { accumulator = scratch_byte 12 m }
+effect LrAKl byte m = record m { accumulator = scratch_byte 13 m }
+effect LrAQu byte m = record m { accumulator = scratch_byte 14 m }
+effect LrAQl byte m = record m { accumulator = scratch_byte 15 m }
+effect LrKuA byte m = with_scratch 12 m.accumulator m
+effect LrKlA byte m = with_scratch 13 m.accumulator m
+effect LrQuA byte m = with_scratch 14 m.accumulator m
+effect LrQlA byte m = with_scratch 15 m.accumulator m
+effect LrAIs byte m = record m { accumulator = m.isar }
+effect LrIsA byte m = record m { isar = m.accumulator % 64 }
+effect Sr1 byte m = with_result (m.accumulator / 2) m
+effect Sl1 byte m = with_result (m.accumulator * 2 % 256) m
+effect Sr4 byte m = with_result (m.accumulator / 16) m
+effect Sl4 byte m = with_result (m.accumulator * 16 % 256) m
+effect Lm byte m = record m { accumulator = byte }
+effect Com byte m = with_result (255 - m.accumulator) m
+effect Lnk byte m = with_sum 0 m.status.carry m
+effect Di byte m = record m { status = record m.status { icb = false } }
+effect Ei byte m = record m { status = record m.status { icb = true } }
+effect LrWJ byte m = record m { status = status_of (scratch_byte 9 m) }
+effect LrJW byte m = with_scratch 9 (status_byte m.status) m
+effect Inc byte m = with_sum 1 false m
+effect Li byte m = record m { accumulator = byte }
+effect Ni byte m = with_result (bit_and m.accumulator byte) m
+effect Oi byte m = with_result (bit_or m.accumulator byte) m
+effect Xi byte m = with_result (bit_xor m.accumulator byte) m
+effect Ai byte m = with_sum byte false m
+effect Ci byte m = compared byte m
+effect In byte m = with_result byte m
+-- the high byte of the target stays in the accumulator
+effect Pi byte m = record m { accumulator = byte }
+effect Jmp byte m = record m { accumulator = byte }
+effect (Ds r) byte m = with_isar_stepped r (decremented r m)
+effect (LrAR r) byte m = with_isar_stepped r (record m { accumulator = field_byte r m })
+effect (LrRA r) byte m = with_isar_stepped r (with_scratch (register_of r m) m.accumulator m)
+effect (Lisu n) byte m = record m { isar = n * 8 + m.isar % 8 }
+effect (Lisl n) byte m = record m { isar = m.isar / 8 * 8 + n }
+effect (Lis n) byte m = record m { accumulator = n }
+effect Am byte m = with_sum byte false m
+effect Amd byte m = with_decimal_sum byte m
+effect Nm byte m = with_result (bit_and m.accumulator byte) m
+effect Om byte m = with_result (bit_or m.accumulator byte) m
+effect Xm byte m = with_result (bit_xor m.accumulator byte) m
+effect Cm byte m = compared byte m
+effect (Ins n) byte m = with_result byte m
+effect (As r) byte m = with_isar_stepped r (with_sum (field_byte r m) false m)
+effect (Asd r) byte m = with_isar_stepped r (with_decimal_sum (field_byte r m) m)
+effect (Xs r) byte m = with_isar_stepped r (with_result (bit_xor m.accumulator (field_byte r m)) m)
+effect (Ns r) byte m = with_isar_stepped r (with_result (bit_and m.accumulator (field_byte r m)) m)
+effect op byte m = m
+
+-- ---- branches
+
 -- one of the flags that the bits of t choose is set: sign, carry, zero and overflow, from the lowest bit on
 abbrev pub any_chosen : ℕ → Status → Bool
 any_chosen t w =
     ((t % 2 == 1) && w.sign) || ((t / 2 % 2 == 1) && w.carry) || ((t / 4 % 2 == 1) && w.zero) || ((t / 8 % 2 == 1) && w.overflow)
 
--- the instruction branches: BF where every chosen flag is clear
+-- BT branches where a chosen flag is set, BF where all chosen ones are clear, and BR7 unless the low digit of ISAR is 7
 abbrev pub is_taken : Op → Registers → Bool
+is_taken (Bt t) m = any_chosen t m.status
 is_taken (Bf t) m = not (any_chosen t m.status)
+is_taken Br7 m = not (m.isar % 8 == 7)
 is_taken op m = false
 
--- the counters after an instruction: a branch that is taken counts from the address of its displacement byte
-abbrev pub flow_after : Row → Bool → ℕ → Flow → Flow
-flow_after Branch taken operand c =
-    record c { p = if taken then displaced (places_on c.p 1) operand else places_on c.p 2 }
-flow_after row taken operand c = record c { p = places_on c.p (row_length row) }
+-- ---- what an instruction gets
+
+-- all that an instruction gets from the state before it, whether it uses it or not
+pub record Inputs : Type 0 where
+  -- its branch is taken; an interrupt is taken at its end
+  pub taken : Bool
+  pub vectored : Bool
+  -- the two bytes behind its opcode
+  pub operand : ℕ
+  pub second : ℕ
+  -- the opcode that is fetched at its end
+  pub opcode : ℕ
+  -- the byte at the data counter, and the bytes of the data counter and of the stack register
+  pub data_byte : ℕ
+  pub data_high : ℕ
+  pub data_low : ℕ
+  pub stack_high : ℕ
+  pub stack_low : ℕ
+  pub accumulator : ℕ
+  -- the pairs of registers
+  pub k_high : ℕ
+  pub k_low : ℕ
+  pub q_high : ℕ
+  pub q_low : ℕ
+  pub h_high : ℕ
+  pub h_low : ℕ
+  -- the number of its port, and the byte there
+  pub port : ℕ
+  pub port_byte : ℕ
+  -- the bytes of the vector where an interrupt is taken
+  pub vector_high : ℕ
+  pub vector_low : ℕ
+
+-- the byte that a bus step carries
+abbrev pub byte_of : Inputs → Source → ℕ
+byte_of i Opcode = i.opcode
+byte_of i Operand = i.operand
+byte_of i SecondOperand = i.second
+byte_of i KeptOperand = i.operand
+byte_of i DataByte = i.data_byte
+byte_of i DataHigh = i.data_high
+byte_of i DataLow = i.data_low
+byte_of i StackHigh = i.stack_high
+byte_of i StackLow = i.stack_low
+byte_of i KHigh = i.k_high
+byte_of i KLow = i.k_low
+byte_of i QHigh = i.q_high
+byte_of i QLow = i.q_low
+byte_of i HHigh = i.h_high
+byte_of i HLow = i.h_low
+byte_of i Accumulator = i.accumulator
+byte_of i PortNumber = i.port
+byte_of i PortByte = i.port_byte
+byte_of i VectorHigh = i.vector_high
+byte_of i VectorLow = i.vector_low
+byte_of i NoByte = 0
+
+-- the byte that the instructions of a row use, and 00 where they use none
+abbrev pub used_byte : Row → Inputs → ℕ
+used_byte Immediate i = i.operand
+used_byte Call i = i.operand
+used_byte Jump i = i.operand
+used_byte ReadData i = i.data_byte
+used_byte PortIn i = i.port_byte
+used_byte ShortIn i = i.port_byte
+used_byte Idle i = i.port_byte
+used_byte row i = 0
 
 -- the registers after an instruction
-abbrev pub effect : Op → Registers → Registers
-effect (Lis n) m = record m { accumulator = n }
-effect op m = m
+abbrev pub result_of : Op → Inputs → Registers → Registers
+result_of LrKP i m = with_pair 12 i.stack_high i.stack_low m
+result_of LrQDc i m = with_pair 14 i.data_high i.data_low m
+result_of LrHDc i m = with_pair 10 i.data_high i.data_low m
+result_of op i m = effect op (used_byte (row_of op) i) m
 
--- the byte behind the opcode
-abbrev pub operand_of : List ℕ → State → ℕ
-operand_of rom s = byte_at rom (places_on s.flow.p 1)
+-- The counters after an instruction. The flag says that the set has a second data counter. A branch that is taken counts from the
+-- address of its displacement byte.
+abbrev pub flow_after : Row → Inputs → Bool → Flow → Flow
+flow_after StackFromK i second c = record c { p = places_on c.p 1; p1 = word i.k_high i.k_low }
+flow_after CallK i second c = record c { p = word i.k_high i.k_low; p1 = places_on c.p 1 }
+flow_after JumpQ i second c = record c { p = word i.q_high i.q_low }
+flow_after DataFromQ i second c = record c { p = places_on c.p 1; d0 = word i.q_high i.q_low }
+flow_after DataFromH i second c = record c { p = places_on c.p 1; d0 = word i.h_high i.h_low }
+flow_after ReadData i second c = record c { p = places_on c.p 1; d0 = places_on c.d0 1 }
+flow_after StoreData i second c = record c { p = places_on c.p 1; d0 = places_on c.d0 1 }
+flow_after Return i second c = record c { p = c.p1 }
+flow_after Call i second c = record c { p = word i.operand i.second; p1 = places_on c.p 3 }
+flow_after Jump i second c = record c { p = word i.operand i.second }
+flow_after LoadData i second c = record c { p = places_on c.p 3; d0 = word i.operand i.second }
+flow_after Exchange i second c =
+    if second then record c { p = places_on c.p 1; d0 = c.d1; d1 = c.d0 } else record c { p = places_on c.p 1 }
+flow_after AddData i second c = record c { p = places_on c.p 1; d0 = displaced c.d0 i.accumulator }
+flow_after Branch i second c =
+    record c { p = if i.taken then displaced (places_on c.p 1) i.operand else places_on c.p 2 }
+flow_after BranchIsar i second c =
+    record c { p = if i.taken then displaced (places_on c.p 1) i.operand else places_on c.p 2 }
+flow_after row i second c = record c { p = places_on c.p (row_length row) }
+
+-- ---- a step of the machine
+
+abbrev pub port_field : Op → ℕ
+port_field (Ins n) = n
+port_field (Outs n) = n
+port_field op = 0
+
+-- What an instruction gets, but for the opcode at its end. There are no ports so far.
+unfoldable pub own_inputs : Op → List ℕ → State → Inputs
+own_inputs op rom s = record {
+  taken = is_taken op s.registers;
+  vectored = false;
+  operand = byte_at rom (places_on s.flow.p 1);
+  second = byte_at rom (places_on s.flow.p 2);
+  opcode = 0;
+  data_byte = byte_at rom s.flow.d0;
+  data_high = s.flow.d0 / 256;
+  data_low = s.flow.d0 % 256;
+  stack_high = s.flow.p1 / 256;
+  stack_low = s.flow.p1 % 256;
+  accumulator = s.registers.accumulator;
+  k_high = scratch_byte 12 s.registers;
+  k_low = scratch_byte 13 s.registers;
+  q_high = scratch_byte 14 s.registers;
+  q_low = scratch_byte 15 s.registers;
+  h_high = scratch_byte 10 s.registers;
+  h_low = scratch_byte 11 s.registers;
+  port = port_field op;
+  port_byte = 0;
+  vector_high = 0;
+  vector_low = 0;
+}
 
 -- the state after an instruction
 abbrev pub after_instruction : Op → List ℕ → State → State
 after_instruction op rom s =
-    let taken = is_taken op s.registers in
+    let i = own_inputs op rom s in
     record {
-      flow = flow_after (row_of op) taken (operand_of rom s) s.flow;
-      registers = effect op s.registers;
+      flow = flow_after (row_of op) i true s.flow;
+      registers = result_of op i s.registers;
       count = s.count + 1;
-      phi = s.phi + clocks_of op taken;
+      phi = s.phi + clocks_of op i.taken;
     }
 
 -- the registers as a run tells them

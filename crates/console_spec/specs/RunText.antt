@@ -2,7 +2,7 @@
 use Rattle.std.specs.Prelude.{ℕ, ◌+◌, ◌*◌, List, [], ◌∷◌, ◌++◌, codes, decimal, take, drop, flat_map}
 use Rattle.f8_spec.specs.Spelling.{hex2, hex4, octal2}
 use Rattle.console_spec.specs.Processor.{shown}
-use Rattle.console_spec.specs.Run.{Stop, Done, Undriven, Unbuilt, Ending}
+use Rattle.console_spec.specs.Run.{Stop, Done, Undriven, Reserved, Unbuilt, Ending}
 use Rattle.console_spec.specs.declared.Regs.{Regs}
 
 -- nothing was checked beforehand
@@ -12,6 +12,7 @@ verdict_line = codes "verdict unchecked\n"
 unfoldable pub stop_line : Stop → List ℕ
 stop_line Done = codes "stop done\n"
 stop_line (Undriven romc at) = codes "stop undriven romc " ++ hex2 romc ++ codes " at " ++ hex4 at ++ codes "\n"
+stop_line (Reserved at code) = codes "stop reserved " ++ hex2 code ++ codes " at " ++ hex4 at ++ codes "\n"
 stop_line (Unbuilt at code) = codes "stop unbuilt " ++ hex2 code ++ codes " at " ++ hex4 at ++ codes "\n"
 
 unfoldable pub regs_line : Regs → List ℕ
@@ -31,18 +32,24 @@ scratch_line r row =
 unfoldable pub total_line : ℕ → ℕ → List ℕ
 total_line count phi = codes "total " ++ decimal count ++ codes " instructions " ++ decimal phi ++ codes " phi\n"
 
--- the lines of a whole run
-abbrev pub run_lines : Ending → List (List ℕ)
-run_lines e =
-    verdict_line
-    ∷ stop_line e.stop
-    ∷ regs_line (shown e.state)
-    ∷ scratch_line (shown e.state) 0
-    ∷ scratch_line (shown e.state) 1
-    ∷ scratch_line (shown e.state) 2
-    ∷ scratch_line (shown e.state) 3
-    ∷ total_line e.state.count e.state.phi
+-- the lines of a run from its stop line on, by why it stops, the registers, the instructions done and their clocks
+abbrev pub told_lines : Stop → Regs → ℕ → ℕ → List (List ℕ)
+told_lines stop regs count phi =
+    stop_line stop
+    ∷ regs_line regs
+    ∷ scratch_line regs 0
+    ∷ scratch_line regs 1
+    ∷ scratch_line regs 2
+    ∷ scratch_line regs 3
+    ∷ total_line count phi
     ∷ []
+
+abbrev pub ending_lines : Ending → List (List ℕ)
+ending_lines e = told_lines e.stop (shown e.state) e.state.count e.state.phi
+
+-- the lines of a whole run on chips; one on the flat instruction set alone has no verdict
+abbrev pub run_lines : Ending → List (List ℕ)
+run_lines e = verdict_line ∷ ending_lines e
 
 -- lines one after another
 unfoldable pub text_of : List (List ℕ) → List ℕ

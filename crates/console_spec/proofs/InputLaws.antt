@@ -1,0 +1,37 @@
+-- What an instruction does does not hang on the opcode that is fetched at its end.
+use Rattle.std.proofs.Common.{◌≡◌, ℕ, Bool, true, List, [], ◌∷◌, ◌++◌, refl, ap}
+use Rattle.f8_spec.specs.Instructions.{row_of}
+use Rattle.f8_spec.specs.declared.instructions.Op.{Op}
+use Rattle.f8_spec.specs.declared.instructions.Op.TheVariants.{LrKP, LrQDc, LrHDc}
+use Rattle.f8_spec.specs.declared.instructions.Row.{Row}
+use Rattle.f8_spec.specs.declared.instructions.Row.TheVariants.{Branch, StoreData}
+use Rattle.console_spec.specs.AddressSpace.{byte_at}
+use Rattle.console_spec.specs.Processor.{State, Flow, Registers, Inputs, used_byte, result_of, flow_after, own_inputs, effect}
+use Rattle.console_spec.specs.BusAccesses.{accesses_before_fetch, last_access}
+
+-- the same inputs with another opcode at the end
+abbrev pub with_opcode : ℕ → Inputs → Inputs
+with_opcode code i = record i { opcode = code }
+
+-- all that an instruction gets
+abbrev pub inputs : Op → List ℕ → State → Inputs
+inputs op rom s = with_opcode (byte_at rom (flow_after (row_of op) (own_inputs op rom s) true s.flow).p) (own_inputs op rom s)
+
+pub used_byte-with_opcode : (row : Row) (code : ℕ) (i : Inputs) → used_byte row (with_opcode code i) ≡ used_byte row i
+used_byte-with_opcode StoreData code i = refl
+used_byte-with_opcode row code i = refl
+
+pub result_of-with_opcode : (op : Op) (code : ℕ) (i : Inputs) (m : Registers) → result_of op (with_opcode code i) m ≡ result_of op i m
+result_of-with_opcode LrKP code i m = refl
+result_of-with_opcode LrQDc code i m = refl
+result_of-with_opcode LrHDc code i m = refl
+result_of-with_opcode op code i m = ap (λ (byte : ℕ). effect op byte m) (used_byte-with_opcode (row_of op) code i)
+
+pub flow_after-with_opcode : (row : Row) (code : ℕ) (i : Inputs) (second : Bool) (c : Flow) → flow_after row (with_opcode code i) second c ≡ flow_after row i second c
+flow_after-with_opcode StoreData code i second c = refl
+flow_after-with_opcode row code i second c = refl
+
+pub accesses-with_opcode : (row : Row) (code : ℕ) (i : Inputs) →
+    accesses_before_fetch row (with_opcode code i) ++ last_access row (with_opcode code i) ∷ [] ≡ accesses_before_fetch row i ++ last_access row i ∷ []
+accesses-with_opcode StoreData code i = refl
+accesses-with_opcode row code i = refl

@@ -1,0 +1,84 @@
+-- Along the bus steps of an instruction the counters go where the flat machine's table says.
+use Rattle.std.proofs.Common.{◌≡◌, ℕ, ◌+◌, ◌*◌, ◌/◌, ◌%◌, ◌<◌, Bool, true, false, List, [], ◌∷◌, ◌++◌, refl, ap, ◌∙◌, arith}
+use Rattle.std.specs.Prelude.{if◌then◌else◌}
+use Rattle.f8_spec.specs.Words.{word, with_high, with_low, places_on, displaced}
+use Rattle.f8_spec.specs.BusCodes.{Count, moved_by}
+use Rattle.f8_spec.specs.MicroSteps.{Step, steps_before_fetch, last_fetch, steps_of}
+use Rattle.f8_spec.specs.declared.instructions.Row.{Row}
+use Rattle.f8_spec.specs.declared.instructions.Row.TheVariants.{StackFromK, CallK, JumpQ, DataFromQ, DataFromH, Immediate, PortIn, PortOut, Call, Jump, LoadData, Exchange, Branch, BranchIsar}
+use Rattle.console_spec.specs.Processor.{Flow, Inputs, byte_of, flow_after}
+
+-- ---- words
+
+pub with_low-with_high : (at high low : ℕ) → with_low (with_high at high) low ≡ word high low
+with_low-with_high at high low = omega arith
+
+pub with_high-with_low : (at low high : ℕ) → low < 256 → with_high (with_low at low) high ≡ word high low
+with_high-with_low at low high small = omega arith
+
+pub places_on-places_on : (at m n : ℕ) → places_on (places_on at m) n ≡ places_on at (m + n)
+places_on-places_on at m n = omega arith
+
+-- ---- the counters along a list of steps
+
+-- the low bytes that an instruction gets are bytes
+pub record HasBytes (i : Inputs) : Type 0 where
+  pub second : i.second < 256
+  pub k_low : i.k_low < 256
+  pub q_low : i.q_low < 256
+  pub h_low : i.h_low < 256
+  pub vector_low : i.vector_low < 256
+
+abbrev pub moved_along : Bool → Inputs → List Step → Count → Count
+moved_along second i [] c = c
+moved_along second i (s ∷ later) c = moved_along second i later (moved_by s.romc (byte_of i s.source) second c)
+
+pub moved_along-append : (second : Bool) (i : Inputs) (first later : List Step) (c : Count) →
+    moved_along second i (first ++ later) c ≡ moved_along second i later (moved_along second i first c)
+moved_along-append second i [] later c = refl
+moved_along-append second i (s ∷ first) later c = moved_along-append second i first later (moved_by s.romc (byte_of i s.source) second c)
+
+-- Between two instructions the program counter is one past the next one, since its opcode was fetched.
+abbrev pub fetched : Flow → Count
+fetched c = record { pc0 = places_on c.p 1; pc1 = c.p1; dc0 = c.d0; dc1 = c.d1 }
+
+-- before the last fetch it is at the next instruction
+abbrev pub resting : Flow → Count
+resting c = record { pc0 = c.p; pc1 = c.p1; dc0 = c.d0; dc1 = c.d1 }
+
+pub branch_rests : (i : Inputs) (taken second : Bool) (c : Flow) → i.taken ≡ taken →
+    moved_along second i (steps_before_fetch Branch i.taken) (fetched c) ≡ resting (flow_after Branch i second c)
+branch_rests i true second c e = rw e refl
+branch_rests i false second c e = rw e (rw places_on-places_on)
+
+pub branch_isar_rests : (i : Inputs) (taken second : Bool) (c : Flow) → i.taken ≡ taken →
+    moved_along second i (steps_before_fetch BranchIsar i.taken) (fetched c) ≡ resting (flow_after BranchIsar i second c)
+branch_isar_rests i true second c e = rw e refl
+branch_isar_rests i false second c e = rw e (rw places_on-places_on)
+
+-- the steps before the last fetch
+pub rests : (row : Row) (i : Inputs) → HasBytes i → (second : Bool) (c : Flow) →
+    moved_along second i (steps_before_fetch row i.taken) (fetched c) ≡ resting (flow_after row i second c)
+rests StackFromK i b second c = rw with_low-with_high
+rests CallK i b second c = rw (with_high-with_low _ _ _ b.k_low)
+rests JumpQ i b second c = rw (with_high-with_low _ _ _ b.q_low)
+rests DataFromQ i b second c = rw with_low-with_high
+rests DataFromH i b second c = rw with_low-with_high
+rests Immediate i b second c = rw places_on-places_on
+rests PortIn i b second c = rw places_on-places_on
+rests PortOut i b second c = rw places_on-places_on
+rests Call i b second c = let small : i.second < 256 = b.second in rw (places_on-places_on, places_on-places_on, with_high-with_low)
+rests Jump i b second c = rw (with_high-with_low _ _ _ b.second)
+rests LoadData i b second c = rw (places_on-places_on, places_on-places_on, with_low-with_high)
+rests Exchange i b true c = refl
+rests Exchange i b false c = refl
+rests Branch i b second c = branch_rests i i.taken second c refl
+rests BranchIsar i b second c = branch_isar_rests i i.taken second c refl
+rests row i b second c = refl
+
+-- all steps of an instruction
+pub follows : (row : Row) (i : Inputs) → HasBytes i → (second : Bool) (c : Flow) →
+    moved_along second i (steps_of row i.taken) (fetched c) ≡ fetched (flow_after row i second c)
+follows row i b second c =
+    moved_along-append second i (steps_before_fetch row i.taken) (last_fetch row ∷ []) (fetched c)
+    ∙ ap (moved_along second i (last_fetch row ∷ [])) (rests row i b second c)
