@@ -1,5 +1,5 @@
 -- The table over all opcodes, computed at each of the 256.
-use Rattle.std.proofs.Common.{◌≡◌, ◌==◌, ◌&&◌, ◌||◌, ℕ, ◌<◌, Bool, true, not, refl, rules, arith}
+use Rattle.std.proofs.Common.{◌≡◌, ◌==◌, ◌&&◌, ◌||◌, ℕ, ◌<◌, Bool, true, refl, rules}
 use Rattle.std.proofs.lemmas.Bool.{and_parts, eqb-true}
 use Rattle.std.specs.Prelude.{Option, Some, None, MatchOption, nat_lt, nat_le}
 use Rattle.f8_spec.specs.Instructions.{InRange, IsReserved, encoded, decoded}
@@ -31,27 +31,19 @@ is_in_range (Ins n) = nat_lt n 2 || (nat_le 4 n && nat_lt n 16)
 is_in_range (Outs n) = nat_lt n 2 || (nat_le 4 n && nat_lt n 16)
 is_in_range op = true
 
--- what an opcode is decoded to says that very opcode, and a reserved one is decoded to nothing
+-- what an opcode is decoded to says that very opcode
 abbrev is_right : ℕ → Option Op → Bool
 is_right code None = is_reserved code
-is_right code (Some op) = not (is_reserved code) && (is_in_range op && encoded op == code)
+is_right code (Some op) = is_in_range op && encoded op == code
 
 -- the table passes at every byte
 all_right : values_below (λ code. is_right code (decoded code)) 256 ≡ values_below (λ _. true) 256
 unfolding values_below decoded
 all_right = refl
 
--- the table passes at a byte
-right_at : (code : ℕ) → code < 256 → is_right code (decoded code) ≡ true
-right_at code is_byte = same_below (λ code. is_right code (decoded code)) (λ _. true) 256 code all_right is_byte
-
 -- where the test of the opcode passes, it is reserved
 IsReserved-is_reserved : (code : ℕ) → is_reserved code ≡ true → IsReserved code
 IsReserved-is_reserved code test = search rules
-
--- the test of the opcode passes at a reserved one
-is_reserved-IsReserved : (code : ℕ) → IsReserved code → is_reserved code ≡ true
-is_reserved-IsReserved code reserved = search rules
 
 -- where the test of the fields passes, they lie in their ranges
 InRange-is_in_range : (op : Op) → is_in_range op ≡ true → InRange op
@@ -71,30 +63,14 @@ InRange-is_in_range (Ins n) test = search rules
 InRange-is_in_range (Outs n) test = search rules
 InRange-is_in_range op test = tt
 
--- where the table passes at an opcode, it is reserved or that of an instruction in range
-right_of_test :
-    (code : ℕ) (found : Option Op) → is_right code found ≡ true
-    → MatchOption found (IsReserved code) (λ op. InRange op × (encoded op ≡ code))
+-- where the test passes for what an opcode is decoded to, the opcode is reserved or that of the instruction
+right_of_test : (code : ℕ) (found : Option Op) → is_right code found ≡ true → MatchOption found (IsReserved code) (λ op. InRange op × (encoded op ≡ code))
 right_of_test code None test = IsReserved-is_reserved code test
 right_of_test code (Some op) test =
-    let stays = (and_parts (not (is_reserved code)) (is_in_range op && encoded op == code) test).1 in
-    let parts = and_parts (is_in_range op) (encoded op == code) stays in
+    let parts = and_parts (is_in_range op) (encoded op == code) test in
     (InRange-is_in_range op parts.0, eqb-true (encoded op) code parts.1)
 
--- where the table passes at a reserved opcode, it is decoded to nothing
-none_of_test : (code : ℕ) (found : Option Op) → is_right code found ≡ true → is_reserved code ≡ true → found ≡ None
-none_of_test code None test reserved = refl
-none_of_test code (Some op) test reserved =
-    let unreserved = (and_parts (not (is_reserved code)) (is_in_range op && encoded op == code) test).0 in
-    absurd (search (rules, unreserved, reserved))
-
 -- every byte is a reserved opcode or the opcode of an instruction in range, and it is decoded to that instruction
-pub decoded_is_right :
-    (code : ℕ) → code < 256 → MatchOption (decoded code) (IsReserved code) (λ op. InRange op × (encoded op ≡ code))
-decoded_is_right code is_byte = right_of_test code (decoded code) (right_at code is_byte)
-
--- no instruction has a reserved opcode
-pub decoded-reserved : (code : ℕ) → IsReserved code → decoded code ≡ None
-decoded-reserved code reserved =
-    let is_byte : code < 256 = omega arith in
-    none_of_test code (decoded code) (right_at code is_byte) (is_reserved-IsReserved code reserved)
+pub decoded_is_right : (code : ℕ) → code < 256 → MatchOption (decoded code) (IsReserved code) (λ op. InRange op × (encoded op ≡ code))
+decoded_is_right code is_byte =
+    right_of_test code (decoded code) (same_below (λ code. is_right code (decoded code)) (λ _. true) 256 code all_right is_byte)

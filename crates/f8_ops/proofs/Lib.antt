@@ -1,3 +1,4 @@
+pub mod BuiltCodes
 pub mod ValuesBelow
 pub mod OpcodeTable
 pub mod CodeTable

@@ -1,13 +1,15 @@
 //! The instruction table: opcodes, lengths, clocks and names (Fairchild F8 User's Guide).
 #![tactic(auto)]
 
+mod built;
 mod mnemonics;
 mod opcodes;
 mod table;
 
+pub use built::is_built;
 pub use f8_spec::{Op, Row};
 pub use mnemonics::name;
-pub use opcodes::{Reserved, built, decode, encode};
+pub use opcodes::{Reserved, decode, encode};
 pub use table::{length, phi, row_of, shields};
 
 #[cfg(test)]

@@ -1,7 +1,6 @@
 ghost use Rattle.std.specs.Prelude.{◌≡◌, ◌↔◌, IsErr, IfErr, IfOk, IfSome, IfNone};
 ghost use Rattle.std.specs.Result.{result_ok};
 ghost use Rattle.f8_spec.specs.Instructions.{InRange, IsReserved, encoded, decoded};
-ghost use Rattle.f8_spec.specs.Built.{built_op, IsBuilt};
 
 use f8_spec::Op;
 use thiserror::Error;
@@ -186,19 +185,5 @@ fn opcode_of(op: Op) -> u8
         Op::Asd { r } => 0xD0 + r,
         Op::Xs { r } => 0xE0 + r,
         Op::Ns { r } => 0xF0 + r,
-    }
-}
-
-/// The instruction with the opcode `code`, and `None` exactly where the code isn't built in this stage: built are `NOP`, `LIS`
-/// and `BF 0`.
-pub fn built(code: u8) -> Option<Op>
-    ensures value { result ≡ built_op code }
-    ensures built { IfSome result IsBuilt }
-{
-    match code {
-        0x2B => Some(Op::Nop),
-        0x70..=0x7F => Some(Op::Lis { n: code - 0x70 }),
-        0x90 => Some(Op::Bf { t: 0 }),
-        _ => None,
     }
 }

@@ -17,11 +17,20 @@ fn opcodes_both_ways(rt: HostRuntime) {
     assert_eq!(rt; encode(Op::Ns { r: 14 }), 0xFE);
 }
 
+// a reserved opcode counts as built
 #[test]
-fn first_stage(rt: HostRuntime) {
-    assert_eq!(rt; built(0x71), Some(Op::Lis { n: 1 }));
-    assert_eq!(rt; built(0x91), None);
-    assert_eq!(rt; built(0xFF), None);
+fn built_opcodes(rt: HostRuntime) {
+    for (code, built) in [
+        (0x1A, true),
+        (0x1C, false),
+        (0x25, true),
+        (0x26, false),
+        (0x90, true),
+        (0xA4, false),
+        (0xFF, true),
+    ] {
+        assert_eq!(rt; is_built(code), built, "at {code}");
+    }
 }
 
 #[test]
