@@ -1,0 +1,91 @@
+ghost use Rattle.std.specs.Prelude.{◌≡◌};
+ghost use Rattle.f8_spec.specs.BusCodes.{count_at, moved_by, told_count};
+
+use super::words::{with_high, with_low};
+use f8_words::wrap_add;
+use romc_table::{Counters, Romc};
+use std::marker::Model;
+
+/// The counters of a storage chip: program counter, stack register and two data counters, each an address (Mostek 3851 and 3853 data
+/// sheets). Contracts see the four. A chip without a second data counter leaves that one as it is.
+#[derive(Clone, Copy, Debug, PartialEq, Eq)]
+pub struct Registers {
+    pc0: u16,
+    pc1: u16,
+    dc0: u16,
+    dc1: u16,
+}
+
+impl Model for Registers {
+    ghost use Rattle.f8_spec.specs.BusCodes.{Count};
+
+    ghost Value = { Count };
+
+    ghost view = { λ r. record { pc0 = r.pc0; pc1 = r.pc1; dc0 = r.dc0; dc1 = r.dc1 } };
+
+    ghost inverse = { λ c. record { pc0 = c.pc0; pc1 = c.pc1; dc0 = c.dc0; dc1 = c.dc1 } };
+}
+
+impl Registers {
+    /// All four at one address.
+    pub fn at(start: u16) -> Registers
+        ensures { result ≡ count_at start }
+    {
+        Registers {
+            pc0: start,
+            pc1: start,
+            dc0: start,
+            dc1: start,
+        }
+    }
+
+    /// The counters as a chip tells them; `dc1` says that it has a second data counter.
+    #[inline]
+    pub fn counters(&self, dc1: bool) -> Counters
+        ensures { result ≡ told_count dc1 self.now }
+    {
+        Counters {
+            pc0: self.pc0,
+            pc1: self.pc1,
+            dc0: self.dc0,
+            dc1: if dc1 { Some(self.dc1) } else { None },
+        }
+    }
+
+    /// Follows a bus step with its byte. `dc1` says that the chip has a second data counter, which code 1D exchanges with the first;
+    /// without one nothing moves there.
+    #[inline]
+    pub fn hear(&mut self, romc: Romc, byte: u8, dc1: bool)
+        ensures { self.new ≡ moved_by romc byte dc1 self.old }
+    {
+        match romc.number() {
+            0x00 | 0x03 => self.pc0 = self.pc0.wrapping_add(1),
+            // A branch counts from the address of its displacement byte.
+            0x01 => self.pc0 = wrap_add(self.pc0, byte.cast_signed()),
+            0x02 | 0x05 => self.dc0 = self.dc0.wrapping_add(1),
+            0x04 => self.pc0 = self.pc1,
+            0x08 => {
+                self.pc1 = self.pc0;
+                self.pc0 = 0;
+            }
+            0x0A => self.dc0 = wrap_add(self.dc0, byte.cast_signed()),
+            0x0C | 0x17 => self.pc0 = with_low(self.pc0, byte),
+            0x0D => self.pc1 = self.pc0.wrapping_add(1),
+            0x0E | 0x19 => self.dc0 = with_low(self.dc0, byte),
+            0x0F | 0x12 => {
+                self.pc1 = self.pc0;
+                self.pc0 = with_low(self.pc0, byte);
+            }
+            0x11 | 0x16 => self.dc0 = with_high(self.dc0, byte),
+            0x13 | 0x14 => self.pc0 = with_high(self.pc0, byte),
+            0x15 => self.pc1 = with_high(self.pc1, byte),
+            0x18 => self.pc1 = with_low(self.pc1, byte),
+            0x1D if dc1 => {
+                let dc0 = self.dc0;
+                self.dc0 = self.dc1;
+                self.dc1 = dc0;
+            }
+            _ => {}
+        }
+    }
+}

@@ -1,0 +1,35 @@
+use super::*;
+use romc_table::{Counters, Romc};
+
+// A call of 0123 whose operand bytes stand at 0005 and 0006.
+#[test]
+fn follows_a_call(rt: HostRuntime) {
+    let mut registers = Registers::at(0x0005);
+    registers.hear(Romc::OPERAND, 0x01, true);
+    registers.hear(Romc::SAVE_NEXT, 0x00, true);
+    registers.hear(Romc::JUMP_LOW, 0x23, true);
+    registers.hear(Romc::SET_PROGRAM_HIGH, 0x01, true);
+    assert_eq!(rt;
+        registers.counters(true),
+        Counters {
+            pc0: 0x0123,
+            pc1: 0x0007,
+            dc0: 0x0005,
+            dc1: Some(0x0005)
+        }
+    );
+}
+
+// Code 1D exchanges the data counters of a chip that has two, and leaves that of a chip with one.
+#[test]
+fn exchanges_two_data_counters(rt: HostRuntime) {
+    let mut two = Registers::at(0x2800);
+    two.hear(Romc::SET_DATA_LOW, 0x34, true);
+    let mut one = two;
+    two.hear(Romc::EXCHANGE, 0x00, true);
+    one.hear(Romc::EXCHANGE, 0x00, false);
+    assert_eq!(rt; two.counters(true).dc0, 0x2800);
+    assert_eq!(rt; two.counters(true).dc1, Some(0x2834));
+    assert_eq!(rt; one.counters(false).dc0, 0x2834);
+    assert_eq!(rt; one.counters(false).dc1, None);
+}
