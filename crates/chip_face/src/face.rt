@@ -1,16 +1,17 @@
-use super::{ChipKind, ChipSpec, Counters, FitFault, Offer, Romc};
+use super::{ChipKind, ChipSpec, FitFault, Offer};
+use romc_table::{Counters, Romc};
 use std::alloc::Global;
 
 /// A storage chip on the bus (Mostek 3851 and 3853 data sheets). Each keeps a program counter, a stack register and data counters of
 /// its own, hears every bus step, and answers where its own copy lies in its own space. In a bus step every chip first offers, and
-/// then, if the step is served, every chip settles.
+/// then, if the step is served, every chip settles. Only `fit` takes memory.
 ///
 /// Contracts see a chip as its `state`: the view, the steps heard where it tells them, and its patch.
 pub trait Chip: Drop {
     ghost use Rattle.std.specs.Prelude.{◌≡◌, ◌≢◌, ◌↔◌, OnOk, OnErr, IsErrOf};
-    ghost use Rattle.f8_spec.specs.ChipState.{ChipState, MayHear, PowersOn, Settles, held_byte, offered, told_counters};
+    ghost use Rattle.f8_spec.specs.ChipState.{ChipState, MayHear, PowersOn, Settles, TakesKeys, TakesPulse, has_ram_at, held_byte, is_asking, latch_at, offered, told_counters};
     ghost use Rattle.chip_face.specs.Fitting.{Fits, IsSpec, kind_of};
-    ghost use Rattle.chip_face.specs.Steps.{IsBuiltCode, IsStepLength};
+    ghost use Rattle.chip_face.specs.Steps.{IsStepLength};
 
     ghost state: { Self → ChipState };
 
@@ -30,19 +31,21 @@ pub trait Chip: Drop {
     fn power(&mut self, fill: u8, start: u16)
         ensures { PowersOn fill start (state self.old) (state self.new) };
 
-    /// What the chip drives in a step with this code, and its own address at which it does, or `None`. `first` marks the chip whose
-    /// interrupt is acknowledged.
+    /// What the chip drives in a step with this code, and the own address, port or vector by which it does; in the codes 05 and 1A,
+    /// that it takes the byte. `None` where it does neither. `first` marks the chip whose interrupt is acknowledged.
     fn offer(&self, romc: Romc, first: bool) -> Option<Offer>
-        requires built { IsBuiltCode romc }
-        requires may_hear { MayHear romc first (state self.now).view }
+        requires { MayHear romc first (state self.now).view }
         ensures { result ≡ offered romc first (state self.now).view };
 
     /// Hears a bus step: its code, its byte, and its length in Φ, which is 4 or 6. So far no timer moves.
     fn settle(&mut self, romc: Romc, byte: u8, phi: u8, first: bool)
-        requires built { IsBuiltCode romc }
         requires step_length { IsStepLength phi }
         requires may_hear { MayHear romc first (state self.old).view }
         ensures { Settles 0 (record { romc = romc; byte = byte; clocks = phi; first = first }) (state self.old) (state self.new) };
+
+    /// The chip can interrupt, and a request is latched.
+    fn asks(&self) -> bool
+        ensures { result ≡ is_asking (state self.now).view };
 
     /// The chip's own counters. A 3851 has no second data counter.
     fn counters(&self) -> Counters
@@ -51,4 +54,20 @@ pub trait Chip: Drop {
     /// The byte at an address that the chip holds, and `None` at another.
     fn peek(&self, at: u16) -> Option<u8>
         ensures { result ≡ held_byte (state self.now).view at };
+
+    /// The address lies in a RAM page of the chip.
+    fn takes(&self, at: u16) -> bool
+        ensures { result ≡ has_ram_at (state self.now).view at };
+
+    /// The latch of a data port, and `None` where the port is not a data port of the chip.
+    fn latch(&self, port: u8) -> Option<u8>
+        ensures { result ≡ latch_at (state self.now).view port };
+
+    /// Sets the key byte of a data port. On a port that is not a data port of the chip nothing changes.
+    fn keys(&mut self, port: u8, byte: u8)
+        ensures { TakesKeys port byte (state self.old) (state self.new) };
+
+    /// An external pulse: a request is latched where the low two bits of control are 1, and else nothing changes.
+    fn pulse(&mut self)
+        ensures { TakesPulse (state self.old) (state self.new) };
 }
