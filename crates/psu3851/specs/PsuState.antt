@@ -1,6 +1,5 @@
 -- What contracts see of a 3851.
 use Rattle.std.specs.Prelude.{ℕ, ◌==◌, if◌then◌else◌, List, [], None}
-use Rattle.f8_spec.specs.BusCodes.{Count}
 use Rattle.f8_spec.specs.ChipState.{ChipView, ChipState, blank_view}
 use Rattle.f8_spec.specs.declared.chips.ChipKind.TheVariants.{Psu as PsuKind}
 use Rattle.f8_spec.specs.declared.chips.Page.{Page}
@@ -14,18 +13,21 @@ held_pages p = if p.size == 0 then [] else psu_pages p.base
 abbrev pub held_bytes : Psu → List ℕ
 held_bytes p = if p.size == 0 then [] else p.rom
 
-abbrev pub own_counters : Psu → Count
-own_counters p = record { pc0 = p.pc0; pc1 = p.pc1; dc0 = p.dc0; dc1 = p.dc1 }
-
--- The latches, the key bytes, control, the timer and the request are those of a blank chip: so far no call changes them.
 abbrev pub psu_view : Psu → ChipView
-psu_view p = record (blank_view PsuKind) {
+psu_view p = record {
+  kind = PsuKind;
   pages = held_pages p;
   bytes = held_bytes p;
-  counters = own_counters p;
+  counters = p.registers;
+  latches = p.latches;
+  key_bytes = p.key_bytes;
+  control = p.control;
+  timer = p.timer;
+  phase = p.phase;
   vector = p.vector;
   ports = p.ports;
   wired = p.wired;
+  request = p.request;
   last = p.last;
 }
 

@@ -1,7 +1,8 @@
 ghost use Rattle.std.specs.Prelude.{◌≡◌, ◌%◌, ◌≤◌};
 
-use chip_face::{Chip, ChipKind, ChipSpec, Counters, FitFault, Offer, Romc};
-use f8_words::wrap_add;
+use chip_face::{Chip, ChipKind, ChipSpec, FitFault, Offer};
+use f8_counters::Registers;
+use romc_table::{Counters, Romc};
 use std::alloc::Global;
 
 /// The bytes of a 3851's ROM.
@@ -10,12 +11,8 @@ const ROM_SIZE: usize = 1024;
 /// A 3851. It tells no step that it heard, and has no patch.
 #[derive(Drop)]
 pub struct Psu {
-    pc0: u16,
-    pc1: u16,
-    dc0: u16,
-
-    /// Where power-on set the second data counter, which a 3851 doesn't have: it never moves, and no call tells it.
-    dc1: u16,
+    /// A 3851 has no second data counter: that one stays where power-on set it, and no call tells it.
+    registers: Registers,
 
     /// The byte of the last bus step.
     last: u8,
@@ -28,8 +25,22 @@ pub struct Psu {
 
     /// The first of its four ports, and none while it is blank.
     ports: Option<u8>,
+
+    /// A latch and a key byte for each of its two data ports.
+    latches: [u8; 2],
+    key_bytes: [u8; 2],
+
+    /// The last byte written to the control port. Its low two bits are 1 to let pulses in, and 3 to let the timer's expiries in.
+    control: u8,
+
+    /// The timer's state, and the clocks since its last step.
+    timer: u8,
+    phase: u8,
     vector: u16,
     wired: bool,
+
+    /// A request is latched.
+    request: bool,
     rom: [u8; ROM_SIZE],
     ghost boundary: { base % 1024 ≡ 0 },
     ghost whole: { size % 1024 ≡ 0 },
@@ -44,17 +55,127 @@ impl Psu {
         ensures { psu_state result ≡ blank_psu }
     {
         Psu {
-            pc0: 0,
-            pc1: 0,
-            dc0: 0,
-            dc1: 0,
+            registers: Registers::at(0),
             last: 0,
             base: 0,
             size: 0,
             ports: None,
+            latches: [0; 2],
+            key_bytes: [0; 2],
+            control: 0,
+            timer: 255,
+            phase: 0,
             vector: 0,
             wired: false,
+            request: false,
             rom: [0; ROM_SIZE],
+        }
+    }
+}
+
+/// What a chip offers.
+impl Psu {
+    ghost use Rattle.std.specs.Prelude.{◌/◌, Some, None, if◌then◌else◌, option_map, option_and_then};
+    ghost use Rattle.f8_spec.specs.ChipState.{byte_offer, given_vector, held_byte, holds};
+    ghost use Rattle.psu3851.specs.PsuState.{psu_view};
+
+    /// The address lies in the chip's ROM.
+    #[inline]
+    fn holds(&self, at: u16) -> bool
+        ensures { result ≡ holds (psu_view self.now) at }
+    {
+        at.wrapping_sub(self.base) < self.size
+    }
+
+    /// The byte at one of the chip's counters.
+    #[inline]
+    fn byte_at(&self, at: u16) -> Option<Offer>
+        ensures { result ≡ option_map (byte_offer at) (held_byte (psu_view self.now) at) }
+    {
+        let byte = self.peek(at)?;
+        Some(Offer { byte, at })
+    }
+
+    /// The high byte of one of the chip's counters, where the chip holds that address.
+    #[inline]
+    fn high_of(&self, at: u16) -> Option<Offer>
+        ensures { result ≡ (if holds (psu_view self.now) at then Some (byte_offer at (at / 256)) else None) }
+    {
+        if self.holds(at) {
+            Some(Offer {
+                byte: (at / 256) as u8,
+                at,
+            })
+        } else {
+            None
+        }
+    }
+
+    /// The low byte of one of the chip's counters, where the chip holds that address.
+    #[inline]
+    fn low_of(&self, at: u16) -> Option<Offer>
+        ensures { result ≡ (if holds (psu_view self.now) at then Some (byte_offer at (at % 256)) else None) }
+    {
+        if self.holds(at) {
+            Some(Offer {
+                byte: (at % 256) as u8,
+                at,
+            })
+        } else {
+            None
+        }
+    }
+
+    /// The vector given for a request: bit 7 of its low byte is clear for the timer, and set for a pulse.
+    #[inline]
+    fn given_vector(&self) -> u16
+        ensures { result ≡ given_vector (psu_view self.now) }
+    {
+        let source = if self.control % 4 == 3 { 0 } else { 128 };
+        self.vector / 256 * 256 + source + self.vector % 128
+    }
+}
+
+/// Ports.
+impl Psu {
+    ghost use Rattle.std.specs.Prelude.{option_and_then};
+    ghost use Rattle.f8_spec.specs.ChipState.{data_port, offset_from, port_role, port_written_if};
+    ghost use Rattle.psu3851.specs.PsuState.{psu_view};
+
+    /// The place of a port among the chip's four, and `None` where the chip doesn't have it.
+    #[inline]
+    fn port_offset(&self, port: u8) -> Option<u8>
+        ensures { result ≡ option_and_then (offset_from port) (psu_view self.now).ports }
+    {
+        let offset = port.checked_sub(self.ports?)?;
+        if offset < 4 { Some(offset) } else { None }
+    }
+
+    /// The place of a data port's latch, and `None` where the port is not a data port of the chip.
+    #[inline]
+    fn data_port(&self, port: u8) -> Option<usize>
+        ensures { result ≡ data_port (psu_view self.now) port }
+    {
+        let offset = self.port_offset(port)?;
+        if offset < 2 { Some(usize::from(offset)) } else { None }
+    }
+
+    /// A byte for a port, which is lost where the chip doesn't have it. A write to control ends a latched request.
+    fn write_port(&mut self, port: u8, byte: u8)
+        ensures { psu_view self.new ≡ port_written_if (port_role (psu_view self.old) port) byte (psu_view self.old) }
+    {
+        match self.port_offset(port) {
+            Some(0) => self.latches[0] = byte,
+            Some(1) => self.latches[1] = byte,
+            Some(2) => {
+                self.control = byte;
+                self.request = false;
+            }
+            Some(3) => {
+                self.timer = byte;
+                self.phase = 0;
+            }
+            _ => {}
         }
     }
 }
@@ -96,47 +217,71 @@ impl Chip for Psu {
 
     #[tactic(auto, using(crate::proofs::RomPages::filled_held))]
     fn power(&mut self, _fill: u8, start: u16) {
-        self.pc0 = start;
-        self.pc1 = start;
-        self.dc0 = start;
-        self.dc1 = start;
+        self.registers = Registers::at(start);
         self.last = 0;
+        self.latches = [0; 2];
+        self.key_bytes = [0; 2];
+        self.control = 0;
+        self.timer = 255;
+        self.phase = 0;
+        self.request = false;
     }
 
-    fn offer(&self, romc: Romc, _first: bool) -> Option<Offer> {
+    fn offer(&self, romc: Romc, first: bool) -> Option<Offer> {
+        let counters = self.registers.counters(false);
         match romc.number() {
-            // A byte at the program counter: an opcode, a displacement or an operand.
-            0x00 | 0x01 | 0x03 => {
-                let at = self.pc0;
-                let byte = self.peek(at)?;
+            0x00 | 0x01 | 0x03 | 0x0C | 0x0E | 0x11 => self.byte_at(counters.pc0),
+            0x02 => self.byte_at(counters.dc0),
+            0x06 => self.high_of(counters.dc0),
+            0x07 => self.high_of(counters.pc1),
+            0x09 => self.low_of(counters.dc0),
+            0x0B => self.low_of(counters.pc1),
+            0x1E => self.low_of(counters.pc0),
+            0x1F => self.high_of(counters.pc0),
+            0x0F if first => {
+                let at = self.given_vector();
+                let byte = (at % 256) as u8;
                 Some(Offer { byte, at })
             }
+            0x13 if first => {
+                let at = self.given_vector();
+                let byte = (at / 256) as u8;
+                Some(Offer { byte, at })
+            }
+            // A port goes by the last byte, which names it. The chip takes a byte.
+            0x1A => {
+                let _offset = self.port_offset(self.last)?;
+                let at = u16::from(self.last);
+                Some(Offer { byte: 0, at })
+            }
+            0x1B => {
+                let place = self.data_port(self.last)?;
+                let byte = self.latches[place] | self.key_bytes[place];
+                let at = u16::from(self.last);
+                Some(Offer { byte, at })
+            }
+            // A 3851 has no RAM, so it takes no store.
             _ => None,
         }
     }
 
-    fn settle(&mut self, romc: Romc, byte: u8, _phi: u8, _first: bool) {
+    fn settle(&mut self, romc: Romc, byte: u8, _phi: u8, first: bool) {
         match romc.number() {
-            0x00 | 0x03 => self.pc0 = self.pc0.wrapping_add(1),
-            // A branch counts from the address of its displacement byte.
-            0x01 => self.pc0 = wrap_add(self.pc0, byte.cast_signed()),
-            // Reset.
-            0x08 => {
-                self.pc1 = self.pc0;
-                self.pc0 = 0;
-            }
+            0x13 if first => self.request = false,
+            0x1A => self.write_port(self.last, byte),
             _ => {}
         }
+        // There is no second data counter, and so nothing to exchange.
+        self.registers.hear(romc, byte, false);
         self.last = byte;
     }
 
+    fn asks(&self) -> bool {
+        self.wired && self.request
+    }
+
     fn counters(&self) -> Counters {
-        Counters {
-            pc0: self.pc0,
-            pc1: self.pc1,
-            dc0: self.dc0,
-            dc1: None,
-        }
+        self.registers.counters(false)
     }
 
     fn peek(&self, at: u16) -> Option<u8> {
@@ -147,79 +292,25 @@ impl Chip for Psu {
             None
         }
     }
-}
 
-#[cfg(test)]
-mod tests {
-    use super::*;
-    use chip_face::Bytes;
-    use std::test::Fail;
-
-    // A branch at 0000 whose displacement byte, FD, stands at 0001: from there -3 leads to FFFE, which the chip doesn't hold.
-    #[test]
-    fn branches_from_the_displacement_byte(rt: HostRuntime) -> Result<(), Fail> {
-        let mut rom = [0xFF; 1024];
-        rom[0] = 0x90;
-        rom[1] = 0xFD;
-        let spec = ChipSpec::Psu {
-            base: 0,
-            rom: Bytes::of(rt.alloc(), &rom)?,
-            ports: 4,
-            vector: 0,
-            wired: false,
-        };
-        let mut psu = Psu::blank();
-        assert_eq!(rt; psu.peek(0), None);
-        psu.fit(rt.alloc(), &spec)?;
-        assert_eq!(rt; psu.kind(), ChipKind::Psu);
-        assert_eq!(rt; psu.peek(0x03FF), Some(0xFF));
-        assert_eq!(rt; psu.peek(0x0400), None);
-
-        psu.power(0, 0);
-        assert_eq!(rt;
-            psu.offer(Romc::FETCH, false),
-            Some(Offer {
-                byte: 0x90,
-                at: 0x0000
-            })
-        );
-        psu.settle(Romc::FETCH, 0x90, 4, false);
-        assert_eq!(rt;
-            psu.offer(Romc::DISPLACEMENT, false),
-            Some(Offer {
-                byte: 0xFD,
-                at: 0x0001
-            })
-        );
-        psu.settle(Romc::DISPLACEMENT, 0xFD, 6, false);
-        assert_eq!(rt;
-            psu.counters(),
-            Counters {
-                pc0: 0xFFFE,
-                pc1: 0,
-                dc0: 0,
-                dc1: None
-            }
-        );
-        assert_eq!(rt; psu.offer(Romc::FETCH, false), None);
-        Ok(())
+    fn takes(&self, _at: u16) -> bool {
+        false
     }
 
-    // Reset keeps the program counter in the stack register.
-    #[test]
-    fn resets_from_power_on(rt: HostRuntime) {
-        let mut psu = Psu::blank();
-        psu.power(0, 0x1234);
-        psu.settle(Romc::IDLE, 0, 4, false);
-        psu.settle(Romc::RESET, 0, 6, false);
-        assert_eq!(rt;
-            psu.counters(),
-            Counters {
-                pc0: 0,
-                pc1: 0x1234,
-                dc0: 0x1234,
-                dc1: None
-            }
-        );
+    fn latch(&self, port: u8) -> Option<u8> {
+        let place = self.data_port(port)?;
+        Some(self.latches[place])
+    }
+
+    fn keys(&mut self, port: u8, byte: u8) {
+        if let Some(place) = self.data_port(port) {
+            self.key_bytes[place] = byte;
+        }
+    }
+
+    fn pulse(&mut self) {
+        if self.control % 4 == 1 {
+            self.request = true;
+        }
     }
 }

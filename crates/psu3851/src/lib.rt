@@ -1,7 +1,10 @@
-//! The 3851, program storage unit (Mostek 3851 data sheet): 1,024 bytes of ROM, a program counter, a stack register and one data
-//! counter.
+//! The 3851, program storage unit (Mostek 3851 data sheet): 1,024 bytes of ROM, two data ports, a program counter, a stack register and
+//! one data counter.
 #![tactic(auto)]
 
 mod chip;
 
 pub use chip::Psu;
+
+#[cfg(test)]
+mod tests;

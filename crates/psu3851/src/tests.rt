@@ -1,0 +1,89 @@
+use super::*;
+use chip_face::{Bytes, Chip, ChipKind, ChipSpec, Offer};
+use romc_table::{Counters, Romc};
+use std::test::Fail;
+
+// A branch at 0000 whose displacement byte, FD, stands at 0001: from there -3 leads to FFFE, which the chip doesn't hold.
+#[test]
+fn branches_from_the_displacement_byte(rt: HostRuntime) -> Result<(), Fail> {
+    let mut rom = [0xFF; 1024];
+    rom[0] = 0x90;
+    rom[1] = 0xFD;
+    let spec = ChipSpec::Psu {
+        base: 0,
+        rom: Bytes::of(rt.alloc(), &rom)?,
+        ports: 4,
+        vector: 0,
+        wired: false,
+    };
+    let mut rack: Vec<Box<dyn Chip>> = Vec::new(rt.alloc());
+    rack.push(Box::new(rt.alloc(), Psu::blank())?)?;
+    let psu = &mut rack[0];
+    assert_eq!(rt; psu.peek(0), None);
+    psu.fit(rt.alloc(), &spec)?;
+    assert_eq!(rt; psu.kind(), ChipKind::Psu);
+    assert_eq!(rt; psu.peek(0x03FF), Some(0xFF));
+    assert_eq!(rt; psu.peek(0x0400), None);
+    assert_eq!(rt; psu.takes(0), false);
+
+    psu.power(0, 0);
+    assert_eq!(rt;
+        psu.offer(Romc::FETCH, false),
+        Some(Offer {
+            byte: 0x90,
+            at: 0x0000
+        })
+    );
+    psu.settle(Romc::FETCH, 0x90, 4, false);
+    psu.settle(Romc::DISPLACEMENT, 0xFD, 6, false);
+    assert_eq!(rt;
+        psu.counters(),
+        Counters {
+            pc0: 0xFFFE,
+            pc1: 0,
+            dc0: 0,
+            dc1: None
+        }
+    );
+    assert_eq!(rt; psu.offer(Romc::FETCH, false), None);
+    Ok(())
+}
+
+// Ports 4 to 7: a latch and a key byte at port 4, and at port 6 the control that lets a pulse in. The vector's bit 7 is then set.
+#[test]
+fn asks_after_a_pulse(rt: HostRuntime) -> Result<(), Fail> {
+    let spec = ChipSpec::Psu {
+        base: 0x0800,
+        rom: Bytes::of(rt.alloc(), &[0x2B; 1024])?,
+        ports: 4,
+        vector: 0x1234,
+        wired: true,
+    };
+    let mut rack: Vec<Box<dyn Chip>> = Vec::new(rt.alloc());
+    rack.push(Box::new(rt.alloc(), Psu::blank())?)?;
+    let psu = &mut rack[0];
+    psu.fit(rt.alloc(), &spec)?;
+    psu.power(0, 0);
+
+    psu.settle(Romc::IDLE, 0x04, 6, false);
+    psu.settle(Romc::WRITE_PORT, 0x81, 6, false);
+    psu.keys(4, 0x10);
+    assert_eq!(rt; psu.latch(4), Some(0x81));
+    assert_eq!(rt; psu.latch(6), None);
+    psu.settle(Romc::IDLE, 0x04, 6, false);
+    assert_eq!(rt; psu.offer(Romc::READ_PORT, false), Some(Offer { byte: 0x91, at: 0x04 }));
+
+    psu.pulse();
+    assert_eq!(rt; psu.asks(), false);
+    psu.settle(Romc::IDLE, 0x06, 6, false);
+    psu.settle(Romc::WRITE_PORT, 0x01, 6, false);
+    psu.pulse();
+    if psu.asks() {
+        assert_eq!(rt; psu.offer(Romc::VECTOR_LOW, true), Some(Offer { byte: 0xB4, at: 0x12B4 }));
+        psu.settle(Romc::VECTOR_HIGH, 0x12, 6, true);
+        assert_eq!(rt; psu.asks(), false);
+        assert_eq!(rt; psu.counters().pc0, 0x1200);
+        return Ok(());
+    }
+    Err(Fail::from("a pulse under control 1 is to be a request"))
+}
