@@ -1,0 +1,2 @@
+pub mod SmiState
+pub mod Spaces

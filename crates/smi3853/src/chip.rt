@@ -1,0 +1,301 @@
+ghost use Rattle.std.specs.Prelude.{◌≡◌};
+
+use super::space::Space;
+use chip_face::{Chip, ChipKind, ChipSpec, FitFault, Offer};
+use f8_counters::{Registers, with_high, with_low};
+use romc_table::{Counters, Romc};
+use std::alloc::Global;
+
+/// The first of the four ports of a 3853.
+const FIRST_PORT: u8 = 0x0C;
+
+/// A 3853. It tells no step that it heard, and has no patch.
+#[derive(Drop)]
+pub struct Smi {
+    registers: Registers,
+
+    /// The byte of the last bus step.
+    last: u8,
+
+    /// The pages and their bytes, and none while it is blank.
+    space: Option<Space>,
+
+    /// The last byte written to the control port. Its low two bits are 1 to let pulses in, and 3 to let the timer's expiries in.
+    control: u8,
+
+    /// The timer's state, and the clocks since its last step.
+    timer: u8,
+    phase: u8,
+    vector: u16,
+    wired: bool,
+
+    /// A request is latched.
+    request: bool,
+}
+
+impl Smi {
+    ghost use Rattle.smi3853.specs.SmiState.{smi_state, blank_smi};
+
+    /// A 3853 that holds no address and has no port, with its counters at 0.
+    pub fn blank() -> Smi
+        ensures { smi_state result ≡ blank_smi }
+    {
+        Smi {
+            registers: Registers::at(0),
+            last: 0,
+            space: None,
+            control: 0,
+            timer: 255,
+            phase: 0,
+            vector: 0,
+            wired: false,
+            request: false,
+        }
+    }
+}
+
+/// What a chip offers.
+impl Smi {
+    ghost use Rattle.std.specs.Prelude.{◌/◌, ◌%◌, Some, None, if◌then◌else◌, option_map};
+    ghost use Rattle.f8_spec.specs.ChipState.{byte_offer, given_vector, has_ram_at, held_byte, holds};
+    ghost use Rattle.smi3853.specs.SmiState.{smi_view};
+
+    /// The address lies in one of the chip's pages.
+    #[inline]
+    fn holds(&self, at: u16) -> bool
+        ensures { result ≡ holds (smi_view self.now) at }
+    {
+        match &self.space {
+            Some(space) => space.holds(at),
+            None => false,
+        }
+    }
+
+    /// The byte at one of the chip's counters.
+    #[inline]
+    fn byte_at(&self, at: u16) -> Option<Offer>
+        ensures { result ≡ option_map (byte_offer at) (held_byte (smi_view self.now) at) }
+    {
+        let byte = self.peek(at)?;
+        Some(Offer { byte, at })
+    }
+
+    /// The high byte of one of the chip's counters, where the chip holds that address.
+    #[inline]
+    fn high_of(&self, at: u16) -> Option<Offer>
+        ensures { result ≡ (if holds (smi_view self.now) at then Some (byte_offer at (at / 256)) else None) }
+    {
+        if self.holds(at) {
+            Some(Offer {
+                byte: (at / 256) as u8,
+                at,
+            })
+        } else {
+            None
+        }
+    }
+
+    /// The low byte of one of the chip's counters, where the chip holds that address.
+    #[inline]
+    fn low_of(&self, at: u16) -> Option<Offer>
+        ensures { result ≡ (if holds (smi_view self.now) at then Some (byte_offer at (at % 256)) else None) }
+    {
+        if self.holds(at) {
+            Some(Offer {
+                byte: (at % 256) as u8,
+                at,
+            })
+        } else {
+            None
+        }
+    }
+
+    /// A store at one of the chip's counters, which the chip takes in RAM.
+    #[inline]
+    fn taken_at(&self, at: u16) -> Option<Offer>
+        ensures { result ≡ (if has_ram_at (smi_view self.now) at then Some (byte_offer at 0) else None) }
+    {
+        if self.takes(at) {
+            Some(Offer { byte: 0, at })
+        } else {
+            None
+        }
+    }
+
+    /// The vector given for a request: bit 7 of its low byte is clear for the timer, and set for a pulse.
+    #[inline]
+    fn given_vector(&self) -> u16
+        ensures { result ≡ given_vector (smi_view self.now) }
+    {
+        let source = if self.control % 4 == 3 { 0 } else { 128 };
+        self.vector / 256 * 256 + source + self.vector % 128
+    }
+}
+
+/// Ports.
+impl Smi {
+    ghost use Rattle.std.specs.Prelude.{option_and_then};
+    ghost use Rattle.f8_spec.specs.ChipState.{offset_from, port_role, port_written_if, stored};
+    ghost use Rattle.smi3853.specs.SmiState.{smi_view};
+
+    /// The place of a port among the chip's four, and `None` where the chip doesn't have it.
+    #[inline]
+    fn port_offset(&self, port: u8) -> Option<u8>
+        ensures { result ≡ option_and_then (offset_from port) (smi_view self.now).ports }
+    {
+        let _space = self.space.as_ref()?;
+        let offset = port.checked_sub(FIRST_PORT)?;
+        if offset < 4 { Some(offset) } else { None }
+    }
+
+    /// A byte for a port, which is lost where the chip doesn't have it. A write to control ends a latched request.
+    fn write_port(&mut self, port: u8, byte: u8)
+        ensures { smi_view self.new ≡ port_written_if (port_role (smi_view self.old) port) byte (smi_view self.old) }
+    {
+        match self.port_offset(port) {
+            Some(0) => self.vector = with_high(self.vector, byte),
+            Some(1) => self.vector = with_low(self.vector, byte),
+            Some(2) => {
+                self.control = byte;
+                self.request = false;
+            }
+            Some(3) => {
+                self.timer = byte;
+                self.phase = 0;
+            }
+            _ => {}
+        }
+    }
+
+    /// A byte stored at an address, which is lost where the chip has no RAM.
+    #[inline]
+    fn store(&mut self, at: u16, byte: u8)
+        ensures { smi_view self.new ≡ stored at byte (smi_view self.old) }
+    {
+        if let Some(space) = &mut self.space {
+            space.store(at, byte);
+        }
+    }
+}
+
+impl Chip for Smi {
+    ghost use Rattle.smi3853.specs.SmiState.{smi_state};
+
+    ghost state = { smi_state };
+
+    fn kind(&self) -> ChipKind {
+        ChipKind::Smi
+    }
+
+    fn fit(&mut self, alloc: Global, spec: &ChipSpec) -> Result<(), FitFault> {
+        match spec {
+            ChipSpec::Blank(ChipKind::Smi) => {
+                *self = Smi::blank();
+                Ok(())
+            }
+            ChipSpec::Smi { pages, rom, wired } => {
+                match Space::new(alloc, pages.as_slice(), rom.as_slice()) {
+                    Ok(space) => {
+                        *self = Smi::blank();
+                        self.space = Some(space);
+                        self.wired = *wired;
+                        Ok(())
+                    }
+                    Err(_) => Err(FitFault::Memory),
+                }
+            }
+            ChipSpec::Blank(ChipKind::Psu) | ChipSpec::Psu { .. } => Err(FitFault::WrongKind),
+        }
+    }
+
+    fn power(&mut self, fill: u8, start: u16) {
+        self.registers = Registers::at(start);
+        self.last = 0;
+        self.control = 0;
+        self.timer = 255;
+        self.phase = 0;
+        self.vector = 0;
+        self.request = false;
+        if let Some(space) = &mut self.space {
+            space.fill_ram(fill);
+        }
+    }
+
+    fn offer(&self, romc: Romc, first: bool) -> Option<Offer> {
+        let counters = self.registers.counters(true);
+        match romc.number() {
+            0x00 | 0x01 | 0x03 | 0x0C | 0x0E | 0x11 => self.byte_at(counters.pc0),
+            0x02 => self.byte_at(counters.dc0),
+            0x05 => self.taken_at(counters.dc0),
+            0x06 => self.high_of(counters.dc0),
+            0x07 => self.high_of(counters.pc1),
+            0x09 => self.low_of(counters.dc0),
+            0x0B => self.low_of(counters.pc1),
+            0x1E => self.low_of(counters.pc0),
+            0x1F => self.high_of(counters.pc0),
+            0x0F if first => {
+                let at = self.given_vector();
+                let byte = (at % 256) as u8;
+                Some(Offer { byte, at })
+            }
+            0x13 if first => {
+                let at = self.given_vector();
+                let byte = (at / 256) as u8;
+                Some(Offer { byte, at })
+            }
+            // A port goes by the last byte, which names it. The chip takes a byte.
+            0x1A => {
+                let _offset = self.port_offset(self.last)?;
+                let at = u16::from(self.last);
+                Some(Offer { byte: 0, at })
+            }
+            // No port of a 3853 can be read.
+            _ => None,
+        }
+    }
+
+    fn settle(&mut self, romc: Romc, byte: u8, _phi: u8, first: bool) {
+        match romc.number() {
+            0x05 => {
+                let at = self.registers.counters(true).dc0;
+                self.store(at, byte);
+            }
+            0x13 if first => self.request = false,
+            0x1A => self.write_port(self.last, byte),
+            _ => {}
+        }
+        self.registers.hear(romc, byte, true);
+        self.last = byte;
+    }
+
+    fn asks(&self) -> bool {
+        self.wired && self.request
+    }
+
+    fn counters(&self) -> Counters {
+        self.registers.counters(true)
+    }
+
+    fn peek(&self, at: u16) -> Option<u8> {
+        self.space.as_ref()?.byte(at)
+    }
+
+    fn takes(&self, at: u16) -> bool {
+        match &self.space {
+            Some(space) => space.has_ram(at),
+            None => false,
+        }
+    }
+
+    fn latch(&self, _port: u8) -> Option<u8> {
+        None
+    }
+
+    fn keys(&mut self, _port: u8, _byte: u8) {}
+
+    fn pulse(&mut self) {
+        if self.control % 4 == 1 {
+            self.request = true;
+        }
+    }
+}

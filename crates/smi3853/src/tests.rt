@@ -1,0 +1,104 @@
+use super::*;
+use chip_face::{Bytes, Chip, ChipKind, ChipSpec, Offer, Page, PageList, PageSort};
+use romc_table::{Counters, Romc};
+use std::test::Fail;
+
+// A ROM page at 00, a RAM page at 28 and a void page at 80: a store is kept in RAM, and lost in ROM and where there is nothing.
+#[test]
+fn stores_in_ram_alone(rt: HostRuntime) -> Result<(), Fail> {
+    let pages = [
+        Page {
+            number: 0x00,
+            sort: PageSort::Rom,
+        },
+        Page {
+            number: 0x28,
+            sort: PageSort::Ram,
+        },
+        Page {
+            number: 0x80,
+            sort: PageSort::Void,
+        },
+    ];
+    let spec = ChipSpec::Smi {
+        pages: PageList::of(rt.alloc(), &pages)?,
+        rom: Bytes::of(rt.alloc(), &[0x2B; 256])?,
+        wired: true,
+    };
+    let mut rack: Vec<Box<dyn Chip>> = Vec::new(rt.alloc());
+    rack.push(Box::new(rt.alloc(), Smi::blank())?)?;
+    let smi = &mut rack[0];
+    assert_eq!(rt; smi.kind(), ChipKind::Smi);
+    assert_eq!(rt; smi.peek(0x2800), None);
+    smi.fit(rt.alloc(), &spec)?;
+    smi.power(0x5A, 0x28FF);
+    assert_eq!(rt; smi.peek(0x00FF), Some(0x2B));
+    assert_eq!(rt; smi.peek(0x2801), Some(0x5A));
+    assert_eq!(rt; smi.peek(0x8000), Some(0xFF));
+    assert_eq!(rt; smi.peek(0x0100), None);
+    assert_eq!(rt; smi.takes(0x2801), true);
+    assert_eq!(rt; smi.takes(0x8000), false);
+
+    assert_eq!(rt;
+        smi.offer(Romc::STORE_DATA, false),
+        Some(Offer {
+            byte: 0x00,
+            at: 0x28FF
+        })
+    );
+    smi.settle(Romc::STORE_DATA, 0x12, 6, false);
+    assert_eq!(rt; smi.peek(0x28FF), Some(0x12));
+    smi.settle(Romc::SET_DATA_HIGH, 0x00, 6, false);
+    smi.settle(Romc::SET_DATA_LOW, 0x10, 6, false);
+    assert_eq!(rt; smi.offer(Romc::STORE_DATA, false), None);
+    smi.settle(Romc::STORE_DATA, 0x34, 6, false);
+    assert_eq!(rt; smi.peek(0x0010), Some(0x2B));
+    Ok(())
+}
+
+// The data counters change places, and the ports 0C and 0D set the vector that a pulse under control 1 gives.
+#[test]
+fn exchanges_and_vectors(rt: HostRuntime) -> Result<(), Fail> {
+    let spec = ChipSpec::Smi {
+        pages: PageList::of(rt.alloc(), &[])?,
+        rom: Bytes::of(rt.alloc(), &[])?,
+        wired: true,
+    };
+    let mut rack: Vec<Box<dyn Chip>> = Vec::new(rt.alloc());
+    rack.push(Box::new(rt.alloc(), Smi::blank())?)?;
+    let smi = &mut rack[0];
+    smi.fit(rt.alloc(), &spec)?;
+    smi.power(0x00, 0x0101);
+    smi.settle(Romc::SET_DATA_LOW, 0x77, 6, false);
+    smi.settle(Romc::EXCHANGE, 0x00, 4, false);
+    assert_eq!(rt;
+        smi.counters(),
+        Counters {
+            pc0: 0x0101,
+            pc1: 0x0101,
+            dc0: 0x0101,
+            dc1: Some(0x0177)
+        }
+    );
+
+    smi.settle(Romc::IDLE, 0x0C, 6, false);
+    smi.settle(Romc::WRITE_PORT, 0x12, 6, false);
+    smi.settle(Romc::IDLE, 0x0D, 6, false);
+    smi.settle(Romc::WRITE_PORT, 0x34, 6, false);
+    smi.settle(Romc::IDLE, 0x0E, 6, false);
+    smi.settle(Romc::WRITE_PORT, 0x01, 6, false);
+    assert_eq!(rt; smi.latch(0x0C), None);
+    smi.keys(0x0C, 0xFF);
+    smi.pulse();
+    if smi.asks() {
+        assert_eq!(rt;
+            smi.offer(Romc::VECTOR_LOW, true),
+            Some(Offer {
+                byte: 0xB4,
+                at: 0x12B4
+            })
+        );
+        return Ok(());
+    }
+    Err(Fail::from("a pulse under control 1 is to be a request"))
+}
