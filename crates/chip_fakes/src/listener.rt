@@ -1,0 +1,130 @@
+ghost use Rattle.std.specs.Prelude.{◌≡◌, ◌≤◌, IfOk};
+ghost use Rattle.f8_spec.specs.ChipState.{told_step};
+ghost use Rattle.chip_fakes.specs.RecorderView.{heard_step};
+
+use super::recorder::{Heard, Recorder};
+use super::round::Round;
+use chip_face::{Chip, ChipKind, ChipSpec, FitFault, Memory, Offer};
+use psu3851::Psu;
+use romc_table::{Counters, Romc};
+use smi3853::Smi;
+use std::alloc::Global;
+
+/// A storage chip that tells the steps that it heard since power-on, as long as they are no more than its room. Past that it no longer
+/// tells. It has no patch. What it tells is seen by contracts alone.
+#[derive(Drop)]
+pub struct Listener {
+    chip: Round,
+    recorder: Recorder,
+}
+
+impl Listener {
+    ghost use Rattle.f8_spec.specs.declared.chips.ChipKind.TheVariants.{Psu as PsuKind, Smi as SmiKind};
+    ghost use Rattle.chip_fakes.specs.ListenerState.{blank_listener, listener_state, recording_of};
+
+    /// A blank 3851 that tells up to `room` steps, at most 1,000,000, or want of memory: the room is taken here.
+    pub fn round_psu(alloc: Global, room: u32) -> Result<Listener, Memory>
+        requires { room ≤ 1000000 }
+        ensures state { IfOk result (λ listener. listener_state listener ≡ blank_listener PsuKind) }
+        ensures room { IfOk result (λ listener. (recording_of listener).room ≡ room) }
+    {
+        Ok(Listener {
+            chip: Round::OfPsu(Psu::blank()),
+            recorder: Recorder::with_room(alloc, room)?,
+        })
+    }
+
+    /// A blank 3853 that tells up to `room` steps, at most 1,000,000, or want of memory: the room is taken here.
+    pub fn round_smi(alloc: Global, room: u32) -> Result<Listener, Memory>
+        requires { room ≤ 1000000 }
+        ensures state { IfOk result (λ listener. listener_state listener ≡ blank_listener SmiKind) }
+        ensures room { IfOk result (λ listener. (recording_of listener).room ≡ room) }
+    {
+        Ok(Listener {
+            chip: Round::OfSmi(Smi::blank()),
+            recorder: Recorder::with_room(alloc, room)?,
+        })
+    }
+}
+
+/// A step as it is told: with the mark in the two codes of an acknowledgement alone.
+fn told(romc: Romc, byte: u8, phi: u8, first: bool) -> Heard
+    ensures { heard_step result ≡ told_step (record { romc = romc; byte = byte; clocks = phi; first = first }) }
+{
+    let acknowledges = romc.number() == 0x0F || romc.number() == 0x13;
+    Heard {
+        romc,
+        byte,
+        phi,
+        first: first && acknowledges,
+    }
+}
+
+impl Chip for Listener {
+    ghost use Rattle.std.specs.Prelude.{◌≡◌};
+    ghost use Rattle.f8_spec.specs.ChipState.{MayHear, PowersOn, Settles, told_step};
+    ghost use Rattle.chip_face.specs.Steps.{IsStepLength};
+    ghost use Rattle.chip_fakes.specs.ListenerState.{listener_state, recording_of};
+    ghost use Rattle.chip_fakes.specs.Recording.{emptied, recorded};
+
+    ghost state = { listener_state };
+
+    fn kind(&self) -> ChipKind {
+        self.chip.kind()
+    }
+
+    fn fit(&mut self, alloc: Global, spec: &ChipSpec) -> Result<(), FitFault> {
+        self.chip.fit(alloc, spec)
+    }
+
+    fn power(&mut self, fill: u8, start: u16)
+        ensures powers { PowersOn fill start (listener_state self.old) (listener_state self.new) }
+        ensures recording { recording_of self.new ≡ emptied (recording_of self.old) }
+    {
+        self.chip.power(fill, start);
+        self.recorder.forget();
+    }
+
+    fn offer(&self, romc: Romc, first: bool) -> Option<Offer> {
+        self.chip.offer(romc, first)
+    }
+
+    #[tactic(auto, using(crate::proofs::Hearing::hears_recorded))]
+    fn settle(&mut self, romc: Romc, byte: u8, phi: u8, first: bool)
+        requires step_length { IsStepLength phi }
+        requires may_hear { MayHear romc first (listener_state self.old).view }
+        ensures settles { Settles 0 (record { romc = romc; byte = byte; clocks = phi; first = first }) (listener_state self.old) (listener_state self.new) }
+        ensures recording { recording_of self.new ≡ recorded (told_step (record { romc = romc; byte = byte; clocks = phi; first = first })) (recording_of self.old) }
+    {
+        self.chip.settle(romc, byte, phi, first);
+        self.recorder.hear(told(romc, byte, phi, first));
+    }
+
+    fn asks(&self) -> bool {
+        self.chip.asks()
+    }
+
+    fn counters(&self) -> Counters {
+        self.chip.counters()
+    }
+
+    fn peek(&self, at: u16) -> Option<u8> {
+        self.chip.peek(at)
+    }
+
+    fn takes(&self, at: u16) -> bool {
+        self.chip.takes(at)
+    }
+
+    fn latch(&self, port: u8) -> Option<u8> {
+        self.chip.latch(port)
+    }
+
+    fn keys(&mut self, port: u8, byte: u8) {
+        self.chip.keys(port, byte);
+    }
+
+    fn pulse(&mut self) {
+        self.chip.pulse();
+    }
+}

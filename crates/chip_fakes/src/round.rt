@@ -1,0 +1,102 @@
+use chip_face::{Chip, ChipKind, ChipSpec, FitFault, Offer};
+use psu3851::Psu;
+use romc_table::{Counters, Romc};
+use smi3853::Smi;
+use std::alloc::Global;
+
+/// A chip of one of the two kinds, which tells no step that it heard and has no patch.
+#[derive(Drop)]
+pub enum Round {
+    OfPsu(Psu),
+    OfSmi(Smi),
+}
+
+impl Chip for Round {
+    ghost use Rattle.chip_fakes.specs.Rounds.{round_state};
+
+    ghost state = { round_state };
+
+    fn kind(&self) -> ChipKind {
+        match self {
+            Round::OfPsu(psu) => psu.kind(),
+            Round::OfSmi(smi) => smi.kind(),
+        }
+    }
+
+    fn fit(&mut self, alloc: Global, spec: &ChipSpec) -> Result<(), FitFault> {
+        match self {
+            Round::OfPsu(psu) => psu.fit(alloc, spec),
+            Round::OfSmi(smi) => smi.fit(alloc, spec),
+        }
+    }
+
+    fn power(&mut self, fill: u8, start: u16) {
+        match self {
+            Round::OfPsu(psu) => psu.power(fill, start),
+            Round::OfSmi(smi) => smi.power(fill, start),
+        }
+    }
+
+    fn offer(&self, romc: Romc, first: bool) -> Option<Offer> {
+        match self {
+            Round::OfPsu(psu) => psu.offer(romc, first),
+            Round::OfSmi(smi) => smi.offer(romc, first),
+        }
+    }
+
+    fn settle(&mut self, romc: Romc, byte: u8, phi: u8, first: bool) {
+        match self {
+            Round::OfPsu(psu) => psu.settle(romc, byte, phi, first),
+            Round::OfSmi(smi) => smi.settle(romc, byte, phi, first),
+        }
+    }
+
+    fn asks(&self) -> bool {
+        match self {
+            Round::OfPsu(psu) => psu.asks(),
+            Round::OfSmi(smi) => smi.asks(),
+        }
+    }
+
+    fn counters(&self) -> Counters {
+        match self {
+            Round::OfPsu(psu) => psu.counters(),
+            Round::OfSmi(smi) => smi.counters(),
+        }
+    }
+
+    fn peek(&self, at: u16) -> Option<u8> {
+        match self {
+            Round::OfPsu(psu) => psu.peek(at),
+            Round::OfSmi(smi) => smi.peek(at),
+        }
+    }
+
+    fn takes(&self, at: u16) -> bool {
+        match self {
+            Round::OfPsu(psu) => psu.takes(at),
+            Round::OfSmi(smi) => smi.takes(at),
+        }
+    }
+
+    fn latch(&self, port: u8) -> Option<u8> {
+        match self {
+            Round::OfPsu(psu) => psu.latch(port),
+            Round::OfSmi(smi) => smi.latch(port),
+        }
+    }
+
+    fn keys(&mut self, port: u8, byte: u8) {
+        match self {
+            Round::OfPsu(psu) => psu.keys(port, byte),
+            Round::OfSmi(smi) => smi.keys(port, byte),
+        }
+    }
+
+    fn pulse(&mut self) {
+        match self {
+            Round::OfPsu(psu) => psu.pulse(),
+            Round::OfSmi(smi) => smi.pulse(),
+        }
+    }
+}
