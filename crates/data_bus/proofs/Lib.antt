@@ -1,0 +1,5 @@
+pub mod Answers
+pub mod Racks
+pub mod Gathering
+pub mod CodeFacts
+pub mod Judging

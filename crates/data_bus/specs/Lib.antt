@@ -1,0 +1,3 @@
+pub mod Racks
+pub mod Polling
+pub mod Steps

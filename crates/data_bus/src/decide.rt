@@ -1,0 +1,155 @@
+ghost use Rattle.std.specs.Prelude.{◌≡◌};
+ghost use Rattle.f8_spec.specs.BusCodes.{driver_of as driver_by_table};
+ghost use Rattle.f8_spec.specs.BusArbitration.{Served as ServedBy, Astray, Undriven, byte_by, one_party, port_read_verdict, port_write_verdict, read_verdict, store_verdict, unless_bystander};
+ghost use Rattle.data_bus.specs.Steps.{answered, poll_answer};
+
+use super::poll::Poll;
+use super::{BusFault, Cycle, Parties, Served};
+use f8_spec::{BusRule, Party};
+use romc_table::{Driver, Romc, driver_of};
+
+/// A step that is to be decided: its code, its byte where it is served, and the address in the probe's counter, or the port.
+#[derive(Clone, Copy)]
+struct Pending {
+    romc: Romc,
+    byte: u8,
+    reference: u16,
+}
+
+impl Pending {
+    fn served(self, socket: Option<u8>) -> Result<Served, BusFault>
+        ensures { result ≡ answered self.romc self.byte (ServedBy socket) }
+    {
+        Ok(Served {
+            byte: self.byte,
+            socket,
+        })
+    }
+
+    fn undriven(self) -> Result<Served, BusFault>
+        ensures { result ≡ answered self.romc self.byte (Undriven self.reference) }
+    {
+        let romc = self.romc;
+        let at = self.reference;
+        Err(BusFault::Undriven { romc, at })
+    }
+
+    fn astray(self, party: Party) -> Result<Served, BusFault>
+        ensures { result ≡ answered self.romc self.byte (Astray party.socket party.at self.reference) }
+    {
+        Err(BusFault::Astray {
+            romc: self.romc,
+            socket: party.socket,
+            at: party.at,
+            reference: self.reference,
+        })
+    }
+
+    /// Served, unless a chip stands by at the probe's address.
+    fn unless_bystander(
+        self,
+        socket: Option<u8>,
+        bystander: Option<Party>,
+    ) -> Result<Served, BusFault>
+        ensures { result ≡ answered self.romc self.byte (unless_bystander self.reference socket bystander) }
+    {
+        match bystander {
+            None => self.served(socket),
+            Some(party) => self.astray(party),
+        }
+    }
+
+    /// One chip drives or takes: it has to be at the probe's address, and the only one there.
+    fn one_party(self, party: Party, bystander: Option<Party>) -> Result<Served, BusFault>
+        ensures { result ≡ answered self.romc self.byte (one_party self.reference party bystander) }
+    {
+        if party.at == self.reference {
+            self.unless_bystander(Some(party.socket), bystander)
+        } else {
+            self.astray(party)
+        }
+    }
+
+    /// A chip has to drive the byte.
+    fn read(self, parties: Parties, bystander: Option<Party>) -> Result<Served, BusFault>
+        ensures { result ≡ answered self.romc self.byte (read_verdict self.reference parties bystander) }
+    {
+        let romc = self.romc;
+        match parties.as_slice() {
+            [] => self.undriven(),
+            [party] => self.one_party(*party, bystander),
+            [_, _, ..] => Err(BusFault::Conflict { romc, parties }),
+        }
+    }
+
+    /// A chip may take the byte. One that none takes is lost.
+    fn store(self, parties: Parties, bystander: Option<Party>) -> Result<Served, BusFault>
+        ensures { result ≡ answered self.romc self.byte (store_verdict self.reference parties bystander) }
+    {
+        let romc = self.romc;
+        match parties.as_slice() {
+            [] => self.unless_bystander(None, bystander),
+            [party] => self.one_party(*party, bystander),
+            [_, _, ..] => Err(BusFault::Conflict { romc, parties }),
+        }
+    }
+
+    /// A chip that has the port has to drive its byte.
+    fn port_read(self, parties: Parties) -> Result<Served, BusFault>
+        ensures { result ≡ answered self.romc self.byte (port_read_verdict self.reference parties) }
+    {
+        let romc = self.romc;
+        match parties.as_slice() {
+            [] => self.undriven(),
+            [party] => self.served(Some(party.socket)),
+            [_, _, ..] => Err(BusFault::Conflict { romc, parties }),
+        }
+    }
+
+    /// A chip that has the port may take the byte.
+    fn port_write(self, parties: Parties) -> Result<Served, BusFault>
+        ensures { result ≡ answered self.romc self.byte (port_write_verdict parties) }
+    {
+        let romc = self.romc;
+        match parties.as_slice() {
+            [] => self.served(None),
+            [party] => self.served(Some(party.socket)),
+            [_, _, ..] => Err(BusFault::Conflict { romc, parties }),
+        }
+    }
+}
+
+/// The byte on the bus: the CPU's, 00 where nobody drives, and else the chip's.
+fn bus_byte(romc: Romc, cpu: u8, chip: u8) -> u8
+    ensures { result ≡ byte_by (driver_by_table romc) cpu chip }
+{
+    match driver_of(romc) {
+        Driver::Cpu => cpu,
+        Driver::Nobody => 0,
+        Driver::Memory | Driver::CounterByte | Driver::Vector | Driver::Port => chip,
+    }
+}
+
+/// Decides a step by what the chips answered.
+pub(crate) fn decide(
+    rule: BusRule,
+    cycle: &Cycle,
+    reference: u16,
+    poll: Poll,
+) -> Result<Served, BusFault>
+    ensures { result ≡ poll_answer rule cycle.now reference poll }
+{
+    let pending = Pending {
+        romc: cycle.romc,
+        byte: bus_byte(cycle.romc, cycle.byte, poll.byte),
+        reference,
+    };
+    match rule {
+        BusRule::Read => pending.read(poll.parties, poll.bystander),
+        BusRule::Store => pending.store(poll.parties, poll.bystander),
+        BusRule::PortRead => pending.port_read(poll.parties),
+        BusRule::PortWrite => pending.port_write(poll.parties),
+        BusRule::Vector => pending.served(cycle.first),
+        BusRule::NoChip => pending.served(None),
+    }
+}

@@ -1,0 +1,71 @@
+ghost use Rattle.std.specs.Prelude.{◌≡◌};
+
+use super::Parties;
+use romc_table::Romc;
+
+/// Why a bus step isn't served. That such a step is refused is this project's own rule.
+#[derive(Debug, Drop)]
+pub enum BusFault {
+    /// Several chips drive, or take: each with the address in its own counter, or with the port.
+    Conflict {
+        romc: Romc,
+        parties: Parties,
+    },
+
+    /// No chip drives: the address in the probe's counter, or the port.
+    Undriven {
+        romc: Romc,
+        at: u16,
+    },
+
+    /// One chip drives or takes away from the probe; or another chip holds the probe's address, in a store in RAM, and does neither.
+    /// The chip's socket, the address in its own counter, and that in the probe's.
+    Astray {
+        romc: Romc,
+        socket: u8,
+        at: u16,
+        reference: u16,
+    },
+}
+
+impl BusFault {
+    ghost use Rattle.data_bus.specs.Steps.{fault_number};
+
+    /// The same fault.
+    pub fn copy(&self) -> BusFault
+        ensures { result ≡ self.now }
+    {
+        match self {
+            BusFault::Conflict { romc, parties } => BusFault::Conflict {
+                romc: *romc,
+                parties: parties.copy(),
+            },
+            BusFault::Undriven { romc, at } => BusFault::Undriven {
+                romc: *romc,
+                at: *at,
+            },
+            BusFault::Astray {
+                romc,
+                socket,
+                at,
+                reference,
+            } => BusFault::Astray {
+                romc: *romc,
+                socket: *socket,
+                at: *at,
+                reference: *reference,
+            },
+        }
+    }
+
+    /// The number of the cause: 1 for `Conflict`, 2 for `Undriven`, 3 for `Astray`.
+    pub fn number(&self) -> u8
+        ensures { result ≡ fault_number self.now }
+    {
+        match self {
+            BusFault::Conflict { .. } => 1,
+            BusFault::Undriven { .. } => 2,
+            BusFault::Astray { .. } => 3,
+        }
+    }
+}

@@ -1,0 +1,25 @@
+//! The data bus of a rack of storage chips: one bus step asks the chips, decides by the bus rule, and either every chip and the probe
+//! settle the step, or none does.
+#![tactic(auto)]
+
+mod ask;
+mod cycle;
+mod decide;
+mod fault;
+mod order;
+mod parties;
+mod poll;
+mod rule;
+mod settle;
+mod transfer;
+
+use chip_face::Chip;
+pub use cycle::{Cycle, Served};
+pub use f8_spec::Party;
+pub use fault::BusFault;
+pub use order::order_law;
+pub use parties::Parties;
+pub use transfer::step;
+
+/// The chips of a machine, by their sockets: a chip's place is its socket.
+pub type Rack = Vec<Box<dyn Chip>>;

@@ -1,0 +1,8 @@
+ghost use Rattle.f8_spec.specs.OrderLaw.{OrderLaw};
+
+/// The order law of the bus rule: rearrange the chips of a rack and rename their sockets, no two alike, and the acknowledged one with
+/// them. The byte is the same, and so are the served socket, renamed, or the kind of fault with its parties. This call does nothing; its
+/// contract is the law.
+pub fn order_law()
+    ensures { OrderLaw }
+{}

@@ -1,0 +1,81 @@
+ghost use Rattle.std.specs.Prelude.{◌≡◌, ◌<◌, ◌≤◌, ◌+◌, ◌==◌, ◌++◌, [], ◌∷◌, length, slice_index_or};
+
+use f8_spec::Party;
+use std::marker::Model;
+
+/// The most chips that a rack has.
+pub(crate) const SOCKETS: usize = 16;
+
+/// The chips that drive or take a byte in one bus step, at most 16, in ascending order of their sockets. Contracts see the list.
+#[derive(Debug, Drop)]
+pub struct Parties {
+    items: [Party; SOCKETS],
+    len: usize,
+}
+
+impl Model for Parties {
+    ghost use Rattle.std.specs.Prelude.{List, ◌≤◌, ◌≡◌, length, take};
+    ghost use Rattle.f8_spec.specs.declared.bus.Party.{Party};
+
+    ghost Value = { List Party };
+
+    ghost view = { λ p. take p.len p.items };
+
+    ghost invariant = { λ p. (p.len ≤ 16) × (length p.items ≡ 16) };
+}
+
+impl Parties {
+    /// No party.
+    pub fn new() -> Parties
+        ensures { result ≡ [] }
+    {
+        Parties {
+            items: [Party { socket: 0, at: 0 }; SOCKETS],
+            len: 0,
+        }
+    }
+
+    /// Adds a party behind the others.
+    pub fn push(&mut self, party: Party)
+        requires { length self.old < 16 }
+        ensures { self.new ≡ self.old ++ party ∷ [] }
+    {
+        let len = self.len;
+        self.items[len] = party;
+        self.len = len + 1;
+    }
+
+    /// All of them.
+    pub fn as_slice(&self) -> &[Party]
+        ensures value { result.now ≡ self.now }
+        ensures few { length result.now ≤ 16 }
+    {
+        let len = self.len;
+        &self.items[..len]
+    }
+
+    /// How many there are.
+    pub fn len(&self) -> usize
+        ensures value { result ≡ length self.now }
+        ensures few { result ≤ 16 }
+    {
+        self.len
+    }
+
+    /// There is none.
+    pub fn is_empty(&self) -> bool
+        ensures { result ≡ (length self.now == 0) }
+    {
+        self.len == 0
+    }
+
+    /// The same parties.
+    pub fn copy(&self) -> Parties
+        ensures { result ≡ self.now }
+    {
+        Parties {
+            items: self.items,
+            len: self.len,
+        }
+    }
+}

@@ -1,0 +1,69 @@
+ghost use Rattle.std.specs.Prelude.{◌≡◌, ◌≤◌, length, map, IfOk, OnErr};
+ghost use Rattle.probe.specs.ProbeState.{probe_after};
+ghost use Rattle.data_bus.specs.Racks.{ChosenAsks, RackSettles, RackStays};
+ghost use Rattle.data_bus.specs.Steps.{probe_place, step_answer};
+
+use super::ask::Question;
+use super::decide::decide;
+use super::poll::gather;
+use super::rule::rule_of;
+use super::settle::settle_all;
+use super::{BusFault, Cycle, Rack, Served};
+use probe::Probe;
+use romc_table::{Counter, Romc, counter_of};
+
+/// The address in the probe's counter, and in a step that goes by no counter the byte last heard, which names the port of a port step.
+fn reference_of(probe: &Probe, romc: Romc) -> u16
+    ensures { result ≡ probe_place romc probe.now }
+{
+    let counters = probe.counters();
+    match counter_of(romc) {
+        Counter::Pc0 => counters.pc0,
+        Counter::Pc1 => counters.pc1,
+        Counter::Dc0 => counters.dc0,
+        Counter::NoCounter => u16::from(probe.last()),
+    }
+}
+
+/// What a step is to answer: every chip is asked, at most once, and the bus rule decides. Nothing changes.
+#[tactic(auto, using(crate::proofs::Racks::may_hear_all))]
+fn ruling(rack: &Rack, probe: &Probe, cycle: &Cycle) -> Result<Served, BusFault>
+    requires few { length rack.now.items ≤ 16 }
+    requires chosen { ChosenAsks cycle.now.romc cycle.now.first (map state rack.now.items) }
+    ensures { result ≡ step_answer cycle.now probe.now (map state rack.now.items) }
+{
+    let question = Question {
+        romc: cycle.romc,
+        rule: rule_of(cycle.romc),
+        reference: reference_of(probe, cycle.romc),
+        first: cycle.first,
+    };
+    let poll = gather(rack, &question);
+    decide(question.rule, cycle, question.reference, poll)
+}
+
+/// One bus step on a rack of at most 16 chips. Every chip is asked, at most once; the bus rule, which is this project's own, decides; and
+/// where the step is served every chip and the probe hear it, each once, with the one byte. Where it isn't, nothing changes.
+///
+/// In the codes 0F and 13 `first` has to name the socket of a chip that asks for an interrupt. In the codes 1A and 1B a chip goes by the
+/// last byte that it heard, which names the port; where all have heard the same steps, that is the probe's.
+#[tactic(auto, using(crate::proofs::Racks::may_hear_all, crate::proofs::Racks::stays_all))]
+pub fn step(rack: &mut Rack, probe: &mut Probe, cycle: Cycle) -> Result<Served, BusFault>
+    requires few { length rack.old.items ≤ 16 }
+    requires chosen { ChosenAsks cycle.romc cycle.first (map state rack.old.items) }
+    ensures answer { result ≡ step_answer cycle probe.old (map state rack.old.items) }
+
+    // Served: every chip and the probe hear the step.
+    ensures settled { IfOk result (λ served. RackSettles cycle.romc cycle.long cycle.first served.byte (map state rack.old.items) (map state rack.new.items)) }
+    ensures heard { IfOk result (λ served. probe.new ≡ probe_after cycle.romc served.byte probe.old) }
+
+    // Not served: nothing changes.
+    ensures stays { OnErr result (RackStays (map state rack.old.items) (map state rack.new.items)) }
+    ensures probe_stays { OnErr result (probe.new ≡ probe.old) }
+    ensures chips { length rack.new.items ≡ length rack.old.items }
+{
+    let served = ruling(rack, probe, &cycle)?;
+    settle_all(rack, &cycle, served.byte);
+    probe.hear(cycle.romc, served.byte);
+    Ok(served)
+}
