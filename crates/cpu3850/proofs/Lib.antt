@@ -1,0 +1,4 @@
+pub mod InstructionRows
+pub mod PlanLaws
+pub mod KeepingLaws
+pub mod ReachingLaws

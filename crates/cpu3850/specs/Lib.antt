@@ -1,0 +1,5 @@
+pub mod CpuSteps
+pub mod StepRows
+pub mod Held
+pub mod Keeping
+pub mod Reaching
