@@ -1,0 +1,3 @@
+pub mod InstructionRows
+pub mod Results
+pub mod Pages

@@ -1,0 +1,4 @@
+pub mod Counters
+pub mod InstructionRows
+pub mod IsaState
+pub mod PageTable

@@ -1,0 +1,77 @@
+use f8_ops::{Op, Row, decode, phi, row_of};
+use std::marker::Model;
+
+/// An instruction, with what its opcode alone says of it: its row, and its clocks, in Φ, where no branch is taken and where one is.
+#[derive(Clone, Copy)]
+pub struct Instruction {
+    pub op: Op,
+    pub row: Row,
+    pub clocks: u8,
+    pub clocks_taken: u8,
+}
+
+impl Instruction {
+    ghost use Rattle.std.specs.Prelude.{◌≡◌};
+    ghost use Rattle.f8_spec.specs.Instructions.{InRange};
+    ghost use Rattle.f8_isa.specs.InstructionRows.{IsInstruction};
+
+    fn of(op: Op) -> Instruction
+        requires { InRange op }
+        ensures op { result.op ≡ op }
+        ensures right { IsInstruction result }
+    {
+        Instruction {
+            op,
+            row: row_of(op),
+            clocks: phi(op, false),
+            clocks_taken: phi(op, true),
+        }
+    }
+}
+
+/// The instruction of each opcode, and none of a reserved one. It is worked out once, so that an opcode is looked up and not searched.
+#[derive(Drop)]
+pub struct InstructionTable {
+    rows: [Option<Instruction>; 256],
+}
+
+impl Model for InstructionTable {
+    ghost use Rattle.std.specs.Prelude.{List, Option};
+    ghost use Rattle.f8_isa.specs.declared.instruction_table.Instruction.{Instruction};
+    ghost use Rattle.f8_isa.specs.InstructionRows.{IsTable};
+
+    ghost Value = { List (Option Instruction) };
+
+    ghost view = { λ t. t.rows };
+
+    ghost invariant = { λ t. IsTable t.rows };
+}
+
+impl InstructionTable {
+    ghost use Rattle.f8_isa.specs.InstructionRows.{IsRow};
+
+    pub fn new() -> InstructionTable {
+        let mut rows = [None; 256];
+        for code in 0..256 {
+            rows[code] = InstructionTable::row(code as u8);
+        }
+        InstructionTable { rows }
+    }
+
+    fn row(code: u8) -> Option<Instruction>
+        ensures { IsRow code result }
+    {
+        match decode(code) {
+            Ok(op) => Some(Instruction::of(op)),
+            Err(_) => None,
+        }
+    }
+
+    /// The instruction of an opcode, and none of a reserved one.
+    #[inline]
+    pub fn instruction(&self, code: u8) -> Option<Instruction>
+        ensures { IsRow code result }
+    {
+        self.rows[code as usize]
+    }
+}

@@ -1,0 +1,17 @@
+//! The F8 instruction set over one flat memory and one set of counters, without a chip (Fairchild F8 User's Guide).
+#![tactic(auto)]
+
+mod counters;
+mod flat_memory;
+mod instruction_table;
+mod machine;
+mod register_file;
+
+pub use console_board::PortWrite;
+pub use console_spec::Regs;
+pub use f8_ops::Reserved;
+pub use f8_spec::Memory;
+pub use machine::{Done, Isa};
+
+#[cfg(test)]
+mod tests;

@@ -1,0 +1,264 @@
+use super::counters::Flow;
+use super::flat_memory::FlatMemory;
+use super::instruction_table::{Instruction, InstructionTable};
+use super::register_file::{H, K, Q, RegisterFile};
+use chip_face::Bytes;
+use console_board::PortWrite;
+use console_spec::Regs;
+use f8_ops::{Op, Reserved, Row};
+use f8_spec::Memory;
+use f8_words::wrap_add;
+use std::alloc::Global;
+use std::marker::Model;
+
+/// The clocks of reset, in Φ.
+const RESET_PHI: u64 = 14;
+
+/// What an instruction did beyond the registers: the write to a port, if there was one, and whether an interrupt was taken at its end.
+/// So far there is neither.
+#[derive(Clone, Copy, Debug, PartialEq, Eq)]
+pub struct Done {
+    pub wrote: Option<PortWrite>,
+    pub vectored: bool,
+}
+
+/// The F8 instruction set over one flat memory and one set of counters (Fairchild F8 User's Guide). It does a whole instruction at once,
+/// with no chip and no bus step.
+#[derive(Drop)]
+pub struct Isa {
+    instructions: InstructionTable,
+    memory: FlatMemory,
+    flow: Flow,
+    registers: RegisterFile,
+
+    /// The clocks since power-on.
+    phi: u64,
+}
+
+impl Model for Isa {
+    ghost use Rattle.f8_isa.specs.IsaState.{IsaState};
+    ghost use Rattle.f8_isa.specs.Counters.{flow_of};
+
+    ghost Value = { IsaState };
+
+    ghost view = { λ m. record { rom = m.memory; flow = flow_of m.flow; registers = m.registers; phi = m.phi } };
+}
+
+impl Isa {
+    ghost use Rattle.std.specs.Prelude.{◌≡◌, ℕ, ◌+◌, ◌^◌, ◌<◌, ◌≤◌, IsTrue, true, false, None, IfOk, IfErr, OnErr, OnOk, length};
+    ghost use Rattle.f8_spec.specs.Built.{is_built};
+    ghost use Rattle.f8_spec.specs.Instructions.{InRange, row_of};
+    ghost use Rattle.f8_spec.specs.Words.{word, places_on, displaced};
+    ghost use Rattle.f8_spec.specs.declared.instructions.Op.{Op};
+    ghost use Rattle.console_spec.specs.AddressSpace.{byte_at};
+    ghost use Rattle.console_spec.specs.Processor.{at_power, after_reset, own_inputs, used_byte, result_of, is_taken, flow_after, after_instruction, shown};
+    ghost use Rattle.console_spec.specs.Run.{Reserved as StopReserved};
+    ghost use Rattle.f8_isa.specs.Counters.{flow_of};
+    ghost use Rattle.f8_isa.specs.InstructionRows.{IsInstruction};
+    ghost use Rattle.f8_isa.specs.IsaState.{state_of, GoesTo, StopsBy};
+
+    /// A program in one 3851 at address 0, after power-on with 00 and reset, or want of memory. The 1,024 bytes are copied.
+    pub fn one(alloc: Global, rom: &Bytes) -> Result<Isa, Memory>
+        requires { length rom.now ≡ 1024 }
+        ensures rom { IfOk result (λ isa. isa.rom ≡ rom.now) }
+        ensures state { IfOk result (λ isa. state_of isa 0 ≡ after_reset (at_power 0)) }
+    {
+        let memory = FlatMemory::of(alloc, rom.as_slice())?;
+        Ok(Isa {
+            instructions: InstructionTable::new(),
+            memory,
+            flow: Flow::default(),
+            registers: RegisterFile::at_power(),
+            phi: RESET_PHI,
+        })
+    }
+
+    /// The next instruction, or [`Reserved`] with the opcode, exactly where no instruction has it; then nothing changes. The opcode has
+    /// to be built or reserved, which `is_built` of f8_ops tells of the byte that `peek` gives at `p`.
+    #[inline]
+    pub fn step(&mut self) -> Result<Done, Reserved>
+        requires built { IsTrue (is_built (byte_at self.old.rom self.old.flow.p)) }
+        requires phi { self.old.phi < 2 ^ 62 }
+        ensures goes { OnOk result (GoesTo self.old self.new) }
+        ensures done { IfOk result (λ done. done ≡ record { wrote = None; vectored = false }) }
+        ensures clocks { self.new.phi ≤ self.old.phi + 26 }
+        ensures memory { self.new.rom ≡ self.old.rom }
+        ensures stops { IfErr result (λ error. StopsBy self.old (StopReserved self.old.flow.p error.code)) }
+        ensures same { OnErr result (self.new ≡ self.old) }
+    {
+        let code = self.memory.byte(self.flow.p);
+        let Some(instruction) = self.instructions.instruction(code) else {
+            return Err(Reserved { code });
+        };
+        self.carry_out(instruction);
+        Ok(Done {
+            wrote: None,
+            vectored: false,
+        })
+    }
+
+    /// A whole instruction.
+    #[tactic(auto, unfolding(console_spec::specs::Processor::own_inputs))]
+    #[inline]
+    fn carry_out(&mut self, instruction: Instruction)
+        requires right { IsInstruction instruction }
+        requires phi { self.old.phi < 2 ^ 62 }
+        ensures state { (count : ℕ) → state_of self.new (count + 1) ≡ after_instruction instruction.op self.old.rom (state_of self.old count) }
+        ensures clocks { self.new.phi ≤ self.old.phi + 26 }
+        ensures memory { self.new.rom ≡ self.old.rom }
+    {
+        let Instruction {
+            op,
+            row,
+            clocks,
+            clocks_taken,
+        } = instruction;
+        let taken = self.registers.takes_branch(op);
+        let flow = self.flow_after(row, taken);
+        self.work(op, row);
+        self.flow = flow;
+        self.phi += u64::from(if taken { clocks_taken } else { clocks });
+    }
+
+    /// What an instruction does to the registers.
+    #[tactic(auto, using(crate::proofs::Results::result_of_effect), unfolding(console_spec::specs::Processor::own_inputs))]
+    #[inline]
+    fn work(&mut self, op: Op, row: Row)
+        requires row { row ≡ row_of op }
+        requires in_range { InRange op }
+        ensures { self.new ≡ record self.old { registers = result_of op (own_inputs op self.old.rom (state_of self.old 0)) self.old.registers } }
+    {
+        match op {
+            Op::LrKP => self.registers.set_pair(K, self.flow.p1),
+            Op::LrQDc => self.registers.set_pair(Q, self.flow.d0),
+            Op::LrHDc => self.registers.set_pair(H, self.flow.d0),
+            _ => {
+                let byte = self.used_byte(row);
+                self.registers.execute(op, byte);
+            }
+        }
+    }
+
+    /// The one byte that an instruction of a row works with, and 00 where it needs none.
+    #[tactic(auto, unfolding(console_spec::specs::Processor::own_inputs))]
+    #[inline]
+    fn used_byte(&self, row: Row) -> u8
+        ensures { (op : Op) → result ≡ used_byte row (own_inputs op self.now.rom (state_of self.now 0)) }
+    {
+        match row {
+            Row::Immediate | Row::Call | Row::Jump => self.memory.byte(self.ahead(1)),
+            Row::ReadData => self.memory.byte(self.flow.d0),
+            _ => 0,
+        }
+    }
+
+    /// The counters after an instruction of a row.
+    #[tactic(auto, unfolding(console_spec::specs::Processor::own_inputs))]
+    #[inline]
+    fn flow_after(&self, row: Row, taken: bool) -> Flow
+        ensures { (op : Op) → is_taken op self.now.registers ≡ taken → flow_of result ≡ flow_after row (own_inputs op self.now.rom (state_of self.now 0)) true self.now.flow }
+    {
+        let flow = self.flow;
+        let after_one = flow.with_next(self.ahead(1));
+        match row {
+            Row::Plain
+            | Row::PlainLong
+            | Row::Idle
+            | Row::StackToK
+            | Row::DataToPair
+            | Row::ShortIn
+            | Row::ShortOut => after_one,
+            Row::Branch | Row::BranchIsar if taken => flow.with_next(self.target()),
+            Row::Immediate | Row::PortIn | Row::PortOut | Row::Branch | Row::BranchIsar =>
+                flow.with_next(self.ahead(2)),
+            Row::StackFromK => after_one.with_stack(self.registers.pair(K)),
+            Row::CallK => flow
+                .with_next(self.registers.pair(K))
+                .with_stack(self.ahead(1)),
+            Row::JumpQ => flow.with_next(self.registers.pair(Q)),
+            Row::DataFromQ => after_one.with_data(self.registers.pair(Q)),
+            Row::DataFromH => after_one.with_data(self.registers.pair(H)),
+            Row::ReadData | Row::StoreData => after_one.with_data(flow.d0.wrapping_add(1)),
+            Row::Return => flow.with_next(flow.p1),
+            Row::Call => flow
+                .with_next(self.operand_word())
+                .with_stack(self.ahead(3)),
+            Row::Jump => flow.with_next(self.operand_word()),
+            Row::LoadData => flow.with_next(self.ahead(3)).with_data(self.operand_word()),
+            Row::Exchange => after_one.with_data_exchanged(),
+            Row::AddData => after_one.with_data(wrap_add(
+                flow.d0,
+                self.registers.accumulator().cast_signed(),
+            )),
+        }
+    }
+
+    /// The word behind the opcode, its high byte first.
+    #[inline]
+    fn operand_word(&self) -> u16
+        ensures { result ≡ word (byte_at self.now.rom (places_on self.now.flow.p 1)) (byte_at self.now.rom (places_on self.now.flow.p 2)) }
+    {
+        let high = self.memory.byte(self.ahead(1));
+        let low = self.memory.byte(self.ahead(2));
+        u16::from(high) * 256 + u16::from(low)
+    }
+
+    /// The address so many places ahead of the instruction.
+    #[inline]
+    fn ahead(&self, places: u16) -> u16
+        ensures { result ≡ places_on self.now.flow.p places }
+    {
+        self.flow.p.wrapping_add(places)
+    }
+
+    /// Where a branch leads to. It counts from the address of its displacement byte.
+    #[inline]
+    fn target(&self) -> u16
+        ensures { result ≡ displaced (places_on self.now.flow.p 1) (byte_at self.now.rom (places_on self.now.flow.p 1)) }
+    {
+        let place = self.ahead(1);
+        wrap_add(place, self.memory.byte(place).cast_signed())
+    }
+
+    /// The registers between two instructions.
+    #[inline]
+    pub fn regs(&self) -> Regs
+        ensures regs { result ≡ shown (state_of self.now 0) }
+        ensures isar { result.isar < 64 }
+    {
+        Regs {
+            p: self.flow.p,
+            p1: self.flow.p1,
+            d0: self.flow.d0,
+            d1: self.flow.d1,
+            a: self.registers.accumulator(),
+            isar: self.registers.isar(),
+            w: self.registers.status(),
+            scratch: *self.registers.scratchpad(),
+        }
+    }
+
+    /// The address of the next instruction.
+    #[inline]
+    pub fn p(&self) -> u16
+        ensures { result ≡ self.now.flow.p }
+    {
+        self.flow.p
+    }
+
+    /// The clocks since power-on, in Φ.
+    #[inline]
+    pub fn phi(&self) -> u64
+        ensures { result ≡ self.now.phi }
+    {
+        self.phi
+    }
+
+    /// The byte at an address, and 255 where no chip holds it.
+    #[inline]
+    pub fn peek(&self, at: u16) -> u8
+        ensures { result ≡ byte_at self.now.rom at }
+    {
+        self.memory.byte(at)
+    }
+}

@@ -1,0 +1,314 @@
+use f8_ops::Op;
+use f8_words::{Flags, Sum, add9, bcd};
+use std::marker::Model;
+
+/// The register J, in which the status word is kept.
+const J: u8 = 9;
+
+/// The pairs H, K and Q: the register with the high byte, with the low one behind it.
+pub const H: u8 = 10;
+
+pub const K: u8 = 12;
+
+pub const Q: u8 = 14;
+
+/// The field from which on a field names the register that ISAR points to, and the fields that also step ISAR up and down.
+const POINTED: u8 = 12;
+
+const STEPPED_UP: u8 = 13;
+
+const STEPPED_DOWN: u8 = 14;
+
+/// What the processor itself keeps (Fairchild F8 User's Guide, 3850).
+#[derive(Drop)]
+pub struct RegisterFile {
+    accumulator: u8,
+    isar: u8,
+    status: Flags,
+    scratchpad: [u8; 64],
+}
+
+impl Model for RegisterFile {
+    ghost use Rattle.std.specs.Prelude.{◌<◌};
+    ghost use Rattle.console_spec.specs.Processor.{Registers};
+    ghost use Rattle.f8_words.specs.StatusWord.{status_of_flags};
+
+    ghost Value = { Registers };
+
+    ghost view = { λ m. record { accumulator = m.accumulator; isar = m.isar; status = status_of_flags m.status; scratchpad = m.scratchpad } };
+
+    ghost invariant = { λ m. m.isar < 64 };
+}
+
+impl RegisterFile {
+    ghost use Rattle.std.specs.Prelude.{◌≡◌, ◌+◌, ◌/◌, ◌%◌, ◌<◌, Bool, false};
+    ghost use Rattle.f8_spec.specs.Words.{word};
+    ghost use Rattle.f8_spec.specs.Flags.{status_byte, is_positive, is_zero};
+    ghost use Rattle.f8_spec.specs.Instructions.{InRange};
+    ghost use Rattle.f8_words.specs.StatusWord.{status_of_flags};
+    ghost use Rattle.console_spec.specs.Processor.{at_power, scratch_byte, with_scratch, with_pair, field_byte, register_of, with_isar_stepped, stepped_isar, with_result, with_sum, with_decimal_sum, compared, decremented, effect, any_chosen, is_taken};
+
+    /// The registers after power-on with 00.
+    pub fn at_power() -> RegisterFile
+        ensures { result ≡ (at_power 0).registers }
+    {
+        RegisterFile {
+            accumulator: 0,
+            isar: 0,
+            status: Flags::default(),
+            scratchpad: [0; 64],
+        }
+    }
+
+    pub fn accumulator(&self) -> u8
+        ensures { result ≡ self.now.accumulator }
+    {
+        self.accumulator
+    }
+
+    pub fn isar(&self) -> u8
+        ensures isar { result ≡ self.now.isar }
+        ensures range { result < 64 }
+    {
+        self.isar
+    }
+
+    /// The status word as a byte.
+    pub fn status(&self) -> u8
+        ensures { result ≡ status_byte self.now.status }
+    {
+        self.status.to_byte()
+    }
+
+    pub fn scratchpad(&self) -> &[u8; 64]
+        ensures { result.now ≡ self.now.scratchpad }
+    {
+        &self.scratchpad
+    }
+
+    /// The branch of an instruction is taken.
+    #[inline]
+    pub fn takes_branch(&self, op: Op) -> bool
+        ensures { result ≡ is_taken op self.now }
+    {
+        match op {
+            Op::Bt { t } => self.has_chosen(t),
+            Op::Bf { t } => !self.has_chosen(t),
+            Op::Br7 => self.isar % 8 != 7,
+            _ => false,
+        }
+    }
+
+    /// One of the flags that the bits of `t` choose is set.
+    #[inline]
+    fn has_chosen(&self, t: u8) -> bool
+        ensures { result ≡ any_chosen t self.now.status }
+    {
+        let w = self.status;
+        (t % 2 == 1 && w.sign)
+            || (t / 2 % 2 == 1 && w.carry)
+            || (t / 4 % 2 == 1 && w.zero)
+            || (t / 8 % 2 == 1 && w.overflow)
+    }
+
+    /// What an instruction does to the registers with the one byte that it uses, but for the pairs that a counter is copied to.
+    #[tactic(auto, unfolding(console_spec::specs::Processor::effect))]
+    pub fn execute(&mut self, op: Op, byte: u8)
+        requires { InRange op }
+        ensures { self.new ≡ effect op byte self.old }
+    {
+        match op {
+            Op::LrAKu => self.accumulator = self.register(K),
+            Op::LrAKl => self.accumulator = self.register(K + 1),
+            Op::LrAQu => self.accumulator = self.register(Q),
+            Op::LrAQl => self.accumulator = self.register(Q + 1),
+            Op::LrKuA => self.set_register(K, self.accumulator),
+            Op::LrKlA => self.set_register(K + 1, self.accumulator),
+            Op::LrQuA => self.set_register(Q, self.accumulator),
+            Op::LrQlA => self.set_register(Q + 1, self.accumulator),
+            Op::LrAIs => self.accumulator = self.isar,
+            Op::LrIsA => self.isar = self.accumulator % 64,
+            Op::Sr1 => self.set_result(self.accumulator >> 1),
+            Op::Sl1 => self.set_result(self.accumulator << 1),
+            Op::Sr4 => self.set_result(self.accumulator >> 4),
+            Op::Sl4 => self.set_result(self.accumulator << 4),
+            Op::Com => self.set_result(!self.accumulator),
+            Op::Lnk => self.add(0, self.status.carry),
+            Op::Di => self.status.icb = false,
+            Op::Ei => self.status.icb = true,
+            Op::LrWJ => self.status = Flags::from_byte(self.register(J)),
+            Op::LrJW => self.set_register(J, self.status.to_byte()),
+            Op::Inc => self.add(1, false),
+            Op::Li | Op::Lm | Op::Pi | Op::Jmp => self.accumulator = byte,
+            Op::Ni | Op::Nm => self.set_result(self.accumulator & byte),
+            Op::Oi | Op::Om => self.set_result(self.accumulator | byte),
+            Op::Xi | Op::Xm => self.set_result(self.accumulator ^ byte),
+            Op::Ai | Op::Am => self.add(byte, false),
+            Op::Amd => self.add_decimal(byte),
+            Op::Ci | Op::Cm => self.compare(byte),
+            Op::In | Op::Ins { .. } => self.set_result(byte),
+            Op::Lis { n } => self.accumulator = n,
+            Op::Lisu { n } => self.isar = n * 8 + self.isar % 8,
+            Op::Lisl { n } => self.isar = self.isar / 8 * 8 + n,
+            Op::Ds { r } => {
+                self.decrement(r);
+                self.step_isar(r);
+            }
+            Op::LrAR { r } => {
+                self.accumulator = self.field(r);
+                self.step_isar(r);
+            }
+            Op::LrRA { r } => {
+                self.set_register(self.named_by(r), self.accumulator);
+                self.step_isar(r);
+            }
+            Op::As { r } => {
+                self.add(self.field(r), false);
+                self.step_isar(r);
+            }
+            Op::Asd { r } => {
+                self.add_decimal(self.field(r));
+                self.step_isar(r);
+            }
+            Op::Xs { r } => {
+                self.set_result(self.accumulator ^ self.field(r));
+                self.step_isar(r);
+            }
+            Op::Ns { r } => {
+                self.set_result(self.accumulator & self.field(r));
+                self.step_isar(r);
+            }
+            _ => {}
+        }
+    }
+
+    #[inline]
+    fn register(&self, number: u8) -> u8
+        requires { number < 64 }
+        ensures { result ≡ scratch_byte number self.now }
+    {
+        self.scratchpad[number as usize]
+    }
+
+    #[inline]
+    fn set_register(&mut self, number: u8, byte: u8)
+        requires { number < 64 }
+        ensures { self.new ≡ with_scratch number byte self.old }
+    {
+        self.scratchpad[number as usize] = byte;
+    }
+
+    /// The word in a pair of registers, its high byte first.
+    #[inline]
+    pub fn pair(&self, high: u8) -> u16
+        requires { high < 63 }
+        ensures { result ≡ word (scratch_byte high self.now) (scratch_byte (high + 1) self.now) }
+    {
+        u16::from(self.register(high)) * 256 + u16::from(self.register(high + 1))
+    }
+
+    #[inline]
+    pub fn set_pair(&mut self, high: u8, word: u16)
+        requires { high < 63 }
+        ensures { self.new ≡ with_pair high (word / 256) (word % 256) self.old }
+    {
+        self.set_register(high, (word / 256) as u8);
+        self.set_register(high + 1, (word % 256) as u8);
+    }
+
+    /// The register that a field names.
+    #[inline]
+    fn named_by(&self, field: u8) -> u8
+        ensures number { result ≡ register_of field self.now }
+        ensures range { result < 64 }
+    {
+        if field < POINTED { field } else { self.isar }
+    }
+
+    /// The byte in the register that a field names.
+    #[inline]
+    fn field(&self, field: u8) -> u8
+        ensures { result ≡ field_byte field self.now }
+    {
+        self.register(self.named_by(field))
+    }
+
+    /// Steps the low digit of ISAR, which wraps, where a field says so. It comes after the register was read or written.
+    #[inline]
+    fn step_isar(&mut self, field: u8)
+        ensures { self.new ≡ with_isar_stepped field self.old }
+    {
+        let high = self.isar / 8 * 8;
+        match field {
+            STEPPED_UP => self.isar = high + (self.isar + 1) % 8,
+            STEPPED_DOWN => self.isar = high + (self.isar + 7) % 8,
+            _ => {}
+        }
+    }
+
+    /// A result that clears carry and overflow.
+    #[inline]
+    fn set_result(&mut self, value: u8)
+        ensures { self.new ≡ with_result value self.old }
+    {
+        self.accumulator = value;
+        self.status = Flags {
+            sign: value < 0x80,
+            carry: false,
+            zero: value == 0,
+            overflow: false,
+            icb: self.status.icb,
+        };
+    }
+
+    /// Adds to the accumulator.
+    #[inline]
+    fn add(&mut self, byte: u8, carry: bool)
+        ensures { self.new ≡ with_sum byte carry self.old }
+    {
+        let sum = add9(self.accumulator, byte, carry);
+        self.accumulator = sum.value;
+        self.set_flags(sum);
+    }
+
+    /// Adds to the accumulator digit by digit; the flags are those of the binary sum.
+    #[inline]
+    fn add_decimal(&mut self, byte: u8)
+        ensures { self.new ≡ with_decimal_sum byte self.old }
+    {
+        let (decimal, sum) = bcd(self.accumulator, byte);
+        self.accumulator = decimal;
+        self.set_flags(sum);
+    }
+
+    /// Compares a byte with the accumulator, which stays.
+    #[inline]
+    fn compare(&mut self, byte: u8)
+        ensures { self.new ≡ compared byte self.old }
+    {
+        self.set_flags(add9(byte, !self.accumulator, true));
+    }
+
+    /// Takes 1 from the register that a field names, as the sum with 255.
+    #[inline]
+    fn decrement(&mut self, field: u8)
+        ensures { self.new ≡ decremented field self.old }
+    {
+        let sum = add9(self.field(field), 0xFF, false);
+        self.set_register(self.named_by(field), sum.value);
+        self.set_flags(sum);
+    }
+
+    #[inline]
+    fn set_flags(&mut self, sum: Sum)
+        ensures { self.new ≡ record self.old { status = record self.old.status { sign = is_positive sum.value; carry = sum.carry; zero = is_zero sum.value; overflow = sum.overflow } } }
+    {
+        self.status = Flags {
+            sign: sum.value < 0x80,
+            carry: sum.carry,
+            zero: sum.value == 0,
+            overflow: sum.overflow,
+            icb: self.status.icb,
+        };
+    }
+}
