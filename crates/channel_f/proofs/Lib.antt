@@ -1,2 +1,3 @@
 pub mod RomViews
 pub mod SinkLaws
+pub mod Turns

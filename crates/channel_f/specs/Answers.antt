@@ -1,10 +1,10 @@
 -- What the program answers: its lines and its status, and what a call of its top function says of both.
 use Rattle.std.specs.Prelude.{◌≡◌, ◌≢◌, ℕ, ◌⊎◌, List, [], ◌∷◌, codes, Option, Some, None}
-use Rattle.f8_spec.specs.ChipState.{patched_bytes}
+use Rattle.f8_spec.specs.ChipState.{ChipState, patched_bytes}
 use Rattle.chip_face.specs.Fitting.{psu_pages}
-use Rattle.console_spec.specs.Run.{Stop, Done, Undriven, Unbuilt, played}
-use Rattle.console_spec.specs.RunText.{run_lines, text_of}
-use Rattle.channel_f.specs.CommandLine.{Game, asked_for}
+use Rattle.console_spec.specs.Run.{Stop, Done, Undriven, Reserved, Unbuilt, Ending, played, referred}
+use Rattle.console_spec.specs.RunText.{run_lines, ending_lines, text_of}
+use Rattle.channel_f.specs.CommandLine.{Command, Play, Ref, asked_for}
 use Rattle.channel_f.specs.SinkRules.{Adds, AddsPart, Rose}
 
 -- the lines that are due, and the status
@@ -15,19 +15,28 @@ pub record Answer : Type 0 where
 unfoldable pub words_line : List ℕ
 words_line = codes "error words\n"
 
--- 0 where all instructions are done, 3 where a bus step is not served, and 9 at an opcode that is not built
+-- 0 where all instructions are done, 3 where a bus step is not served, 8 at a reserved opcode, and 9 at one that is not built
 abbrev pub status_of : Stop → ℕ
 status_of Done = 0
 status_of (Undriven romc at) = 3
+status_of (Reserved at code) = 8
 status_of (Unbuilt at code) = 9
 
+abbrev pub run_answer : (Ending → List (List ℕ)) → Ending → Answer
+run_answer lines ending = record { status = status_of ending.stop; lines = lines ending }
+
 -- Words that ask for nothing are refused, with the status 1. A game is played on the flat machine, from the chip's bytes, which differ
--- from those that are given where the chip has a patch.
-unfoldable pub answer_to : Option (ℕ × ℕ) → Option Game → Answer
+-- from those that are given where the chip has a patch. A run without a chip is one of the bytes that are given.
+unfoldable pub answer_to : Option (ℕ × ℕ) → Option Command → Answer
 answer_to patch None = record { status = 1; lines = words_line ∷ [] }
-answer_to patch (Some game) =
-    let ending = played (patched_bytes patch (psu_pages 0) game.rom) 0 game.count in
-    record { status = status_of ending.stop; lines = run_lines ending }
+answer_to patch (Some (Play game)) = run_answer run_lines (played (patched_bytes patch (psu_pages 0) game.rom) 0 game.count)
+answer_to patch (Some (Ref game)) = run_answer ending_lines (referred game.rom 0 game.count)
+
+-- words that are refused and a run without a chip leave the chip as it was
+abbrev pub KeepsChip : Option Command → ChipState → ChipState → Type 0
+KeepsChip None old new = new ≡ old
+KeepsChip (Some (Play game)) old new = Unit {0}
+KeepsChip (Some (Ref game)) old new = new ≡ old
 
 -- what is due for some words
 abbrev pub answer : Option (ℕ × ℕ) → List (List ℕ) → Answer

@@ -1,10 +1,10 @@
--- The words of the program, and what they ask for. So far there is one command: `play HEX N`.
+-- The words of the program, and what they ask for: `play HEX N` and `ref HEX N`.
 use Rattle.std.specs.Prelude.{ℕ, ◌+◌, ◌-◌, ◌*◌, ◌&&◌, nat_le, if◌then◌else◌, List, [], ◌∷◌, ◌++◌, length, replicate, codes, bytes_eq, Option, Some, None, option_map, option_and_then}
 use Rattle.std.specs.Result.{result_ok}
 use Rattle.std.specs.Char.{is_ascii_digit}
 use Rattle.hex.specs.Hex.{decode_of}
 
--- what `play` is asked for: the 1,024 bytes of a chip at address 0, and how many instructions
+-- what a run is asked for: the 1,024 bytes of a chip at address 0, and how many instructions
 pub record Game : Type 0 where
   pub rom : List ℕ
   pub count : ℕ
@@ -29,10 +29,21 @@ rom_of text = if nat_le (length text) 2048 then option_map filled_rom (result_ok
 abbrev pub game_of : Option (List ℕ) → Option ℕ → Option Game
 game_of rom count = option_and_then (λ bytes. option_map (λ n. record { rom = bytes; count = n }) count) rom
 
+-- a run on the chip, or on the flat instruction set alone
+pub data Command : Type 0 where
+  Play : Game → Command
+  Ref : Game → Command
+
+abbrev pub command_of : List ℕ → Option Game → Option Command
+command_of word game =
+    if bytes_eq word (codes "play") then option_map Play game else
+    if bytes_eq word (codes "ref") then option_map Ref game else
+    None
+
 -- what the words ask for, and nothing where they are none of the program's
-abbrev pub asked_for : List (List ℕ) → Option Game
+abbrev pub asked_for : List (List ℕ) → Option Command
 asked_for [] = None
 asked_for (command ∷ []) = None
 asked_for (command ∷ (digits ∷ [])) = None
-asked_for (command ∷ (digits ∷ (count ∷ []))) = if bytes_eq command (codes "play") then game_of (rom_of digits) (number_of count) else None
+asked_for (command ∷ (digits ∷ (count ∷ []))) = command_of command (game_of (rom_of digits) (number_of count))
 asked_for (command ∷ (digits ∷ (count ∷ (more ∷ words)))) = None

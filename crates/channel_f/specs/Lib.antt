@@ -4,4 +4,5 @@ pub mod CommandLine
 pub mod Games
 pub mod Statuses
 pub mod Cores
+pub mod OneChip
 pub mod Answers

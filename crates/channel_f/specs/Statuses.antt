@@ -1,7 +1,7 @@
 -- The exit statuses as numbers.
 use Rattle.std.specs.Prelude.{ℕ}
 use Rattle.channel_f.specs.declared.status.Status.{Status}
-use Rattle.channel_f.specs.declared.status.Status.TheVariants.{Done, Words, Fault, Sink, Memory, Unbuilt, NoWords}
+use Rattle.channel_f.specs.declared.status.Status.TheVariants.{Done, Words, Fault, Sink, Memory, Reserved, Unbuilt, NoWords}
 
 abbrev pub exit_code : Status → ℕ
 exit_code Done = 0
@@ -9,5 +9,6 @@ exit_code Words = 1
 exit_code Fault = 3
 exit_code Sink = 5
 exit_code Memory = 6
+exit_code Reserved = 8
 exit_code Unbuilt = 9
 exit_code NoWords = 10

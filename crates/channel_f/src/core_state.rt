@@ -1,36 +1,28 @@
-use console_spec::Regs;
+use super::ending::Ending;
+use cpu3850::Cpu;
 
-/// What a run on one chip keeps of the processor: `p` is the address of the instruction that comes next, and `opcode` the byte there,
-/// which was fetched beforehand. No instruction that is built so far changes anything else than the accumulator, the count of
-/// instructions and that of clocks, in Φ.
-#[derive(Clone, Copy)]
+/// What a run on one chip keeps: the processor, the address of the instruction that comes next, whose opcode the processor holds, the
+/// instructions done, and their clocks with those of reset, in Φ.
+#[derive(Drop)]
 pub struct Core {
+    pub cpu: Cpu,
     pub p: u16,
-    pub accumulator: u8,
-    pub opcode: u8,
     pub count: u32,
     pub phi: u64,
 }
 
 impl Core {
-    ghost use Rattle.std.specs.Prelude.{◌≡◌, ◌<◌};
-    ghost use Rattle.console_spec.specs.Processor.{shown};
-    ghost use Rattle.channel_f.specs.Cores.{state_of};
+    ghost use Rattle.channel_f.specs.Cores.{Tells, ending_of};
 
-    /// The registers as a run tells them.
-    pub fn regs(&self) -> Regs
-        ensures regs { result ≡ shown (state_of self.now) }
-        ensures isar { result.isar < 64 }
+    /// How the run ends where this stops it.
+    pub fn ending(&self, halt: Option<Halt>) -> Ending
+        ensures { Tells result (ending_of self.now halt) }
     {
-        Regs {
-            p: self.p,
-            p1: 0,
-            d0: 0,
-            d1: 0,
-            a: self.accumulator,
-            isar: 0,
-            w: 0,
-            scratch: [0; 64],
+        Ending {
+            regs: self.cpu.regs(self.p, 0, 0, 0),
+            halt,
+            count: self.count,
+            phi: self.phi,
         }
     }
 }
@@ -40,13 +32,8 @@ impl Core {
 pub enum Halt {
     /// The chip doesn't drive a step with this code at this address.
     Undriven { romc: u8, at: u16 },
-    /// At this address stands an opcode that isn't built.
+    /// At this address stands an opcode that no instruction has.
+    Reserved { at: u16, code: u8 },
+    /// At this address stands an opcode whose instruction isn't built.
     Unbuilt { at: u16, code: u8 },
-}
-
-/// How a run ends: with what is kept then, and with what stops it, or with `None` where all its instructions are done.
-#[derive(Clone, Copy)]
-pub struct Ending {
-    pub core: Core,
-    pub halt: Option<Halt>,
 }

@@ -1,6 +1,6 @@
 ghost use Rattle.std.specs.Prelude.{◌≡◌, ◌<◌};
 ghost use Rattle.console_spec.specs.RunText.{verdict_line as spelled_verdict, stop_line as spelled_stop, regs_line as spelled_regs, scratch_line as spelled_scratch, total_line as spelled_total};
-ghost use Rattle.console_spec.specs.Run.{Done, Undriven, Unbuilt};
+ghost use Rattle.console_spec.specs.Run.{Done, Undriven, Reserved, Unbuilt};
 ghost use Rattle.channel_f.specs.Answers.{words_line as spelled_words};
 
 use super::line::Line;
@@ -44,6 +44,20 @@ pub fn stop_undriven_line(romc: u8, at: u16) -> Line
     let mut line = Line::new();
     line.text(b"stop undriven romc ");
     line.hex2(romc);
+    line.text(b" at ");
+    line.hex4(at);
+    line.text(b"\n");
+    line
+}
+
+/// `stop reserved`: at this address stands an opcode that no instruction has.
+#[tactic(auto, unfolding(console_spec::specs::RunText::stop_line))]
+pub fn stop_reserved_line(at: u16, code: u8) -> Line
+    ensures { result ≡ spelled_stop (Reserved at code) }
+{
+    let mut line = Line::new();
+    line.text(b"stop reserved ");
+    line.hex2(code);
     line.text(b" at ");
     line.hex4(at);
     line.text(b"\n");

@@ -1,7 +1,10 @@
 //! The program: words in, lines and an exit status out.
 #![tactic(auto)]
 
+mod command;
 mod core_state;
+mod ending;
+mod flat;
 mod game;
 mod line;
 mod lines;

@@ -11,6 +11,8 @@ pub enum Status {
     Sink = 5,
     /// Memory was wanting, and nothing was written.
     Memory = 6,
+    /// A reserved opcode was met.
+    Reserved = 8,
     /// An opcode that isn't built was met.
     Unbuilt = 9,
     /// The system didn't give the words.

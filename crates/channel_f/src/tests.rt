@@ -27,27 +27,33 @@ fn words_of(alloc: Global, texts: &[&str]) -> Result<Vec<String>, Fail> {
 
 #[test]
 fn answers_with_ample_memory(rt: HostRuntime) -> Result<(), Fail> {
-    let rows: [(&[&str], u8, &str); 4] = [
+    let rows: [(&[&str], u8, &str); 6] = [
         (
             &["play", "90FD", "5"],
             3,
             "verdict unchecked\nstop undriven romc 00 at FFFE\n",
         ),
         (
-            &["play", "FF", "1"],
-            9,
-            "verdict unchecked\nstop unbuilt FF at 0000\n",
+            &["play", "2D", "5"],
+            8,
+            "verdict unchecked\nstop reserved 2D at 0000\n",
         ),
         (
             &["play", "", "1"],
+            8,
+            "verdict unchecked\nstop reserved FF at 0000\n",
+        ),
+        (
+            &["play", "16", "1"],
             9,
-            "verdict unchecked\nstop unbuilt FF at 0000\n",
+            "verdict unchecked\nstop unbuilt 16 at 0000\n",
         ),
         (
             &["play", "ff", "0000000"],
             0,
             "verdict unchecked\nstop done\n",
         ),
+        (&["ref", "2D", "5"], 8, "stop reserved 2D at 0000\n"),
     ];
     for (words, status, head) in rows {
         let words = words_of(rt.alloc(), words)?;
@@ -56,6 +62,46 @@ fn answers_with_ample_memory(rt: HostRuntime) -> Result<(), Fail> {
         let answer = console(rt.alloc(), words.as_slice(), &mut sink, &mut chip);
         let mut text = head.to_string(rt.alloc())?;
         text.push_str(NOTHING_DONE)?;
+        assert_eq!(rt; answer, status, "{words:?}");
+        assert_eq!(rt; sink.bytes(), text.as_bytes(), "{words:?}");
+    }
+    Ok(())
+}
+
+#[test]
+fn runs_instructions(rt: HostRuntime) -> Result<(), Fail> {
+    let rows: [(&[&str], u8, &str); 2] = [
+        (
+            &["play", "206A5075D090FF", "4"],
+            0,
+            "verdict unchecked
+stop done
+regs P=0005 P1=0000 D0=0000 D1=0000 A=09 IS=00 W=01
+s00 6A 00 00 00 00 00 00 00 00 00 00 00 00 00 00 00
+s10 00 00 00 00 00 00 00 00 00 00 00 00 00 00 00 00
+s20 00 00 00 00 00 00 00 00 00 00 00 00 00 00 00 00
+s30 00 00 00 00 00 00 00 00 00 00 00 00 00 00 00 00
+total 4 instructions 40 phi
+",
+        ),
+        (
+            &["ref", "90FD", "2"],
+            8,
+            "stop reserved FF at FFFE
+regs P=FFFE P1=0000 D0=0000 D1=0000 A=00 IS=00 W=00
+s00 00 00 00 00 00 00 00 00 00 00 00 00 00 00 00 00
+s10 00 00 00 00 00 00 00 00 00 00 00 00 00 00 00 00
+s20 00 00 00 00 00 00 00 00 00 00 00 00 00 00 00 00
+s30 00 00 00 00 00 00 00 00 00 00 00 00 00 00 00 00
+total 1 instructions 28 phi
+",
+        ),
+    ];
+    for (words, status, text) in rows {
+        let words = words_of(rt.alloc(), words)?;
+        let mut sink = SureSink::new(rt.alloc(), 1024)?;
+        let mut chip = Psu::blank();
+        let answer = console(rt.alloc(), words.as_slice(), &mut sink, &mut chip);
         assert_eq!(rt; answer, status, "{words:?}");
         assert_eq!(rt; sink.bytes(), text.as_bytes(), "{words:?}");
     }

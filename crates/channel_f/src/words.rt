@@ -1,7 +1,8 @@
-ghost use Rattle.std.specs.Prelude.{◌≡◌, ◌≤◌, ◌∷◌, [], IfOk, IfSome, length, map, vec_len, string_bytes};
-ghost use Rattle.channel_f.specs.CommandLine.{number_on, number_of as spelled_number, rom_of as spelled_rom, filled_rom, asked_for};
-ghost use Rattle.channel_f.specs.Games.{seen};
+ghost use Rattle.std.specs.Prelude.{◌≡◌, ◌≤◌, ◌∷◌, [], IfOk, IfSome, length, map, option_map, vec_len, string_bytes};
+ghost use Rattle.channel_f.specs.CommandLine.{number_on, number_of as spelled_number, rom_of as spelled_rom, filled_rom, game_of, asked_for};
+ghost use Rattle.channel_f.specs.Games.{seen, seen_game};
 
+use super::command::Command;
 use super::game::Game;
 use chip_face::Bytes;
 use f8_spec::Memory;
@@ -70,17 +71,10 @@ fn rom_of(alloc: Global, text: &str) -> Result<Option<Bytes>, Memory>
     }
 }
 
-fn read_game(
-    alloc: Global,
-    command: &str,
-    digits: &str,
-    count: &str,
-) -> Result<Option<Game>, Memory>
-    ensures { IfOk result (λ game. seen game ≡ asked_for (command.now ∷ (digits.now ∷ (count.now ∷ [])))) }
+/// What a run is asked for, and `None` where a word is out of form.
+fn read_game(alloc: Global, digits: &str, count: &str) -> Result<Option<Game>, Memory>
+    ensures { IfOk result (λ game. option_map seen_game game ≡ game_of (spelled_rom digits.now) (spelled_number count.now)) }
 {
-    if command != "play" {
-        return Ok(None);
-    }
     let Some(rom) = rom_of(alloc, digits)? else {
         return Ok(None);
     };
@@ -90,14 +84,32 @@ fn read_game(
     }
 }
 
+fn read_command(
+    alloc: Global,
+    command: &str,
+    digits: &str,
+    count: &str,
+) -> Result<Option<Command>, Memory>
+    ensures { IfOk result (λ asked. seen asked ≡ asked_for (command.now ∷ (digits.now ∷ (count.now ∷ [])))) }
+{
+    match command {
+        "play" => Ok(read_game(alloc, digits, count)?.map(Command::Play)),
+        "ref" => Ok(read_game(alloc, digits, count)?.map(Command::Ref)),
+        _ => Ok(None),
+    }
+}
+
 /// What the words ask for, and `None` where they are none of the program's.
-pub fn read_words(alloc: Global, words: &[String]) -> Result<Option<Game>, Memory>
-    ensures { IfOk result (λ game. seen game ≡ asked_for (map string_bytes words.now)) }
+pub fn read_words(alloc: Global, words: &[String]) -> Result<Option<Command>, Memory>
+    ensures { IfOk result (λ asked. seen asked ≡ asked_for (map string_bytes words.now)) }
 {
     match words {
-        [command, digits, count] => {
-            read_game(alloc, command.as_str(), digits.as_str(), count.as_str())
-        }
+        [command, digits, count] => read_command(
+            alloc,
+            command.as_str(),
+            digits.as_str(),
+            count.as_str(),
+        ),
         _ => Ok(None),
     }
 }

@@ -1,14 +1,14 @@
 -- A turn goes one instruction on in the run that is left, or it is that run's end.
-use Rattle.std.proofs.Common.{ap, ◌∙◌, sym, arith, ◌≤◌, Some}
+use Rattle.std.proofs.Common.{ap, ◌∙◌, sym, arith, ◌≤◌}
 use Rattle.console_spec.proofs.RunLaws.{run-goes, run-stops, run-done}
-use Rattle.channel_f.specs.Cores.{ending_of, stop_of}
-use Rattle.channel_f.specs.declared.core_state.Core.{Core}
+use Rattle.console_spec.specs.Processor.{State}
+use Rattle.channel_f.specs.Cores.{stop_of}
 use Rattle.channel_f.proofs.run.run.Goals as goal
 
 pub returns-in-Err : goal.returns-in-Err
 returns-in-Err g c =
     let stops = rw c.loop.invariant.bytes at c.in-Err.ensures.stops in
-    ap (λ (core : Core). ending_of core (Some c.in-Err.halt)) c.in-Err.ensures.same
+    ap (λ (s : State). record { state = s; stop = stop_of c.in-Err.halt }) c.in-Err.ensures.same
     ∙ sym (run-stops _ c.args.count c.loop.counter _ (stop_of c.in-Err.halt) c.loop-test.true stops)
     ∙ c.loop.invariant.rest
 
