@@ -61,8 +61,9 @@ fn told(romc: Romc, byte: u8, phi: u8, first: bool) -> Heard
 }
 
 impl Chip for Listener {
-    ghost use Rattle.std.specs.Prelude.{◌≡◌};
-    ghost use Rattle.f8_spec.specs.ChipState.{MayHear, PowersOn, Settles, told_step};
+    ghost use Rattle.std.specs.Prelude.{◌≡◌, ◌≢◌, ◌↔◌, OnOk, OnErr, IsErrOf};
+    ghost use Rattle.f8_spec.specs.ChipState.{MayHear, PowersOn, Settles, TakesKeys, TakesPulse, told_step};
+    ghost use Rattle.chip_face.specs.Fitting.{Fits, IsSpec, kind_of};
     ghost use Rattle.chip_face.specs.Steps.{IsStepLength};
     ghost use Rattle.chip_fakes.specs.ListenerState.{listener_state, recording_of};
     ghost use Rattle.chip_fakes.specs.Recording.{emptied, recorded};
@@ -73,7 +74,13 @@ impl Chip for Listener {
         self.chip.kind()
     }
 
-    fn fit(&mut self, alloc: Global, spec: &ChipSpec) -> Result<(), FitFault> {
+    fn fit(&mut self, alloc: Global, spec: &ChipSpec) -> Result<(), FitFault>
+        requires { IsSpec spec.now }
+        ensures ok { OnOk result (Fits spec.now (listener_state self.old) (listener_state self.new)) }
+        ensures wrong_kind { IsErrOf result FitFault.WrongKind ↔ (kind_of spec.now ≢ (listener_state self.old).view.kind) }
+        ensures err { OnErr result (listener_state self.new ≡ listener_state self.old) }
+        ensures recording { recording_of self.new ≡ recording_of self.old }
+    {
         self.chip.fit(alloc, spec)
     }
 
@@ -120,11 +127,17 @@ impl Chip for Listener {
         self.chip.latch(port)
     }
 
-    fn keys(&mut self, port: u8, byte: u8) {
+    fn keys(&mut self, port: u8, byte: u8)
+        ensures takes { TakesKeys port byte (listener_state self.old) (listener_state self.new) }
+        ensures recording { recording_of self.new ≡ recording_of self.old }
+    {
         self.chip.keys(port, byte);
     }
 
-    fn pulse(&mut self) {
+    fn pulse(&mut self)
+        ensures takes { TakesPulse (listener_state self.old) (listener_state self.new) }
+        ensures recording { recording_of self.new ≡ recording_of self.old }
+    {
         self.chip.pulse();
     }
 }
