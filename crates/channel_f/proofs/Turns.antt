@@ -22,7 +22,6 @@ use Rattle.cpu3850.specs.declared.steps.Step.{Step}
 use Rattle.cpu3850.specs.CpuSteps.{CpuState, bus_step, planned_as, planned, driven, taken}
 use Rattle.cpu3850.proofs.ReachingLaws.{reaches}
 use Rattle.cpu3850.specs.Reaching.{Reaches, Places, is_placed_by, done, from_registers, own_port_byte}
-
 use Rattle.channel_f.specs.Cores.{Holds, IsDone, IsStopped, stop_of}
 use Rattle.channel_f.specs.declared.core_state.Halt.{Halt}
 use Rattle.channel_f.specs.declared.core_state.Halt.TheVariants.{Undriven}
@@ -77,7 +76,7 @@ turn rom op i c end s rest index cpu pc0 byte issued left served is =
     let wanted = byte_of i s.source in
     let same : byte ≡ wanted = is ∙ ap (bus_byte rom s.romc (driven index cpu)) (sym left.place) ∙ step_byte rom s.romc (driven index cpu) wanted k issued left.drives.0 left.reaches.0 in
     let moved : (moved_by s.romc wanted true k).pc0 ≡ moved_pc0 s.romc byte pc0 =
-        step_pc0 s.romc wanted k issued ∙ ap (λ (b : ℕ). moved_pc0 s.romc b k.pc0) (sym same) ∙ ap (moved_pc0 s.romc byte) left.place in
+    step_pc0 s.romc wanted k issued ∙ ap (λ (b : ℕ). moved_pc0 s.romc b k.pc0) (sym same) ∙ ap (moved_pc0 s.romc byte) left.place in
     let serves : is_served rom s.romc k.pc0 ≡ true = ap (is_served rom s.romc) left.place ∙ served in
     record {
       byte_is = same;
@@ -86,9 +85,9 @@ turn rom op i c end s rest index cpu pc0 byte issued left served is =
         place = moved;
         reaches = subst (λ (b : ℕ). Reaches i (index + 1) rest (taken index b cpu) end) (sym same) left.reaches.1;
         unserved =
-          ap (λ (b : Bool). if b then unserved_along rom i rest (moved_by s.romc wanted true k) else Some (record { romc = s.romc; at = k.pc0 })) (sym serves)
-          ∙ sym (step_unserved rom s.romc k (unserved_along rom i rest (moved_by s.romc wanted true k)) issued)
-          ∙ left.unserved;
+            ap (λ (b : Bool). if b then unserved_along rom i rest (moved_by s.romc wanted true k) else Some (record { romc = s.romc; at = k.pc0 })) (sym serves)
+            ∙ sym (step_unserved rom s.romc k (unserved_along rom i rest (moved_by s.romc wanted true k)) issued)
+            ∙ left.unserved;
         drives = left.drives.1;
         moves = left.moves;
       };
@@ -171,7 +170,7 @@ left_last rom op s start cpu index p pc0 built holds left =
     let same_flow : flow_after (row_of op) i true s.flow ≡ flow_after (row_of op) own true s.flow = flow_after-with_opcode (row_of op) code own true s.flow in
     let small : (flow_after (row_of op) own true s.flow).p < 65536 = next_small (row_of op) own s.flow row_built in
     let place : places_on pc0 65535 ≡ (flow_after (row_of op) own true s.flow).p =
-        ap (λ (at : ℕ). places_on at 65535) (next ∙ ap (λ (c : Flow). places_on c.p 1) same_flow) ∙ before_next _ small in
+    ap (λ (at : ℕ). places_on at 65535) (next ∙ ap (λ (c : Flow). places_on c.p 1) same_flow) ∙ before_next _ small in
     record {
       served = ap (first_unserved rom s.flow) (sym (accesses-with_opcode (row_of op) code own)) ∙ sym left.unserved;
       registers = ap (λ (c : CpuState). c.registers) left.reaches ∙ ap (result_of op i) holds.registers ∙ result_of-with_opcode op code own s.registers;
@@ -304,15 +303,15 @@ remaining_turn rom now op i c end plan step index cpu next pc0 after placed byte
     let served_there = subst (λ (bytes : List ℕ). is_served bytes step.romc pc0 ≡ true) same served in
     let byte_there = is ∙ ap (λ (bytes : List ℕ). bus_byte bytes step.romc placed pc0) same ∙ ap (λ (b : ℕ). bus_byte rom step.romc b pc0) places in
     subst (λ (at : ℕ). Remaining rom op i c end plan (index + 1) next at) (sym moves)
-      (subst (λ (k : CpuState). Remaining rom op i c end plan (index + 1) k (moved_pc0 step.romc byte pc0)) (sym takes)
-        (remaining_more rom op i c end plan step index cpu pc0 byte within here issued remaining served_there byte_there))
+    (subst (λ (k : CpuState). Remaining rom op i c end plan (index + 1) k (moved_pc0 step.romc byte pc0)) (sym takes)
+    (remaining_more rom op i c end plan step index cpu pc0 byte within here issued remaining served_there byte_there))
 
 pub stopped_turn : (rom now : List ℕ) (op : Op) (s : State) (start : CpuState) (plan : List Step) (step : Step) (index : ℕ) (cpu : CpuState) (pc0 : ℕ) (halt : Halt) →
     now ≡ rom → index < length plan → step ≡ get_or plan index step → IsIssuedCode step.romc → is_served now step.romc pc0 ≡ false → halt ≡ Undriven step.romc pc0 →
     Remaining rom op (inputs op rom s) s.flow (done op (inputs op rom s) start) plan index cpu pc0 → IsStopped rom op s halt
 stopped_turn rom now op s start plan step index cpu pc0 halt same within here issued unserved told remaining =
     subst (λ (h : Halt). IsStopped rom op s h) (sym told)
-      (remaining_stopped rom op s start plan step index cpu pc0 within here issued remaining (subst (λ (bytes : List ℕ). is_served bytes step.romc pc0 ≡ false) same unserved))
+    (remaining_stopped rom op s start plan step index cpu pc0 within here issued remaining (subst (λ (bytes : List ℕ). is_served bytes step.romc pc0 ≡ false) same unserved))
 
 -- ---- the instruction, from its state to the next one
 
@@ -368,9 +367,9 @@ unfolding carried
 next_goes rom s start cpu op p clocks opcode built holds is_done same_clocks =
     let i = own_inputs op rom s in
     let flow : flow_after (row_of op) i true s.flow ≡ record s.flow { p = p } =
-        flow_stays (row_of op) i s.flow (built_held op start built holds.instruction) ∙ ap (λ (at : ℕ). record s.flow { p = at }) (sym is_done.place) in
+    flow_stays (row_of op) i s.flow (built_held op start built holds.instruction) ∙ ap (λ (at : ℕ). record s.flow { p = at }) (sym is_done.place) in
     let phi : row_clocks (row_of op) i.taken ≡ clocks =
-        ap (row_clocks (row_of op)) (own_taken op rom s ∙ ap (is_taken op) (sym holds.registers)) ∙ sym same_clocks in
+    ap (row_clocks (row_of op)) (own_taken op rom s ∙ ap (is_taken op) (sym holds.registers)) ∙ sym same_clocks in
     next_held rom s start op opcode built holds.instruction
     ∙ ap (λ (u : Option Unserved). served_or_stop u (after_instruction op rom s)) is_done.served
     ∙ ap (λ (c : Flow). Goes (record { flow = c; registers = (after_instruction op rom s).registers; count = s.count + 1; phi = s.phi + row_clocks (row_of op) i.taken })) flow

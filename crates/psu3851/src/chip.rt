@@ -157,7 +157,11 @@ impl Psu {
         ensures { result ≡ data_port (psu_view self.now) port }
     {
         let offset = self.port_offset(port)?;
-        if offset < 2 { Some(usize::from(offset)) } else { None }
+        if offset < 2 {
+            Some(usize::from(offset))
+        } else {
+            None
+        }
     }
 
     /// A byte for a port, which is lost where the chip doesn't have it. A write to control ends a latched request.

@@ -71,7 +71,13 @@ fn asks_after_a_pulse(rt: HostRuntime) -> Result<(), Fail> {
     assert_eq!(rt; psu.latch(4), Some(0x81));
     assert_eq!(rt; psu.latch(6), None);
     psu.settle(Romc::IDLE, 0x04, 6, false);
-    assert_eq!(rt; psu.offer(Romc::READ_PORT, false), Some(Offer { byte: 0x91, at: 0x04 }));
+    assert_eq!(rt;
+        psu.offer(Romc::READ_PORT, false),
+        Some(Offer {
+            byte: 0x91,
+            at: 0x04
+        })
+    );
 
     psu.pulse();
     assert_eq!(rt; psu.asks(), false);
@@ -79,7 +85,13 @@ fn asks_after_a_pulse(rt: HostRuntime) -> Result<(), Fail> {
     psu.settle(Romc::WRITE_PORT, 0x01, 6, false);
     psu.pulse();
     if psu.asks() {
-        assert_eq!(rt; psu.offer(Romc::VECTOR_LOW, true), Some(Offer { byte: 0xB4, at: 0x12B4 }));
+        assert_eq!(rt;
+            psu.offer(Romc::VECTOR_LOW, true),
+            Some(Offer {
+                byte: 0xB4,
+                at: 0x12B4
+            })
+        );
         psu.settle(Romc::VECTOR_HIGH, 0x12, 6, true);
         assert_eq!(rt; psu.asks(), false);
         assert_eq!(rt; psu.counters().pc0, 0x1200);

@@ -10,10 +10,10 @@ pub returns-in-Err : goal.returns-in-Err
 returns-in-Err c =
     let stops = rw c.loop.invariant.memory at (c.in-Err.ensures.stops c.loop.done) in
     subst (λ (e : Ending). Tells c.ending_after.result e)
-      (ap (λ (isa : IsaState). record { state = state_of isa c.loop.done; stop = stop_of c.in-Err.halt }) c.in-Err.ensures.same
-        ∙ sym (run-stops _ c.args.count c.loop.counter _ (stop_of c.in-Err.halt) c.loop-test.true stops)
-        ∙ c.loop.invariant.rest)
-      c.ending_after.ensures
+    (ap (λ (isa : IsaState). record { state = state_of isa c.loop.done; stop = stop_of c.in-Err.halt }) c.in-Err.ensures.same
+    ∙ sym (run-stops _ c.args.count c.loop.counter _ (stop_of c.in-Err.halt) c.loop-test.true stops)
+    ∙ c.loop.invariant.rest)
+    c.ending_after.ensures
 
 pub loop-preserved : goal.loop-preserved
 loop-preserved c =

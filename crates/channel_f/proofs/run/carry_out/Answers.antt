@@ -32,14 +32,14 @@ loop-index-preserved g c =
       few = c.loop-index.invariant.few;
       issued = codes.1;
       plan = λ later.
-        let more : c.loop-index.index + 1 < length (planned c.loop-index.cpu) = rw plan_is later in
-        ap planned c.take.ensures ∙ planned-taken c.loop-index.index c.in_ok-byte.byte c.loop-index.cpu more ∙ plan_is;
+          let more : c.loop-index.index + 1 < length (planned c.loop-index.cpu) = rw plan_is later in
+          ap planned c.take.ensures ∙ planned-taken c.loop-index.index c.in_ok-byte.byte c.loop-index.cpu more ∙ plan_is;
       restorable = λ later.
-        let more : c.loop-index.index + 1 < length (planned c.loop-index.cpu) = rw plan_is later in
-        subst (λ (cpu : CpuState). IsRestorable c.args.cpu.now cpu) (sym c.take.ensures)
+          let more : c.loop-index.index + 1 < length (planned c.loop-index.cpu) = rw plan_is later in
+          subst (λ (cpu : CpuState). IsRestorable c.args.cpu.now cpu) (sym c.take.ensures)
           (IsRestorable-taken c.args.cpu.now c.loop-index.cpu c.loop-index.index c.in_ok-byte.byte more (c.loop-index.invariant.restorable within));
       left = λ op s holds.
-        remaining_turn _ _ op _ s.flow _ c.args.plan.now c.index-plan-index.result c.loop-index.index c.loop-index.cpu c.take.new.self c.loop-index.pc0 c.moved-pc0.result c.drive-placed.result c.in_ok-byte.byte
+          remaining_turn _ _ op _ s.flow _ c.args.plan.now c.index-plan-index.result c.loop-index.index c.loop-index.cpu c.take.new.self c.loop-index.pc0 c.moved-pc0.result c.drive-placed.result c.in_ok-byte.byte
           c.loop-index.invariant.bytes within c.index-plan-index.is codes.0 c.drive-placed.ensures c.in_ok-byte.ensures.served c.in_ok-byte.ensures.byte c.take.ensures c.moved-pc0.ensures
           (c.loop-index.invariant.left op s holds);
     }
@@ -50,10 +50,10 @@ returns-in_err-byte-clause-stopped g c = λ op s holds.
     let within : c.loop-index.index < length c.args.plan.now = omega arith in
     let codes = subst AllIssued (split_plan c.args.plan.now c.loop-index.index c.index-plan-index.result within c.index-plan-index.is) c.loop-index.invariant.issued in
     rw p.1 (stopped_turn _ _ op s c.args.cpu.now c.args.plan.now c.index-plan-index.result c.loop-index.index c.loop-index.cpu c.loop-index.pc0 p.0
-      c.loop-index.invariant.bytes within c.index-plan-index.is codes.0 c.in_err-byte.ensures.unserved (p.2 ∙ c.in_err-byte.ensures.halt) (c.loop-index.invariant.left op s holds))
+    c.loop-index.invariant.bytes within c.index-plan-index.is codes.0 c.in_err-byte.ensures.unserved (p.2 ∙ c.in_err-byte.ensures.halt) (c.loop-index.invariant.left op s holds))
 
 pub returns-clause-done : goal.returns-clause-done
 returns-clause-done g c = λ op s holds.
     let past : length c.args.plan.now ≤ c.loop-index.index = omega arith in
     remaining_last _ op s c.args.cpu.now c.args.plan.now c.loop-index.index c.loop-index.cpu c.args.p c.loop-index.pc0 past c.requires.built holds
-      (c.loop-index.invariant.left op s holds)
+    (c.loop-index.invariant.left op s holds)
