@@ -6,7 +6,8 @@ use std::marker::Model;
 /// The most chips that a rack has.
 pub(crate) const SOCKETS: usize = 16;
 
-/// The chips that drive or take a byte in one bus step, at most 16, in ascending order of their sockets. Contracts see the list.
+/// The chips that drive or take a byte in one bus step, at most 16, in the order in which they were added. A bus step adds them by
+/// ascending sockets. Contracts see the list.
 #[derive(Debug, Drop)]
 pub struct Parties {
     items: [Party; SOCKETS],
