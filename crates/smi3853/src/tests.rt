@@ -3,6 +3,23 @@ use chip_face::{Bytes, Chip, ChipKind, ChipSpec, Offer, Page, PageList, PageSort
 use romc_table::{Counters, Romc};
 use std::test::Fail;
 
+fn hear(chip: &mut Box<dyn Chip>, romc: Romc, byte: u8) {
+    chip.settle(romc, byte, 6, false);
+}
+
+fn offered(chip: &Box<dyn Chip>, romc: Romc) -> Option<Offer> {
+    chip.offer(romc, false)
+}
+
+/// The low byte of the vector of a chip that asks for an interrupt.
+fn vector_of(chip: &Box<dyn Chip>) -> Option<Offer> {
+    if chip.asks() {
+        chip.offer(Romc::VECTOR_LOW, true)
+    } else {
+        None
+    }
+}
+
 // A ROM page at 00, a RAM page at 28 and a void page at 80: a store is kept in RAM, and lost in ROM and where there is nothing.
 #[test]
 fn stores_in_ram_alone(rt: HostRuntime) -> Result<(), Fail> {
@@ -40,18 +57,18 @@ fn stores_in_ram_alone(rt: HostRuntime) -> Result<(), Fail> {
     assert_eq!(rt; smi.takes(0x8000), false);
 
     assert_eq!(rt;
-        smi.offer(Romc::STORE_DATA, false),
+        offered(smi, Romc::STORE_DATA),
         Some(Offer {
             byte: 0x00,
             at: 0x28FF
         })
     );
-    smi.settle(Romc::STORE_DATA, 0x12, 6, false);
+    hear(smi, Romc::STORE_DATA, 0x12);
     assert_eq!(rt; smi.peek(0x28FF), Some(0x12));
-    smi.settle(Romc::SET_DATA_HIGH, 0x00, 6, false);
-    smi.settle(Romc::SET_DATA_LOW, 0x10, 6, false);
-    assert_eq!(rt; smi.offer(Romc::STORE_DATA, false), None);
-    smi.settle(Romc::STORE_DATA, 0x34, 6, false);
+    hear(smi, Romc::SET_DATA_HIGH, 0x00);
+    hear(smi, Romc::SET_DATA_LOW, 0x10);
+    assert_eq!(rt; offered(smi, Romc::STORE_DATA), None);
+    hear(smi, Romc::STORE_DATA, 0x34);
     assert_eq!(rt; smi.peek(0x0010), Some(0x2B));
     Ok(())
 }
@@ -69,8 +86,8 @@ fn exchanges_and_vectors(rt: HostRuntime) -> Result<(), Fail> {
     let smi = &mut rack[0];
     smi.fit(rt.alloc(), &spec)?;
     smi.power(0x00, 0x0101);
-    smi.settle(Romc::SET_DATA_LOW, 0x77, 6, false);
-    smi.settle(Romc::EXCHANGE, 0x00, 4, false);
+    hear(smi, Romc::SET_DATA_LOW, 0x77);
+    hear(smi, Romc::EXCHANGE, 0x00);
     assert_eq!(rt;
         smi.counters(),
         Counters {
@@ -81,24 +98,21 @@ fn exchanges_and_vectors(rt: HostRuntime) -> Result<(), Fail> {
         }
     );
 
-    smi.settle(Romc::IDLE, 0x0C, 6, false);
-    smi.settle(Romc::WRITE_PORT, 0x12, 6, false);
-    smi.settle(Romc::IDLE, 0x0D, 6, false);
-    smi.settle(Romc::WRITE_PORT, 0x34, 6, false);
-    smi.settle(Romc::IDLE, 0x0E, 6, false);
-    smi.settle(Romc::WRITE_PORT, 0x01, 6, false);
+    hear(smi, Romc::IDLE, 0x0C);
+    hear(smi, Romc::WRITE_PORT, 0x12);
+    hear(smi, Romc::IDLE, 0x0D);
+    hear(smi, Romc::WRITE_PORT, 0x34);
+    hear(smi, Romc::IDLE, 0x0E);
+    hear(smi, Romc::WRITE_PORT, 0x01);
     assert_eq!(rt; smi.latch(0x0C), None);
     smi.keys(0x0C, 0xFF);
     smi.pulse();
-    if smi.asks() {
-        assert_eq!(rt;
-            smi.offer(Romc::VECTOR_LOW, true),
-            Some(Offer {
-                byte: 0xB4,
-                at: 0x12B4
-            })
-        );
-        return Ok(());
-    }
-    Err(Fail::from("a pulse under control 1 is to be a request"))
+    assert_eq!(rt;
+        vector_of(smi),
+        Some(Offer {
+            byte: 0xB4,
+            at: 0x12B4
+        })
+    );
+    Ok(())
 }
