@@ -4,7 +4,7 @@ use Rattle.f8_spec.specs.Instructions.{row_of}
 use Rattle.f8_spec.specs.declared.instructions.Op.{Op}
 use Rattle.f8_spec.specs.declared.instructions.Op.TheVariants.{LrKP, LrQDc, LrHDc}
 use Rattle.f8_spec.specs.declared.instructions.Row.{Row}
-use Rattle.f8_spec.specs.declared.instructions.Row.TheVariants.{Branch, StoreData}
+use Rattle.f8_spec.specs.declared.instructions.Row.TheVariants.{StoreData}
 use Rattle.console_spec.specs.AddressSpace.{byte_at}
 use Rattle.console_spec.specs.Processor.{State, Flow, Registers, Inputs, used_byte, result_of, flow_after, own_inputs, effect}
 use Rattle.console_spec.specs.BusAccesses.{accesses_before_fetch, last_access}

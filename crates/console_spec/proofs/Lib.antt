@@ -3,3 +3,4 @@ pub mod OneChip
 pub mod RunLaws
 pub mod Walks
 pub mod WorkedRuns
+pub mod WorkedRacks

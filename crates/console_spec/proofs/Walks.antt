@@ -1,7 +1,6 @@
 -- Along the bus steps of an instruction the counters go where the flat machine's table says.
-use Rattle.std.proofs.Common.{◌≡◌, ℕ, ◌+◌, ◌*◌, ◌/◌, ◌%◌, ◌<◌, Bool, true, false, List, [], ◌∷◌, ◌++◌, refl, ap, ◌∙◌, arith}
-use Rattle.std.specs.Prelude.{if◌then◌else◌}
-use Rattle.f8_spec.specs.Words.{word, with_high, with_low, places_on, displaced}
+use Rattle.std.proofs.Common.{◌≡◌, ℕ, ◌+◌, ◌<◌, Bool, true, false, List, [], ◌∷◌, ◌++◌, refl, ap, ◌∙◌, arith}
+use Rattle.f8_spec.specs.Words.{word, with_high, with_low, places_on}
 use Rattle.f8_spec.specs.BusCodes.{Count, moved_by}
 use Rattle.f8_spec.specs.MicroSteps.{Step, steps_before_fetch, last_fetch, steps_of}
 use Rattle.f8_spec.specs.declared.instructions.Row.{Row}

@@ -1,5 +1,11 @@
 pub mod AddressSpace
 pub mod Processor
 pub mod BusAccesses
+pub mod FlatMemory
+pub mod CounterCopies
+pub mod Services
+pub mod BusTrace
+pub mod FlatMachine
+pub mod RackRun
 pub mod Run
 pub mod RunText

@@ -4,7 +4,7 @@ use Rattle.std.specs.Prelude.{ℕ, ◌+◌, ◌-◌, ◌*◌, ◌/◌, ◌%◌, 
 use Rattle.f8_spec.specs.Words.{word, places_on, displaced, sum_value, decimal_value}
 use Rattle.f8_spec.specs.Flags.{Status, clear_status, status_byte, status_of, after_result, after_sum}
 use Rattle.f8_spec.specs.Instructions.{row_of, row_length, clocks_of}
-use Rattle.f8_spec.specs.MicroSteps.{Source, Opcode, Operand, SecondOperand, KeptOperand, DataByte, DataHigh, DataLow, StackHigh, StackLow, KHigh, KLow, QHigh, QLow, HHigh, HLow, Accumulator, PortNumber, PortByte, VectorHigh, VectorLow, NoByte}
+use Rattle.f8_spec.specs.MicroSteps.{Source, Opcode, Operand, SecondOperand, KeptOperand, DataByte, DataHigh, DataLow, StackHigh, StackLow, KHigh, KLow, QHigh, QLow, HHigh, HLow, Accumulator, PortNumber, PortByte, VectorHigh, VectorLow, NoByte, clocks_along, reset_steps}
 use Rattle.f8_spec.specs.declared.instructions.Op.{Op}
 use Rattle.f8_spec.specs.declared.instructions.Op.TheVariants.{LrAKu, LrAKl, LrAQu, LrAQl, LrKuA, LrKlA, LrQuA, LrQlA, LrKP, LrAIs, LrIsA, LrQDc, LrHDc, Sr1, Sl1, Sr4, Sl4, Lm, Com, Lnk, Di, Ei, LrWJ, LrJW, Inc, Li, Ni, Oi, Xi, Ai, Ci, In, Pi, Jmp, Ds, LrAR, LrRA, Lisu, Lisl, Lis, Bt, Am, Amd, Nm, Om, Xm, Cm, Br7, Bf, Ins, Outs, As, Asd, Xs, Ns}
 use Rattle.f8_spec.specs.declared.instructions.Row.{Row}
@@ -44,9 +44,9 @@ at_power fill = record {
   phi = 0;
 }
 
--- reset takes 14 Φ and changes nothing else
+-- reset takes the clocks of its bus steps and changes nothing else
 abbrev pub after_reset : State → State
-after_reset s = record s { phi = s.phi + 14 }
+after_reset s = record s { phi = s.phi + clocks_along reset_steps }
 
 -- ---- registers
 

@@ -15,3 +15,29 @@ pub struct Regs {
     pub w: u8,
     pub scratch: [u8; 64],
 }
+
+/// What an address is to the chips of a program. That an address which several chips hold is none's is this project's own.
+#[derive(Clone, Copy, Debug, PartialEq, Eq)]
+pub enum Sort {
+    /// One chip holds it, in a page of ROM.
+    Rom,
+    /// One chip holds it, in a page of RAM.
+    Ram,
+    /// One chip holds it, in a page where there is nothing.
+    Void,
+    /// No chip holds it.
+    Nothing,
+    /// Two or more chips hold it.
+    Shared,
+}
+
+/// Who drove the byte of a bus step (Mostek 3850, 3851 and 3853 data sheets).
+#[derive(Clone, Copy, Debug, PartialEq, Eq)]
+pub enum Who {
+    /// The 3850.
+    Cpu,
+    /// The storage chip in this socket.
+    Socket(u8),
+    /// Nobody: the byte is 00.
+    Nobody,
+}

@@ -122,7 +122,7 @@ pub data Verdict : Type 0 where
   Undriven : ℕ → Verdict
   Astray : ℕ → ℕ → ℕ → Verdict
 
--- the first of the chips that stand by, which is the one in the lowest socket where they stand in the order of their sockets
+-- The first of the chips that stand by. In a rack, whose chips stand in the order of their sockets, it is the one in the lowest socket.
 abbrev pub lowest : List Party → Option Party
 lowest [] = None
 lowest (q ∷ qs) = Some q

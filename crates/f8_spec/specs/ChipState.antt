@@ -14,7 +14,12 @@ use Rattle.f8_spec.specs.declared.chips.PageSort.TheVariants.{Rom, Ram, Void}
 use Rattle.f8_spec.specs.declared.chips.Page.{Page}
 use Rattle.f8_spec.specs.declared.chips.Offer.{Offer}
 
--- ---- what kinds of chip have
+-- ---- what kinds of chip have. That a chip has memory is told by its pages.
+
+-- its own program counter, stack register and data counter
+abbrev pub has_counters : ChipKind → Bool
+has_counters Psu = true
+has_counters Smi = true
 
 abbrev pub has_second_counter : ChipKind → Bool
 has_second_counter Psu = false
@@ -24,6 +29,11 @@ has_second_counter Smi = true
 abbrev pub has_data_ports : ChipKind → Bool
 has_data_ports Psu = true
 has_data_ports Smi = false
+
+-- the vector is a part of the chip, and no port writes it
+abbrev pub has_fixed_vector : ChipKind → Bool
+has_fixed_vector Psu = true
+has_fixed_vector Smi = false
 
 -- ---- what contracts see of a chip
 
@@ -283,10 +293,14 @@ effect romc byte first v =
     if romc == 0x1A then port_written_if (port_role v v.last) byte v else
     v
 
+-- the counters after a code with its byte, where the chip has counters
+abbrev pub counters_moved : ℕ → ℕ → ChipView → Count
+counters_moved romc byte v =
+    if has_counters v.kind then moved_by romc byte (has_second_counter v.kind) v.counters else v.counters
+
 -- the counters and the last byte after a code with its byte
 abbrev pub with_counters_moved : ℕ → ℕ → ChipView → ChipView
-with_counters_moved romc byte v =
-    record v { counters = moved_by romc byte (has_second_counter v.kind) v.counters; last = byte }
+with_counters_moved romc byte v = record v { counters = counters_moved romc byte v; last = byte }
 
 -- The chip after a step in which its timer passed some clocks: first the timer, under the old control, then the effect of the code,
 -- and then the byte is the last one.
@@ -320,13 +334,13 @@ pub record Settles (passed : ℕ) (step : HeardStep) (old new : ChipState) : Typ
 abbrev pub powered : ℕ → ℕ → ChipView → ChipView
 powered fill start v = record v {
   bytes = filled_bytes fill v.pages v.bytes;
-  counters = count_at start;
+  counters = if has_counters v.kind then count_at start else v.counters;
   latches = clear_data_ports v.kind;
   key_bytes = clear_data_ports v.kind;
   control = 0;
   timer = 255;
   phase = 0;
-  vector = if has_data_ports v.kind then v.vector else 0;
+  vector = if has_fixed_vector v.kind then v.vector else 0;
   request = false;
   last = 0;
 }

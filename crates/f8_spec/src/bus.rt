@@ -36,7 +36,10 @@ pub enum BusRule {
 /// A chip that drives or takes a byte in a bus step: its socket, and the address in its own counter or the port's number.
 #[derive(Clone, Copy, Debug, PartialEq, Eq)]
 pub struct Party {
+    /// The chip's place in the rack.
     pub socket: u8,
+
+    /// The address in the chip's own counter, or the port.
     pub at: u16,
 }
 
@@ -56,8 +59,15 @@ pub enum Counter {
 /// The counters of one storage chip, each an address. A 3851 has no second data counter.
 #[derive(Clone, Copy, Debug, PartialEq, Eq)]
 pub struct Counters {
+    /// The program counter.
     pub pc0: u16,
+
+    /// The stack register.
     pub pc1: u16,
+
+    /// The data counter.
     pub dc0: u16,
+
+    /// The second data counter, where the chip has one.
     pub dc1: Option<u16>,
 }

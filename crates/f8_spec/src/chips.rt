@@ -21,13 +21,19 @@ pub enum PageSort {
 /// A page of 256 bytes in a chip's space: the addresses whose high byte is `number`.
 #[derive(Clone, Copy, Debug, PartialEq, Eq)]
 pub struct Page {
+    /// The high byte of the page's addresses.
     pub number: u8,
+
+    /// What the page is.
     pub sort: PageSort,
 }
 
 /// What a chip offers in a bus step: the byte that it would drive, and the copy, port or vector by which it answers.
 #[derive(Clone, Copy, Debug, PartialEq, Eq)]
 pub struct Offer {
+    /// The byte that the chip would drive, and 00 where it takes one.
     pub byte: u8,
+
+    /// The address in the chip's own counter, the port, or the vector.
     pub at: u16,
 }

@@ -1,0 +1,103 @@
+-- The bus steps of an instruction as a trace tells them: who drove the byte, and who took it. The steps before the one that is not served
+-- are in the trace, and that one and the later ones are not.
+use Rattle.std.specs.Prelude.{ℕ, Bool, true, false, ◌==◌, if◌then◌else◌, List, [], ◌∷◌, Option, Some, None}
+use Rattle.f8_spec.specs.BusCodes.{driver_of}
+use Rattle.f8_spec.specs.MicroSteps.{Source, PortNumber, Step}
+use Rattle.f8_spec.specs.BusArbitration.{Verdict, Served, Conflict as ConflictVerdict, Undriven as UndrivenVerdict, Astray as AstrayVerdict, rule_of}
+use Rattle.f8_spec.specs.declared.bus.Driver.{Driver}
+use Rattle.f8_spec.specs.declared.bus.Driver.TheVariants.{Memory, CounterByte, Vector as VectorDriver, Port, Cpu as CpuDriver, Nobody as NobodyDriver}
+use Rattle.f8_spec.specs.declared.bus.BusRule.{BusRule}
+use Rattle.f8_spec.specs.declared.bus.BusRule.TheVariants.{Read, Store, PortRead, PortWrite, Vector, NoChip}
+use Rattle.console_spec.specs.Processor.{Flow, Inputs, byte_of}
+use Rattle.console_spec.specs.CounterCopies.{Copy}
+use Rattle.console_spec.specs.BusAccesses.{Access}
+use Rattle.console_spec.specs.Services.{Fault, access_verdict}
+use Rattle.console_spec.specs.declared.Who.{Who}
+use Rattle.console_spec.specs.declared.Who.TheVariants.{Cpu, Socket, Nobody}
+
+-- ---- one step
+
+pub record TracedStep : Type 0 where
+  pub romc : ℕ
+  pub long : Bool
+  pub byte : ℕ
+  -- who drove the byte
+  pub who : Who
+  -- the socket of the chip that took it in a store or a port write
+  pub taker : Option ℕ
+
+abbrev pub socket_or_nobody : Option ℕ → Who
+socket_or_nobody None = Nobody
+socket_or_nobody (Some socket) = Socket socket
+
+abbrev pub who_by : Driver → Option ℕ → Who
+who_by Memory socket = socket_or_nobody socket
+who_by CounterByte socket = socket_or_nobody socket
+who_by VectorDriver socket = socket_or_nobody socket
+who_by Port socket = socket_or_nobody socket
+who_by CpuDriver socket = Cpu
+who_by NobodyDriver socket = Nobody
+
+-- in the code 1C the CPU drives the number of a port, and else nobody drives
+abbrev pub who_idles : Source → Who
+who_idles PortNumber = Cpu
+who_idles source = Nobody
+
+abbrev pub who_of : Step → Option ℕ → Who
+who_of s socket = if s.romc == 0x1C then who_idles s.source else who_by (driver_of s.romc) socket
+
+abbrev pub taker_by : BusRule → Option ℕ → Option ℕ
+taker_by Read socket = None
+taker_by Store socket = socket
+taker_by PortRead socket = None
+taker_by PortWrite socket = socket
+taker_by Vector socket = None
+taker_by NoChip socket = None
+
+-- a served step, by the socket of the chip that drove the byte or took it
+abbrev pub traced : Inputs → Step → Option ℕ → TracedStep
+traced i s socket = record {
+  romc = s.romc;
+  long = s.long;
+  byte = byte_of i s.source;
+  who = who_of s socket;
+  taker = taker_by (rule_of s.romc) socket;
+}
+
+-- ---- the steps of an instruction
+
+-- the steps that are served; and where one is not, why, and whether it is a long one
+pub record Course : Type 0 where
+  pub steps : List TracedStep
+  pub fault : Option (Fault × Bool)
+
+abbrev pub with_step : TracedStep → Course → Course
+with_step step rest = record rest { steps = step ∷ rest.steps }
+
+abbrev pub stopped_by : Fault → Bool → Course
+stopped_by fault long = record { steps = []; fault = Some (fault, long) }
+
+-- a step by the verdict on its access, with the steps behind it
+abbrev pub course_by : Inputs → Step → Verdict → Course → Course
+course_by i s (Served socket) rest = with_step (traced i s socket) rest
+course_by i s (ConflictVerdict parties) rest = stopped_by (Fault.Conflict s.romc parties) s.long
+course_by i s (UndrivenVerdict at) rest = stopped_by (Fault.Undriven s.romc at) s.long
+course_by i s (AstrayVerdict socket at reference) rest = stopped_by (Fault.Astray s.romc socket at reference) s.long
+
+-- chips drive the byte or take it, so that the step is one of the accesses
+abbrev pub is_access : BusRule → Bool
+is_access Read = true
+is_access Store = true
+is_access PortRead = true
+is_access PortWrite = true
+is_access Vector = false
+is_access NoChip = false
+
+-- The steps go along with the accesses, each in its order, on the counters before the instruction.
+abbrev pub course_of : Inputs → Flow → List Copy → List Step → List Access → Course
+course_of i c copies [] accesses = record { steps = []; fault = None }
+course_of i c copies (s ∷ later) [] = with_step (traced i s None) (course_of i c copies later [])
+course_of i c copies (s ∷ later) (a ∷ accesses) =
+    if is_access (rule_of s.romc)
+    then course_by i s (access_verdict c copies a) (course_of i c copies later accesses)
+    else with_step (traced i s None) (course_of i c copies later (a ∷ accesses))

@@ -1,0 +1,128 @@
+-- The run of a program on a rack of chips: the flat machine goes on, with the copies of the chips beside it, up to the first instruction
+-- that has an access which is not served.
+use Rattle.std.specs.Prelude.{ℕ, zero, suc, Bool, true, false, List, [], ◌∷◌, map, Option, Some, None}
+use Rattle.std.specs.List.{enumerate_from}
+use Rattle.f8_spec.specs.Built.{is_built_on_rack}
+use Rattle.f8_spec.specs.Instructions.{decoded, row_of}
+use Rattle.f8_spec.specs.MicroSteps.{steps_of}
+use Rattle.f8_spec.specs.ChipState.{ChipView}
+use Rattle.f8_spec.specs.BusArbitration.{Seat, seat_of}
+use Rattle.f8_spec.specs.declared.instructions.Op.{Op}
+use Rattle.console_spec.specs.AddressSpace.{byte_at}
+use Rattle.console_spec.specs.Processor.{after_reset}
+use Rattle.console_spec.specs.FlatMachine.{FlatState, flat_at_power, flat_after, gets, gets_all}
+use Rattle.console_spec.specs.CounterCopies.{Copy, copies_after, reset_copy}
+use Rattle.console_spec.specs.BusAccesses.{ahead, accesses_of}
+use Rattle.console_spec.specs.Services.{Fault, first_fault}
+use Rattle.console_spec.specs.BusTrace.{Course, course_of}
+
+-- the flat machine, and the copies of the chips by their sockets
+pub record Position : Type 0 where
+  pub flat : FlatState
+  pub copies : List Copy
+
+abbrev pub seats_of : List Copy → List Seat
+seats_of copies = map (λ c. c.seat) copies
+
+-- ---- an instruction
+
+-- why an instruction is not done: the first of its accesses that is not served
+abbrev pub instruction_fault : Op → Position → Option Fault
+instruction_fault op x = first_fault x.flat.state.flow x.copies (accesses_of op (gets op x.flat))
+
+abbrev pub position_after : Op → Position → Position
+position_after op x = record {
+  flat = flat_after op (seats_of x.copies) x.flat;
+  copies = copies_after (row_of op) (gets op x.flat) x.copies;
+}
+
+-- its bus steps, up to the first that is not served
+abbrev pub instruction_course : Op → Position → Course
+instruction_course op x =
+    let i = gets_all op (seats_of x.copies) x.flat in
+    course_of i x.flat.state.flow x.copies (steps_of (row_of op) i.taken) (accesses_of op i)
+
+-- ---- power-on and reset
+
+-- Power-on, on a rack of chips that are fitted. The copies are those that reset will leave: the stack register and the data counters of a
+-- chip stand where power-on left its counters.
+abbrev pub power_position : List ChipView → ℕ → Position
+power_position vs fill = record {
+  flat = flat_at_power vs fill;
+  copies = map (reset_copy fill) (enumerate_from 0 (map seat_of vs));
+}
+
+-- reset fetches at 0
+abbrev pub reset_fault : Position → Option Fault
+reset_fault x = first_fault x.flat.state.flow x.copies (ahead 0x00 0 ∷ [])
+
+abbrev pub position_after_reset : Position → Position
+position_after_reset x = record x { flat = record x.flat { state = after_reset x.flat.state } }
+
+-- ---- a run
+
+-- why a run stops
+pub data Stop : Type 0 where
+  -- all its instructions are done
+  Done : Stop
+  -- a bus step is not served
+  Unserved : Fault → Stop
+  -- at this address stands this opcode, which no instruction has
+  Reserved : ℕ → ℕ → Stop
+  -- at this address stands this opcode, whose instruction is not built
+  Unbuilt : ℕ → ℕ → Stop
+
+-- an instruction, or reset, is done and leads on, or it stops the run
+pub data Turn : Type 0 where
+  Goes : Position → Turn
+  Stops : Stop → Turn
+
+-- where the run stands at its end, and why it stops there
+pub record Ending : Type 0 where
+  pub position : Position
+  pub stop : Stop
+
+abbrev pub goes_unless : Option Fault → Position → Turn
+goes_unless None x = Goes x
+goes_unless (Some fault) x = Stops (Unserved fault)
+
+-- the next instruction by its opcode; what becomes of an instruction differs between a machine with chips and one without
+abbrev pub decided : (Op → Turn) → ℕ → ℕ → Bool → Option Op → Turn
+decided carried_out at code false op = Stops (Unbuilt at code)
+decided carried_out at code true None = Stops (Reserved at code)
+decided carried_out at code true (Some op) = carried_out op
+
+abbrev pub opcode_at : Position → ℕ
+opcode_at x = byte_at x.flat.memory x.flat.state.flow.p
+
+abbrev pub turn_by : (Op → Turn) → Position → Turn
+turn_by carried_out x =
+    decided carried_out x.flat.state.flow.p (opcode_at x) (is_built_on_rack (opcode_at x)) (decoded (opcode_at x))
+
+-- the next instruction on the rack
+abbrev pub next : Position → Turn
+next x = turn_by (λ op. goes_unless (instruction_fault op x) (position_after op x)) x
+
+-- the next instruction on the flat instruction set alone
+abbrev pub flat_next : Position → Turn
+flat_next x = turn_by (λ op. Goes (position_after op x)) x
+
+-- an instruction that stops the run changes nothing of it
+abbrev pub goes_on : (Position → Ending) → Position → Turn → Ending
+goes_on rest x (Goes y) = rest y
+goes_on rest x (Stops stop) = record { position = x; stop = stop }
+
+-- a number of instructions from a position on: the end is tried first
+unfoldable pub run : (Position → Turn) → ℕ → Position → Ending
+run step zero x = record { position = x; stop = Done }
+run step (suc n) x = goes_on (λ y. run step n y) x (step x)
+
+-- a whole run on a rack of chips that are fitted, from power-on with a power byte
+unfoldable pub played : List ChipView → ℕ → ℕ → Ending
+played vs fill n =
+    let x = power_position vs fill in
+    goes_on (λ y. run next n y) x (goes_unless (reset_fault x) (position_after_reset x))
+
+-- a whole run on the flat instruction set alone
+unfoldable pub referred : List ChipView → ℕ → ℕ → Ending
+referred vs fill n = run flat_next n (position_after_reset (power_position vs fill))
