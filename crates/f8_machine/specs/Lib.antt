@@ -1,1 +1,3 @@
 pub mod FlatViews
+pub mod Faults
+pub mod Traces

@@ -1,0 +1,107 @@
+-- The chips of a rack and the copies of their counters, along bus steps.
+use Rattle.std.proofs.Common.{◌≡◌, ℕ, zero, suc, ◌+◌, Bool, true, false, List, [], ◌∷◌, map, refl, ap, ◌∙◌, sym, subst}
+use Rattle.std.specs.Prelude.{Option, Some, None, slice_get}
+use Rattle.std.specs.List.{enumerate_from}
+use Rattle.f8_spec.specs.BusCodes.{Count, moved_by}
+use Rattle.f8_spec.specs.ChipState.{ChipView, after_step, has_second_counter}
+use Rattle.f8_spec.specs.BusArbitration.{Seat, seat_of, PlacedSeat, place_in, named_placed, verdict, view_verdict}
+use Rattle.f8_spec.specs.declared.instructions.Row.{Row}
+use Rattle.console_spec.specs.Processor.{Flow, Inputs, flow_after}
+use Rattle.console_spec.specs.CounterCopies.{Copy, copies_after}
+use Rattle.console_spec.specs.BusAccesses.{Access}
+use Rattle.console_spec.specs.Services.{placed_copy, access_verdict}
+use Rattle.console_spec.specs.RackRun.{seats_of}
+use Rattle.console_spec.proofs.Walks.{fetched}
+use Rattle.f8_machine.specs.FlatViews.{IsFilled}
+use Rattle.f8_machine.proofs.Stubs.{unmarked, seat_of-after, counters-after, filled-after}
+
+-- a chip with its copy: the counters are those of the copy after some steps, as a function of a set
+pub record IsCopy (now : Bool → Flow → Count) (last : ℕ) (c : Copy) (v : ChipView) : Type 0 where
+  pub seat : seat_of v ≡ c.seat
+  pub counters : v.counters ≡ now (has_second_counter c.seat.kind) c.flow
+  pub heard : v.last ≡ last
+  pub filled : IsFilled v
+
+abbrev pub AreCopies : (Bool → Flow → Count) → ℕ → List Copy → List ChipView → Type 0
+AreCopies now last [] [] = Unit {0}
+AreCopies now last [] (v ∷ vs) = ⊥
+AreCopies now last (c ∷ cs) [] = ⊥
+AreCopies now last (c ∷ cs) (v ∷ vs) = IsCopy now last c v × AreCopies now last cs vs
+
+-- ---- what the bus reads of them
+
+pub seats_same : (now : Bool → Flow → Count) (last : ℕ) (cs : List Copy) (vs : List ChipView) → AreCopies now last cs vs → map seat_of vs ≡ seats_of cs
+seats_same now last [] [] are = refl
+seats_same now last [] (v ∷ vs) are = absurd are
+seats_same now last (c ∷ cs) [] are = absurd are
+seats_same now last (c ∷ cs) (v ∷ vs) are = rw (are.0.seat, seats_same now last cs vs are.1) refl
+
+pub all_filled : (now : Bool → Flow → Count) (last : ℕ) (cs : List Copy) (vs : List ChipView) → AreCopies now last cs vs →
+    (k : ℕ) (v : ChipView) → slice_get vs k ≡ Some v → IsFilled v
+all_filled now last [] [] are k v here = cc
+all_filled now last [] (w ∷ vs) are k v here = absurd are
+all_filled now last (c ∷ cs) [] are k v here = absurd are
+all_filled now last (c ∷ cs) (w ∷ vs) are zero v here = let same : w ≡ v = cc in subst IsFilled same are.0.filled
+all_filled now last (c ∷ cs) (w ∷ vs) are (suc k) v here = all_filled now last cs vs are.1 k v here
+
+-- a chip's own place in a step is the place of the access on its copy
+placed_same : (now : Bool → Flow → Count) (last romc : ℕ) (a : Access) →
+    ((second : Bool) (c : Flow) → place_in romc (now second c) last ≡ a.place second c) →
+    (n : ℕ) (cs : List Copy) (vs : List ChipView) → AreCopies now last cs vs →
+    map (named_placed romc) (enumerate_from n vs) ≡ enumerate_from n (map (placed_copy a) cs)
+placed_same now last romc a place n [] [] are = refl
+placed_same now last romc a place n [] (v ∷ vs) are = absurd are
+placed_same now last romc a place n (c ∷ cs) [] are = absurd are
+placed_same now last romc a place n (c ∷ cs) (v ∷ vs) are =
+    rw (are.0.seat, are.0.counters, are.0.heard, place (has_second_counter c.seat.kind) c.flow, placed_same now last romc a place (n + 1) cs vs are.1) refl
+
+-- the bus rule on the chips is the rule on the access
+pub verdict_same : (now : Bool → Flow → Count) (last romc reference : ℕ) (a : Access) (c : Flow) (cs : List Copy) (vs : List ChipView) →
+    a.romc ≡ romc → ((second : Bool) (x : Flow) → place_in romc (now second x) last ≡ a.place second x) → reference ≡ a.place true c → AreCopies now last cs vs →
+    view_verdict romc None reference (enumerate_from 0 vs) ≡ access_verdict c cs a
+verdict_same now last romc reference a c cs vs code place at are =
+    ap (λ xs. verdict romc None reference xs) (placed_same now last romc a place 0 cs vs are)
+    ∙ ap (λ (r : ℕ). verdict romc None r (enumerate_from 0 (map (placed_copy a) cs))) at
+    ∙ ap (λ (r : ℕ). verdict r None (a.place true c) (enumerate_from 0 (map (placed_copy a) cs))) (sym code)
+
+-- ---- a step
+
+copy_more : (now : Bool → Flow → Count) (last romc byte clocks : ℕ) (c : Copy) (v : ChipView) → IsCopy now last c v →
+    IsCopy (λ second x. moved_by romc byte second (now second x)) byte c (after_step 0 (unmarked romc byte clocks) v)
+copy_more now last romc byte clocks c v is = record {
+  seat = seat_of-after romc byte clocks v ∙ is.seat;
+  counters = counters-after romc byte clocks v
+      ∙ ap (λ (s : Seat). moved_by romc byte (has_second_counter s.kind) v.counters) is.seat
+      ∙ ap (λ (x : Count). moved_by romc byte (has_second_counter c.seat.kind) x) is.counters;
+  heard = refl;
+  filled = filled-after romc byte clocks v is.filled;
+}
+
+pub copies_more : (now : Bool → Flow → Count) (last romc byte clocks : ℕ) (cs : List Copy) (vs : List ChipView) → AreCopies now last cs vs →
+    AreCopies (λ second x. moved_by romc byte second (now second x)) byte cs (map (after_step 0 (unmarked romc byte clocks)) vs)
+copies_more now last romc byte clocks [] [] are = tt
+copies_more now last romc byte clocks [] (v ∷ vs) are = absurd are
+copies_more now last romc byte clocks (c ∷ cs) [] are = absurd are
+copies_more now last romc byte clocks (c ∷ cs) (v ∷ vs) are =
+    (copy_more now last romc byte clocks c v are.0, copies_more now last romc byte clocks cs vs are.1)
+
+-- at the end of an instruction the chips stand at the copies after it
+pub copies_end : (now : Bool → Flow → Count) (last : ℕ) (row : Row) (i : Inputs) (cs : List Copy) (vs : List ChipView) →
+    ((second : Bool) (c : Flow) → now second c ≡ fetched (flow_after row i second c)) → AreCopies now last cs vs →
+    AreCopies (λ second c. fetched c) last (copies_after row i cs) vs
+copies_end now last row i [] [] moves are = tt
+copies_end now last row i [] (v ∷ vs) moves are = absurd are
+copies_end now last row i (c ∷ cs) [] moves are = absurd are
+copies_end now last row i (c ∷ cs) (v ∷ vs) moves are =
+    (record { seat = are.0.seat; counters = are.0.counters ∙ moves (has_second_counter c.seat.kind) c.flow; heard = are.0.heard; filled = are.0.filled },
+    copies_end now last row i cs vs moves are.1)
+
+-- the same where each set ends as it began
+pub copies_reset : (now : Bool → Flow → Count) (last : ℕ) (cs : List Copy) (vs : List ChipView) →
+    ((second : Bool) (c : Flow) → now second c ≡ fetched c) → AreCopies now last cs vs → AreCopies (λ second c. fetched c) last cs vs
+copies_reset now last [] [] moves are = tt
+copies_reset now last [] (v ∷ vs) moves are = absurd are
+copies_reset now last (c ∷ cs) [] moves are = absurd are
+copies_reset now last (c ∷ cs) (v ∷ vs) moves are =
+    (record { seat = are.0.seat; counters = are.0.counters ∙ moves (has_second_counter c.seat.kind) c.flow; heard = are.0.heard; filled = are.0.filled },
+    copies_reset now last cs vs moves are.1)
