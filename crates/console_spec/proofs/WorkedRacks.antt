@@ -11,8 +11,8 @@ use Rattle.f8_spec.specs.declared.chips.Page.{Page}
 use Rattle.console_spec.specs.Processor.{own_inputs, effect}
 use Rattle.console_spec.specs.FlatMemory.{first_memory}
 use Rattle.console_spec.specs.Services.{Conflict, Undriven, Astray}
-use Rattle.console_spec.specs.RackRun.{Done, Unserved, Reserved, power_position, position_after_reset, instruction_course, played, run}
-use Rattle.console_spec.specs.declared.Who.TheVariants.{Socket, Nobody}
+use Rattle.console_spec.specs.RackRun.{Done, Unserved, Reserved, power_position, position_after_reset, instruction_course, reset_course, played, run, recorded, played_record}
+use Rattle.console_spec.specs.declared.Who.TheVariants.{Cpu, Socket, Nobody}
 
 abbrev rom_page : ℕ → Page
 rom_page number = record { number = number; sort = Rom }
@@ -153,3 +153,20 @@ branch_traced : instruction_course (Bf 0) (position_after_reset (power_position 
 }
 unfolding own_inputs effect decoded first_memory
 branch_traced = refl
+
+-- the three bus steps of reset
+reset_traced : reset_course (power_position (psu 0 4 (0x71 ∷ []) ∷ []) 0) ≡ record {
+  steps =
+    record { romc = 0x1C; long = false; byte = 0; who = Nobody; taker = None }
+    ∷ record { romc = 0x08; long = true; byte = 0; who = Cpu; taker = None }
+    ∷ record { romc = 0x00; long = false; byte = 0x71; who = Socket 0; taker = None }
+    ∷ [];
+  fault = None;
+}
+unfolding first_memory
+reset_traced = refl
+
+-- a whole run
+ram_answers_recorded : length (played_record (psu_and_ram ram_alone) 0x5A 6) ≡ 22
+unfolding played_record recorded own_inputs effect decoded first_memory
+ram_answers_recorded = refl

@@ -1,20 +1,20 @@
 -- The run of a program on a rack of chips: the flat machine goes on, with the copies of the chips beside it, up to the first instruction
 -- that has an access which is not served.
-use Rattle.std.specs.Prelude.{ℕ, zero, suc, Bool, true, false, List, [], ◌∷◌, map, Option, Some, None}
+use Rattle.std.specs.Prelude.{ℕ, zero, suc, Bool, true, false, List, [], ◌∷◌, ◌++◌, map, Option, Some, None}
 use Rattle.std.specs.List.{enumerate_from}
 use Rattle.f8_spec.specs.Built.{is_built_on_rack}
 use Rattle.f8_spec.specs.Instructions.{decoded, row_of}
-use Rattle.f8_spec.specs.MicroSteps.{steps_of}
+use Rattle.f8_spec.specs.MicroSteps.{steps_of, reset_steps}
 use Rattle.f8_spec.specs.ChipState.{ChipView}
 use Rattle.f8_spec.specs.BusArbitration.{Seat, seat_of}
 use Rattle.f8_spec.specs.declared.instructions.Op.{Op}
 use Rattle.console_spec.specs.AddressSpace.{byte_at}
-use Rattle.console_spec.specs.Processor.{after_reset}
+use Rattle.console_spec.specs.Processor.{Inputs, after_reset}
 use Rattle.console_spec.specs.FlatMachine.{FlatState, flat_at_power, flat_after, gets, gets_all}
 use Rattle.console_spec.specs.CounterCopies.{Copy, copies_after, reset_copy}
-use Rattle.console_spec.specs.BusAccesses.{ahead, accesses_of}
+use Rattle.console_spec.specs.BusAccesses.{Access, accesses_of}
 use Rattle.console_spec.specs.Services.{Fault, first_fault}
-use Rattle.console_spec.specs.BusTrace.{Course, course_of}
+use Rattle.console_spec.specs.BusTrace.{TracedStep, Course, course_of}
 
 -- the flat machine, and the copies of the chips by their sockets
 pub record Position : Type 0 where
@@ -52,9 +52,42 @@ power_position vs fill = record {
   copies = map (reset_copy fill) (enumerate_from 0 (map seat_of vs));
 }
 
--- reset fetches at 0
+-- reset fetches at 0, on each set of counters
+abbrev pub reset_access : Access
+reset_access = record { romc = 0x00; place = λ second c. 0 }
+
 abbrev pub reset_fault : Position → Option Fault
-reset_fault x = first_fault x.flat.state.flow x.copies (ahead 0x00 0 ∷ [])
+reset_fault x = first_fault x.flat.state.flow x.copies (reset_access ∷ [])
+
+-- reset gets nothing but the opcode at 0
+abbrev pub reset_gets : List ℕ → Inputs
+reset_gets memory = record {
+  taken = false;
+  vectored = false;
+  operand = 0;
+  second = 0;
+  opcode = byte_at memory 0;
+  data_byte = 0;
+  data_high = 0;
+  data_low = 0;
+  stack_high = 0;
+  stack_low = 0;
+  accumulator = 0;
+  k_high = 0;
+  k_low = 0;
+  q_high = 0;
+  q_low = 0;
+  h_high = 0;
+  h_low = 0;
+  port = 0;
+  port_byte = 0;
+  vector_high = 0;
+  vector_low = 0;
+}
+
+-- its bus steps, up to the fetch
+abbrev pub reset_course : Position → Course
+reset_course x = course_of (reset_gets x.flat.memory) x.flat.state.flow x.copies reset_steps (reset_access ∷ [])
 
 abbrev pub position_after_reset : Position → Position
 position_after_reset x = record x { flat = record x.flat { state = after_reset x.flat.state } }
@@ -126,3 +159,29 @@ played vs fill n =
 -- a whole run on the flat instruction set alone
 unfoldable pub referred : List ChipView → ℕ → ℕ → Ending
 referred vs fill n = run flat_next n (position_after_reset (power_position vs fill))
+
+-- ---- its bus steps
+
+-- the bus steps of the next instruction; where its opcode stops the run there are none
+abbrev pub course_as : Position → Bool → Option Op → Course
+course_as x false found = record { steps = []; fault = None }
+course_as x true None = record { steps = []; fault = None }
+course_as x true (Some op) = instruction_course op x
+
+abbrev pub turn_course : Position → Course
+turn_course x = course_as x (is_built_on_rack (opcode_at x)) (decoded (opcode_at x))
+
+abbrev pub recorded_on : (Position → List TracedStep) → Turn → List TracedStep
+recorded_on rest (Goes y) = rest y
+recorded_on rest (Stops stop) = []
+
+-- the served steps of a number of instructions
+unfoldable pub recorded : ℕ → Position → List TracedStep
+recorded zero x = []
+recorded (suc n) x = (turn_course x).steps ++ recorded_on (λ y. recorded n y) (next x)
+
+-- the served steps of a whole run on a rack, those of reset counted
+unfoldable pub played_record : List ChipView → ℕ → ℕ → List TracedStep
+played_record vs fill n =
+    let x = power_position vs fill in
+    (reset_course x).steps ++ recorded_on (λ y. recorded n y) (goes_unless (reset_fault x) (position_after_reset x))
