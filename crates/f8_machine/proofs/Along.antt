@@ -144,12 +144,12 @@ pub flat_more : (b : Bool) (i : Inputs) (s : Step) (clocks : ℕ) (socket : Opti
     (s.romc == 0x05) ≡ b → AreCopies now probe.last cs vs → length memory ≡ 65536 → HoldsFlat memory vs →
     view_verdict s.romc None (place_in s.romc probe.count probe.last) (enumerate_from 0 vs) ≡ Served socket →
     HoldsFlat (if b then stored_at (seats_of cs) (place_in s.romc probe.count probe.last) (byte_of i s.source) memory else memory)
-        (map (after_step 0 (unmarked s.romc (byte_of i s.source) clocks)) vs)
+    (map (after_step 0 (unmarked s.romc (byte_of i s.source) clocks)) vs)
 flat_more true i s clocks socket now probe cs vs memory is copies whole flat served =
     let code : s.romc ≡ 0x05 = eqb-true s.romc 0x05 is in
     rw code (subst (λ seats. HoldsFlat (stored_at seats (place_in 0x05 probe.count probe.last) (byte_of i s.source) memory) (map (after_step 0 (unmarked 0x05 (byte_of i s.source) clocks)) vs))
-        (seats_same now probe.last cs vs copies)
-        (store_keeps_flat (byte_of i s.source) clocks (place_in 0x05 probe.count probe.last) socket vs memory whole (all_filled now probe.last cs vs copies) flat (rw code at served)))
+    (seats_same now probe.last cs vs copies)
+    (store_keeps_flat (byte_of i s.source) clocks (place_in 0x05 probe.count probe.last) socket vs memory whole (all_filled now probe.last cs vs copies) flat (rw code at served)))
 flat_more false i s clocks socket now probe cs vs memory is copies whole flat served = keeps_flat s.romc (byte_of i s.source) clocks vs memory is flat
 
 pub long_more : (b : Bool) (seats : List Seat) (at byte : ℕ) (memory : List ℕ) → length memory ≡ 65536 → length (if b then stored_at seats at byte memory else memory) ≡ 65536

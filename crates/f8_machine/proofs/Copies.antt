@@ -92,9 +92,10 @@ pub copies_end : (now : Bool → Flow → Count) (last : ℕ) (row : Row) (i : I
 copies_end now last row i [] [] moves are = tt
 copies_end now last row i [] (v ∷ vs) moves are = absurd are
 copies_end now last row i (c ∷ cs) [] moves are = absurd are
-copies_end now last row i (c ∷ cs) (v ∷ vs) moves are =
-    (record { seat = are.0.seat; counters = are.0.counters ∙ moves (has_second_counter c.seat.kind) c.flow; heard = are.0.heard; filled = are.0.filled },
-    copies_end now last row i cs vs moves are.1)
+copies_end now last row i (c ∷ cs) (v ∷ vs) moves are = (
+  record { seat = are.0.seat; counters = are.0.counters ∙ moves (has_second_counter c.seat.kind) c.flow; heard = are.0.heard; filled = are.0.filled },
+  copies_end now last row i cs vs moves are.1,
+)
 
 -- the same where each set ends as it began
 pub copies_reset : (now : Bool → Flow → Count) (last : ℕ) (cs : List Copy) (vs : List ChipView) →
@@ -102,6 +103,7 @@ pub copies_reset : (now : Bool → Flow → Count) (last : ℕ) (cs : List Copy)
 copies_reset now last [] [] moves are = tt
 copies_reset now last [] (v ∷ vs) moves are = absurd are
 copies_reset now last (c ∷ cs) [] moves are = absurd are
-copies_reset now last (c ∷ cs) (v ∷ vs) moves are =
-    (record { seat = are.0.seat; counters = are.0.counters ∙ moves (has_second_counter c.seat.kind) c.flow; heard = are.0.heard; filled = are.0.filled },
-    copies_reset now last cs vs moves are.1)
+copies_reset now last (c ∷ cs) (v ∷ vs) moves are = (
+  record { seat = are.0.seat; counters = are.0.counters ∙ moves (has_second_counter c.seat.kind) c.flow; heard = are.0.heard; filled = are.0.filled },
+  copies_reset now last cs vs moves are.1,
+)

@@ -5,3 +5,6 @@ pub mod Stubs
 pub mod Copies
 pub mod Along
 pub mod Turns
+pub mod Starts
+pub mod Takers
+pub mod BusAnswers

@@ -21,7 +21,7 @@ abbrev pub places_along : Bool → Inputs → List Step → Count → ℕ → Li
 places_along second i [] c last = []
 places_along second i (s ∷ later) c last =
     with_place (is_access (rule_of s.romc)) (s.romc, place_in s.romc c last)
-        (places_along second i later (moved_by s.romc (byte_of i s.source) second c) (byte_of i s.source))
+    (places_along second i later (moved_by s.romc (byte_of i s.source) second c) (byte_of i s.source))
 
 -- the byte of the last of some steps
 abbrev pub last_along : Inputs → List Step → ℕ → ℕ
@@ -38,7 +38,7 @@ places_along-append : (second : Bool) (i : Inputs) (first later : List Step) (c 
 places_along-append second i [] later c last = refl
 places_along-append second i (s ∷ first) later c last =
     ap (with_place (is_access (rule_of s.romc)) (s.romc, place_in s.romc c last))
-        (places_along-append second i first later (moved_by s.romc (byte_of i s.source) second c) (byte_of i s.source))
+    (places_along-append second i first later (moved_by s.romc (byte_of i s.source) second c) (byte_of i s.source))
     ∙ with_place-append (is_access (rule_of s.romc)) (s.romc, place_in s.romc c last) _ _
 
 -- an access on a set of counters

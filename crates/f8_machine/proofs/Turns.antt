@@ -98,10 +98,10 @@ module _ (i : Inputs) (x : Position) (aim : Aim) (s : Step) (later : List Step) 
       step_verdict s probe vs ≡ Served socket → bus_byte s.romc None placed (enumerate_from 0 vs) ≡ byte_of i s.source
   along-byte left placed socket places served =
       byte_is (driver_of s.romc) s.romc placed (byte_of i s.source) (place_in s.romc probe.count probe.last) socket vs left.memory refl places left.values.0 left.flat
-          (λ e. let at = accessed left e in
-              let small = subst (λ (l : List Access). AreAt x.flat.state.flow l) at.are left.small in
-              subst (λ (n : ℕ). n < 65536) (sym (same_place left e)) small.0)
-          served
+      (λ e. let at = accessed left e in
+      let small = subst (λ (l : List Access). AreAt x.flat.state.flow l) at.are left.small in
+      subst (λ (n : ℕ). n < 65536) (sym (same_place left e)) small.0)
+      served
 
   -- what an access, or a step that is none, leaves of the accesses
   record Behind (left : Along i x aim (s ∷ later) probe vs so_far) (socket : Option ℕ) : Type 0 where

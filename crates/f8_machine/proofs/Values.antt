@@ -31,7 +31,7 @@ abbrev pub memory_along : List Seat → Inputs → List Step → Count → ℕ �
 memory_along seats i [] c last memory = memory
 memory_along seats i (s ∷ later) c last memory =
     memory_along seats i later (moved_by s.romc (byte_of i s.source) true c) (byte_of i s.source)
-        (memory_by s.romc seats (place_in s.romc c last) (byte_of i s.source) memory)
+    (memory_by s.romc seats (place_in s.romc c last) (byte_of i s.source) memory)
 
 memory_along-append : (seats : List Seat) (i : Inputs) (first later : List Step) (c : Count) (last : ℕ) (memory : List ℕ) →
     memory_along seats i (first ++ later) c last memory
@@ -79,7 +79,7 @@ Values seats i [] c last memory = Unit {0}
 Values seats i (s ∷ later) c last memory =
     ValueIs (driver_of s.romc) s.romc memory (place_in s.romc c last) (byte_of i s.source)
     × Values seats i later (moved_by s.romc (byte_of i s.source) true c) (byte_of i s.source)
-        (memory_by s.romc seats (place_in s.romc c last) (byte_of i s.source) memory)
+    (memory_by s.romc seats (place_in s.romc c last) (byte_of i s.source) memory)
 
 Values-append : (seats : List Seat) (i : Inputs) (first later : List Step) (c : Count) (last : ℕ) (memory : List ℕ) →
     Values seats i first c last memory →
@@ -142,12 +142,12 @@ pub values_of : (seats : List Seat) (row : Row) (i : Inputs) → HasBytes i → 
     is_built_row_on_rack row ≡ true → FromFlat row seats i memory c → Values seats i (steps_of row i.taken) (fetched c) last memory
 values_of seats row i b c last memory built f =
     Values-append seats i (steps_before_fetch row i.taken) (last_fetch row ∷ []) (fetched c) last memory
-        (values_before seats row i c last memory built f)
-        (rw (rests row i b true c, memory_before seats row i c last memory) (f.opcode, tt))
+    (values_before seats row i c last memory built f)
+    (rw (rests row i b true c, memory_before seats row i c last memory) (f.opcode, tt))
 
 -- ---- the flat machine's own inputs
 
-memory_after-with_opcode : (seats : List Seat) (row : Row) (code : ℕ) (i : Inputs) (c : Flow) (memory : List ℕ) →
+pub memory_after-with_opcode : (seats : List Seat) (row : Row) (code : ℕ) (i : Inputs) (c : Flow) (memory : List ℕ) →
     memory_after row seats (with_opcode code i) c memory ≡ memory_after row seats i c memory
 memory_after-with_opcode seats StoreData code i c memory = refl
 memory_after-with_opcode seats row code i c memory = refl
@@ -157,7 +157,7 @@ own_opcode : (row : Row) (seats : List Seat) (own : Inputs) (c : Flow) (memory :
     code ≡ byte_at (memory_after row seats (with_opcode code own) c memory) (flow_after row (with_opcode code own) true c).p
 own_opcode row seats own c memory code e =
     e ∙ sym (ap (λ m. byte_at m (flow_after row (with_opcode code own) true c).p) (memory_after-with_opcode seats row code own c memory)
-        ∙ ap (λ (x : Flow). byte_at (memory_after row seats own c memory) x.p) (flow_after-with_opcode row code own true c))
+    ∙ ap (λ (x : Flow). byte_at (memory_after row seats own c memory) x.p) (flow_after-with_opcode row code own true c))
 
 pub from_flat : (op : Op) (seats : List Seat) (f : FlatState) → FromFlat (row_of op) seats (gets_all op seats f) f.memory f.state.flow
 unfolding own_inputs

@@ -1,3 +1,4 @@
 pub mod FlatViews
 pub mod Faults
 pub mod Traces
+pub mod BusSteps

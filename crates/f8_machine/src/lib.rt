@@ -1,3 +1,13 @@
 //! A machine on a rack of storage chips: the 3850 with the probe, which carry out instructions in bus steps (Fairchild F8 User's Guide;
 //! Mostek 3850, 3851 and 3853 data sheets).
 #![tactic(auto)]
+
+mod bus_step;
+mod heard;
+mod record;
+
+pub use console_board::PortWrite;
+pub use console_spec::{Regs, Who};
+pub use data_bus::{BusFault, Rack};
+pub use heard::Heard;
+pub use record::Record;

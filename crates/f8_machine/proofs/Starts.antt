@@ -1,0 +1,166 @@
+-- How an instruction and reset begin and end on the bus.
+use Rattle.std.proofs.Common.{◌≡◌, ℕ, ◌<◌, Bool, true, false, List, [], ◌∷◌, ◌++◌, append-nil, length, map, refl, ap, ◌∙◌, sym, subst, arith}
+use Rattle.std.specs.Prelude.{if◌then◌else◌, Option, Some, None}
+use Rattle.std.specs.List.{enumerate_from}
+use Rattle.f8_spec.specs.Built.{is_built_row_on_rack}
+use Rattle.f8_spec.specs.BusCodes.{Count}
+use Rattle.f8_spec.specs.BusArbitration.{Seat}
+use Rattle.f8_spec.specs.ChipState.{ChipView}
+use Rattle.f8_spec.specs.Instructions.{row_of}
+use Rattle.f8_spec.specs.MicroSteps.{Step, steps_of, reset_steps}
+use Rattle.f8_spec.specs.declared.instructions.Op.{Op}
+use Rattle.f8_spec.specs.declared.instructions.Row.{Row}
+use Rattle.f8_spec.specs.declared.instructions.Row.TheVariants.{StackToK, StackFromK, CallK, JumpQ, DataToPair, DataFromQ, DataFromH, ReadData, StoreData, Return, Immediate, PortIn, PortOut, Call, Jump, LoadData, Exchange, AddData, Branch, BranchIsar, ShortIn, ShortOut, Idle}
+use Rattle.console_spec.specs.Processor.{Flow, Inputs, flow_after}
+use Rattle.console_spec.specs.CounterCopies.{Copy}
+use Rattle.console_spec.specs.FlatMachine.{gets, gets_all, flat_after, memory_after}
+use Rattle.console_spec.specs.BusAccesses.{Access, accesses_of, accesses_before_fetch, last_access}
+use Rattle.console_spec.specs.Services.{Fault, first_fault}
+use Rattle.console_spec.specs.BusTrace.{TracedStep, Course}
+use Rattle.console_spec.specs.RackRun.{Position, seats_of, instruction_fault, instruction_course, reset_fault, reset_access, reset_gets, reset_course}
+use Rattle.console_spec.proofs.InputLaws.{accesses-with_opcode}
+use Rattle.console_spec.proofs.Walks.{fetched, follows}
+use Rattle.probe.specs.ProbeState.{ProbeState}
+use Rattle.f8_machine.specs.FlatViews.{HoldsFlat}
+use Rattle.f8_machine.proofs.Places.{places_follow, named_place}
+use Rattle.f8_machine.proofs.Values.{Values, memory_along, memory_goes, memory_after-with_opcode, values_of, from_flat}
+use Rattle.f8_machine.proofs.Bounds.{GetsBytes, AreAddresses, places_small}
+use Rattle.f8_machine.proofs.Copies.{AreCopies}
+use Rattle.f8_machine.proofs.Along.{Quiet, Aim, Along, with_steps}
+
+-- ---- an instruction
+
+quiet_branch : (taken : Bool) → Quiet (steps_of Branch taken)
+quiet_branch true = ((λ k. refl), ((λ k. refl), ((λ k. refl), tt)))
+quiet_branch false = ((λ k. refl), ((λ k. refl), ((λ k. refl), tt)))
+
+quiet_branch_isar : (taken : Bool) → Quiet (steps_of BranchIsar taken)
+quiet_branch_isar true = ((λ k. refl), ((λ k. refl), tt))
+quiet_branch_isar false = ((λ k. refl), ((λ k. refl), tt))
+
+quiet_of : (row : Row) (taken : Bool) → is_built_row_on_rack row ≡ true → Quiet (steps_of row taken)
+quiet_of StackToK taken built = ((λ k. refl), ((λ k. refl), ((λ k. refl), tt)))
+quiet_of StackFromK taken built = ((λ k. refl), ((λ k. refl), ((λ k. refl), tt)))
+quiet_of CallK taken built = ((λ k. refl), ((λ k. refl), ((λ k. refl), tt)))
+quiet_of JumpQ taken built = ((λ k. refl), ((λ k. refl), ((λ k. refl), tt)))
+quiet_of DataToPair taken built = ((λ k. refl), ((λ k. refl), ((λ k. refl), tt)))
+quiet_of DataFromQ taken built = ((λ k. refl), ((λ k. refl), ((λ k. refl), tt)))
+quiet_of DataFromH taken built = ((λ k. refl), ((λ k. refl), ((λ k. refl), tt)))
+quiet_of ReadData taken built = ((λ k. refl), ((λ k. refl), tt))
+quiet_of StoreData taken built = ((λ k. refl), ((λ k. refl), tt))
+quiet_of Return taken built = ((λ k. refl), ((λ k. refl), tt))
+quiet_of Immediate taken built = ((λ k. refl), ((λ k. refl), tt))
+quiet_of PortIn taken built = cc
+quiet_of PortOut taken built = cc
+quiet_of Call taken built = ((λ k. refl), ((λ k. refl), ((λ k. refl), ((λ k. refl), ((λ k. refl), tt)))))
+quiet_of Jump taken built = ((λ k. refl), ((λ k. refl), ((λ k. refl), ((λ k. refl), tt))))
+quiet_of LoadData taken built = ((λ k. refl), ((λ k. refl), ((λ k. refl), ((λ k. refl), ((λ k. refl), tt)))))
+quiet_of Exchange taken built = ((λ k. refl), ((λ k. refl), tt))
+quiet_of AddData taken built = ((λ k. refl), ((λ k. refl), tt))
+quiet_of Branch taken built = quiet_branch taken
+quiet_of BranchIsar taken built = quiet_branch_isar taken
+quiet_of ShortIn taken built = cc
+quiet_of ShortOut taken built = cc
+quiet_of Idle taken built = ((λ k. refl), ((λ k. refl), tt))
+quiet_of row taken built = ((λ k. refl), tt)
+
+-- where an instruction leads to
+abbrev pub instruction_aim : Op → Position → Aim
+instruction_aim op x = record {
+  fault = instruction_fault op x;
+  course = instruction_course op x;
+  memory = (flat_after op (seats_of x.copies) x.flat).memory;
+  flow = flow_after (row_of op) (gets_all op (seats_of x.copies) x.flat);
+}
+
+pub along-starts : (op : Op) (x : Position) (probe : ProbeState) (vs : List ChipView) → is_built_row_on_rack (row_of op) ≡ true →
+    GetsBytes (gets_all op (seats_of x.copies) x.flat) → AreAddresses x.flat.state.flow →
+    probe.count ≡ fetched x.flat.state.flow → AreCopies (λ second c. fetched c) probe.last x.copies vs →
+    HoldsFlat x.flat.memory vs → length x.flat.memory ≡ 65536 →
+    Along (gets_all op (seats_of x.copies) x.flat) x (instruction_aim op x) (steps_of (row_of op) (gets_all op (seats_of x.copies) x.flat).taken) probe vs []
+along-starts op x probe vs built bytes addresses reference copies flat whole =
+    let seats = seats_of x.copies in
+    let i = gets_all op seats x.flat in
+    let row = row_of op in
+    let c = x.flat.state.flow in
+    record {
+      now = λ second d. fetched d;
+      memory = x.flat.memory;
+      accesses = accesses_before_fetch row i ++ last_access row i ∷ [];
+      places = λ second d. places_follow row i bytes.low second d probe.last;
+      moves = λ second d. follows row i bytes.low second d;
+      reference = reference;
+      copies = copies;
+      flat = flat;
+      whole = whole;
+      values = subst (λ (k : Count). Values seats i (steps_of row i.taken) k probe.last x.flat.memory) (sym reference)
+          (values_of seats row i bytes.low c probe.last x.flat.memory built (from_flat op seats x.flat));
+      quiet = quiet_of row i.taken built;
+      small = places_small row i c built bytes addresses;
+      fault = ap (first_fault c x.copies) (accesses-with_opcode row i.opcode (gets op x.flat));
+      course = refl;
+      later = ap (λ (k : Count). memory_along seats i (steps_of row i.taken) k probe.last x.flat.memory) reference
+          ∙ memory_goes seats row i c probe.last x.flat.memory
+          ∙ memory_after-with_opcode seats row i.opcode (gets op x.flat) c x.flat.memory;
+    }
+
+-- ---- reset
+
+-- where reset leads to
+abbrev pub reset_aim : Position → Aim
+reset_aim x = record { fault = reset_fault x; course = reset_course x; memory = x.flat.memory; flow = λ second c. record c { p = 0 } }
+
+-- the counters as power-on leaves them, by the copy that reset leaves
+abbrev pub powered_count : Flow → Count
+powered_count c = record { pc0 = c.p1; pc1 = c.p1; dc0 = c.d0; dc1 = c.d1 }
+
+pub reset-starts : (x : Position) (probe : ProbeState) (vs : List ChipView) →
+    probe.count ≡ powered_count x.flat.state.flow → AreCopies (λ second c. powered_count c) probe.last x.copies vs →
+    HoldsFlat x.flat.memory vs → length x.flat.memory ≡ 65536 →
+    Along (reset_gets x.flat.memory) x (reset_aim x) reset_steps probe vs []
+reset-starts x probe vs reference copies flat whole = record {
+  now = λ second c. powered_count c;
+  memory = x.flat.memory;
+  accesses = reset_access ∷ [];
+  places = λ second c. refl;
+  moves = λ second c. refl;
+  reference = reference;
+  copies = copies;
+  flat = flat;
+  whole = whole;
+  values = (tt, (tt, (refl, tt)));
+  quiet = ((λ k. refl), ((λ k. refl), ((λ k. refl), tt)));
+  small = (omega arith, tt);
+  fault = refl;
+  course = refl;
+  later = refl;
+}
+
+-- ---- the end
+
+-- all steps are served: the counters and the memory are those that the steps lead to
+pub record Ended (x : Position) (aim : Aim) (probe : ProbeState) (vs : List ChipView) (so_far : List TracedStep) : Type 0 where
+  pub now : Bool → Flow → Count
+  pub moves : (second : Bool) (c : Flow) → now second c ≡ fetched (aim.flow second c)
+  pub reference : probe.count ≡ fetched (aim.flow true x.flat.state.flow)
+  pub copies : AreCopies now probe.last x.copies vs
+  pub flat : HoldsFlat aim.memory vs
+  pub fault : aim.fault ≡ None
+  pub course : aim.course ≡ record { steps = so_far; fault = None }
+
+ended_by : (i : Inputs) (x : Position) (aim : Aim) (probe : ProbeState) (vs : List ChipView) (so_far : List TracedStep) (left : Along i x aim [] probe vs so_far) (accesses : List Access) → left.accesses ≡ accesses → Ended x aim probe vs so_far
+ended_by i x aim probe vs so_far left [] none = record {
+  now = left.now;
+  moves = left.moves;
+  reference = left.reference ∙ left.moves true x.flat.state.flow;
+  copies = left.copies;
+  flat = subst (λ memory. HoldsFlat memory vs) left.later left.flat;
+  fault = sym left.fault ∙ ap (λ (l : List Access). first_fault x.flat.state.flow x.copies l) none;
+  course = sym left.course ∙ ap (λ (l : List TracedStep). record { steps = l; fault = None }) (append-nil so_far);
+}
+ended_by i x aim probe vs so_far left (a ∷ later) some =
+    let none : [] ≡ map (named_place true x.flat.state.flow) (a ∷ later) = left.places true x.flat.state.flow ∙ ap (map (named_place true x.flat.state.flow)) some in
+    cc
+
+pub along-ends : (i : Inputs) (x : Position) (aim : Aim) (probe : ProbeState) (vs : List ChipView) (so_far : List TracedStep) → Along i x aim [] probe vs so_far → Ended x aim probe vs so_far
+along-ends i x aim probe vs so_far left = ended_by i x aim probe vs so_far left left.accesses refl

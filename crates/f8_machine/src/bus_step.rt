@@ -1,0 +1,43 @@
+ghost use Rattle.std.specs.Prelude.{◌≡◌, ◌<◌, ◌≤◌, length, map, IfOk, IfErr};
+ghost use Rattle.f8_machine.specs.BusSteps.{IsPlain, IsServed, IsRefused};
+
+use super::heard::{Heard, taker, who};
+use super::record::Record;
+use chip_face::Chip;
+use cpu3850::Step;
+use data_bus::{BusFault, Cycle, Rack, step as bus};
+use probe::Probe;
+
+/// One bus step of an instruction or of reset, with the byte that the CPU places, which counts where nobody else drives. A step that is
+/// served is told behind the others, and its byte is answered; one that isn't changes nothing.
+#[tactic(auto, using(crate::proofs::BusAnswers::served_by, crate::proofs::BusAnswers::refused_by, crate::proofs::BusAnswers::none_chosen))]
+pub(crate) fn bus_step(
+    rack: &mut Rack,
+    probe: &mut Probe,
+    step: Step,
+    placed: u8,
+    steps: &mut Record,
+) -> Result<u8, BusFault>
+    requires few { length rack.old.items ≤ 16 }
+    requires room { length steps.old < 9 }
+    requires plain { IsPlain step.romc }
+    ensures served { IfOk result (λ byte. IsServed step placed probe.old probe.new (map state rack.old.items) (map state rack.new.items) steps.old steps.new byte) }
+    ensures refused { IfErr result (λ fault. IsRefused step fault probe.old probe.new (map state rack.old.items) (map state rack.new.items) steps.old steps.new) }
+    ensures chips { length rack.new.items ≡ length rack.old.items }
+{
+    let cycle = Cycle {
+        romc: step.romc,
+        long: step.long,
+        byte: placed,
+        first: None,
+    };
+    let served = bus(rack, probe, cycle)?;
+    steps.push(Heard {
+        romc: step.romc,
+        long: step.long,
+        byte: served.byte,
+        who: who(step.romc, served.socket),
+        taker: taker(step.romc, served.socket),
+    });
+    Ok(served.byte)
+}

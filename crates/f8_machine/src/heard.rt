@@ -1,0 +1,49 @@
+ghost use Rattle.std.specs.Prelude.{◌≡◌};
+ghost use Rattle.f8_spec.specs.BusArbitration.{rule_of};
+ghost use Rattle.console_spec.specs.BusTrace.{taker_by};
+ghost use Rattle.f8_machine.specs.Traces.{told_who};
+
+use console_spec::Who;
+use romc_table::{Driver, Romc, driver_of};
+
+/// A served bus step as a trace tells it: its code, whether it is a long one, of 6 Φ in place of 4, and its byte.
+#[derive(Clone, Copy, Debug, PartialEq, Eq)]
+pub struct Heard {
+    pub romc: Romc,
+    pub long: bool,
+    pub byte: u8,
+
+    /// Who drove the byte.
+    pub who: Who,
+
+    /// The socket of the chip that took the byte, in a store and in a port write.
+    pub taker: Option<u8>,
+}
+
+/// Who drives the byte of a step that is served by the chip in a socket. So far no instruction names a port in the code 1C.
+pub(crate) fn who(romc: Romc, socket: Option<u8>) -> Who
+    ensures { result ≡ told_who romc socket }
+{
+    if romc.number() == 0x1C {
+        return Who::Nobody;
+    }
+    match driver_of(romc) {
+        Driver::Memory | Driver::CounterByte | Driver::Vector | Driver::Port => match socket {
+            Some(socket) => Who::Socket(socket),
+            None => Who::Nobody,
+        },
+        Driver::Cpu => Who::Cpu,
+        Driver::Nobody => Who::Nobody,
+    }
+}
+
+/// The socket of the chip that takes the byte of a step.
+#[tactic(auto, using(crate::proofs::Takers::taker_none))]
+pub(crate) fn taker(romc: Romc, socket: Option<u8>) -> Option<u8>
+    ensures { result ≡ taker_by (rule_of romc) socket }
+{
+    match romc.number() {
+        0x05 | 0x1A => socket,
+        _ => None,
+    }
+}

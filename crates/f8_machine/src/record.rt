@@ -1,0 +1,79 @@
+ghost use Rattle.std.specs.Prelude.{◌≡◌, ◌<◌, ◌≤◌, ◌==◌, ◌++◌, [], ◌∷◌, length};
+
+use super::Heard;
+use console_spec::Who;
+use romc_table::Romc;
+use std::marker::Model;
+
+/// The most bus steps of an instruction: four, and the five of an interrupt.
+const MOST_STEPS: usize = 9;
+
+/// The served bus steps of an instruction or of reset, at most nine, in order. Contracts see the list.
+#[derive(Debug, Drop)]
+pub struct Record {
+    items: [Heard; MOST_STEPS],
+    len: usize,
+}
+
+impl Model for Record {
+    ghost use Rattle.std.specs.Prelude.{List, ◌≤◌, ◌≡◌, length, take};
+    ghost use Rattle.f8_machine.specs.declared.heard.Heard.{Heard};
+
+    ghost Value = { List Heard };
+
+    ghost view = { λ r. take r.len r.items };
+
+    ghost invariant = { λ r. (r.len ≤ 9) × (length r.items ≡ 9) };
+}
+
+impl Record {
+    /// No step.
+    pub fn new() -> Record
+        ensures { result ≡ [] }
+    {
+        Record {
+            items: [Heard {
+                romc: Romc::FETCH,
+                long: false,
+                byte: 0,
+                who: Who::Nobody,
+                taker: None,
+            }; MOST_STEPS],
+            len: 0,
+        }
+    }
+
+    /// Adds a step behind the others.
+    pub fn push(&mut self, step: Heard)
+        requires { length self.old < 9 }
+        ensures { self.new ≡ self.old ++ step ∷ [] }
+    {
+        let len = self.len;
+        self.items[len] = step;
+        self.len = len + 1;
+    }
+
+    /// All of them.
+    pub fn as_slice(&self) -> &[Heard]
+        ensures value { result.now ≡ self.now }
+        ensures few { length result.now ≤ 9 }
+    {
+        let len = self.len;
+        &self.items[..len]
+    }
+
+    /// How many there are.
+    pub fn len(&self) -> usize
+        ensures value { result ≡ length self.now }
+        ensures few { result ≤ 9 }
+    {
+        self.len
+    }
+
+    /// There is none.
+    pub fn is_empty(&self) -> bool
+        ensures { result ≡ (length self.now == 0) }
+    {
+        self.len == 0
+    }
+}
