@@ -14,7 +14,8 @@ use Rattle.f8_spec.specs.declared.instructions.Row.TheVariants.{Plain, PlainLong
 use Rattle.console_spec.specs.AddressSpace.{byte_at}
 use Rattle.console_spec.specs.Processor.{State, Flow, Registers, Inputs, byte_of, own_inputs, flow_after, result_of, is_taken, after_instruction}
 use Rattle.console_spec.specs.BusAccesses.{Unserved, accesses_of, first_unserved}
-use Rattle.console_spec.proofs.Walks.{moved_along, fetched}
+use Rattle.console_spec.specs.CounterCopies.{fetched}
+use Rattle.console_spec.proofs.Walks.{moved_along}
 use Rattle.console_spec.specs.Run.{Outcome, Goes, Stops, served_or_stop, decided, next}
 use Rattle.console_spec.proofs.InputLaws.{inputs, result_of-with_opcode, flow_after-with_opcode, accesses-with_opcode}
 use Rattle.console_spec.proofs.OneChip.{unserved_at, unserved_along, unserved_along-steps_of, IsByteAt, DrivesAlong, drives_along, FromMemory, follows_built, next_small}

@@ -9,7 +9,7 @@ use std::alloc::Global;
 /// Contracts see a chip as its `state`: the view, the steps heard where it tells them, and its patch.
 pub trait Chip: Drop {
     ghost use Rattle.std.specs.Prelude.{◌≡◌, ◌≢◌, ◌↔◌, OnOk, OnErr, IsErrOf};
-    ghost use Rattle.f8_spec.specs.ChipState.{ChipState, MayHear, PowersOn, Settles, TakesKeys, TakesPulse, has_ram_at, held_byte, is_asking, latch_at, offered, told_counters};
+    ghost use Rattle.f8_spec.specs.ChipState.{ChipState, IsWhole, MayHear, PowersOn, Settles, TakesKeys, TakesPulse, has_ram_at, held_byte, is_asking, latch_at, offered, told_counters};
     ghost use Rattle.chip_face.specs.Fitting.{Fits, IsSpec, kind_of};
     ghost use Rattle.chip_face.specs.Steps.{IsStepLength};
 
@@ -24,6 +24,7 @@ pub trait Chip: Drop {
     fn fit(&mut self, alloc: Global, spec: &ChipSpec) -> Result<(), FitFault>
         requires { IsSpec spec.now }
         ensures ok { OnOk result (Fits spec.now (state self.old) (state self.new)) }
+        ensures whole { OnOk result (IsWhole (state self.new).view) }
         ensures wrong_kind { IsErrOf result FitFault.WrongKind ↔ (kind_of spec.now ≢ (state self.old).view.kind) }
         ensures err { OnErr result (state self.new ≡ state self.old) };
 

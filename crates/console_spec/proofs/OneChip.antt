@@ -12,7 +12,8 @@ use Rattle.f8_spec.specs.declared.instructions.Row.TheVariants.{Plain, PlainLong
 use Rattle.console_spec.specs.AddressSpace.{is_held, byte_at}
 use Rattle.console_spec.specs.Processor.{Flow, Inputs, byte_of, flow_after}
 use Rattle.console_spec.specs.BusAccesses.{Unserved, accesses_before_fetch, last_access, first_unserved}
-use Rattle.console_spec.proofs.Walks.{places_on-places_on, fetched, resting, moved_along, moved_along-append, branch_rests, branch_isar_rests}
+use Rattle.console_spec.specs.CounterCopies.{fetched, resting}
+use Rattle.console_spec.proofs.Walks.{places_on-places_on, moved_along, moved_along-append, branch_rests, branch_isar_rests}
 
 -- a step that goes by no counter is served
 abbrev pub unserved_at : List ℕ → ℕ → Option ℕ → Option Unserved → Option Unserved

@@ -5,6 +5,7 @@ use Rattle.f8_spec.specs.BusCodes.{Count, moved_by}
 use Rattle.f8_spec.specs.MicroSteps.{Step, steps_before_fetch, last_fetch, steps_of}
 use Rattle.f8_spec.specs.declared.instructions.Row.{Row}
 use Rattle.f8_spec.specs.declared.instructions.Row.TheVariants.{StackFromK, CallK, JumpQ, DataFromQ, DataFromH, Immediate, PortIn, PortOut, Call, Jump, LoadData, Exchange, Branch, BranchIsar}
+use Rattle.console_spec.specs.CounterCopies.{fetched, resting}
 use Rattle.console_spec.specs.Processor.{Flow, Inputs, byte_of, flow_after}
 
 -- ---- words
@@ -36,14 +37,6 @@ pub moved_along-append : (second : Bool) (i : Inputs) (first later : List Step) 
     moved_along second i (first ++ later) c ≡ moved_along second i later (moved_along second i first c)
 moved_along-append second i [] later c = refl
 moved_along-append second i (s ∷ first) later c = moved_along-append second i first later (moved_by s.romc (byte_of i s.source) second c)
-
--- Between two instructions the program counter is one past the next one, since its opcode was fetched.
-abbrev pub fetched : Flow → Count
-fetched c = record { pc0 = places_on c.p 1; pc1 = c.p1; dc0 = c.d0; dc1 = c.d1 }
-
--- before the last fetch it is at the next instruction
-abbrev pub resting : Flow → Count
-resting c = record { pc0 = c.p; pc1 = c.p1; dc0 = c.d0; dc1 = c.d1 }
 
 pub branch_rests : (i : Inputs) (taken second : Bool) (c : Flow) → i.taken ≡ taken →
     moved_along second i (steps_before_fetch Branch i.taken) (fetched c) ≡ resting (flow_after Branch i second c)

@@ -1,10 +1,28 @@
 -- The copies of the counters, one set in each chip. An instruction changes each set by the flat machine's table, read on that set: with
 -- the operands, the registers and the branch of the flat machine. Nothing says that the copies agree.
 use Rattle.std.specs.Prelude.{ℕ, ◌+◌, ◌*◌, ◌%◌, List, map}
+use Rattle.f8_spec.specs.Words.{places_on}
+use Rattle.f8_spec.specs.BusCodes.{Count}
 use Rattle.f8_spec.specs.ChipState.{has_second_counter}
 use Rattle.f8_spec.specs.BusArbitration.{Seat}
 use Rattle.f8_spec.specs.declared.instructions.Row.{Row}
 use Rattle.console_spec.specs.Processor.{Flow, Inputs, flow_after}
+
+-- ---- counters between instructions
+
+-- Between two instructions the program counter is one past the next one, since its opcode was fetched.
+abbrev pub fetched : Flow → Count
+fetched c = record { pc0 = places_on c.p 1; pc1 = c.p1; dc0 = c.d0; dc1 = c.d1 }
+
+-- Before the last fetch it is at the next instruction.
+abbrev pub resting : Flow → Count
+resting c = record { pc0 = c.p; pc1 = c.p1; dc0 = c.d0; dc1 = c.d1 }
+
+-- At power-on it is where the stack register is, to which reset brings it.
+abbrev pub unreset : Flow → Count
+unreset c = record { pc0 = c.p1; pc1 = c.p1; dc0 = c.d0; dc1 = c.d1 }
+
+-- ---- copies
 
 -- a chip's own counters, with what the bus reads of the chip
 pub record Copy : Type 0 where

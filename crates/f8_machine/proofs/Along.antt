@@ -19,7 +19,8 @@ use Rattle.console_spec.specs.BusAccesses.{Access}
 use Rattle.console_spec.specs.Services.{Fault, fault_by, access_verdict, access_fault, or_later, first_fault}
 use Rattle.console_spec.specs.BusTrace.{TracedStep, Course, traced, with_step, stopped_by, course_by, course_of, is_access, who_of}
 use Rattle.console_spec.specs.RackRun.{Position, seats_of}
-use Rattle.console_spec.proofs.Walks.{fetched, moved_along}
+use Rattle.console_spec.specs.CounterCopies.{fetched}
+use Rattle.console_spec.proofs.Walks.{moved_along}
 use Rattle.cpu3850.specs.Reaching.{is_placed_by, Places}
 use Rattle.probe.specs.ProbeState.{ProbeState, probe_after}
 use Rattle.data_bus.specs.Racks.{RackSettles, clocks_of, views, named_views}
@@ -33,7 +34,9 @@ use Rattle.f8_machine.specs.Traces.{told_who}
 use Rattle.f8_machine.proofs.Places.{places_along, with_place, named_place}
 use Rattle.f8_machine.proofs.Values.{Values, ValueIs, memory_by, memory_along}
 use Rattle.f8_machine.proofs.Bounds.{AreAt}
-use Rattle.f8_machine.proofs.Stubs.{read_value, unmarked, served_read, views_settled, keeps_flat, store_keeps_flat, stored_long}
+use Rattle.f8_machine.proofs.ServedReads.{read_value, served_read}
+use Rattle.f8_machine.proofs.Slots.{plain_step}
+use Rattle.f8_machine.proofs.Stores.{keeps_flat, store_keeps_flat, stored_long}
 use Rattle.f8_machine.proofs.Copies.{AreCopies, seats_same, all_filled, verdict_same, copies_more}
 
 -- the trace of each step tells who drives by the code
@@ -144,10 +147,10 @@ pub flat_more : (b : Bool) (i : Inputs) (s : Step) (clocks : ℕ) (socket : Opti
     (s.romc == 0x05) ≡ b → AreCopies now probe.last cs vs → length memory ≡ 65536 → HoldsFlat memory vs →
     view_verdict s.romc None (place_in s.romc probe.count probe.last) (enumerate_from 0 vs) ≡ Served socket →
     HoldsFlat (if b then stored_at (seats_of cs) (place_in s.romc probe.count probe.last) (byte_of i s.source) memory else memory)
-    (map (after_step 0 (unmarked s.romc (byte_of i s.source) clocks)) vs)
+    (map (after_step 0 (plain_step s.romc (byte_of i s.source) clocks)) vs)
 flat_more true i s clocks socket now probe cs vs memory is copies whole flat served =
     let code : s.romc ≡ 0x05 = eqb-true s.romc 0x05 is in
-    rw code (subst (λ seats. HoldsFlat (stored_at seats (place_in 0x05 probe.count probe.last) (byte_of i s.source) memory) (map (after_step 0 (unmarked 0x05 (byte_of i s.source) clocks)) vs))
+    rw code (subst (λ seats. HoldsFlat (stored_at seats (place_in 0x05 probe.count probe.last) (byte_of i s.source) memory) (map (after_step 0 (plain_step 0x05 (byte_of i s.source) clocks)) vs))
     (seats_same now probe.last cs vs copies)
     (store_keeps_flat (byte_of i s.source) clocks (place_in 0x05 probe.count probe.last) socket vs memory whole (all_filled now probe.last cs vs copies) flat (rw code at served)))
 flat_more false i s clocks socket now probe cs vs memory is copies whole flat served = keeps_flat s.romc (byte_of i s.source) clocks vs memory is flat

@@ -11,9 +11,9 @@ use Rattle.console_spec.specs.CounterCopies.{Copy, copies_after}
 use Rattle.console_spec.specs.BusAccesses.{Access}
 use Rattle.console_spec.specs.Services.{placed_copy, access_verdict}
 use Rattle.console_spec.specs.RackRun.{seats_of}
-use Rattle.console_spec.proofs.Walks.{fetched}
-use Rattle.f8_machine.specs.FlatViews.{IsFilled}
-use Rattle.f8_machine.proofs.Stubs.{unmarked, seat_of-after, counters-after, filled-after}
+use Rattle.console_spec.specs.CounterCopies.{fetched}
+use Rattle.f8_spec.specs.ChipState.{IsFilled}
+use Rattle.f8_machine.proofs.Slots.{plain_step, seat_of-after, counters-after, filled-after}
 
 -- a chip with its copy: the counters are those of the copy after some steps, as a function of a set
 pub record IsCopy (now : Bool → Flow → Count) (last : ℕ) (c : Copy) (v : ChipView) : Type 0 where
@@ -67,7 +67,7 @@ verdict_same now last romc reference a c cs vs code place at are =
 -- ---- a step
 
 copy_more : (now : Bool → Flow → Count) (last romc byte clocks : ℕ) (c : Copy) (v : ChipView) → IsCopy now last c v →
-    IsCopy (λ second x. moved_by romc byte second (now second x)) byte c (after_step 0 (unmarked romc byte clocks) v)
+    IsCopy (λ second x. moved_by romc byte second (now second x)) byte c (after_step 0 (plain_step romc byte clocks) v)
 copy_more now last romc byte clocks c v is = record {
   seat = seat_of-after romc byte clocks v ∙ is.seat;
   counters = counters-after romc byte clocks v
@@ -78,7 +78,7 @@ copy_more now last romc byte clocks c v is = record {
 }
 
 pub copies_more : (now : Bool → Flow → Count) (last romc byte clocks : ℕ) (cs : List Copy) (vs : List ChipView) → AreCopies now last cs vs →
-    AreCopies (λ second x. moved_by romc byte second (now second x)) byte cs (map (after_step 0 (unmarked romc byte clocks)) vs)
+    AreCopies (λ second x. moved_by romc byte second (now second x)) byte cs (map (after_step 0 (plain_step romc byte clocks)) vs)
 copies_more now last romc byte clocks [] [] are = tt
 copies_more now last romc byte clocks [] (v ∷ vs) are = absurd are
 copies_more now last romc byte clocks (c ∷ cs) [] are = absurd are

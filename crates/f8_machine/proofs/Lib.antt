@@ -1,7 +1,13 @@
 pub mod Places
 pub mod Values
 pub mod Bounds
-pub mod Stubs
+pub mod Kept
+pub mod ServedSteps
+pub mod ServedReads
+pub mod Slots
+pub mod Holding
+pub mod Stores
+pub mod FirstViews
 pub mod Copies
 pub mod Along
 pub mod Turns

@@ -10,7 +10,8 @@ use Rattle.f8_spec.specs.declared.instructions.Row.TheVariants.{Call, Jump, Load
 use Rattle.console_spec.specs.Processor.{Flow, Inputs, byte_of, flow_after}
 use Rattle.console_spec.specs.BusAccesses.{Access, accesses_before_fetch, last_access}
 use Rattle.console_spec.specs.BusTrace.{is_access}
-use Rattle.console_spec.proofs.Walks.{HasBytes, fetched, resting, moved_along, rests, places_on-places_on}
+use Rattle.console_spec.specs.CounterCopies.{fetched, resting}
+use Rattle.console_spec.proofs.Walks.{HasBytes, moved_along, rests, places_on-places_on}
 
 abbrev pub with_place : Bool → ℕ × ℕ → List (ℕ × ℕ) → List (ℕ × ℕ)
 with_place true place later = place ∷ later

@@ -19,7 +19,8 @@ use Rattle.console_spec.specs.Services.{Fault, first_fault}
 use Rattle.console_spec.specs.BusTrace.{TracedStep, Course}
 use Rattle.console_spec.specs.RackRun.{Position, seats_of, instruction_fault, instruction_course, reset_fault, reset_access, reset_gets, reset_course}
 use Rattle.console_spec.proofs.InputLaws.{accesses-with_opcode}
-use Rattle.console_spec.proofs.Walks.{fetched, follows}
+use Rattle.console_spec.specs.CounterCopies.{fetched, unreset}
+use Rattle.console_spec.proofs.Walks.{follows}
 use Rattle.probe.specs.ProbeState.{ProbeState}
 use Rattle.f8_machine.specs.FlatViews.{HoldsFlat}
 use Rattle.f8_machine.proofs.Places.{places_follow, named_place}
@@ -110,16 +111,12 @@ along-starts op x probe vs built bytes addresses reference copies flat whole =
 abbrev pub reset_aim : Position → Aim
 reset_aim x = record { fault = reset_fault x; course = reset_course x; memory = x.flat.memory; flow = λ second c. record c { p = 0 } }
 
--- the counters as power-on leaves them, by the copy that reset leaves
-abbrev pub powered_count : Flow → Count
-powered_count c = record { pc0 = c.p1; pc1 = c.p1; dc0 = c.d0; dc1 = c.d1 }
-
 pub reset-starts : (x : Position) (probe : ProbeState) (vs : List ChipView) →
-    probe.count ≡ powered_count x.flat.state.flow → AreCopies (λ second c. powered_count c) probe.last x.copies vs →
+    probe.count ≡ unreset x.flat.state.flow → AreCopies (λ second c. unreset c) probe.last x.copies vs →
     HoldsFlat x.flat.memory vs → length x.flat.memory ≡ 65536 →
     Along (reset_gets x.flat.memory) x (reset_aim x) reset_steps probe vs []
 reset-starts x probe vs reference copies flat whole = record {
-  now = λ second c. powered_count c;
+  now = λ second c. unreset c;
   memory = x.flat.memory;
   accesses = reset_access ∷ [];
   places = λ second c. refl;

@@ -12,13 +12,13 @@ use Rattle.console_spec.specs.BusAccesses.{Access}
 use Rattle.console_spec.specs.Services.{Fault, fault_by, access_verdict, or_later, first_fault}
 use Rattle.console_spec.specs.BusTrace.{TracedStep, Course, traced, with_step, stopped_by, course_by, course_of, is_access}
 use Rattle.console_spec.specs.RackRun.{Position, seats_of}
-use Rattle.console_spec.proofs.Walks.{fetched}
+use Rattle.console_spec.specs.CounterCopies.{fetched}
 use Rattle.cpu3850.specs.Reaching.{is_placed_by, Places}
 use Rattle.probe.specs.ProbeState.{ProbeState, probe_after}
 use Rattle.f8_machine.specs.FlatViews.{HoldsFlat}
 use Rattle.f8_machine.proofs.Places.{places_along, with_place, named_place}
 use Rattle.f8_machine.proofs.Bounds.{AreAt}
-use Rattle.f8_machine.proofs.Stubs.{unmarked}
+use Rattle.f8_machine.proofs.Slots.{plain_step}
 use Rattle.f8_machine.proofs.Copies.{AreCopies, verdict_same, copies_more}
 use Rattle.f8_machine.proofs.Along.{Aim, Along, AtAccess, at_access, with_steps, with_steps-step, with_steps-stop, fault_stops, no_fault, no_access, course_idle, course_access, flat_more, long_more, byte_is}
 
@@ -28,7 +28,7 @@ step_verdict s probe vs = view_verdict s.romc None (place_in s.romc probe.count 
 
 -- the chips after a step with its byte
 abbrev pub stepped : Step → ℕ → ℕ → List ChipView → List ChipView
-stepped s byte clocks vs = map (after_step 0 (unmarked s.romc byte clocks)) vs
+stepped s byte clocks vs = map (after_step 0 (plain_step s.romc byte clocks)) vs
 
 module _ (i : Inputs) (x : Position) (aim : Aim) (s : Step) (later : List Step) (probe : ProbeState) (vs : List ChipView) (so_far : List TracedStep) where
   -- the step as an access, or as none

@@ -18,7 +18,8 @@ use Rattle.console_spec.specs.FlatMemory.{stored_at}
 use Rattle.console_spec.specs.FlatMachine.{FlatState, memory_after, gets, gets_all}
 use Rattle.console_spec.specs.Processor.{Flow, Inputs, byte_of, flow_after, own_inputs}
 use Rattle.console_spec.proofs.InputLaws.{with_opcode, flow_after-with_opcode}
-use Rattle.console_spec.proofs.Walks.{HasBytes, fetched, resting, moved_along, rests, places_on-places_on}
+use Rattle.console_spec.specs.CounterCopies.{fetched, resting}
+use Rattle.console_spec.proofs.Walks.{HasBytes, moved_along, rests, places_on-places_on}
 use Rattle.f8_machine.proofs.Places.{last_along}
 
 -- ---- the memory along the steps

@@ -14,7 +14,3 @@ abbrev pub HoldsFlat : List ℕ → List ChipView → Type 0
 HoldsFlat memory vs =
     (place : ℕ) (v : ChipView) (at : ℕ) → at < 65536 → slice_get vs place ≡ Some v → holds v at ≡ true → HeldOnce vs at place →
     held_byte v at ≡ Some (byte_at memory at)
-
--- a chip has 256 bytes for each of its pages
-abbrev pub IsFilled : ChipView → Type 0
-IsFilled v = length v.bytes ≡ length v.pages * 256

@@ -1,6 +1,6 @@
 -- A storage chip as contracts see it, and what each call does to it (Mostek 3851 and 3853 data sheets for the roles). That a 3851
 -- has no second data counter, the rules of requests, and what power-on leaves are this project's own.
-use Rattle.std.specs.Prelude.{ℕ, zero, suc, ◌+◌, ◌-◌, ◌*◌, ◌/◌, ◌%◌, ◌≡◌, Bool, true, false, ◌&&◌, ◌||◌, nat_lt, nat_le, ◌==◌, if◌then◌else◌, List, [], ◌∷◌, ◌++◌, take, drop, replicate, slice_get, slice_set, slice_index, bit_or, Option, Some, None, option_map, option_and_then, is_some}
+use Rattle.std.specs.Prelude.{ℕ, zero, suc, ◌+◌, ◌-◌, ◌*◌, ◌/◌, ◌%◌, ◌≡◌, ◌<◌, Bool, true, false, ◌&&◌, ◌||◌, nat_lt, nat_le, ◌==◌, if◌then◌else◌, List, [], ◌∷◌, ◌++◌, length, take, drop, replicate, slice_get, slice_set, slice_index, bit_or, Option, Some, None, option_map, option_and_then, is_some}
 use Rattle.f8_spec.specs.Words.{with_high, with_low}
 use Rattle.f8_spec.specs.BusCodes.{Count, count_at, told_count, driver_of, counter_of, counter_value, moved_by}
 use Rattle.f8_spec.specs.ShiftTimer.{shifted_timer, expires_next}
@@ -163,6 +163,15 @@ abbrev pub filled_bytes : ℕ → List Page → List ℕ → List ℕ
 filled_bytes fill [] bytes = bytes
 filled_bytes fill (p ∷ ps) bytes =
     (if is_ram p.sort then replicate 256 fill else take 256 bytes) ++ filled_bytes fill ps (drop 256 bytes)
+
+-- a chip has 256 bytes for each of its pages
+abbrev pub IsFilled : ChipView → Type 0
+IsFilled v = length v.bytes ≡ length v.pages * 256
+
+-- and each of them is below 256
+pub record IsWhole (v : ChipView) : Type 0 where
+  pub filled : IsFilled v
+  pub bytes : (place : ℕ) → slice_index v.bytes place < 256
 
 -- ---- ports
 
