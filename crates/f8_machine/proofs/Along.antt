@@ -37,7 +37,8 @@ use Rattle.f8_machine.proofs.Bounds.{AreAt}
 use Rattle.f8_machine.proofs.ServedReads.{read_value, served_read}
 use Rattle.f8_machine.proofs.Slots.{plain_step}
 use Rattle.f8_machine.proofs.Stores.{keeps_flat, store_keeps_flat, stored_long}
-use Rattle.f8_machine.proofs.Copies.{AreCopies, seats_same, all_filled, verdict_same, copies_more}
+use Rattle.f8_machine.specs.ChipCopies.{AreCopies}
+use Rattle.f8_machine.proofs.Copies.{seats_same, all_filled, verdict_same, copies_more}
 
 -- the trace of each step tells who drives by the code
 abbrev pub Quiet : List Step → Type 0

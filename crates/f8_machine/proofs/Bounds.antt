@@ -15,6 +15,7 @@ use Rattle.console_spec.specs.Processor.{Flow, Registers, Inputs, scratch_byte, 
 use Rattle.console_spec.specs.BusAccesses.{Access, accesses_before_fetch, last_access}
 use Rattle.console_spec.proofs.Walks.{HasBytes}
 use Rattle.cpu3850.specs.CpuSteps.{AreInRange}
+use Rattle.f8_machine.specs.Refinement.{AreAddresses}
 
 -- what an instruction gets are bytes
 pub record GetsBytes (i : Inputs) : Type 0 where
@@ -24,13 +25,6 @@ pub record GetsBytes (i : Inputs) : Type 0 where
   pub k_high : i.k_high < 256
   pub q_high : i.q_high < 256
   pub h_high : i.h_high < 256
-
--- the counters are addresses
-pub record AreAddresses (c : Flow) : Type 0 where
-  pub p : c.p < 65536
-  pub p1 : c.p1 < 65536
-  pub d0 : c.d0 < 65536
-  pub d1 : c.d1 < 65536
 
 pub gets_bytes : (op : Op) (seats : List Seat) (f : FlatState) → AreInRange f.state.registers → ((at : ℕ) → byte_at f.memory at < 256) → GetsBytes (gets_all op seats f)
 unfolding own_inputs

@@ -13,20 +13,8 @@ use Rattle.console_spec.specs.Services.{placed_copy, access_verdict}
 use Rattle.console_spec.specs.RackRun.{seats_of}
 use Rattle.console_spec.specs.CounterCopies.{fetched}
 use Rattle.f8_spec.specs.ChipState.{IsFilled}
+use Rattle.f8_machine.specs.ChipCopies.{IsCopy, AreCopies}
 use Rattle.f8_machine.proofs.Slots.{plain_step, seat_of-after, counters-after, filled-after}
-
--- a chip with its copy: the counters are those of the copy after some steps, as a function of a set
-pub record IsCopy (now : Bool → Flow → Count) (last : ℕ) (c : Copy) (v : ChipView) : Type 0 where
-  pub seat : seat_of v ≡ c.seat
-  pub counters : v.counters ≡ now (has_second_counter c.seat.kind) c.flow
-  pub heard : v.last ≡ last
-  pub filled : IsFilled v
-
-abbrev pub AreCopies : (Bool → Flow → Count) → ℕ → List Copy → List ChipView → Type 0
-AreCopies now last [] [] = Unit {0}
-AreCopies now last [] (v ∷ vs) = ⊥
-AreCopies now last (c ∷ cs) [] = ⊥
-AreCopies now last (c ∷ cs) (v ∷ vs) = IsCopy now last c v × AreCopies now last cs vs
 
 -- ---- what the bus reads of them
 

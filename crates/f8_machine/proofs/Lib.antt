@@ -14,3 +14,4 @@ pub mod Turns
 pub mod Starts
 pub mod Takers
 pub mod BusAnswers
+pub mod RackLaws

@@ -25,8 +25,9 @@ use Rattle.probe.specs.ProbeState.{ProbeState}
 use Rattle.f8_machine.specs.FlatViews.{HoldsFlat}
 use Rattle.f8_machine.proofs.Places.{places_follow, named_place}
 use Rattle.f8_machine.proofs.Values.{Values, memory_along, memory_goes, memory_after-with_opcode, values_of, from_flat}
-use Rattle.f8_machine.proofs.Bounds.{GetsBytes, AreAddresses, places_small}
-use Rattle.f8_machine.proofs.Copies.{AreCopies}
+use Rattle.f8_machine.specs.Refinement.{AreAddresses}
+use Rattle.f8_machine.proofs.Bounds.{GetsBytes, places_small}
+use Rattle.f8_machine.specs.ChipCopies.{AreCopies}
 use Rattle.f8_machine.proofs.Along.{Quiet, Aim, Along, with_steps}
 
 -- ---- an instruction

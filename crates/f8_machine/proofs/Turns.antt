@@ -19,7 +19,8 @@ use Rattle.f8_machine.specs.FlatViews.{HoldsFlat}
 use Rattle.f8_machine.proofs.Places.{places_along, with_place, named_place}
 use Rattle.f8_machine.proofs.Bounds.{AreAt}
 use Rattle.f8_machine.proofs.Slots.{plain_step}
-use Rattle.f8_machine.proofs.Copies.{AreCopies, verdict_same, copies_more}
+use Rattle.f8_machine.specs.ChipCopies.{AreCopies}
+use Rattle.f8_machine.proofs.Copies.{verdict_same, copies_more}
 use Rattle.f8_machine.proofs.Along.{Aim, Along, AtAccess, at_access, with_steps, with_steps-step, with_steps-stop, fault_stops, no_fault, no_access, course_idle, course_access, flat_more, long_more, byte_is}
 
 -- the bus rule on a step

@@ -3,11 +3,17 @@
 #![tactic(auto)]
 
 mod bus_step;
+mod chain;
+mod flow;
 mod heard;
+mod mode;
+mod outcome;
 mod record;
 
+pub use chain::Chain;
 pub use console_board::PortWrite;
 pub use console_spec::{Regs, Who};
 pub use data_bus::{BusFault, Rack};
 pub use heard::Heard;
+pub use outcome::Outcome;
 pub use record::Record;

@@ -1,0 +1,48 @@
+-- A rack over the steps of a record, one by one.
+use Rattle.std.proofs.Common.{◌≡◌, ℕ, ◌+◌, Bool, List, [], ◌∷◌, ◌++◌, append-nil, map, refl, ap, ◌∙◌, sym, subst}
+use Rattle.std.specs.Prelude.{Option, Some, None}
+use Rattle.std.proofs.lemmas.List.{append_assoc, map-append}
+use Rattle.f8_spec.specs.ChipState.{ChipView, ChipState, HeardStep, HearsStep, Settles, after_step, told_step}
+use Rattle.data_bus.specs.Racks.{NumberedZip, SettlesStep, RackSettles, clocks_of}
+use Rattle.f8_machine.specs.declared.heard.Heard.{Heard}
+use Rattle.f8_machine.specs.Rounds.{heard_in, after_steps, HearsSteps, Runs, RackRuns}
+
+after_steps-append : (socket : ℕ) (first later : List Heard) (v : ChipView) → after_steps socket (first ++ later) v ≡ after_steps socket later (after_steps socket first v)
+after_steps-append socket [] later v = refl
+after_steps-append socket (h ∷ first) later v = after_steps-append socket first later (after_step 0 (heard_in socket h) v)
+
+runs_none : (socket : ℕ) (s : ChipState) → Runs [] socket s s
+runs_none socket s = record {
+  view = refl;
+  heard = record { told = λ now is. (now, is, sym (append-nil now)) };
+  patch = refl;
+}
+
+pub rack_runs_none : (n : ℕ) (states : List ChipState) → NumberedZip (Runs []) n states states
+rack_runs_none n [] = tt
+rack_runs_none n (s ∷ states) = (runs_none n s, rack_runs_none (n + 1) states)
+
+runs_more : (socket : ℕ) (steps : List Heard) (h : Heard) (a b c : ChipState) → Runs steps socket a b → SettlesStep h.romc h.long None h.byte socket b c → Runs (steps ++ h ∷ []) socket a c
+runs_more socket steps h a b c ran settles = record {
+  view = settles.view ∙ ap (after_step 0 (heard_in socket h)) ran.view ∙ sym (after_steps-append socket steps (h ∷ []) a.view);
+  heard = record {
+    told = λ now is.
+        let last = settles.heard.told now is in
+        let first = ran.heard.told last.0 last.1 in
+        (first.0, first.1, last.2
+            ∙ ap (λ l. l ++ told_step (heard_in socket h) ∷ []) first.2
+            ∙ append_assoc first.0 (map (λ k. told_step (heard_in socket k)) steps) (told_step (heard_in socket h) ∷ [])
+            ∙ ap (λ l. first.0 ++ l) (sym (map-append (λ k. told_step (heard_in socket k)) steps (h ∷ []))));
+  };
+  patch = settles.patch ∙ ran.patch;
+}
+
+pub rack_runs_more : (n : ℕ) (steps : List Heard) (h : Heard) (xs ys zs : List ChipState) → NumberedZip (Runs steps) n xs ys →
+    NumberedZip (SettlesStep h.romc h.long None h.byte) n ys zs → NumberedZip (Runs (steps ++ h ∷ [])) n xs zs
+rack_runs_more n steps h [] [] [] ran settles = tt
+rack_runs_more n steps h [] [] (z ∷ zs) ran settles = absurd settles
+rack_runs_more n steps h [] (y ∷ ys) zs ran settles = absurd ran
+rack_runs_more n steps h (x ∷ xs) [] zs ran settles = absurd ran
+rack_runs_more n steps h (x ∷ xs) (y ∷ ys) [] ran settles = absurd settles
+rack_runs_more n steps h (x ∷ xs) (y ∷ ys) (z ∷ zs) ran settles =
+    (runs_more n steps h x y z ran.0 settles.0, rack_runs_more (n + 1) steps h xs ys zs ran.1 settles.1)

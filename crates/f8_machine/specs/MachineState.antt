@@ -1,0 +1,55 @@
+-- A machine as contracts see it.
+use Rattle.std.specs.Prelude.{◌≡◌, ℕ, ◌+◌, ◌%◌, List, [], ◌∷◌}
+use Rattle.f8_spec.specs.BusCodes.{Count}
+use Rattle.console_spec.specs.Processor.{Flow}
+use Rattle.probe.specs.ProbeState.{ProbeState, probe_after}
+use Rattle.cpu3850.specs.CpuSteps.{CpuState}
+use Rattle.f8_machine.specs.declared.flow.Flow.{Flow as KeptFlow}
+use Rattle.f8_machine.specs.declared.heard.Heard.{Heard}
+use Rattle.f8_machine.specs.declared.mode.Mode.{Mode}
+use Rattle.f8_machine.specs.declared.mode.Mode.TheVariants.{Powered, Running, Stopped}
+use Rattle.f8_machine.specs.declared.mode.Halt.{Halt}
+use Rattle.f8_machine.specs.declared.mode.Halt.TheVariants.{Fault as FaultHalt, Reserved as ReservedHalt, Unbuilt as UnbuiltHalt}
+use Rattle.f8_machine.specs.declared.outcome.Outcome.{Outcome}
+use Rattle.f8_machine.specs.declared.outcome.Outcome.TheVariants.{Done, Fault, Reserved, Unbuilt}
+
+abbrev pub flow_of : KeptFlow → Flow
+flow_of kept = record { p = kept.p; p1 = kept.p1; d0 = kept.d0; d1 = kept.d1 }
+
+-- the counters before the opcode was fetched
+abbrev pub unfetched : Count → Flow
+unfetched c = record { p = (c.pc0 + 65535) % 65536; p1 = c.pc1; d0 = c.dc0; d1 = c.dc1 }
+
+-- the probe, the processor, the counters of the flat machine as the last instruction left them, the clocks in Φ, the sockets of the
+-- chips described, and what the machine may do
+pub record MachineState : Type 0 where
+  pub probe : ProbeState
+  pub cpu : CpuState
+  pub flow : Flow
+  pub phi : ℕ
+  pub chain : List ℕ
+  pub mode : Mode
+
+-- the outcome on a machine that was stopped
+abbrev pub halted : Halt → Outcome
+halted (FaultHalt fault long) = Fault fault long []
+halted (ReservedHalt at code) = Reserved at code
+halted (UnbuiltHalt at code) = Unbuilt at code
+
+-- the served steps of an outcome
+abbrev pub steps_in : Outcome → List Heard
+steps_in (Done wrote steps) = steps
+steps_in (Fault fault long steps) = steps
+steps_in (Reserved at code) = []
+steps_in (Unbuilt at code) = []
+
+-- reset has been
+abbrev pub IsReset : Mode → Type 0
+IsReset Powered = ⊥
+IsReset Running = Unit {0}
+IsReset (Stopped halt) = Unit {0}
+
+-- the probe after the steps of a record
+abbrev pub probe_after_steps : List Heard → ProbeState → ProbeState
+probe_after_steps [] p = p
+probe_after_steps (h ∷ later) p = probe_after_steps later (probe_after h.romc h.byte p)

@@ -1,0 +1,102 @@
+-- A machine with its rack stands for the flat machine with copies of its counters, one in each chip. Nothing says that the copies agree.
+use Rattle.std.specs.Prelude.{◌≡◌, ℕ, ◌<◌, Bool, List, [], ◌∷◌, length, map, Option, Some, None}
+use Rattle.f8_spec.specs.BusCodes.{Count}
+use Rattle.f8_spec.specs.ChipState.{ChipState}
+use Rattle.console_spec.specs.AddressSpace.{byte_at}
+use Rattle.console_spec.specs.Processor.{Flow}
+use Rattle.console_spec.specs.CounterCopies.{Copy, fetched, unreset}
+use Rattle.console_spec.specs.BusTrace.{Course}
+use Rattle.console_spec.specs.RackRun.{Position, Stop, Unserved as UnservedStop, Reserved as ReservedStop, Unbuilt as UnbuiltStop, Turn, Goes, Stops, goes_unless, next, opcode_at, turn_course, reset_fault, reset_course, position_after_reset}
+use Rattle.data_bus.specs.Racks.{views}
+use Rattle.data_bus.specs.declared.fault.BusFault.{BusFault}
+use Rattle.f8_machine.specs.FlatViews.{HoldsFlat}
+use Rattle.f8_machine.specs.ChipCopies.{AreCopies}
+use Rattle.f8_machine.specs.Faults.{fault_of}
+use Rattle.f8_machine.specs.Rounds.{heard_of}
+use Rattle.f8_machine.specs.MachineState.{MachineState}
+use Rattle.f8_machine.specs.declared.heard.Heard.{Heard}
+use Rattle.f8_machine.specs.declared.mode.Mode.TheVariants.{Powered, Running, Stopped}
+use Rattle.f8_machine.specs.declared.mode.Halt.{Halt}
+use Rattle.f8_machine.specs.declared.mode.Halt.TheVariants.{Fault as FaultHalt, Reserved as ReservedHalt, Unbuilt as UnbuiltHalt}
+use Rattle.f8_machine.specs.declared.outcome.Outcome.{Outcome}
+use Rattle.f8_machine.specs.declared.outcome.Outcome.TheVariants.{Done, Fault as FaultOutcome, Reserved, Unbuilt}
+
+-- the counters are addresses
+pub record AreAddresses (c : Flow) : Type 0 where
+  pub p : c.p < 65536
+  pub p1 : c.p1 < 65536
+  pub d0 : c.d0 < 65536
+  pub d1 : c.d1 < 65536
+
+-- the memory is 65,536 bytes
+pub record IsMemory (memory : List ℕ) : Type 0 where
+  pub whole : length memory ≡ 65536
+  pub bytes : (at : ℕ) → byte_at memory at < 256
+
+-- What a machine and its rack have of a position, before reset and after it: between instructions the counters of the probe and of each
+-- chip are those of the flat machine and of the copies.
+pub record Stands (now : Flow → Count) (m : MachineState) (states : List ChipState) (x : Position) : Type 0 where
+  pub registers : m.cpu.registers ≡ x.flat.state.registers
+  pub flow : m.flow ≡ x.flat.state.flow
+  pub phi : m.phi ≡ x.flat.state.phi
+  pub reference : m.probe.count ≡ now x.flat.state.flow
+  pub copies : AreCopies (λ second c. now c) m.probe.last x.copies (views states)
+  pub flat : HoldsFlat x.flat.memory (views states)
+  pub memory : IsMemory x.flat.memory
+  pub addresses : AreAddresses x.flat.state.flow
+
+-- after reset, as long as nothing stops the machine
+pub record Represents (m : MachineState) (states : List ChipState) (x : Position) : Type 0 where
+  pub stands : Stands fetched m states x
+  pub opcode : m.cpu.opcode ≡ opcode_at x
+  pub running : m.mode ≡ Running
+
+-- every copy will be at 0 after reset
+abbrev pub AreAtZero : List Copy → Type 0
+AreAtZero [] = Unit {0}
+AreAtZero (c ∷ copies) = (c.flow.p ≡ 0) × AreAtZero copies
+
+-- before reset
+pub record IsPowered (m : MachineState) (states : List ChipState) (x : Position) : Type 0 where
+  pub stands : Stands unreset m states x
+  pub at_zero : x.flat.state.flow.p ≡ 0
+  pub copies_at_zero : AreAtZero x.copies
+  pub powered : m.mode ≡ Powered
+
+-- ---- an instruction
+
+-- done: the machine stands for the next position, and the steps are those of the definitions
+pub record IsDone (m : MachineState) (states : List ChipState) (turn : Turn) (course : Course) (steps : List Heard) : Type 0 where
+  pub after : Position
+  pub turns : turn ≡ Goes after
+  pub represents : Represents m states after
+  pub trace : course ≡ record { steps = course.steps; fault = None }
+  pub recorded : steps ≡ map heard_of course.steps
+
+-- not done: the fault is that of the first access which is not served; the registers, the counters and the clocks stay as they were
+pub record IsFaulted (before after : MachineState) (turn : Turn) (course : Course) (fault : BusFault) (long : Bool) (steps : List Heard) : Type 0 where
+  pub turns : turn ≡ Stops (UnservedStop (fault_of fault))
+  pub trace : course ≡ record { steps = course.steps; fault = Some (fault_of fault, long) }
+  pub recorded : steps ≡ map heard_of course.steps
+  pub kept : after ≡ record before { probe = after.probe; mode = Stopped (FaultHalt fault long) }
+
+-- an opcode that stops the run: nothing is done
+pub record IsHalted (before after : MachineState) (turn : Turn) (stop : Stop) (halt : Halt) : Type 0 where
+  pub turns : turn ≡ Stops stop
+  pub kept : after ≡ record before { mode = Stopped halt }
+
+-- what an instruction answers, where the machine and its rack stand for a position
+abbrev pub Refines : Outcome → MachineState → MachineState → List ChipState → Position → Type 0
+Refines (Done wrote steps) before after states x = (wrote ≡ None) × IsDone after states (next x) (turn_course x) steps
+Refines (FaultOutcome fault long steps) before after states x = IsFaulted before after (next x) (turn_course x) fault long steps
+Refines (Reserved at code) before after states x = IsHalted before after (next x) (ReservedStop at code) (ReservedHalt at code)
+Refines (Unbuilt at code) before after states x = IsHalted before after (next x) (UnbuiltStop at code) (UnbuiltHalt at code)
+
+-- what reset answers, on a machine that is powered
+abbrev pub ResetRefines : Outcome → MachineState → MachineState → List ChipState → Position → Type 0
+ResetRefines (Done wrote steps) before after states x =
+    (wrote ≡ None) × IsDone after states (goes_unless (reset_fault x) (position_after_reset x)) (reset_course x) steps
+ResetRefines (FaultOutcome fault long steps) before after states x =
+    IsFaulted before after (goes_unless (reset_fault x) (position_after_reset x)) (reset_course x) fault long steps
+ResetRefines (Reserved at code) before after states x = ⊥
+ResetRefines (Unbuilt at code) before after states x = ⊥

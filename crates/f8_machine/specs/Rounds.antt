@@ -1,0 +1,33 @@
+-- What the chips of a rack are after the bus steps of a record, and what those that tell it heard.
+use Rattle.std.specs.Prelude.{◌≡◌, ℕ, false, List, [], ◌∷◌, ◌++◌, map, Option, Some}
+use Rattle.f8_spec.specs.ChipState.{ChipView, ChipState, HeardStep, after_step, told_step}
+use Rattle.data_bus.specs.Racks.{NumberedZip, clocks_of}
+use Rattle.console_spec.specs.BusTrace.{TracedStep}
+use Rattle.f8_machine.specs.declared.heard.Heard.{Heard}
+
+-- a step of the definitions' trace, as a machine tells it
+abbrev pub heard_of : TracedStep → Heard
+heard_of t = record { romc = t.romc; long = t.long; byte = t.byte; who = t.who; taker = t.taker }
+
+-- a step of a record as the chip in a socket hears it; no interrupt is acknowledged so far
+abbrev pub heard_in : ℕ → Heard → HeardStep
+heard_in socket h = record { romc = h.romc; byte = h.byte; clocks = clocks_of h.long; first = false }
+
+-- the chip in a socket after the steps
+abbrev pub after_steps : ℕ → List Heard → ChipView → ChipView
+after_steps socket [] v = v
+after_steps socket (h ∷ later) v = after_steps socket later (after_step 0 (heard_in socket h) v)
+
+-- where the steps heard are told afterwards, they were told before, and have gained these
+pub record HearsSteps (socket : ℕ) (steps : List Heard) (old new : Option (List HeardStep)) : Type 0 where
+  pub told : (now : List HeardStep) → new ≡ Some now →
+      (before : List HeardStep) × (old ≡ Some before) × (now ≡ before ++ map (λ h. told_step (heard_in socket h)) steps)
+
+-- a chip after the steps of a record; its patch stays
+pub record Runs (steps : List Heard) (socket : ℕ) (old new : ChipState) : Type 0 where
+  pub view : new.view ≡ after_steps socket steps old.view
+  pub heard : HearsSteps socket steps old.heard_steps new.heard_steps
+  pub patch : new.patch ≡ old.patch
+
+abbrev pub RackRuns : List Heard → List ChipState → List ChipState → Type 0
+RackRuns steps olds news = NumberedZip (Runs steps) 0 olds news
