@@ -15,3 +15,4 @@ pub mod Starts
 pub mod Takers
 pub mod BusAnswers
 pub mod RackLaws
+pub mod Remains
