@@ -16,3 +16,4 @@ pub mod Takers
 pub mod BusAnswers
 pub mod RackLaws
 pub mod Remains
+pub mod Carried

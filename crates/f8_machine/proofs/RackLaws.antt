@@ -5,6 +5,8 @@ use Rattle.std.proofs.lemmas.List.{append_assoc, map-append}
 use Rattle.f8_spec.specs.ChipState.{ChipView, ChipState, HeardStep, HearsStep, Settles, after_step, told_step}
 use Rattle.data_bus.specs.Racks.{NumberedZip, SettlesStep, RackSettles, clocks_of}
 use Rattle.f8_machine.specs.declared.heard.Heard.{Heard}
+use Rattle.probe.specs.ProbeState.{ProbeState, probe_after}
+use Rattle.f8_machine.specs.MachineState.{probe_after_steps}
 use Rattle.f8_machine.specs.Rounds.{heard_in, after_steps, HearsSteps, Runs, RackRuns}
 
 after_steps-append : (socket : ℕ) (first later : List Heard) (v : ChipView) → after_steps socket (first ++ later) v ≡ after_steps socket later (after_steps socket first v)
@@ -28,11 +30,14 @@ runs_more socket steps h a b c ran settles = record {
   heard = record {
     told = λ now is.
         let last = settles.heard.told now is in
-        let first = ran.heard.told last.0 last.1 in
-        (first.0, first.1, last.2
-            ∙ ap (λ l. l ++ told_step (heard_in socket h) ∷ []) first.2
-            ∙ append_assoc first.0 (map (λ k. told_step (heard_in socket k)) steps) (told_step (heard_in socket h) ∷ [])
-            ∙ ap (λ l. first.0 ++ l) (sym (map-append (λ k. told_step (heard_in socket k)) steps (h ∷ []))));
+        let first = ran.heard.told last.0 last.1 in (
+          first.0,
+          first.1,
+          last.2
+              ∙ ap (λ l. l ++ told_step (heard_in socket h) ∷ []) first.2
+              ∙ append_assoc first.0 (map (λ k. told_step (heard_in socket k)) steps) (told_step (heard_in socket h) ∷ [])
+              ∙ ap (λ l. first.0 ++ l) (sym (map-append (λ k. told_step (heard_in socket k)) steps (h ∷ []))),
+        );
   };
   patch = settles.patch ∙ ran.patch;
 }
@@ -46,3 +51,12 @@ rack_runs_more n steps h (x ∷ xs) [] zs ran settles = absurd ran
 rack_runs_more n steps h (x ∷ xs) (y ∷ ys) [] ran settles = absurd settles
 rack_runs_more n steps h (x ∷ xs) (y ∷ ys) (z ∷ zs) ran settles =
     (runs_more n steps h x y z ran.0 settles.0, rack_runs_more (n + 1) steps h xs ys zs ran.1 settles.1)
+
+-- a rack on which nothing happens
+pub rack_runs_stays : (steps : List Heard) (xs ys zs : List ChipState) → NumberedZip (Runs steps) 0 xs ys → zs ≡ ys → NumberedZip (Runs steps) 0 xs zs
+rack_runs_stays steps xs ys zs ran same = subst (λ (l : List ChipState). NumberedZip (Runs steps) 0 xs l) (sym same) ran
+
+-- the probe after one more step
+pub probe_after_steps-more : (steps : List Heard) (h : Heard) (p : ProbeState) → probe_after_steps (steps ++ h ∷ []) p ≡ probe_after h.romc h.byte (probe_after_steps steps p)
+probe_after_steps-more [] h p = refl
+probe_after_steps-more (k ∷ steps) h p = probe_after_steps-more steps h (probe_after k.romc k.byte p)

@@ -106,7 +106,7 @@ module _ (i : Inputs) (x : Position) (aim : Aim) (s : MicroStep) (rest : List Mi
       let vs = views states in
       let moved = along-more i x aim s rest probe vs left.so_far left.along (clocks_of s.long) served.socket served.verdict in
       let now_views : views states_now ≡ stepped s (byte_of i s.source) (clocks_of s.long) vs =
-          views_settled s.romc s.long byte states states_now served.settled ∙ ap (λ (b : ℕ). stepped s b (clocks_of s.long) vs) same in
+      views_settled s.romc s.long byte states states_now served.settled ∙ ap (λ (b : ℕ). stepped s b (clocks_of s.long) vs) same in
       let now_probe : probe_now ≡ probe_after s.romc (byte_of i s.source) probe = served.heard ∙ ap (λ (b : ℕ). probe_after s.romc b probe) same in
       record {
         so_far = left.so_far ++ traced i s served.socket ∷ [];
@@ -174,9 +174,9 @@ module _ (op : Op) (x : Position) (i : Inputs) (aim : Aim) (end : CpuState) (pla
   remaining_more placed byte cpu_now probe_now states_now steps_now within here places takes served remaining =
       let n = next_of within here remaining in
       let served_there : IsServed (bus_step n.micro) placed probe probe_now states states_now steps steps_now byte =
-          subst (λ (t : Step). IsServed t placed probe probe_now states states_now steps steps_now byte) (sym n.micro_is) served in
+      subst (λ (t : Step). IsServed t placed probe probe_now states states_now steps steps_now byte) (sym n.micro_is) served in
       let placed_there : Places (is_placed_by (driver_of n.micro.romc)) placed (byte_of i n.micro.source) =
-          subst (λ (b : ℕ). Places (is_placed_by (driver_of n.micro.romc)) b (byte_of i n.micro.source)) (sym places) n.reaches.0 in
+      subst (λ (b : ℕ). Places (is_placed_by (driver_of n.micro.romc)) b (byte_of i n.micro.source)) (sym places) n.reaches.0 in
       let same = bus_byte_is i x aim n.micro n.rest probe states steps n.bus placed byte probe_now states_now steps_now placed_there served_there in
       record {
         rest = n.rest;
@@ -199,7 +199,7 @@ module _ (op : Op) (x : Position) (i : Inputs) (aim : Aim) (end : CpuState) (pla
   remaining_stops fault probe_now states_now steps_now within here refused remaining =
       let n = next_of within here remaining in
       let refused_there : IsRefused (bus_step n.micro) fault probe probe_now states states_now steps steps_now =
-          subst (λ (t : Step). IsRefused t fault probe probe_now states states_now steps steps_now) (sym n.micro_is) refused in
+      subst (λ (t : Step). IsRefused t fault probe probe_now states states_now steps steps_now) (sym n.micro_is) refused in
       let stops = on_bus_stops i x aim n.micro n.rest probe states steps n.bus fault probe_now states_now steps_now refused_there in
       record {
         so_far = stops.so_far;

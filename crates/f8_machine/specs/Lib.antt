@@ -6,3 +6,4 @@ pub mod BusSteps
 pub mod Rounds
 pub mod MachineState
 pub mod Refinement
+pub mod Carrying

@@ -3,6 +3,7 @@
 #![tactic(auto)]
 
 mod bus_step;
+mod carry;
 mod chain;
 mod flow;
 mod heard;

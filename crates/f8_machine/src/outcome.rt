@@ -17,7 +17,13 @@ pub enum Outcome {
         steps: Record,
     },
     /// At this address stands an opcode that no instruction has.
-    Reserved { at: u16, code: u8 },
+    Reserved {
+        at: u16,
+        code: u8,
+    },
     /// At this address stands an opcode whose instruction isn't built.
-    Unbuilt { at: u16, code: u8 },
+    Unbuilt {
+        at: u16,
+        code: u8,
+    },
 }

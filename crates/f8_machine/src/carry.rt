@@ -1,0 +1,57 @@
+ghost use Rattle.std.specs.Prelude.{◌≡◌, ◌≤◌, [], length, map, IfOk, IfErr, OnOk, OnErr};
+ghost use Rattle.f8_spec.specs.declared.instructions.Op.{Op};
+ghost use Rattle.console_spec.specs.RackRun.{Position};
+ghost use Rattle.cpu3850.specs.CpuSteps.{planned};
+ghost use Rattle.cpu3850.specs.Keeping.{IsRestorable};
+ghost use Rattle.f8_machine.specs.Carrying.{Holds, IsCarriedOut, IsCutShort};
+ghost use Rattle.f8_machine.specs.MachineState.{probe_after_steps};
+ghost use Rattle.f8_machine.specs.Rounds.{RackRuns};
+
+use super::bus_step::bus_step;
+use super::record::Record;
+use chip_face::Chip;
+use cpu3850::{Cpu, Step};
+use data_bus::{BusFault, Rack};
+use probe::Probe;
+
+/// A bus step that wasn't served, and whether it is a long one.
+#[derive(Debug, Drop)]
+pub(crate) struct Unserved {
+    pub(crate) fault: BusFault,
+    pub(crate) long: bool,
+}
+
+/// The bus steps of the instruction that the processor holds, each told in `steps`. Where one isn't served the processor differs from
+/// what it was in nothing but what can be put back.
+pub(crate) fn carry_out(
+    cpu: &mut Cpu,
+    probe: &mut Probe,
+    rack: &mut Rack,
+    plan: &[Step],
+    steps: &mut Record,
+) -> Result<(), Unserved>
+    requires few { length rack.old.items ≤ 16 }
+    requires plan { plan.now ≡ planned cpu.old }
+    requires short { length plan.now ≤ 5 }
+    requires none { steps.old ≡ [] }
+    ensures done { (op : Op) (x : Position) → Holds cpu.old probe.old (map state rack.old.items) op x → OnOk result (IsCarriedOut cpu.old cpu.new probe.new (map state rack.new.items) steps.new op x) }
+    ensures cut { (op : Op) (x : Position) → Holds cpu.old probe.old (map state rack.old.items) op x → IfErr result (λ unserved. IsCutShort steps.new unserved.fault unserved.long op x) }
+    ensures restorable { OnErr result (IsRestorable cpu.old cpu.new) }
+    ensures ran { RackRuns steps.new (map state rack.old.items) (map state rack.new.items) }
+    ensures reference { probe.new ≡ probe_after_steps steps.new probe.old }
+    ensures chips { length rack.new.items ≡ length rack.old.items }
+{
+    for (index, step) in plan.iter().enumerate() {
+        let placed = cpu.drive(index as u8);
+        match bus_step(rack, probe, *step, placed, steps) {
+            Ok(byte) => cpu.take(index as u8, byte),
+            Err(fault) => {
+                return Err(Unserved {
+                    fault,
+                    long: step.long,
+                });
+            }
+        }
+    }
+    Ok(())
+}
