@@ -18,6 +18,7 @@ use Rattle.console_spec.specs.AddressSpace.{byte_at}
 use Rattle.console_spec.specs.CounterCopies.{power_start}
 use Rattle.console_spec.specs.FlatMemory.{sort_among, sort_of, only_of, fixed_byte_by, first_byte_by, first_byte, first_memory}
 use Rattle.f8_spec.specs.ChipState.{IsFilled}
+use Rattle.f8_machine.specs.Rounds.{PowersInSocket}
 use Rattle.f8_machine.specs.FlatViews.{HeldOnce, HoldsFlat}
 use Rattle.f8_machine.proofs.Kept.{OneKept, one_kept, keeps_one, slice_get-enumerate_from, Comes, comes}
 use Rattle.f8_machine.proofs.Holding.{Held, held_in, not_held, sort_of-once, holds_flat_by}
@@ -214,10 +215,6 @@ first_flat fill vs filled = holds_flat_by vs (powered_views fill vs) (seats-powe
         ∙ ap (λ (u : ChipView). byte_in v.pages (filled_bytes fill u.pages u.bytes) at) same
         ∙ powered_byte fill v at (filled place v lies) here (slice_index v.bytes (here.place * 256 + at % 256)) byte
         ∙ ap Some (sym (byte_at-first_memory vs fill at small ∙ first_byte-once vs fill at place v lies once here (slice_index v.bytes (here.place * 256 + at % 256)) byte))
-
--- a chip of a rack is powered, by its socket
-abbrev pub PowersInSocket : ℕ → ℕ → ChipState → ChipState → Type 0
-PowersInSocket fill socket old new = PowersOn fill (power_start fill socket) old new
 
 -- the views from a socket on
 powered_from : (fill n : ℕ) (olds news : List ChipState) → NumberedZip (PowersInSocket fill) n olds news →

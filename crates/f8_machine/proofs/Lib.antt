@@ -17,3 +17,4 @@ pub mod BusAnswers
 pub mod RackLaws
 pub mod Remains
 pub mod Carried
+pub mod Instructions

@@ -2,8 +2,8 @@
 use Rattle.std.specs.Prelude.{◌≡◌, ℕ, ◌+◌, ◌%◌, List, [], ◌∷◌}
 use Rattle.f8_spec.specs.BusCodes.{Count}
 use Rattle.console_spec.specs.Processor.{Flow}
-use Rattle.probe.specs.ProbeState.{ProbeState, probe_after}
-use Rattle.cpu3850.specs.CpuSteps.{CpuState}
+use Rattle.probe.specs.ProbeState.{ProbeState, new_probe, probe_after}
+use Rattle.cpu3850.specs.CpuSteps.{CpuState, powered}
 use Rattle.f8_machine.specs.declared.flow.Flow.{Flow as KeptFlow}
 use Rattle.f8_machine.specs.declared.heard.Heard.{Heard}
 use Rattle.f8_machine.specs.declared.mode.Mode.{Mode}
@@ -53,3 +53,14 @@ IsReset (Stopped halt) = Unit {0}
 abbrev pub probe_after_steps : List Heard → ProbeState → ProbeState
 probe_after_steps [] p = p
 probe_after_steps (h ∷ later) p = probe_after_steps later (probe_after h.romc h.byte p)
+
+-- a machine at power-on
+abbrev pub powered_machine : ℕ → List ℕ → MachineState
+powered_machine fill chain = record {
+  probe = new_probe;
+  cpu = powered fill;
+  flow = record { p = 0; p1 = 0; d0 = 0; d1 = 0 };
+  phi = 0;
+  chain = chain;
+  mode = Powered;
+}

@@ -1,7 +1,8 @@
 -- What the chips of a rack are after the bus steps of a record, and what those that tell it heard.
 use Rattle.std.specs.Prelude.{◌≡◌, ℕ, false, List, [], ◌∷◌, ◌++◌, map, Option, Some}
-use Rattle.f8_spec.specs.ChipState.{ChipView, ChipState, HeardStep, after_step, told_step}
+use Rattle.f8_spec.specs.ChipState.{ChipView, ChipState, HeardStep, PowersOn, after_step, told_step}
 use Rattle.data_bus.specs.Racks.{NumberedZip, clocks_of}
+use Rattle.console_spec.specs.CounterCopies.{power_start}
 use Rattle.console_spec.specs.BusTrace.{TracedStep}
 use Rattle.f8_machine.specs.declared.heard.Heard.{Heard}
 
@@ -31,3 +32,10 @@ pub record Runs (steps : List Heard) (socket : ℕ) (old new : ChipState) : Type
 
 abbrev pub RackRuns : List Heard → List ChipState → List ChipState → Type 0
 RackRuns steps olds news = NumberedZip (Runs steps) 0 olds news
+
+-- power-on of the chip in a socket, and of a rack
+abbrev pub PowersInSocket : ℕ → ℕ → ChipState → ChipState → Type 0
+PowersInSocket fill socket old new = PowersOn fill (power_start fill socket) old new
+
+abbrev pub RackPowers : ℕ → List ChipState → List ChipState → Type 0
+RackPowers fill olds news = NumberedZip (PowersInSocket fill) 0 olds news

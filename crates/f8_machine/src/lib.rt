@@ -7,8 +7,10 @@ mod carry;
 mod chain;
 mod flow;
 mod heard;
+mod machine;
 mod mode;
 mod outcome;
+mod power;
 mod record;
 
 pub use chain::Chain;
@@ -16,5 +18,6 @@ pub use console_board::PortWrite;
 pub use console_spec::{Regs, Who};
 pub use data_bus::{BusFault, Rack};
 pub use heard::Heard;
+pub use machine::Machine;
 pub use outcome::Outcome;
 pub use record::Record;

@@ -4,9 +4,11 @@
 mod built;
 mod mnemonics;
 mod opcodes;
+mod rack;
 mod table;
 
 pub use built::is_built;
+pub use rack::is_built_on_rack;
 pub use f8_spec::{Op, Row};
 pub use mnemonics::name;
 pub use opcodes::{Reserved, decode, encode};

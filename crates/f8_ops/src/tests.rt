@@ -34,6 +34,21 @@ fn built_opcodes(rt: HostRuntime) {
 }
 
 #[test]
+fn opcodes_built_on_a_rack(rt: HostRuntime) {
+    for (code, built) in [
+        (0x2B, true),
+        (0x16, true),
+        (0x28, true),
+        (0x26, false),
+        (0xA4, false),
+        (0xB1, false),
+        (0xFF, true),
+    ] {
+        assert_eq!(rt; is_built_on_rack(code), built, "at {code}");
+    }
+}
+
+#[test]
 fn clocks_and_lengths(rt: HostRuntime) {
     for (op, taken, clocks, bytes) in [
         (Op::Nop, false, 4, 1),

@@ -1,0 +1,180 @@
+-- An instruction of a machine, from the position that it stands for to the next one.
+use Rattle.std.proofs.Common.{◌≡◌, ℕ, ◌+◌, ◌%◌, ◌<◌, Bool, true, false, List, [], ◌∷◌, map, length, Option, Some, None, refl, sym, ap, ◌∙◌, subst, arith}
+use Rattle.std.specs.Prelude.{IsSome, sum_by, if◌then◌else◌}
+use Rattle.f8_spec.specs.Built.{is_built_row_on_rack, is_built_op_on_rack, is_built_as_on_rack, is_built_on_rack}
+use Rattle.f8_spec.specs.BusCodes.{Count}
+use Rattle.f8_spec.specs.BusArbitration.{Seat}
+use Rattle.f8_spec.specs.ChipState.{ChipState}
+use Rattle.f8_spec.specs.Instructions.{decoded, row_of, row_clocks}
+use Rattle.f8_spec.specs.MicroSteps.{step_clocks, steps_of}
+use Rattle.f8_spec.specs.declared.instructions.Op.{Op}
+use Rattle.f8_spec.specs.declared.instructions.Op.TheVariants.{Ins, Outs}
+use Rattle.f8_spec.specs.declared.instructions.Row.{Row}
+use Rattle.f8_spec.specs.declared.instructions.Row.TheVariants.{StoreData, Branch, BranchIsar}
+use Rattle.console_spec.specs.AddressSpace.{byte_at}
+use Rattle.console_spec.specs.Processor.{Flow, Registers, Inputs, is_taken, result_of, own_inputs}
+use Rattle.console_spec.specs.CounterCopies.{fetched}
+use Rattle.console_spec.specs.FlatMachine.{FlatState, memory_after, flat_after, gets, gets_all}
+use Rattle.console_spec.specs.Services.{Fault}
+use Rattle.console_spec.specs.BusTrace.{Course}
+use Rattle.console_spec.specs.RackRun.{Position, Stop, Unserved, Reserved, Unbuilt, Turn, Goes, Stops, goes_unless, decided, next, opcode_at, seats_of, instruction_fault, instruction_course, position_after, course_as, turn_course}
+use Rattle.console_spec.proofs.InputLaws.{result_of-with_opcode, flow_after-with_opcode}
+use Rattle.cpu3850.specs.declared.steps.Step.{Step}
+use Rattle.cpu3850.specs.CpuSteps.{CpuState, AreInRange, bus_step, planned_as, planned}
+use Rattle.cpu3850.specs.Reaching.{done}
+use Rattle.probe.specs.ProbeState.{ProbeState}
+use Rattle.data_bus.specs.declared.fault.BusFault.{BusFault}
+use Rattle.f8_machine.specs.Carrying.{Holds, IsCarriedOut, IsCutShort}
+use Rattle.f8_machine.specs.Faults.{fault_of}
+use Rattle.f8_machine.specs.MachineState.{MachineState, unfetched}
+use Rattle.f8_machine.specs.Refinement.{AreAddresses, IsMemory, Stands, Represents, IsDone, IsFaulted}
+use Rattle.f8_machine.specs.Rounds.{heard_of}
+use Rattle.f8_machine.specs.declared.heard.Heard.{Heard}
+use Rattle.f8_machine.specs.declared.mode.Mode.TheVariants.{Running, Stopped}
+use Rattle.f8_machine.specs.declared.mode.Halt.TheVariants.{Fault as FaultHalt}
+use Rattle.f8_machine.proofs.Bounds.{GetsBytes, gets_bytes, flow_small}
+use Rattle.f8_machine.proofs.Stores.{stored_long, stored_bytes}
+
+-- ---- the opcode
+
+pub some_of : (found : Option Op) → IsSome found → (op : Op) × (found ≡ Some op)
+some_of None some = cc
+some_of (Some op) some = (op, refl)
+
+built_row : (op : Op) → is_built_op_on_rack op ≡ true → is_built_row_on_rack (row_of op) ≡ true
+built_row (Ins n) built = cc
+built_row (Outs n) built = cc
+built_row op built = built
+
+-- the row of an opcode that is built
+pub built_of : (code : ℕ) (op : Op) → is_built_on_rack code ≡ true → decoded code ≡ Some op → is_built_row_on_rack (row_of op) ≡ true
+built_of code op built held = built_row op (ap is_built_as_on_rack (sym held) ∙ built)
+
+-- the next turn by the opcode at the next address
+turn_with : (x : Position) (code : ℕ) (built : Bool) (found : Option Op) → code ≡ opcode_at x → is_built_on_rack code ≡ built → decoded code ≡ found →
+    next x ≡ decided (λ op. goes_unless (instruction_fault op x) (position_after op x)) x.flat.state.flow.p code built found
+turn_with x code built found opcode is_built held =
+    ap (λ (k : ℕ). decided (λ op. goes_unless (instruction_fault op x) (position_after op x)) x.flat.state.flow.p k (is_built_on_rack k) (decoded k)) (sym opcode)
+    ∙ ap (λ (b : Bool). decided (λ op. goes_unless (instruction_fault op x) (position_after op x)) x.flat.state.flow.p code b (decoded code)) is_built
+    ∙ ap (λ (o : Option Op). decided (λ op. goes_unless (instruction_fault op x) (position_after op x)) x.flat.state.flow.p code built o) held
+
+course_with : (x : Position) (code : ℕ) (built : Bool) (found : Option Op) → code ≡ opcode_at x → is_built_on_rack code ≡ built → decoded code ≡ found → turn_course x ≡ course_as x built found
+course_with x code built found opcode is_built held =
+    ap (λ (k : ℕ). course_as x (is_built_on_rack k) (decoded k)) (sym opcode)
+    ∙ ap (λ (b : Bool). course_as x b (decoded code)) is_built
+    ∙ ap (λ (o : Option Op). course_as x built o) held
+
+unbuilt_by : (carried_out : Op → Turn) (at code : ℕ) (found : Option Op) → decided carried_out at code false found ≡ Stops (Unbuilt at code)
+unbuilt_by carried_out at code None = refl
+unbuilt_by carried_out at code (Some op) = refl
+
+pub turn_unbuilt : (x : Position) (p code : ℕ) → p ≡ x.flat.state.flow.p → code ≡ opcode_at x → is_built_on_rack code ≡ false → next x ≡ Stops (Unbuilt p code)
+turn_unbuilt x p code place opcode unbuilt =
+    turn_with x code false (decoded code) opcode unbuilt refl
+    ∙ unbuilt_by (λ op. goes_unless (instruction_fault op x) (position_after op x)) x.flat.state.flow.p code (decoded code)
+    ∙ ap (λ (n : ℕ). Stops (Unbuilt n code)) (sym place)
+
+pub turn_reserved : (x : Position) (p code : ℕ) → p ≡ x.flat.state.flow.p → code ≡ opcode_at x → is_built_on_rack code ≡ true → decoded code ≡ None → next x ≡ Stops (Reserved p code)
+turn_reserved x p code place opcode built none = turn_with x code true None opcode built none ∙ ap (λ (n : ℕ). Stops (Reserved n code)) (sym place)
+
+-- ---- clocks, counters and memory
+
+clocks_listed : (row : Row) (branched : Bool) → sum_by (λ (step : Step). step_clocks step.long) (map bus_step (steps_of row branched)) ≡ row_clocks row branched
+clocks_listed Branch true = refl
+clocks_listed Branch false = refl
+clocks_listed BranchIsar true = refl
+clocks_listed BranchIsar false = refl
+clocks_listed row branched = refl
+
+pub clocks_planned : (cpu : CpuState) (op : Op) → decoded cpu.opcode ≡ Some op →
+    sum_by (λ (step : Step). step_clocks step.long) (planned cpu) ≡ row_clocks (row_of op) (is_taken op cpu.registers)
+clocks_planned cpu op held =
+    ap (λ (found : Option Op). sum_by (λ (step : Step). step_clocks step.long) (planned_as found cpu.registers)) held ∙ clocks_listed (row_of op) (is_taken op cpu.registers)
+
+own_taken : (op : Op) (f : FlatState) → (gets op f).taken ≡ is_taken op f.state.registers
+unfolding own_inputs
+own_taken op f = refl
+
+-- the counters, from the probe's
+unfetched-fetched : (c : Flow) → AreAddresses c → unfetched (fetched c) ≡ c
+unfetched-fetched c small =
+    let back : ((c.p + 1) % 65536 + 65535) % 65536 ≡ c.p = (let p : c.p < 65536 = small.p in omega arith) in
+    ap (λ (n : ℕ). record c { p = n }) back
+
+stored_memory : (row : Row) (seats : List Seat) (i : Inputs) (c : Flow) (memory : List ℕ) → i.accumulator < 256 → IsMemory memory → IsMemory (memory_after row seats i c memory)
+stored_memory StoreData seats i c memory small is = record {
+  whole = stored_long seats c.d0 i.accumulator memory ∙ is.whole;
+  bytes = stored_bytes seats c.d0 i.accumulator memory small is.bytes;
+}
+stored_memory row seats i c memory small is = is
+
+-- ---- an instruction that is done
+
+pub holds_of : (m : MachineState) (states : List ChipState) (op : Op) (x : Position) → decoded m.cpu.opcode ≡ Some op → is_built_on_rack m.cpu.opcode ≡ true → AreInRange m.cpu.registers →
+    Represents m states x → Holds m.cpu m.probe states op x
+holds_of m states op x held built range r = record {
+  instruction = held;
+  built = built_of m.cpu.opcode op built held;
+  registers = r.stands.registers;
+  range = range;
+  reference = r.stands.reference;
+  copies = r.stands.copies;
+  flat = r.stands.flat;
+  memory = r.stands.memory;
+  addresses = r.stands.addresses;
+}
+
+module _ (m : MachineState) (states news : List ChipState) (op : Op) (x : Position) (held : decoded m.cpu.opcode ≡ Some op) (built : is_built_on_rack m.cpu.opcode ≡ true) (r : Represents m states x) where
+  pub done_of : (cpu : CpuState) (probe : ProbeState) (flow : Flow) (clocks : ℕ) (steps : List Heard) → AreInRange m.cpu.registers →
+      IsCarriedOut m.cpu cpu probe news steps op x → flow ≡ unfetched probe.count → clocks ≡ row_clocks (row_of op) (is_taken op m.cpu.registers) →
+      IsDone (record m { probe = probe; cpu = cpu; flow = flow; phi = m.phi + clocks }) news (next x) (turn_course x) steps
+  done_of cpu probe flow clocks steps range carried moved spent =
+      let seats = seats_of x.copies in
+      let i = gets_all op seats x.flat in
+      let y = position_after op x in
+      let registers_in_range : AreInRange x.flat.state.registers = subst AreInRange r.stands.registers range in
+      let bytes : GetsBytes i = gets_bytes op seats x.flat registers_in_range r.stands.memory.bytes in
+      let small : AreAddresses y.flat.state.flow =
+          subst AreAddresses (flow_after-with_opcode (row_of op) i.opcode (gets op x.flat) true x.flat.state.flow) (flow_small (row_of op) i true x.flat.state.flow bytes r.stands.addresses) in
+      let same_flow : flow ≡ y.flat.state.flow = moved ∙ ap unfetched carried.reference ∙ unfetched-fetched y.flat.state.flow small in
+      let same_registers : cpu.registers ≡ y.flat.state.registers =
+          ap (λ (k : CpuState). k.registers) carried.processor
+          ∙ ap (λ (regs : Registers). result_of op i regs) r.stands.registers
+          ∙ result_of-with_opcode op i.opcode (gets op x.flat) x.flat.state.registers in
+      let same_clocks : m.phi + clocks ≡ y.flat.state.phi =
+          ap (λ (n : ℕ). n + clocks) r.stands.phi
+          ∙ ap (λ (n : ℕ). x.flat.state.phi + n) (spent ∙ ap (λ (regs : Registers). row_clocks (row_of op) (is_taken op regs)) r.stands.registers ∙ ap (row_clocks (row_of op)) (sym (own_taken op x.flat))) in
+      let trace = course_with x m.cpu.opcode true (Some op) r.opcode built held ∙ carried.trace in
+      record {
+        after = y;
+        turns = turn_with x m.cpu.opcode true (Some op) r.opcode built held ∙ ap (λ (f : Option Fault). goes_unless f y) carried.served;
+        represents = record {
+          stands = record {
+            registers = same_registers;
+            flow = same_flow;
+            phi = same_clocks;
+            reference = carried.reference;
+            copies = carried.copies;
+            flat = carried.flat;
+            memory = stored_memory (row_of op) seats (gets op x.flat) x.flat.state.flow x.flat.memory bytes.accumulator r.stands.memory;
+            addresses = small;
+          };
+          opcode = ap (λ (k : CpuState). k.opcode) carried.processor;
+          running = r.running;
+        };
+        trace = trace ∙ ap (λ (c : Course). record { steps = c.steps; fault = None }) (sym trace);
+        recorded = carried.recorded ∙ ap (λ (c : Course). map heard_of c.steps) (sym trace);
+      }
+
+  -- ---- and one that is not
+
+  pub faulted_of : (after : MachineState) (fault : BusFault) (long : Bool) (steps : List Heard) → IsCutShort steps fault long op x →
+      after ≡ record m { probe = after.probe; mode = Stopped (FaultHalt fault long) } → IsFaulted m after (next x) (turn_course x) fault long steps
+  faulted_of after fault long steps cut kept =
+      let trace = course_with x m.cpu.opcode true (Some op) r.opcode built held ∙ cut.trace in
+      record {
+        turns = turn_with x m.cpu.opcode true (Some op) r.opcode built held ∙ ap (λ (f : Option Fault). goes_unless f (position_after op x)) cut.unserved;
+        trace = trace ∙ ap (λ (c : Course). record { steps = c.steps; fault = Some (fault_of fault, long) }) (sym trace);
+        recorded = cut.recorded ∙ ap (λ (c : Course). map heard_of c.steps) (sym trace);
+        kept = kept;
+      }

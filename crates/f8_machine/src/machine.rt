@@ -1,0 +1,177 @@
+use super::carry::{Unserved, carry_out};
+use super::chain::Chain;
+use super::flow::Flow;
+use super::mode::{Halt, Mode};
+use super::outcome::Outcome;
+use super::power::power_all;
+use super::record::Record;
+use chip_face::{Chip, Counters};
+use console_spec::Regs;
+use cpu3850::Cpu;
+use data_bus::Rack;
+use f8_ops::{Reserved, is_built_on_rack};
+use probe::Probe;
+use std::marker::Model;
+
+/// The 3850 with the probe, on a rack of storage chips that is lent to each call. Contracts see a `MachineState`.
+///
+/// It carries out the F8 instruction set up to the first bus step that isn't served by exactly one chip at the probe's address. Then it
+/// is stopped, and answers the same again.
+#[derive(Debug, Drop)]
+pub struct Machine {
+    probe: Probe,
+    cpu: Cpu,
+
+    /// The counters as the last instruction that was done left them.
+    flow: Flow,
+
+    /// The clocks of reset and of the instructions that were done, in Φ.
+    phi: u64,
+
+    /// The sockets of the chips described.
+    chain: Chain,
+    mode: Mode,
+}
+
+impl Model for Machine {
+    ghost use Rattle.f8_machine.specs.MachineState.{MachineState, flow_of};
+
+    ghost Value = { MachineState };
+
+    ghost view = { λ m. record { probe = m.probe; cpu = m.cpu; flow = flow_of m.flow; phi = m.phi; chain = m.chain; mode = m.mode } };
+}
+
+impl Machine {
+    ghost use Rattle.std.specs.Prelude.{◌≡◌, ◌≤◌, ◌<◌, ◌^◌, length, map};
+    ghost use Rattle.console_spec.specs.Processor.{shown};
+    ghost use Rattle.console_spec.specs.RackRun.{Position};
+    ghost use Rattle.probe.specs.ProbeState.{probe_counters};
+    ghost use Rattle.data_bus.specs.Racks.{RackStays};
+    ghost use Rattle.f8_machine.specs.MachineState.{IsReset, halted, steps_in, powered_machine, probe_after_steps};
+    ghost use Rattle.f8_machine.specs.Refinement.{Represents, Refines};
+    ghost use Rattle.f8_machine.specs.Rounds.{RackPowers, RackRuns};
+
+    /// Power-on of the machine and of every chip of the rack, of which there are at most 16. The power byte is in the accumulator, in
+    /// ISAR modulo 64, in the scratchpad and in all RAM, and the counters of the chip in a socket stand at the power byte in both
+    /// halves, and the socket added; the probe's stand at 0. `chain` has the sockets of the chips described. Power-on contents are this
+    /// project's own.
+    pub fn power(fill: u8, chain: Chain, rack: &mut Rack) -> Machine
+        requires few { length rack.old.items ≤ 16 }
+        ensures machine { result ≡ powered_machine fill chain }
+        ensures powered { RackPowers fill (map state rack.old.items) (map state rack.new.items) }
+        ensures chips { length rack.new.items ≡ length rack.old.items }
+    {
+        power_all(rack, fill);
+        Machine {
+            probe: Probe::new(),
+            cpu: Cpu::power(fill),
+            flow: Flow::zero(),
+            phi: 0,
+            chain,
+            mode: Mode::Powered,
+        }
+    }
+
+    /// The next instruction, on a machine that was reset. Where a bus step of it isn't served, the registers and the clocks are those
+    /// before it, while the probe and the chips have heard its served steps; and from then on each call answers the same, with no step,
+    /// and changes nothing. So it does at an opcode that is reserved or isn't built.
+    pub fn instr(&mut self, rack: &mut Rack) -> Outcome
+        requires few { length rack.old.items ≤ 16 }
+        requires mode { IsReset self.old.mode }
+        requires phi { self.old.phi < 2 ^ 62 }
+        ensures refines { (x : Position) → Represents self.old (map state rack.old.items) x → Refines result self.old self.new (map state rack.new.items) x }
+        ensures again { (halt : Halt) → self.old.mode ≡ Mode.Stopped halt → result ≡ halted halt }
+        ensures same { (halt : Halt) → self.old.mode ≡ Mode.Stopped halt → self.new ≡ self.old }
+        ensures ran { RackRuns (steps_in result) (map state rack.old.items) (map state rack.new.items) }
+        ensures reference { self.new.probe ≡ probe_after_steps (steps_in result) self.old.probe }
+        ensures chips { length rack.new.items ≡ length rack.old.items }
+    {
+        match &self.mode {
+            Mode::Stopped(halt) => halt.outcome(),
+            _ => self.next(rack),
+        }
+    }
+
+    /// The next instruction of a machine that isn't stopped.
+    fn next(&mut self, rack: &mut Rack) -> Outcome
+        requires few { length rack.old.items ≤ 16 }
+        requires phi { self.old.phi < 2 ^ 62 }
+        ensures refines { (x : Position) → Represents self.old (map state rack.old.items) x → Refines result self.old self.new (map state rack.new.items) x }
+        ensures ran { RackRuns (steps_in result) (map state rack.old.items) (map state rack.new.items) }
+        ensures reference { self.new.probe ≡ probe_after_steps (steps_in result) self.old.probe }
+        ensures chips { length rack.new.items ≡ length rack.old.items }
+    {
+        let code = self.cpu.opcode();
+        if !is_built_on_rack(code) {
+            self.mode = Mode::Stopped(Halt::Unbuilt {
+                at: self.flow.p,
+                code,
+            });
+            return Outcome::Unbuilt {
+                at: self.flow.p,
+                code,
+            };
+        }
+        let plan = match self.cpu.plan() {
+            Ok(plan) => plan,
+            Err(Reserved { code }) => {
+                self.mode = Mode::Stopped(Halt::Reserved {
+                    at: self.flow.p,
+                    code,
+                });
+                return Outcome::Reserved {
+                    at: self.flow.p,
+                    code,
+                };
+            }
+        };
+        let kept = self.cpu.kept();
+        let mut steps = Record::new();
+        let carried = carry_out(
+            &mut self.cpu,
+            &mut self.probe,
+            rack,
+            plan.as_slice(),
+            &mut steps,
+        );
+        match carried {
+            Ok(()) => {
+                self.flow = Flow::of(self.probe.counters());
+                self.phi += u64::from(plan.clocks());
+                Outcome::Done { wrote: None, steps }
+            }
+            Err(Unserved { fault, long }) => {
+                self.cpu.restore(kept);
+                self.mode = Mode::Stopped(Halt::Fault {
+                    fault: fault.copy(),
+                    long,
+                });
+                Outcome::Fault { fault, long, steps }
+            }
+        }
+    }
+
+    /// The registers, after the last instruction that was done: the address of the one that comes next, the stack register, the data
+    /// counters, the accumulator, ISAR, the status word and the scratchpad.
+    pub fn regs(&self) -> Regs
+        ensures regs { result ≡ shown (record { flow = self.now.flow; registers = self.now.cpu.registers; count = 0; phi = 0 }) }
+        ensures isar { result.isar < 64 }
+    {
+        self.cpu
+            .regs(self.flow.p, self.flow.p1, self.flow.d0, self.flow.d1)
+    }
+
+    /// The probe's counters. After a bus step that wasn't served they are those after the last served one.
+    pub fn reference(&self) -> Counters
+        ensures { result ≡ probe_counters self.now.probe }
+    {
+        self.probe.counters()
+    }
+
+    /// The clocks of reset and of the instructions that were done, in Φ.
+    pub fn phi(&self) -> u64
+        ensures { result ≡ self.now.phi }
+    {
+        self.phi
+    }
+}

@@ -1,0 +1,24 @@
+ghost use Rattle.std.specs.Prelude.{◌≡◌, ◌≤◌, length, map};
+ghost use Rattle.f8_machine.specs.Rounds.{PowersInSocket, RackPowers};
+
+use chip_face::Chip;
+use data_bus::Rack;
+
+/// Power-on of the chip in a socket: its counters stand at the power byte in both halves, and the socket added.
+fn power_at(chip: &mut Box<dyn Chip>, socket: u8, fill: u8)
+    ensures { PowersInSocket fill socket (state chip.old) (state chip.new) }
+{
+    let start = (u16::from(fill) * 257).wrapping_add(u16::from(socket));
+    chip.power(fill, start);
+}
+
+/// Power-on of every chip.
+pub(crate) fn power_all(rack: &mut Rack, fill: u8)
+    requires few { length rack.old.items ≤ 16 }
+    ensures powered { RackPowers fill (map state rack.old.items) (map state rack.new.items) }
+    ensures chips { length rack.new.items ≡ length rack.old.items }
+{
+    for (socket, chip) in rack.iter_mut().enumerate() {
+        power_at(chip, socket as u8, fill);
+    }
+}
