@@ -21,17 +21,19 @@ use Rattle.console_spec.specs.RackRun.{Position, Stop, Unserved, Reserved, Unbui
 use Rattle.console_spec.proofs.InputLaws.{result_of-with_opcode, flow_after-with_opcode}
 use Rattle.cpu3850.specs.declared.steps.Step.{Step}
 use Rattle.cpu3850.specs.CpuSteps.{CpuState, AreInRange, bus_step, planned_as, planned}
+use Rattle.cpu3850.specs.Keeping.{KeptRegisters, kept_of, restored, IsRestorable}
 use Rattle.cpu3850.specs.Reaching.{done}
 use Rattle.probe.specs.ProbeState.{ProbeState}
 use Rattle.data_bus.specs.declared.fault.BusFault.{BusFault}
 use Rattle.f8_machine.specs.Carrying.{Holds, IsCarriedOut, IsCutShort}
 use Rattle.f8_machine.specs.Faults.{fault_of}
-use Rattle.f8_machine.specs.MachineState.{MachineState, unfetched}
+use Rattle.f8_machine.specs.MachineState.{MachineState, unfetched, halted, steps_in}
 use Rattle.f8_machine.specs.Refinement.{AreAddresses, IsMemory, Stands, Represents, IsDone, IsFaulted}
 use Rattle.f8_machine.specs.Rounds.{heard_of}
 use Rattle.f8_machine.specs.declared.heard.Heard.{Heard}
 use Rattle.f8_machine.specs.declared.mode.Mode.TheVariants.{Running, Stopped}
-use Rattle.f8_machine.specs.declared.mode.Halt.TheVariants.{Fault as FaultHalt}
+use Rattle.f8_machine.specs.declared.mode.Halt.{Halt}
+use Rattle.f8_machine.specs.declared.mode.Halt.TheVariants.{Fault as FaultHalt, Reserved as ReservedHalt, Unbuilt as UnbuiltHalt}
 use Rattle.f8_machine.proofs.Bounds.{GetsBytes, gets_bytes, flow_small}
 use Rattle.f8_machine.proofs.Stores.{stored_long, stored_bytes}
 
@@ -178,3 +180,36 @@ module _ (m : MachineState) (states news : List ChipState) (op : Op) (x : Positi
         recorded = cut.recorded ∙ ap (λ (c : Course). map heard_of c.steps) (sym trace);
         kept = kept;
       }
+
+-- ---- the same of a machine whose state is read before it is changed
+
+pub done_from : (m k : MachineState) → k ≡ m → (states news : List ChipState) (op : Op) (x : Position) → decoded k.cpu.opcode ≡ Some op → is_built_on_rack k.cpu.opcode ≡ true → Represents m states x →
+    (cpu : CpuState) (probe : ProbeState) (flow : Flow) (clocks : ℕ) (steps : List Heard) → AreInRange k.cpu.registers →
+    (Holds k.cpu k.probe states op x → IsCarriedOut k.cpu cpu probe news steps op x) → flow ≡ unfetched probe.count → clocks ≡ row_clocks (row_of op) (is_taken op k.cpu.registers) →
+    IsDone (record k { probe = probe; cpu = cpu; flow = flow; phi = k.phi + clocks }) news (next x) (turn_course x) steps
+done_from m k same states news op x held built r cpu probe flow clocks steps range carried moved spent =
+    let there : Represents k states x = subst (λ (y : MachineState). Represents y states x) (sym same) r in
+    done_of k states news op x held built there cpu probe flow clocks steps range (carried (holds_of k states op x held built range there)) moved spent
+
+-- what was kept is put back
+restored_same : (start cpu now : CpuState) (kept : KeptRegisters) → kept ≡ kept_of start → now ≡ restored kept cpu → IsRestorable start cpu → now ≡ start
+restored_same start cpu now kept kept_is now_is restorable = now_is ∙ ap (λ (k : KeptRegisters). restored k cpu) kept_is ∙ restorable
+
+pub faulted_from : (m k : MachineState) → k ≡ m → (states : List ChipState) (op : Op) (x : Position) → decoded k.cpu.opcode ≡ Some op → is_built_on_rack k.cpu.opcode ≡ true → Represents m states x →
+    (cpu now : CpuState) (probe : ProbeState) (kept : KeptRegisters) (fault copied : BusFault) (long : Bool) (steps : List Heard) → AreInRange k.cpu.registers →
+    (Holds k.cpu k.probe states op x → IsCutShort steps fault long op x) → kept ≡ kept_of k.cpu → now ≡ restored kept cpu → IsRestorable k.cpu cpu → copied ≡ fault →
+    IsFaulted m (record k { probe = probe; cpu = now; mode = Stopped (FaultHalt copied long) }) (next x) (turn_course x) fault long steps
+faulted_from m k same states op x held built r cpu now probe kept fault copied long steps range cut kept_is now_is restorable copy =
+    let there : Represents k states x = subst (λ (y : MachineState). Represents y states x) (sym same) r in
+    let after : MachineState = record k { probe = probe; cpu = now; mode = Stopped (FaultHalt copied long) } in
+    let put_back : after ≡ record k { probe = probe; mode = Stopped (FaultHalt fault long) } =
+        ap (λ (c : CpuState). record k { probe = probe; cpu = c; mode = Stopped (FaultHalt copied long) }) (restored_same k.cpu cpu now kept kept_is now_is restorable)
+        ∙ ap (λ (f : BusFault). record k { probe = probe; mode = Stopped (FaultHalt f long) }) copy in
+    subst (λ (y : MachineState). IsFaulted y after (next x) (turn_course x) fault long steps) same
+        (faulted_of k states states op x held built there after fault long steps (cut (holds_of k states op x held built range there)) put_back)
+
+-- a stopped machine tells no step
+pub no_steps : (halt : Halt) → steps_in (halted halt) ≡ []
+no_steps (FaultHalt fault long) = refl
+no_steps (ReservedHalt at code) = refl
+no_steps (UnbuiltHalt at code) = refl

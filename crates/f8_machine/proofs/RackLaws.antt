@@ -56,6 +56,9 @@ rack_runs_more n steps h (x ∷ xs) (y ∷ ys) (z ∷ zs) ran settles =
 pub rack_runs_stays : (steps : List Heard) (xs ys zs : List ChipState) → NumberedZip (Runs steps) 0 xs ys → zs ≡ ys → NumberedZip (Runs steps) 0 xs zs
 rack_runs_stays steps xs ys zs ran same = subst (λ (l : List ChipState). NumberedZip (Runs steps) 0 xs l) (sym same) ran
 
+pub rack_runs_nothing : (steps : List Heard) (states : List ChipState) → steps ≡ [] → RackRuns steps states states
+rack_runs_nothing steps states none = subst (λ (l : List Heard). RackRuns l states states) (sym none) (rack_runs_none 0 states)
+
 -- the probe after one more step
 pub probe_after_steps-more : (steps : List Heard) (h : Heard) (p : ProbeState) → probe_after_steps (steps ++ h ∷ []) p ≡ probe_after h.romc h.byte (probe_after_steps steps p)
 probe_after_steps-more [] h p = refl
