@@ -1,4 +1,4 @@
-ghost use Rattle.std.specs.Prelude.{◌≡◌, ◌==◌, IfOk, length, slice_get};
+ghost use Rattle.std.specs.Prelude.{ℕ, ◌≡◌, ◌<◌, ◌==◌, IfOk, length, slice_get, slice_index};
 
 use f8_spec::{Memory, Page};
 use std::alloc::Global;
@@ -36,11 +36,13 @@ impl Bytes {
         }
     }
 
-    /// All of the bytes.
+    /// All of the bytes, each below 256.
     pub fn as_slice(&self) -> &[u8]
-        ensures { result.now ≡ self.now }
+        ensures same { result.now ≡ self.now }
+        ensures below { (place : ℕ) → slice_index self.now place < 256 }
     {
-        self.items.as_slice()
+        let bytes = self.items.as_slice();
+        bytes
     }
 
     /// How many bytes there are.
