@@ -25,7 +25,7 @@ all_below : (pages : List Page) (rom : List ℕ) → All IsByte rom → All IsBy
 all_below [] rom below = All-nil IsByte
 all_below (p ∷ ps) rom below =
     All-append IsByte (page_content p.sort rom) (page_bytes ps (rom_after p.sort rom)) (content_below p.sort rom below)
-      (all_below ps (rom_after p.sort rom) (rest_below p.sort rom below))
+    (all_below ps (rom_after p.sort rom) (rest_below p.sort rom below))
 
 each_below : (bytes : List ℕ) → All IsByte bytes → (place : ℕ) → slice_index bytes place < 256
 each_below [] below place = omega arith
