@@ -150,4 +150,14 @@ mod tests {
         assert_eq!(rt; pages.get(1), None);
         Ok(())
     }
+
+    #[test]
+    fn keeps_vectors(rt: HostRuntime) -> Result<(), Fail> {
+        let bytes = Bytes::from_vec(vec![in rt.alloc(); 0x2B, 0xFF]?);
+        assert_eq!(rt; bytes.as_slice(), &[0x2B, 0xFF]);
+
+        let pages = PageList::from_vec(Vec::new(rt.alloc()));
+        assert_eq!(rt; pages.is_empty(), true);
+        Ok(())
+    }
 }
