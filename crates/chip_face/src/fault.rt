@@ -6,6 +6,7 @@ pub enum FitFault {
     /// The specification is for the other kind of chip.
     #[error("the specification is for another kind of chip")]
     WrongKind,
+    /// There was no memory for the chip's bytes.
     #[error("out of memory")]
     Memory,
 }

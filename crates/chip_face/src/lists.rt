@@ -1,4 +1,4 @@
-ghost use Rattle.std.specs.Prelude.{◌≡◌, ◌==◌, IfOk, length, slice_get};
+ghost use Rattle.std.specs.Prelude.{ℕ, ◌≡◌, ◌<◌, ◌==◌, IfOk, length, slice_get, slice_index};
 
 use f8_spec::{Memory, Page};
 use std::alloc::Global;
@@ -36,11 +36,13 @@ impl Bytes {
         }
     }
 
-    /// All of the bytes.
+    /// All of the bytes, each below 256.
     pub fn as_slice(&self) -> &[u8]
-        ensures { result.now ≡ self.now }
+        ensures same { result.now ≡ self.now }
+        ensures below { (place : ℕ) → slice_index self.now place < 256 }
     {
-        self.items.as_slice()
+        let bytes = self.items.as_slice();
+        bytes
     }
 
     /// How many bytes there are.
@@ -146,6 +148,16 @@ mod tests {
         let pages = PageList::of(rt.alloc(), &[ram])?;
         assert_eq!(rt; pages.get(0), Some(ram));
         assert_eq!(rt; pages.get(1), None);
+        Ok(())
+    }
+
+    #[test]
+    fn keeps_vectors(rt: HostRuntime) -> Result<(), Fail> {
+        let bytes = Bytes::from_vec(vec![in rt.alloc(); 0x2B, 0xFF]?);
+        assert_eq!(rt; bytes.as_slice(), &[0x2B, 0xFF]);
+
+        let pages = PageList::from_vec(Vec::new(rt.alloc()));
+        assert_eq!(rt; pages.is_empty(), true);
         Ok(())
     }
 }

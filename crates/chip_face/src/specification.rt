@@ -8,16 +8,26 @@ use f8_spec::ChipKind;
 pub enum ChipSpec {
     /// A chip of this kind that holds no address and has no port.
     Blank(ChipKind),
+    /// A 3851.
     Psu {
+        /// The first address that it holds.
         base: u16,
+        /// Its 1,024 bytes.
         rom: Bytes,
+        /// The first of its four ports.
         ports: u8,
+        /// The address where an interrupt begins, but for bit 7, which tells the timer from a pulse.
         vector: u16,
+        /// It can interrupt.
         wired: bool,
     },
+    /// A 3853. Its four ports are 0C to 0F, and its vector is written by the program.
     Smi {
+        /// Its pages, by ascending number.
         pages: PageList,
+        /// The bytes of its ROM pages, 256 for each, in the order of the pages.
         rom: Bytes,
+        /// It can interrupt.
         wired: bool,
     },
 }

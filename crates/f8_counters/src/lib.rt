@@ -1,11 +1,16 @@
-//! The counters of a storage chip, and what each bus step does to them (Mostek 3851 and 3853 data sheets).
+//! What the kinds of storage chip have alike: the counters and what each bus step does to them, and control, timer and request (Mostek
+//! 3851 and 3853 data sheets).
 #![tactic(auto)]
 
+mod interrupts;
+mod ports;
 mod registers;
 mod words;
 
+pub use interrupts::Interrupts;
+pub use ports::port_offset;
 pub use registers::Registers;
-pub use words::{with_high, with_low};
+pub use words::{high_byte, low_byte, with_high, with_low};
 
 #[cfg(test)]
 mod tests;

@@ -33,3 +33,29 @@ fn exchanges_two_data_counters(rt: HostRuntime) {
     assert_eq!(rt; one.counters(false).dc0, 0x2834);
     assert_eq!(rt; one.counters(false).dc1, None);
 }
+
+// A pulse under control 1 asks, with bit 7 of the vector set, until it is acknowledged.
+#[test]
+fn requests_by_a_pulse(rt: HostRuntime) {
+    let mut interrupts = Interrupts::new(true);
+    interrupts.pulse();
+    assert_eq!(rt; interrupts.asks(), false);
+    interrupts.write_control(0x01);
+    interrupts.pulse();
+    assert_eq!(rt; interrupts.asks(), true);
+    assert_eq!(rt; low_byte(interrupts.given_vector(0x1234)), 0xB4);
+    interrupts.acknowledge();
+    assert_eq!(rt; interrupts.asks(), false);
+    interrupts.write_timer(0x7F);
+    interrupts.power();
+    assert_eq!(rt; interrupts, Interrupts::new(true));
+}
+
+// The ports 04 to 07 are the four that begin at 04.
+#[test]
+fn counts_ports_from_the_first(rt: HostRuntime) {
+    assert_eq!(rt; port_offset(0x07, 0x04), Some(3));
+    assert_eq!(rt; port_offset(0x08, 0x04), None);
+    assert_eq!(rt; port_offset(0x03, 0x04), None);
+    assert_eq!(rt; high_byte(0x1234), 0x12);
+}

@@ -1,5 +1,21 @@
-ghost use Rattle.std.specs.Prelude.{◌≡◌};
+ghost use Rattle.std.specs.Prelude.{◌≡◌, ◌/◌, ◌%◌};
 ghost use Rattle.f8_spec.specs.Words.{with_high as changed_high, with_low as changed_low};
+
+/// The high byte of an address.
+#[inline]
+pub fn high_byte(at: u16) -> u8
+    ensures { result ≡ at / 256 }
+{
+    (at / 256) as u8
+}
+
+/// The low byte of an address.
+#[inline]
+pub fn low_byte(at: u16) -> u8
+    ensures { result ≡ at % 256 }
+{
+    (at % 256) as u8
+}
 
 /// The address with its low byte changed.
 #[inline]

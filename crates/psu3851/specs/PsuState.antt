@@ -21,13 +21,13 @@ psu_view p = record {
   counters = p.registers;
   latches = p.latches;
   key_bytes = p.key_bytes;
-  control = p.control;
-  timer = p.timer;
-  phase = p.phase;
+  control = p.interrupts.control;
+  timer = p.interrupts.timer;
+  phase = p.interrupts.phase;
   vector = p.vector;
   ports = p.ports;
-  wired = p.wired;
-  request = p.request;
+  wired = p.interrupts.wired;
+  request = p.interrupts.request;
   last = p.last;
 }
 

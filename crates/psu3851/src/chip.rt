@@ -1,7 +1,7 @@
 ghost use Rattle.std.specs.Prelude.{◌≡◌, ◌%◌, ◌≤◌};
 
 use chip_face::{Chip, ChipKind, ChipSpec, FitFault, Offer};
-use f8_counters::Registers;
+use f8_counters::{Interrupts, Registers, high_byte, low_byte, port_offset};
 use romc_table::{Counters, Romc};
 use std::alloc::Global;
 
@@ -30,17 +30,9 @@ pub struct Psu {
     latches: [u8; 2],
     key_bytes: [u8; 2],
 
-    /// The last byte written to the control port. Its low two bits are 1 to let pulses in, and 3 to let the timer's expiries in.
-    control: u8,
-
-    /// The timer's state, and the clocks since its last step.
-    timer: u8,
-    phase: u8,
+    /// Control, timer and request.
+    interrupts: Interrupts,
     vector: u16,
-    wired: bool,
-
-    /// A request is latched.
-    request: bool,
     rom: [u8; ROM_SIZE],
     ghost boundary: { base % 1024 ≡ 0 },
     ghost whole: { size % 1024 ≡ 0 },
@@ -62,12 +54,8 @@ impl Psu {
             ports: None,
             latches: [0; 2],
             key_bytes: [0; 2],
-            control: 0,
-            timer: 255,
-            phase: 0,
+            interrupts: Interrupts::new(false),
             vector: 0,
-            wired: false,
-            request: false,
             rom: [0; ROM_SIZE],
         }
     }
@@ -76,7 +64,7 @@ impl Psu {
 /// What a chip offers.
 impl Psu {
     ghost use Rattle.std.specs.Prelude.{◌/◌, Some, None, if◌then◌else◌, option_map, option_and_then};
-    ghost use Rattle.f8_spec.specs.ChipState.{byte_offer, given_vector, held_byte, holds};
+    ghost use Rattle.f8_spec.specs.ChipState.{byte_offer, held_byte, holds};
     ghost use Rattle.psu3851.specs.PsuState.{psu_view};
 
     /// The address lies in the chip's ROM.
@@ -103,7 +91,7 @@ impl Psu {
     {
         if self.holds(at) {
             Some(Offer {
-                byte: (at / 256) as u8,
+                byte: high_byte(at),
                 at,
             })
         } else {
@@ -118,21 +106,12 @@ impl Psu {
     {
         if self.holds(at) {
             Some(Offer {
-                byte: (at % 256) as u8,
+                byte: low_byte(at),
                 at,
             })
         } else {
             None
         }
-    }
-
-    /// The vector given for a request: bit 7 of its low byte is clear for the timer, and set for a pulse.
-    #[inline]
-    fn given_vector(&self) -> u16
-        ensures { result ≡ given_vector (psu_view self.now) }
-    {
-        let source = if self.control % 4 == 3 { 0 } else { 128 };
-        self.vector / 256 * 256 + source + self.vector % 128
     }
 }
 
@@ -147,8 +126,7 @@ impl Psu {
     fn port_offset(&self, port: u8) -> Option<u8>
         ensures { result ≡ option_and_then (offset_from port) (psu_view self.now).ports }
     {
-        let offset = port.checked_sub(self.ports?)?;
-        if offset < 4 { Some(offset) } else { None }
+        port_offset(port, self.ports?)
     }
 
     /// The place of a data port's latch, and `None` where the port is not a data port of the chip.
@@ -171,14 +149,8 @@ impl Psu {
         match self.port_offset(port) {
             Some(0) => self.latches[0] = byte,
             Some(1) => self.latches[1] = byte,
-            Some(2) => {
-                self.control = byte;
-                self.request = false;
-            }
-            Some(3) => {
-                self.timer = byte;
-                self.phase = 0;
-            }
+            Some(2) => self.interrupts.write_control(byte),
+            Some(3) => self.interrupts.write_timer(byte),
             _ => {}
         }
     }
@@ -212,7 +184,7 @@ impl Chip for Psu {
                 self.size = ROM_SIZE as u16;
                 self.ports = Some(*ports);
                 self.vector = *vector;
-                self.wired = *wired;
+                self.interrupts = Interrupts::new(*wired);
                 Ok(())
             }
             ChipSpec::Blank(ChipKind::Smi) | ChipSpec::Smi { .. } => Err(FitFault::WrongKind),
@@ -225,10 +197,7 @@ impl Chip for Psu {
         self.last = 0;
         self.latches = [0; 2];
         self.key_bytes = [0; 2];
-        self.control = 0;
-        self.timer = 255;
-        self.phase = 0;
-        self.request = false;
+        self.interrupts.power();
     }
 
     fn offer(&self, romc: Romc, first: bool) -> Option<Offer> {
@@ -243,13 +212,13 @@ impl Chip for Psu {
             0x1E => self.low_of(counters.pc0),
             0x1F => self.high_of(counters.pc0),
             0x0F if first => {
-                let at = self.given_vector();
-                let byte = (at % 256) as u8;
+                let at = self.interrupts.given_vector(self.vector);
+                let byte = low_byte(at);
                 Some(Offer { byte, at })
             }
             0x13 if first => {
-                let at = self.given_vector();
-                let byte = (at / 256) as u8;
+                let at = self.interrupts.given_vector(self.vector);
+                let byte = high_byte(at);
                 Some(Offer { byte, at })
             }
             // A port goes by the last byte, which names it. The chip takes a byte.
@@ -271,7 +240,7 @@ impl Chip for Psu {
 
     fn settle(&mut self, romc: Romc, byte: u8, _phi: u8, first: bool) {
         match romc.number() {
-            0x13 if first => self.request = false,
+            0x13 if first => self.interrupts.acknowledge(),
             0x1A => self.write_port(self.last, byte),
             _ => {}
         }
@@ -281,7 +250,7 @@ impl Chip for Psu {
     }
 
     fn asks(&self) -> bool {
-        self.wired && self.request
+        self.interrupts.asks()
     }
 
     fn counters(&self) -> Counters {
@@ -313,8 +282,6 @@ impl Chip for Psu {
     }
 
     fn pulse(&mut self) {
-        if self.control % 4 == 1 {
-            self.request = true;
-        }
+        self.interrupts.pulse();
     }
 }

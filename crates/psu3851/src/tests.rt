@@ -12,6 +12,17 @@ fn vector_of(chip: &Box<dyn Chip>) -> Option<Offer> {
     }
 }
 
+/// Acknowledges the interrupt of a chip that asks for one: it drives the high byte of its vector, and hears that byte.
+fn acknowledged(chip: &mut Box<dyn Chip>) -> Option<Offer> {
+    if chip.asks() {
+        let offer = chip.offer(Romc::VECTOR_HIGH, true)?;
+        chip.settle(Romc::VECTOR_HIGH, offer.byte, 6, true);
+        Some(offer)
+    } else {
+        None
+    }
+}
+
 // A branch at 0000 whose displacement byte, FD, stands at 0001: from there -3 leads to FFFE, which the chip doesn't hold.
 #[test]
 fn branches_from_the_displacement_byte(rt: HostRuntime) -> Result<(), Fail> {
@@ -100,5 +111,33 @@ fn asks_after_a_pulse(rt: HostRuntime) -> Result<(), Fail> {
             at: 0x12B4
         })
     );
+    Ok(())
+}
+
+// Under control 1 a pulse is asked for until the high byte of the vector is driven.
+#[test]
+fn ends_its_request(rt: HostRuntime) -> Result<(), Fail> {
+    let spec = ChipSpec::Psu {
+        base: 0x0800,
+        rom: Bytes::of(rt.alloc(), &[0x2B; 1024])?,
+        ports: 4,
+        vector: 0x1234,
+        wired: true,
+    };
+    let mut rack: Vec<Box<dyn Chip>> = Vec::new(rt.alloc());
+    rack.push(Box::new(rt.alloc(), Psu::blank())?)?;
+    let psu = &mut rack[0];
+    psu.fit(rt.alloc(), &spec)?;
+    psu.settle(Romc::IDLE, 0x06, 6, false);
+    psu.settle(Romc::WRITE_PORT, 0x01, 6, false);
+    psu.pulse();
+    assert_eq!(rt;
+        acknowledged(psu),
+        Some(Offer {
+            byte: 0x12,
+            at: 0x12B4
+        })
+    );
+    assert_eq!(rt; psu.asks(), false);
     Ok(())
 }

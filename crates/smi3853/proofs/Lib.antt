@@ -1,3 +1,4 @@
+pub mod Below
 pub mod Filling
 pub mod Numbers
 pub mod Placing

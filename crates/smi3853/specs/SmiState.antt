@@ -23,13 +23,13 @@ smi_view s = record {
   counters = s.registers;
   latches = [];
   key_bytes = [];
-  control = s.control;
-  timer = s.timer;
-  phase = s.phase;
+  control = s.interrupts.control;
+  timer = s.interrupts.timer;
+  phase = s.interrupts.phase;
   vector = s.vector;
   ports = option_map (λ _. 0x0C) s.space;
-  wired = s.wired;
-  request = s.request;
+  wired = s.interrupts.wired;
+  request = s.interrupts.request;
   last = s.last;
 }
 

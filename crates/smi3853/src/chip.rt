@@ -2,7 +2,7 @@ ghost use Rattle.std.specs.Prelude.{◌≡◌};
 
 use super::space::Space;
 use chip_face::{Chip, ChipKind, ChipSpec, FitFault, Offer};
-use f8_counters::{Registers, with_high, with_low};
+use f8_counters::{Interrupts, Registers, high_byte, low_byte, port_offset, with_high, with_low};
 use romc_table::{Counters, Romc};
 use std::alloc::Global;
 
@@ -20,17 +20,9 @@ pub struct Smi {
     /// The pages and their bytes, and none while it is blank.
     space: Option<Space>,
 
-    /// The last byte written to the control port. Its low two bits are 1 to let pulses in, and 3 to let the timer's expiries in.
-    control: u8,
-
-    /// The timer's state, and the clocks since its last step.
-    timer: u8,
-    phase: u8,
+    /// Control, timer and request.
+    interrupts: Interrupts,
     vector: u16,
-    wired: bool,
-
-    /// A request is latched.
-    request: bool,
 }
 
 impl Smi {
@@ -44,12 +36,8 @@ impl Smi {
             registers: Registers::at(0),
             last: 0,
             space: None,
-            control: 0,
-            timer: 255,
-            phase: 0,
+            interrupts: Interrupts::new(false),
             vector: 0,
-            wired: false,
-            request: false,
         }
     }
 }
@@ -57,7 +45,7 @@ impl Smi {
 /// What a chip offers.
 impl Smi {
     ghost use Rattle.std.specs.Prelude.{◌/◌, ◌%◌, Some, None, if◌then◌else◌, option_map};
-    ghost use Rattle.f8_spec.specs.ChipState.{byte_offer, given_vector, has_ram_at, held_byte, holds};
+    ghost use Rattle.f8_spec.specs.ChipState.{byte_offer, has_ram_at, held_byte, holds};
     ghost use Rattle.smi3853.specs.SmiState.{smi_view};
 
     /// The address lies in one of the chip's pages.
@@ -87,7 +75,7 @@ impl Smi {
     {
         if self.holds(at) {
             Some(Offer {
-                byte: (at / 256) as u8,
+                byte: high_byte(at),
                 at,
             })
         } else {
@@ -102,7 +90,7 @@ impl Smi {
     {
         if self.holds(at) {
             Some(Offer {
-                byte: (at % 256) as u8,
+                byte: low_byte(at),
                 at,
             })
         } else {
@@ -121,15 +109,6 @@ impl Smi {
             None
         }
     }
-
-    /// The vector given for a request: bit 7 of its low byte is clear for the timer, and set for a pulse.
-    #[inline]
-    fn given_vector(&self) -> u16
-        ensures { result ≡ given_vector (smi_view self.now) }
-    {
-        let source = if self.control % 4 == 3 { 0 } else { 128 };
-        self.vector / 256 * 256 + source + self.vector % 128
-    }
 }
 
 /// Ports.
@@ -144,8 +123,7 @@ impl Smi {
         ensures { result ≡ option_and_then (offset_from port) (smi_view self.now).ports }
     {
         let _space = self.space.as_ref()?;
-        let offset = port.checked_sub(FIRST_PORT)?;
-        if offset < 4 { Some(offset) } else { None }
+        port_offset(port, FIRST_PORT)
     }
 
     /// A byte for a port, which is lost where the chip doesn't have it. A write to control ends a latched request.
@@ -155,14 +133,8 @@ impl Smi {
         match self.port_offset(port) {
             Some(0) => self.vector = with_high(self.vector, byte),
             Some(1) => self.vector = with_low(self.vector, byte),
-            Some(2) => {
-                self.control = byte;
-                self.request = false;
-            }
-            Some(3) => {
-                self.timer = byte;
-                self.phase = 0;
-            }
+            Some(2) => self.interrupts.write_control(byte),
+            Some(3) => self.interrupts.write_timer(byte),
             _ => {}
         }
     }
@@ -198,7 +170,7 @@ impl Chip for Smi {
                     Ok(space) => {
                         *self = Smi::blank();
                         self.space = Some(space);
-                        self.wired = *wired;
+                        self.interrupts = Interrupts::new(*wired);
                         Ok(())
                     }
                     Err(_) => Err(FitFault::Memory),
@@ -211,11 +183,8 @@ impl Chip for Smi {
     fn power(&mut self, fill: u8, start: u16) {
         self.registers = Registers::at(start);
         self.last = 0;
-        self.control = 0;
-        self.timer = 255;
-        self.phase = 0;
+        self.interrupts.power();
         self.vector = 0;
-        self.request = false;
         if let Some(space) = &mut self.space {
             space.fill_ram(fill);
         }
@@ -234,13 +203,13 @@ impl Chip for Smi {
             0x1E => self.low_of(counters.pc0),
             0x1F => self.high_of(counters.pc0),
             0x0F if first => {
-                let at = self.given_vector();
-                let byte = (at % 256) as u8;
+                let at = self.interrupts.given_vector(self.vector);
+                let byte = low_byte(at);
                 Some(Offer { byte, at })
             }
             0x13 if first => {
-                let at = self.given_vector();
-                let byte = (at / 256) as u8;
+                let at = self.interrupts.given_vector(self.vector);
+                let byte = high_byte(at);
                 Some(Offer { byte, at })
             }
             // A port goes by the last byte, which names it. The chip takes a byte.
@@ -260,7 +229,7 @@ impl Chip for Smi {
                 let at = self.registers.counters(true).dc0;
                 self.store(at, byte);
             }
-            0x13 if first => self.request = false,
+            0x13 if first => self.interrupts.acknowledge(),
             0x1A => self.write_port(self.last, byte),
             _ => {}
         }
@@ -269,7 +238,7 @@ impl Chip for Smi {
     }
 
     fn asks(&self) -> bool {
-        self.wired && self.request
+        self.interrupts.asks()
     }
 
     fn counters(&self) -> Counters {
@@ -294,8 +263,6 @@ impl Chip for Smi {
     fn keys(&mut self, _port: u8, _byte: u8) {}
 
     fn pulse(&mut self) {
-        if self.control % 4 == 1 {
-            self.request = true;
-        }
+        self.interrupts.pulse();
     }
 }

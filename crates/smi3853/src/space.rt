@@ -1,4 +1,4 @@
-ghost use Rattle.std.specs.Prelude.{◌≡◌, ◌≤◌, ◌*◌, ◌/◌, ◌<◌, IfOk, IfSome, length, is_some, if◌then◌else◌};
+ghost use Rattle.std.specs.Prelude.{ℕ, ◌≡◌, ◌≤◌, ◌*◌, ◌/◌, ◌<◌, IfOk, IfSome, length, is_some, slice_index, if◌then◌else◌};
 ghost use Rattle.f8_spec.specs.ChipState.{byte_in, bytes_with, filled_bytes, is_ram, is_sort_at, place_of};
 ghost use Rattle.chip_face.specs.Fitting.{IsSmiSpec, page_bytes};
 
@@ -31,7 +31,9 @@ impl Space {
     /// The space of a specification before power-on, or want of memory: all of it is taken here.
     pub fn new(alloc: Global, pages: &[Page], rom: &[u8]) -> Result<Space, AllocError>
         requires { IsSmiSpec pages.now rom.now }
-        ensures { IfOk result (λ space. space ≡ record { pages = pages.now; bytes = page_bytes pages.now rom.now }) }
+        ensures contents { IfOk result (λ space. space ≡ record { pages = pages.now; bytes = page_bytes pages.now rom.now }) }
+        ensures size { IfOk result (λ space. length space.bytes ≡ length space.pages * 256) }
+        ensures below { IfOk result (λ space. (place : ℕ) → slice_index space.bytes place < 256) }
     {
         let places = places_of(pages);
         let bytes = contents(alloc, pages, rom)?;

@@ -1,0 +1,94 @@
+ghost use Rattle.std.specs.Prelude.{◌≡◌, ◌+◌, ◌*◌, ◌/◌, ◌%◌, ◌==◌, ◌&&◌, true, false, if◌then◌else◌};
+
+/// Control, timer and request of a storage chip (Mostek 3851 and 3853 data sheets; the rules of requests are this project's own). So far
+/// the timer stands still: a write loads it, and no step passes it on.
+#[derive(Clone, Copy, Debug, PartialEq, Eq)]
+pub struct Interrupts {
+    /// The last byte written to the control port. Its low two bits are 1 to let pulses in, and 3 to let the timer's expiries in.
+    control: u8,
+
+    /// The timer's state, and the clocks since its last step.
+    timer: u8,
+    phase: u8,
+
+    /// The chip can interrupt.
+    wired: bool,
+
+    /// A request is latched.
+    request: bool,
+}
+
+impl Interrupts {
+    /// As at power-on: control 00, the timer at FF, and no request. `wired` says that the chip can interrupt.
+    pub fn new(wired: bool) -> Interrupts
+        ensures { result ≡ record { control = 0; timer = 255; phase = 0; wired = wired; request = false } }
+    {
+        Interrupts {
+            control: 0,
+            timer: 255,
+            phase: 0,
+            wired,
+            request: false,
+        }
+    }
+
+    /// Power-on, which leaves the wiring.
+    pub fn power(&mut self)
+        ensures { self.new ≡ record { control = 0; timer = 255; phase = 0; wired = self.old.wired; request = false } }
+    {
+        *self = Interrupts::new(self.wired);
+    }
+
+    /// A byte for the control port, which also ends a latched request.
+    #[inline]
+    pub fn write_control(&mut self, byte: u8)
+        ensures { self.new ≡ record self.old { control = byte; request = false } }
+    {
+        self.control = byte;
+        self.request = false;
+    }
+
+    /// A byte for the timer's port: the timer's state is that byte, and its next step is a whole one away.
+    #[inline]
+    pub fn write_timer(&mut self, byte: u8)
+        ensures { self.new ≡ record self.old { timer = byte; phase = 0 } }
+    {
+        self.timer = byte;
+        self.phase = 0;
+    }
+
+    /// An external pulse: a request is latched where the low two bits of control are 1, and else nothing changes.
+    #[inline]
+    pub fn pulse(&mut self)
+        ensures { self.new ≡ (if self.old.control % 4 == 1 then record self.old { request = true } else self.old) }
+    {
+        if self.control % 4 == 1 {
+            self.request = true;
+        }
+    }
+
+    /// Ends the request, which was acknowledged.
+    #[inline]
+    pub fn acknowledge(&mut self)
+        ensures { self.new ≡ record self.old { request = false } }
+    {
+        self.request = false;
+    }
+
+    /// The chip can interrupt, and a request is latched.
+    #[inline]
+    pub fn asks(&self) -> bool
+        ensures { result ≡ (self.now.wired && self.now.request) }
+    {
+        self.wired && self.request
+    }
+
+    /// The vector given for a request: bit 7 of its low byte is clear for the timer, and set for a pulse.
+    #[inline]
+    pub fn given_vector(&self, vector: u16) -> u16
+        ensures { result ≡ vector / 256 * 256 + (if self.now.control % 4 == 3 then 0 else 128) + vector % 128 }
+    {
+        let source = if self.control % 4 == 3 { 0 } else { 128 };
+        vector / 256 * 256 + source + vector % 128
+    }
+}
