@@ -5,7 +5,7 @@ ghost use Rattle.data_bus.specs.Racks.{NamesAsking};
 use chip_face::Chip;
 use data_bus::{BusFault, Cycle, Rack, Served, step};
 use probe::Probe;
-use romc_table::{Counters, Romc};
+use romc_table::Romc;
 use std::alloc::Global;
 use std::fmt::Write;
 use std::process::Abort;
