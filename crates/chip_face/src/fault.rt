@@ -6,7 +6,8 @@ pub enum FitFault {
     /// The specification is for the other kind of chip.
     #[error("the specification is for another kind of chip")]
     WrongKind,
-    /// There was no memory for the chip's bytes.
+
+    /// There was no memory for what the chip keeps.
     #[error("out of memory")]
     Memory,
 }

@@ -8,26 +8,34 @@ use f8_spec::ChipKind;
 pub enum ChipSpec {
     /// A chip of this kind that holds no address and has no port.
     Blank(ChipKind),
+
     /// A 3851.
     Psu {
-        /// The first address that it holds.
+        /// The first address of its ROM, on a boundary of 1,024.
         base: u16,
+
         /// Its 1,024 bytes.
         rom: Bytes,
-        /// The first of its four ports.
+
+        /// The first of its four ports: two data ports, control, timer.
         ports: u8,
-        /// The address where an interrupt begins, but for bit 7, which tells the timer from a pulse.
+
+        /// The interrupt vector. In the one that the chip gives, bit 7 of the low byte is clear for the timer and set for a pulse.
         vector: u16,
-        /// It can interrupt.
+
+        /// The chip can ask for an interrupt.
         wired: bool,
     },
-    /// A 3853. Its four ports are 0C to 0F, and its vector is written by the program.
+
+    /// A 3853, whose ports are 0C to 0F.
     Smi {
-        /// Its pages, by ascending number.
+        /// Its pages of 256 bytes, by ascending numbers.
         pages: PageList,
-        /// The bytes of its ROM pages, 256 for each, in the order of the pages.
+
+        /// 256 bytes for each ROM page, in the order of the pages.
         rom: Bytes,
-        /// It can interrupt.
+
+        /// The chip can ask for an interrupt.
         wired: bool,
     },
 }

@@ -6,24 +6,36 @@ use romc_table::Romc;
 /// Why a bus step isn't served. That such a step is refused is this project's own rule.
 #[derive(Debug, Drop)]
 pub enum BusFault {
-    /// Several chips drive, or take: each with the address in its own counter, or with the port.
+    /// Several chips drive, or take.
     Conflict {
+        /// The code of the step.
         romc: Romc,
+
+        /// The chips by ascending sockets, each with the address in its own counter, or with the port.
         parties: Parties,
     },
 
-    /// No chip drives: the address in the probe's counter, or the port.
+    /// No chip drives.
     Undriven {
+        /// The code of the step.
         romc: Romc,
+
+        /// The address in the probe's counter, or the port.
         at: u16,
     },
 
     /// One chip drives or takes away from the probe; or another chip holds the probe's address, in a store in RAM, and does neither.
-    /// The chip's socket, the address in its own counter, and that in the probe's.
     Astray {
+        /// The code of the step.
         romc: Romc,
+
+        /// The chip's socket.
         socket: u8,
+
+        /// The address in the chip's own counter.
         at: u16,
+
+        /// The address in the probe's counter.
         reference: u16,
     },
 }

@@ -1,0 +1,123 @@
+//! Acknowledgements of an interrupt, in which the named chip alone drives, wherever the counters are.
+use super::cart::{Cart, empty, psu_at, smi_at};
+use super::seats::{PsuSeat, psu, smi};
+use super::walk::walk;
+use chip_face::{Chip, PageSort};
+use data_bus::Rack;
+use probe::Probe;
+use romc_table::Romc;
+use std::alloc::Global;
+use std::process::Abort;
+use std::test::Fail;
+
+/// A pulse to each of the first three chips, which ask from then on.
+fn pulse_three(rt: &impl Abort, rack: &mut Rack) {
+    for (socket, chip) in rack.iter_mut().enumerate().take(3) {
+        assert_eq!(rt; chip.asks(), false, "socket {socket}");
+        chip.pulse();
+        assert_eq!(rt; chip.asks(), true, "socket {socket}");
+    }
+}
+
+/// Both halves of the vector of the chip in a socket, whose request then ends.
+fn acknowledge(
+    rt: &impl Abort,
+    alloc: Global,
+    rack: &mut Rack,
+    probe: &mut Probe,
+    socket: u8,
+    halves: [&str; 2],
+) -> Result<(), Fail> {
+    let rows = [
+        (Romc::ACKNOWLEDGE, 0x77, "served 00"),
+        (Romc::VECTOR_LOW, 0x77, halves[0]),
+        (Romc::VECTOR_HIGH, 0x77, halves[1]),
+    ];
+    walk(rt, alloc, rack, probe, Some(socket), &rows)?;
+    let asks = rack.get(usize::from(socket)).map(|chip| chip.asks());
+    assert_eq!(rt; asks, Some(false));
+    Ok(())
+}
+
+/// Two 3851s at 0000 with the vectors 1234 and 5678, and a 3853 that stands by there with the vector 9A3C. All let pulses in. A fetch is
+/// a conflict.
+fn seat_three(
+    rt: &impl Abort,
+    alloc: Global,
+    rack: &mut Rack,
+    probe: &mut Probe,
+) -> Result<(), Fail> {
+    let cart = Cart {
+        psus: &[
+            PsuSeat {
+                vector: 0x1234,
+                ..psu(0, 0x0000)
+            },
+            PsuSeat {
+                vector: 0x5678,
+                ..psu(1, 0x0000)
+            },
+        ],
+        smis: &[smi(2, 0x00, PageSort::Void, 0x9000)],
+        ..empty()
+    };
+    cart.seat(alloc, rack)?;
+    let rows = [
+        (Romc::IDLE, 0x06, "served 06"),
+        (Romc::WRITE_PORT, 0x01, "served 01 socket 0"),
+        (Romc::IDLE, 0x0A, "served 0A"),
+        (Romc::WRITE_PORT, 0x01, "served 01 socket 1"),
+        (Romc::IDLE, 0x0C, "served 0C"),
+        (Romc::WRITE_PORT, 0x9A, "served 9A socket 2"),
+        (Romc::IDLE, 0x0D, "served 0D"),
+        (Romc::WRITE_PORT, 0x3C, "served 3C socket 2"),
+        (Romc::IDLE, 0x0E, "served 0E"),
+        (Romc::WRITE_PORT, 0x01, "served 01 socket 2"),
+        (
+            Romc::FETCH,
+            0x77,
+            "conflict romc 00 socket 0 at 0000 socket 1 at 0000",
+        ),
+    ];
+    walk(rt, alloc, rack, probe, None, &rows)
+}
+
+/// Three acknowledgements are served all the same. A pulse sets bit 7 of the vector.
+pub(crate) fn all(rt: &impl Abort, alloc: Global, rack: &mut Rack) -> Result<(), Fail> {
+    let mut probe = Probe::new();
+    seat_three(rt, alloc, rack, &mut probe)?;
+    pulse_three(rt, rack);
+    acknowledge(
+        rt,
+        alloc,
+        rack,
+        &mut probe,
+        1,
+        ["served F8 socket 1", "served 56 socket 1"],
+    )?;
+    acknowledge(
+        rt,
+        alloc,
+        rack,
+        &mut probe,
+        2,
+        ["served BC socket 2", "served 9A socket 2"],
+    )?;
+    acknowledge(
+        rt,
+        alloc,
+        rack,
+        &mut probe,
+        0,
+        ["served B4 socket 0", "served 12 socket 0"],
+    )?;
+    let psu = psu_at(0x12B4, 0x9ABC, 0x0000);
+    let ends = Cart {
+        name: "acknowledgements",
+        chips: &[psu, psu, smi_at(0x12B4, 0x9ABC, 0x9000, 0x9000)],
+        probe: smi_at(0x12B4, 0x9ABC, 0x0000, 0x0000),
+        ..empty()
+    };
+    ends.check(rt, rack, &probe);
+    Ok(())
+}

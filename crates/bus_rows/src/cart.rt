@@ -1,0 +1,120 @@
+use super::seats::{PsuSeat, SmiSeat, clear, rom_of, seat_psu, seat_smi};
+use super::walk::{Row, walk};
+use data_bus::Rack;
+use probe::Probe;
+use romc_table::Counters;
+use std::alloc::Global;
+use std::process::Abort;
+use std::test::Fail;
+
+/// A rack after power-on, steps on it, and what stands at their end. Where no chip is named the socket has a blank one, and the probe's
+/// counters begin at 0.
+#[derive(Clone, Copy)]
+pub(crate) struct Cart<'a> {
+    pub(crate) name: &'a str,
+
+    /// The 3851s, and the first bytes and the last two of each. The others are FF.
+    pub(crate) psus: &'a [PsuSeat],
+    pub(crate) program: &'a [u8],
+    pub(crate) last: [u8; 2],
+
+    pub(crate) smis: &'a [SmiSeat],
+    pub(crate) rows: &'a [Row<'a>],
+
+    /// The counters of the chips in the first sockets, and of the probe.
+    pub(crate) chips: &'a [Counters],
+    pub(crate) probe: Counters,
+
+    /// Sockets and addresses, and the bytes that the chips hold there.
+    pub(crate) bytes: &'a [(usize, u16, u8)],
+
+    /// Sockets and data ports, and their latches.
+    pub(crate) latches: &'a [(usize, u8, u8)],
+}
+
+/// No chip, no step, and all counters 0.
+pub(crate) fn empty<'a>() -> Cart<'a> {
+    Cart {
+        name: "",
+        psus: &[],
+        program: &[],
+        last: [0xFF, 0xFF],
+        smis: &[],
+        rows: &[],
+        chips: &[],
+        probe: smi_at(0, 0, 0, 0),
+        bytes: &[],
+        latches: &[],
+    }
+}
+
+/// The counters of a 3851.
+pub(crate) fn psu_at(pc0: u16, pc1: u16, dc0: u16) -> Counters {
+    Counters {
+        pc0,
+        pc1,
+        dc0,
+        dc1: None,
+    }
+}
+
+/// The counters of a 3853, or of the probe.
+pub(crate) fn smi_at(pc0: u16, pc1: u16, dc0: u16, dc1: u16) -> Counters {
+    Counters {
+        pc0,
+        pc1,
+        dc0,
+        dc1: Some(dc1),
+    }
+}
+
+/// The counters of a 3851 that hasn't moved since power-on.
+pub(crate) fn psu_still(at: u16) -> Counters {
+    psu_at(at, at, at)
+}
+
+/// The counters of a 3853 that hasn't moved since power-on.
+pub(crate) fn smi_still(at: u16) -> Counters {
+    smi_at(at, at, at, at)
+}
+
+impl Cart<'_> {
+    /// Seats the chips.
+    pub(crate) fn seat(&self, alloc: Global, rack: &mut Rack) -> Result<(), Fail> {
+        clear(alloc, rack)?;
+        let rom = rom_of(self.program, self.last)?;
+        for psu in self.psus {
+            seat_psu(alloc, rack, *psu, &rom)?;
+        }
+        for smi in self.smis {
+            seat_smi(alloc, rack, *smi)?;
+        }
+        Ok(())
+    }
+
+    /// What stands at the end.
+    pub(crate) fn check(&self, rt: &impl Abort, rack: &Rack, probe: &Probe) {
+        let name = self.name;
+        assert_eq!(rt; probe.counters(), self.probe, "{name}");
+        for (socket, (chip, want)) in rack.iter().zip(self.chips).enumerate() {
+            assert_eq!(rt; chip.counters(), *want, "{name}, socket {socket}");
+        }
+        for (socket, at, byte) in self.bytes {
+            let held = rack.get(*socket).and_then(|chip| chip.peek(*at));
+            assert_eq!(rt; held, Some(*byte), "{name}, at {at:04X}");
+        }
+        for (socket, port, byte) in self.latches {
+            let latch = rack.get(*socket).and_then(|chip| chip.latch(*port));
+            assert_eq!(rt; latch, Some(*byte), "{name}, port {port:02X}");
+        }
+    }
+
+    /// Seats the chips, walks the steps and checks what stands.
+    pub(crate) fn play(&self, rt: &impl Abort, alloc: Global, rack: &mut Rack) -> Result<(), Fail> {
+        let mut probe = Probe::new();
+        self.seat(alloc, rack)?;
+        walk(rt, alloc, rack, &mut probe, None, self.rows)?;
+        self.check(rt, rack, &probe);
+        Ok(())
+    }
+}
