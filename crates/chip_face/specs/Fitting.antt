@@ -1,6 +1,6 @@
 -- What a specification says of a chip, and the chip that `fit` makes of it (Mostek 3851 and 3853 data sheets for the boundaries). The
 -- pages of a 3853 and what a chip holds before power-on are this project's own.
-use Rattle.std.specs.Prelude.{ℕ, ◌+◌, ◌*◌, ◌/◌, ◌%◌, ◌≡◌, ◌≤◌, List, [], ◌∷◌, ◌++◌, length, map, take, drop, replicate, count_by, Option, Some}
+use Rattle.std.specs.Prelude.{ℕ, ◌+◌, ◌*◌, ◌/◌, ◌%◌, ◌≡◌, ◌≤◌, Bool, true, false, All, List, [], ◌∷◌, ◌++◌, length, map, take, drop, replicate, count_by, Option, Some}
 use Rattle.std.specs.List.Sorted.{IsStrictlyIncreasing}
 use Rattle.f8_spec.specs.ChipState.{ChipView, ChipState, blank_view, is_rom, patched_bytes}
 use Rattle.f8_spec.specs.declared.chips.ChipKind.{ChipKind}
@@ -37,6 +37,17 @@ abbrev pub IsSpec : ChipSpec → Type 0
 IsSpec (Blank kind) = Unit {0}
 IsSpec (Psu base rom ports vector wired) = IsPsuSpec base rom ports
 IsSpec (Smi pages rom wired) = IsSmiSpec pages rom
+
+abbrev pub is_blank : ChipSpec → Bool
+is_blank (Blank kind) = true
+is_blank (Psu base rom ports vector wired) = false
+is_blank (Smi pages rom wired) = false
+
+-- the chips of a description
+pub record IsChipList (chips : List ChipSpec) : Type 0 where
+  pub few : length chips ≤ 16
+  pub specified : All IsSpec chips
+  pub none_blank : All (λ chip. is_blank chip ≡ false) chips
 
 -- ---- the chip that is fitted
 

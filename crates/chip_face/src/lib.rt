@@ -1,11 +1,13 @@
 //! A storage chip as the bus sees it: the trait `Chip`, and what a chip is fitted with.
 #![tactic(auto)]
 
+mod chip_list;
 mod face;
 mod fault;
 mod lists;
 mod specification;
 
+pub use chip_list::ChipList;
 pub use f8_spec::{ChipKind, Memory, Offer, Page, PageSort};
 pub use face::Chip;
 pub use fault::FitFault;

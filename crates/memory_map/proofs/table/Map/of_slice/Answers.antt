@@ -1,0 +1,15 @@
+use Rattle.std.proofs.Common.{◌≡◌, arith}
+use Rattle.memory_map.proofs.Mapping.{Mapped-more, IsMapOf-all}
+use Rattle.memory_map.proofs.table.Map.of_slice.Goals as goal
+
+pub loop-number-preserved : goal.loop-number-preserved
+loop-number-preserved c =
+    rw (c.entry.ensures, c.in_ok-add_bytes.ensures, c.of-holder.ensures) (
+    Mapped-more c.args.chips.now c.loop-number.pages c.loop-number.bytes.items c.loop-number.number c.requires.specified c.loop-number-test.true
+    c.loop-number.invariant)
+
+pub returns : goal.returns
+returns c =
+    let end : c.loop-number.number ≡ 256 = omega arith in
+    IsMapOf-all c.args.chips.now (record { pages = c.loop-number.pages; bytes = c.loop-number.bytes.items }) c.requires.specified
+    (rw end at c.loop-number.invariant)

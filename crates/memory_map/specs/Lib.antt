@@ -1,0 +1,4 @@
+pub mod ChipPages
+pub mod Holders
+pub mod MapEntries
+pub mod MapOf

@@ -1,0 +1,23 @@
+-- What the map keeps of a page, by the chips that hold it.
+use Rattle.std.specs.Prelude.{ℕ, List, replicate}
+use Rattle.f8_spec.specs.declared.chips.PageSort.{PageSort}
+use Rattle.f8_spec.specs.declared.chips.PageSort.TheVariants.{Rom, Ram, Void}
+use Rattle.memory_map.specs.Holders.{OwnedPage, Few, Empty, One, Several}
+use Rattle.memory_map.specs.declared.table.Entry.{Entry}
+use Rattle.memory_map.specs.declared.table.Entry.TheVariants.{Nothing, Held, Shared}
+
+abbrev pub entry_of : Few OwnedPage → Entry
+entry_of Empty = Nothing
+entry_of (One x) = Held x.1.sort x.0
+entry_of Several = Shared
+
+abbrev pub bytes_by : PageSort → List ℕ → List ℕ
+bytes_by Rom rom = rom
+bytes_by Ram rom = replicate 256 255
+bytes_by Void rom = replicate 256 255
+
+-- the bytes that stay in a page, and 255 where none does
+abbrev pub page_bytes : Few OwnedPage → List ℕ
+page_bytes Empty = replicate 256 255
+page_bytes (One x) = bytes_by x.1.sort x.1.rom
+page_bytes Several = replicate 256 255

@@ -1,0 +1,65 @@
+-- What a map tells of each address, and that it is the map of some chips.
+use Rattle.std.specs.Prelude.{◌≡◌, ℕ, ◌/◌, ◌<◌, List, map, slice_index, slice_index_or, Option, Some, None}
+use Rattle.f8_spec.specs.ChipState.{ChipView}
+use Rattle.f8_spec.specs.BusArbitration.{Seat, seat_of}
+use Rattle.f8_spec.specs.declared.chips.PageSort.{PageSort}
+use Rattle.f8_spec.specs.declared.chips.PageSort.TheVariants.{Rom as RomPage, Ram as RamPage, Void as VoidPage}
+use Rattle.console_spec.specs.FlatMemory.{sort_of, owner_of, fixed_byte, fixed_byte_by}
+use Rattle.console_spec.specs.declared.Sort.{Sort}
+use Rattle.console_spec.specs.declared.Sort.TheVariants.{Rom, Ram, Void, Nothing as NoChip, Shared as ManyChips}
+use Rattle.chip_face.specs.Fitting.{fitted}
+use Rattle.chip_face.specs.declared.specification.ChipSpec.{ChipSpec}
+use Rattle.memory_map.specs.declared.table.Entry.{Entry}
+use Rattle.memory_map.specs.declared.table.Entry.TheVariants.{Nothing, Held, Shared}
+
+-- what each of the 256 pages of addresses is, and the byte that stays at each of the 65,536 addresses, and 255 where none does
+pub record MapTable : Type 0 where
+  pub pages : List Entry
+  pub bytes : List ℕ
+
+abbrev pub page_sort : PageSort → Sort
+page_sort RomPage = Rom
+page_sort RamPage = Ram
+page_sort VoidPage = Void
+
+abbrev pub sort_by : Entry → Sort
+sort_by Nothing = NoChip
+sort_by (Held sort owner) = page_sort sort
+sort_by Shared = ManyChips
+
+abbrev pub owner_by : Entry → Option ℕ
+owner_by Nothing = None
+owner_by (Held sort owner) = Some owner
+owner_by Shared = None
+
+abbrev pub entry_at : MapTable → ℕ → Entry
+entry_at m at = slice_index_or m.pages (at / 256) Nothing
+
+-- ---- what a map tells of an address
+
+unfoldable pub mapped_sort : MapTable → ℕ → Sort
+mapped_sort m at = sort_by (entry_at m at)
+
+unfoldable pub mapped_owner : MapTable → ℕ → Option ℕ
+mapped_owner m at = owner_by (entry_at m at)
+
+unfoldable pub mapped_byte : MapTable → ℕ → Option ℕ
+mapped_byte m at = fixed_byte_by (sort_by (entry_at m at)) (Some (slice_index m.bytes at))
+
+-- ---- the map of some chips
+
+-- the chips of a description, fitted
+abbrev pub views_of : List ChipSpec → List ChipView
+views_of chips = map (fitted None) chips
+
+abbrev pub seats_of : List ChipSpec → List Seat
+seats_of chips = map seat_of (views_of chips)
+
+-- what the map tells of an address is so of these chips
+pub record Tells (m : MapTable) (chips : List ChipSpec) (at : ℕ) : Type 0 where
+  pub sort : mapped_sort m at ≡ sort_of (seats_of chips) at
+  pub owner : mapped_owner m at ≡ owner_of (seats_of chips) at
+  pub byte : mapped_byte m at ≡ fixed_byte (views_of chips) at
+
+pub record IsMapOf (m : MapTable) (chips : List ChipSpec) : Type 0 where
+  pub tells : (at : ℕ) → at < 65536 → Tells m chips at

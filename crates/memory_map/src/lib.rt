@@ -1,0 +1,13 @@
+//! What each address is to the chips of a description: whose it is, what lies there, and which byte stays there.
+#![tactic(auto)]
+
+mod holders;
+mod pages;
+mod table;
+
+pub use console_spec::Sort;
+pub use f8_spec::Memory;
+pub use table::Map;
+
+#[cfg(test)]
+mod tests;

@@ -1,0 +1,80 @@
+ghost use Rattle.std.specs.Prelude.{◌≡◌, All, IfOk, false, ◌≤◌};
+ghost use Rattle.chip_face.specs.Fitting.{IsChipList, IsSpec, is_blank};
+
+use super::*;
+use chip_face::{Bytes, ChipList, ChipSpec, Page, PageList, PageSort};
+use std::alloc::Global;
+use std::test::Fail;
+
+// a 3851 at address 0, whose bytes are 2B
+fn psu(alloc: Global) -> Result<ChipSpec, Fail>
+    ensures spec { IfOk result IsSpec }
+    ensures kept { IfOk result (λ chip. is_blank chip ≡ false) }
+{
+    Ok(ChipSpec::Psu {
+        base: 0x0000,
+        rom: Bytes::of(alloc, &[0x2B; 1024])?,
+        ports: 0x04,
+        vector: 0x0000,
+        wired: false,
+    })
+}
+
+// a 3853 with a ROM page at 03, a RAM page at 28 and a void page at 80, whose ROM bytes are 1C
+fn smi(alloc: Global) -> Result<ChipSpec, Fail>
+    ensures spec { IfOk result IsSpec }
+    ensures kept { IfOk result (λ chip. is_blank chip ≡ false) }
+{
+    let pages = [
+        Page {
+            number: 0x03,
+            sort: PageSort::Rom,
+        },
+        Page {
+            number: 0x28,
+            sort: PageSort::Ram,
+        },
+        Page {
+            number: 0x80,
+            sort: PageSort::Void,
+        },
+    ];
+    Ok(ChipSpec::Smi {
+        pages: PageList::of(alloc, &pages)?,
+        rom: Bytes::of(alloc, &[0x1C; 256])?,
+        wired: false,
+    })
+}
+
+fn listed(alloc: Global, first: ChipSpec, second: ChipSpec) -> Result<ChipList, Fail>
+    requires first { IsSpec first }
+    requires first_kept { is_blank first ≡ false }
+    requires second { IsSpec second }
+    requires second_kept { is_blank second ≡ false }
+{
+    let mut chips = Vec::with_capacity(alloc, 2)?;
+    chips.push(first)?;
+    chips.push(second)?;
+    Ok(ChipList::from_vec(chips))
+}
+
+// the two hold page 03 together
+#[test]
+fn two_chips(rt: HostRuntime) -> Result<(), Fail> {
+    let alloc = rt.alloc();
+    let chips = listed(alloc, psu(alloc)?, smi(alloc)?)?;
+    let map = Map::of(alloc, &chips)?;
+    let rows = [
+        (0x02FF, Sort::Rom, Some(0x2B), Some(0)),
+        (0x0300, Sort::Shared, None, None),
+        (0x0400, Sort::Nothing, None, None),
+        (0x28FF, Sort::Ram, None, Some(1)),
+        (0x8000, Sort::Void, Some(0xFF), Some(1)),
+    ];
+    for (at, sort, byte, owner) in rows {
+        assert_eq!(rt; map.sort(at), sort, "at {at}");
+        assert_eq!(rt; map.byte(at), byte, "at {at}");
+        assert_eq!(rt; map.owner(at), owner, "at {at}");
+    }
+    Ok(())
+}
