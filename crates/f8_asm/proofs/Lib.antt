@@ -1,0 +1,3 @@
+pub mod NameLookup
+pub mod Chain
+pub mod Depth
