@@ -1,5 +1,6 @@
 -- Faults of a text, of one of its lines, and by number.
-use Rattle.std.specs.Prelude.{◌≡◌, ℕ, Option, Result, Ok, Err}
+use Rattle.std.specs.Prelude.{◌≡◌, ℕ, List, Vec, Option, Result, Ok, Err}
+use Rattle.std.specs.Global.{Global}
 use Rattle.f8_asm.specs.declared.answers.AsmCause.{AsmCause}
 use Rattle.f8_asm.specs.declared.answers.AsmCause.TheVariants.{Utf8, Token, Unknown, Twice, Undefined, Range, BranchRange, Outside, Overlap, Form}
 use Rattle.f8_asm.specs.declared.answers.AsmFault.{AsmFault}
@@ -43,3 +44,21 @@ abbrev pub SaysOfText : {A : Type 0} → Result A AsmAnswer → Result A AsmFaul
 SaysOfText (Ok x) said = said ≡ Ok x
 SaysOfText (Err (answer.Fault fault)) said = said ≡ Err fault
 SaysOfText (Err answer.Memory) said = Unit {0}
+
+-- a step leads to the state that is said of a line
+abbrev pub StepsOfLine : {S : Type 0} → Result (Unit {0}) LineStop → S → Result S LineFault → Type 0
+StepsOfLine (Ok u) new said = said ≡ Ok new
+StepsOfLine (Err (stop.Fault fault)) new said = said ≡ Err fault
+StepsOfLine (Err stop.Memory) new said = Unit {0}
+
+-- a step leads to the state that is said of a text
+abbrev pub StepsOfText : {S : Type 0} → Result (Unit {0}) AsmAnswer → S → Result S AsmFault → Type 0
+StepsOfText (Ok u) new said = said ≡ Ok new
+StepsOfText (Err (answer.Fault fault)) new said = said ≡ Err fault
+StepsOfText (Err answer.Memory) new said = Unit {0}
+
+-- bytes are those that are said of a line; want of memory says nothing of it
+abbrev pub SaysOfBytes : Result (Vec ℕ Global) LineStop → Result (List ℕ) LineFault → Type 0
+SaysOfBytes (Ok bytes) said = said ≡ Ok bytes.items
+SaysOfBytes (Err (stop.Fault fault)) said = said ≡ Err fault
+SaysOfBytes (Err stop.Memory) said = Unit {0}

@@ -1,5 +1,5 @@
 -- Instructions with one small field: how large it may be, and the instruction with it.
-use Rattle.std.specs.Prelude.{ℕ, ℤ, pos, negsuc, ◌<◌, ◌||◌, ◌==◌, nat_le, Option, Some, None, if◌then◌else◌}
+use Rattle.std.specs.Prelude.{ℕ, ℤ, pos, negsuc, ◌-◌, ◌||◌, ◌==◌, nat_le, Option, Some, None, if◌then◌else◌}
 use Rattle.f8_spec.specs.declared.instructions.Op.{Op}
 use Rattle.f8_spec.specs.declared.instructions.Op.TheVariants as op
 use Rattle.f8_asm.specs.declared.fields.Field.{Field}
@@ -62,3 +62,8 @@ op_with field.Ns n = Some (op.Ns n)
 abbrev pub small : ℕ → ℤ → Option ℕ
 small last (pos n) = if nat_le n last then Some n else None
 small last (negsuc n) = None
+
+-- a value from -128 to `last` as a byte, in two's complement where it is negative
+abbrev pub octet : ℕ → ℤ → Option ℕ
+octet last (pos n) = if nat_le n last then Some n else None
+octet last (negsuc n) = if nat_le n 127 then Some (255 - n) else None

@@ -6,3 +6,13 @@ pub mod Words
 pub mod Names
 pub mod Grammar
 pub mod Evaluation
+pub mod Statements
+pub mod Lines
+pub mod PassOne
+pub mod Judging
+pub mod Marks
+pub mod PassTwo
+pub mod Bytes
+pub mod PassThree
+pub mod Image
+pub mod Listing

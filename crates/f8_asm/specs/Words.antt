@@ -1,5 +1,5 @@
 -- Mnemonics and directives: which words there are, and what operands go behind each.
-use Rattle.std.specs.Prelude.{ℕ, ◌==◌, Bool, ◌||◌, List, codes, Option, Some, None, if◌then◌else◌, length, is_some, option_map}
+use Rattle.std.specs.Prelude.{ℕ, ◌≤◌, ◌==◌, Bool, ◌||◌, List, codes, Option, Some, None, if◌then◌else◌, length, is_some, option_map}
 use Rattle.std.specs.Option.{option_or}
 use Rattle.f8_spec.specs.Instructions.{encoded, row_of}
 use Rattle.f8_spec.specs.declared.instructions.Op.{Op}
@@ -12,6 +12,7 @@ use Rattle.f8_asm.specs.declared.words.Single.TheVariants as single
 use Rattle.f8_asm.specs.declared.words.ItemSize.TheVariants as item
 use Rattle.f8_asm.specs.declared.words.Shape.{Shape}
 use Rattle.f8_asm.specs.declared.words.Shape.TheVariants as shape
+use Rattle.f8_asm.specs.Fields.{limit_of}
 use Rattle.f8_asm.specs.Registers.{same_word, register_of}
 
 -- instructions of two letters whose operand is no field of the opcode, in alphabetical order
@@ -126,3 +127,8 @@ shape_of name =
 -- a word that can't be a name
 unfoldable pub is_reserved : List ℕ → Bool
 is_reserved name = is_some (register_of name) || is_some (shape_of name)
+
+-- a field that a register goes into has room for each
+abbrev pub HasRoom : Shape → Type 0
+HasRoom (shape.Register field) = 15 ≤ limit_of field
+HasRoom other = Unit {0}

@@ -1,7 +1,7 @@
 // Instructions with one small field: how large it may be, and the instruction with it.
 ghost use Rattle.std.specs.Prelude.{◌≡◌, ◌<◌, ◌≤◌, ◌||◌, ◌==◌, not, IfSome};
 ghost use Rattle.f8_spec.specs.Instructions.{InRange};
-ghost use Rattle.f8_asm.specs.Fields.{last_of, limit_of, shift, op_with, small};
+ghost use Rattle.f8_asm.specs.Fields.{last_of, limit_of, shift, op_with, small, octet};
 
 use f8_spec::Op;
 
@@ -92,12 +92,25 @@ pub fn op_with(field: Field, number: u8) -> Option<Op>
 }
 
 /// A value from 0 to `last`.
-pub fn small(last: u8, value: i64) -> Option<u8>
+pub fn small(last: u16, value: i64) -> Option<u16>
     ensures value { result ≡ small last value }
     ensures within { IfSome result (λ n. n ≤ last) }
 {
     if value < 0 || value > i64::from(last) {
         return None;
+    }
+    Some(value as u16)
+}
+
+/// A value from -128 to `last` as a byte, in two's complement where it is negative.
+pub fn octet(last: u8, value: i64) -> Option<u8>
+    ensures { result ≡ octet last value }
+{
+    if value < -128 || value > i64::from(last) {
+        return None;
+    }
+    if value < 0 {
+        return Some((value + 256) as u8);
     }
     Some(value as u8)
 }

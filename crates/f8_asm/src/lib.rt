@@ -3,12 +3,32 @@
 #![tactic(auto)]
 
 mod answers;
+mod code;
 mod faults;
+mod image;
 mod fields;
 mod grammar;
+mod judging;
+mod line;
+mod listing;
+mod marks;
+mod operands;
+mod pass_one;
+mod pass_three;
+mod pass_two;
+mod pieces;
 mod registers;
+mod spelling;
+mod statements;
 mod symbols;
+mod table;
+mod text;
 mod values;
 mod words;
 
 pub use answers::{AsmAnswer, AsmCause, AsmFault, Room};
+pub use image::{Image, assemble};
+pub use listing::{Text, disassemble};
+
+#[cfg(test)]
+mod tests;

@@ -1,6 +1,6 @@
 // Names with their values.
-ghost use Rattle.std.specs.Prelude.{◌≡◌, [], OnOk};
-ghost use Rattle.f8_asm.specs.Names.{value_of, with_name};
+ghost use Rattle.std.specs.Prelude.{◌≡◌, [], OnOk, slice_get};
+ghost use Rattle.f8_asm.specs.Names.{value_of, with_name, symbol_seen};
 
 use asm_text::Name;
 use indexmap::IndexMap;
@@ -48,5 +48,13 @@ impl Symbols {
         let key = String::from_str(alloc, name.as_str())?;
         self.entries.insert(key, value)?;
         Ok(())
+    }
+
+    /// The name and the value of an entry, counted from 0.
+    pub fn get(&self, k: usize) -> Option<(&str, i64)>
+        ensures { symbol_seen result ≡ slice_get self.now k }
+    {
+        let (name, value) = self.entries.get_index(k)?;
+        Some((name.as_str(), *value))
     }
 }

@@ -1,7 +1,7 @@
 // Mnemonics and directives: which words there are, and what operands go behind each.
 ghost use Rattle.std.specs.Prelude.{◌≡◌, IfSome};
 ghost use Rattle.f8_spec.specs.Instructions.{InRange};
-ghost use Rattle.f8_asm.specs.Words.{two_letter_op_to_l, two_letter_op_from_n, three_letter_op, op_of, op_shape, shape_of_op, two_letter_shape, longer_shape, shape_of, is_reserved};
+ghost use Rattle.f8_asm.specs.Words.{two_letter_op_to_l, two_letter_op_from_n, three_letter_op, op_of, op_shape, shape_of_op, two_letter_shape, longer_shape, shape_of, is_reserved, HasRoom};
 
 use crate::fields::Field;
 use crate::registers::{is_word, register_of};
@@ -213,7 +213,8 @@ fn op_of(name: &[u8]) -> Option<Op>
 
 /// The operand that an opcode wants behind it, by the row of its instruction.
 fn op_shape(row: Row, code: u8) -> Shape
-    ensures { result ≡ op_shape row code }
+    ensures value { result ≡ op_shape row code }
+    ensures room { HasRoom result }
 {
     match row {
         Row::Immediate => Shape::One(Single::Byte(code)),
@@ -227,7 +228,8 @@ fn op_shape(row: Row, code: u8) -> Shape
 /// The operand that an instruction wants behind its opcode.
 fn shape_of_op(op: Op) -> Shape
     requires { InRange op }
-    ensures { result ≡ shape_of_op op }
+    ensures value { result ≡ shape_of_op op }
+    ensures room { HasRoom result }
 {
     op_shape(row_of(op), encode(op))
 }
@@ -235,7 +237,8 @@ fn shape_of_op(op: Op) -> Shape
 /// The other words of two letters: fields of an opcode, `LR`, and directives.
 #[tactic(auto, unfolding(crate::specs::Words::two_letter_shape))]
 fn two_letter_shape(name: &[u8]) -> Option<Shape>
-    ensures { result ≡ two_letter_shape name.now }
+    ensures value { result ≡ two_letter_shape name.now }
+    ensures room { IfSome result HasRoom }
 {
     if is_word(name, b"AS") {
         return Some(Shape::Register(Field::As));
@@ -276,7 +279,8 @@ fn two_letter_shape(name: &[u8]) -> Option<Shape>
 /// The same of three and four letters.
 #[tactic(auto, unfolding(crate::specs::Words::longer_shape))]
 fn longer_shape(name: &[u8]) -> Option<Shape>
-    ensures { result ≡ longer_shape name.now }
+    ensures value { result ≡ longer_shape name.now }
+    ensures room { IfSome result HasRoom }
 {
     if is_word(name, b"ASD") {
         return Some(Shape::Register(Field::Asd));
@@ -308,7 +312,8 @@ fn longer_shape(name: &[u8]) -> Option<Shape>
 /// What goes behind a mnemonic or directive.
 #[tactic(auto, unfolding(crate::specs::Words::shape_of))]
 pub fn shape_of(name: &[u8]) -> Option<Shape>
-    ensures { result ≡ shape_of name.now }
+    ensures value { result ≡ shape_of name.now }
+    ensures room { IfSome result HasRoom }
 {
     if let Some(op) = op_of(name) {
         return Some(shape_of_op(op));
