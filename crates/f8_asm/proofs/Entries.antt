@@ -1,12 +1,9 @@
 -- The loop over the bytes that are listed.
 use Rattle.std.proofs.Common.{◌≡◌, ℕ, zero, suc, ◌+◌, ◌-◌, ◌<◌, ◌≤◌, List, [], ◌∷◌, length, drop, take, Option, Some, None, refl, sym, ◌∙◌, ap, arith, lit<, add-zero, length-drop}
 use Rattle.std.proofs.lemmas.List.{take_all}
-use Rattle.f8_spec.specs.Instructions.{InRange, decoded, row_of}
-use Rattle.f8_spec.specs.declared.instructions.Op.{Op}
 use Rattle.f8_asm.specs.declared.spelling.Entry.{Entry}
-use Rattle.f8_asm.specs.declared.pieces.Tail.{Tail}
-use Rattle.f8_asm.specs.declared.pieces.Tail.TheVariants as tail
-use Rattle.f8_asm.specs.Listing.{target, reaching, byte_piece, place_piece, word_piece, tail_piece, op_piece, tail_of, piece, entries, with_entry, with_entries}
+use Rattle.f8_asm.specs.declared.pieces.Piece.{Piece}
+use Rattle.f8_asm.specs.Listing.{piece, entries, with_entry, with_entries}
 
 -- bytes of a statement already read only move the address
 skipped : (k raw at : ℕ) (bs : List ℕ) → entries k raw at bs ≡ entries 0 raw (at + k) (drop k bs)
@@ -39,3 +36,7 @@ module _ {written whole : List ℕ} {raw at : ℕ} where
           let next : at + 1 + k ≡ at + suc k = omega arith in
           let rest : entries 0 (piece raw at b bs).raw (at + suc k) (drop k bs) ≡ entries ((piece raw at b bs).length - 1) (piece raw at b bs).raw (at + 1) bs = ap (λ a. entries 0 (piece raw at b bs).raw a (drop k bs)) (sym next) ∙ sym (skipped k (piece raw at b bs).raw (at + 1) bs) ∙ ap (λ n. entries n (piece raw at b bs).raw (at + 1) bs) (sym less) in
           record { is = ap (with_entries (with_entry written (piece raw at b bs).entry)) rest ∙ on.is }
+
+  -- one turn of the loop
+  pub listed_step : (p : Piece) (b : ℕ) (bs rest new : List ℕ) → p ≡ piece raw at b bs → rest ≡ b ∷ bs → 0 < p.length → new ≡ with_entry written p.entry → ListsOn written raw at rest whole → ListsOn new p.raw (at + p.length) (take (length rest - p.length) (drop p.length rest)) whole
+  listed_step p b bs rest new is front some text on = rw (text, rest_from, front, is) (listed_more b bs (rw is at some) (rw front at on))

@@ -1,5 +1,5 @@
 -- Loops that take one step a line.
-use Rattle.std.proofs.Common.{◌≡◌, ℕ, ℤ, ◌+◌, ◌<◌, ◌≤◌, List, [], ◌∷◌, length, get_or, drop, Option, Ok, Err, Result, refl, sym, ◌∙◌, add-one}
+use Rattle.std.proofs.Common.{◌≡◌, ℕ, ℤ, ◌+◌, ◌<◌, ◌≤◌, List, [], ◌∷◌, length, get_or, drop, Option, Ok, Err, Result, refl, sym, ◌∙◌, ap, suc, add-one}
 use Rattle.std.proofs.Math.Seq.{drop-cons}
 use Rattle.std.proofs.lemmas.List.{drop_all}
 use Rattle.f8_asm.specs.declared.answers.AsmAnswer.{AsmAnswer}
@@ -50,8 +50,8 @@ pub record EmitsOn (names : List (List ℕ × ℤ)) (table : List (Option ℕ)) 
   pub is : emit_lines names table rest ≡ whole
 
 -- what is left of lines begins with the next
-cut : (ps : List PlacedLine) (i : ℕ) (d : PlacedLine) → i < length ps → drop i ps ≡ get_or ps i d ∷ drop (i + 1) ps
-cut ps i d within = rw (add-one i, drop-cons ps i d) refl
+cut : (ps : List PlacedLine) (i : ℕ) (p : PlacedLine) → i < length ps → p ≡ get_or ps i p → drop i ps ≡ p ∷ drop (i + 1) ps
+cut ps i p within is = rw (add-one i, drop-cons ps i p) (ap (λ q. q ∷ drop (suc i) ps) (sym is))
 
 -- one line more is put
 emitted_one : (names : List (List ℕ × ℤ)) (table t : List (Option ℕ)) (p : PlacedLine) (ps : List PlacedLine) → emit names table p ≡ Ok t → emit_lines names t ps ≡ emit_lines names table (p ∷ ps)
@@ -70,10 +70,10 @@ module _ {names : List (List ℕ × ℤ)} {table : List (Option ℕ)} {whole : R
   emitted_all ps i on past = sym (rw (drop_all i ps past) at on.is)
 
   -- one line more
-  pub emitted_more : (ps : List PlacedLine) (i : ℕ) (d : PlacedLine) (t : List (Option ℕ)) → EmitsOn names table (drop i ps) whole → i < length ps → emit names table (get_or ps i d) ≡ Ok t → EmitsOn names t (drop (i + 1) ps) whole
-  emitted_more ps i d t on within step = record { is = emitted_one names table t (get_or ps i d) (drop (i + 1) ps) step ∙ rw (cut ps i d within) at on.is }
+  pub emitted_more : (ps : List PlacedLine) (i : ℕ) (p : PlacedLine) (t : List (Option ℕ)) → EmitsOn names table (drop i ps) whole → i < length ps → p ≡ get_or ps i p → emit names table p ≡ Ok t → EmitsOn names t (drop (i + 1) ps) whole
+  emitted_more ps i p t on within is step = record { is = emitted_one names table t p (drop (i + 1) ps) step ∙ rw (cut ps i p within is) at on.is }
 
   -- a line is at fault, or memory is missing
-  pub emit_stops : (ps : List PlacedLine) (i : ℕ) (d : PlacedLine) (t : List (Option ℕ)) (e : AsmAnswer) → EmitsOn names table (drop i ps) whole → i < length ps → StepsOfText (Err e) t (emit names table (get_or ps i d)) → SaysOfText {A = List (Option ℕ)} (Err e) whole
-  emit_stops ps i d t (answer.Fault fault) on within step = sym (rw (cut ps i d within) at on.is) ∙ not_emitted names table fault (get_or ps i d) (drop (i + 1) ps) step
-  emit_stops ps i d t answer.Memory on within step = tt
+  pub emit_stops : (ps : List PlacedLine) (i : ℕ) (p : PlacedLine) (t : List (Option ℕ)) (e : AsmAnswer) → EmitsOn names table (drop i ps) whole → i < length ps → p ≡ get_or ps i p → StepsOfText (Err e) t (emit names table p) → SaysOfText {A = List (Option ℕ)} (Err e) whole
+  emit_stops ps i p t (answer.Fault fault) on within is step = sym (rw (cut ps i p within is) at on.is) ∙ not_emitted names table fault p (drop (i + 1) ps) step
+  emit_stops ps i p t answer.Memory on within is step = tt

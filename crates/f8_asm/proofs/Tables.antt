@@ -10,12 +10,12 @@ unfolding no_bytes
 are_no_bytes n table same is = is ∙ ap (λ k. replicate k None) same
 
 -- one slot more
-pub slot_more : (n : ℕ) → replicate n None ++ None ∷ [] ≡ replicate (n + 1) (None {T = ℕ})
-slot_more n = push n ∙ ap (λ k. replicate k None) (sym (add-one n))
+pub slot_more : (n : ℕ) (slot : Option ℕ) → replicate n slot ++ slot ∷ [] ≡ replicate (n + 1) slot
+slot_more n slot = push n ∙ ap (λ k. replicate k slot) (sym (add-one n))
   where
-    push : (n : ℕ) → replicate n None ++ None ∷ [] ≡ replicate (suc n) (None {T = ℕ})
+    push : (n : ℕ) → replicate n slot ++ slot ∷ [] ≡ replicate (suc n) slot
     push zero = refl
-    push (suc n) = ap (λ r. None ∷ r) (push n)
+    push (suc n) = ap (λ r. slot ∷ r) (push n)
 
 pub all_addresses : (n : ℕ) (table : List (Option ℕ)) → n ≡ 65536 → table ≡ replicate n None → length table ≡ 65536
 all_addresses n table same is = ap length is ∙ length-replicate n None ∙ same

@@ -3,8 +3,8 @@ ghost use Rattle.std.specs.Prelude.{◌≡◌, ◌<◌, ◌∷◌, [], IfOk};
 ghost use Rattle.f8_asm.specs.Answers.{SaysOfBytes};
 ghost use Rattle.f8_asm.specs.Bytes.{word_bytes, single_bytes, item_bytes, list_bytes, bytes_of};
 
-use crate::fields::Field;
 use crate::faults::LineStop;
+use crate::fields::Field;
 use crate::judging::{byte, displacement, unsigned, with_field};
 use crate::operands::{Operand, Statement};
 use crate::words::{ItemSize, Single};
@@ -40,7 +40,12 @@ fn code_and_word(alloc: Global, code: u8, word: u16) -> Result<Vec<u8>, AllocErr
 }
 
 /// A statement with one operand.
-fn single_bytes(alloc: Global, address: u32, single: Single, operand: Operand) -> Result<Vec<u8>, LineStop>
+fn single_bytes(
+    alloc: Global,
+    address: u32,
+    single: Single,
+    operand: Operand,
+) -> Result<Vec<u8>, LineStop>
     ensures { SaysOfBytes result (single_bytes address single operand) }
 {
     match single {
@@ -69,7 +74,13 @@ fn single_bytes(alloc: Global, address: u32, single: Single, operand: Operand) -
 }
 
 /// A branch on bits.
-fn test_bytes(alloc: Global, address: u32, field: Field, bits: Operand, place: Operand) -> Result<Vec<u8>, LineStop>
+fn test_bytes(
+    alloc: Global,
+    address: u32,
+    field: Field,
+    bits: Operand,
+    place: Operand,
+) -> Result<Vec<u8>, LineStop>
     ensures { SaysOfBytes result (bytes_of address (Statement.Test field bits place)) }
 {
     let op = with_field(field, bits)?;

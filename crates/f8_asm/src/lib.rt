@@ -5,9 +5,9 @@
 mod answers;
 mod code;
 mod faults;
-mod image;
 mod fields;
 mod grammar;
+mod image;
 mod judging;
 mod line;
 mod listing;

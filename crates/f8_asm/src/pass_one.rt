@@ -16,7 +16,12 @@ use std::alloc::Global;
 use std::marker::Model;
 
 /// Whether tokens make a statement. What names stand for doesn't matter.
-fn check_statement(alloc: Global, symbols: &Symbols, labelled: bool, tokens: &[Token]) -> Result<(), LineStop>
+fn check_statement(
+    alloc: Global,
+    symbols: &Symbols,
+    labelled: bool,
+    tokens: &[Token],
+) -> Result<(), LineStop>
     ensures { SaysOfLine result (statement_checked symbols.now labelled tokens.now) }
 {
     let scope = Scope {
@@ -28,7 +33,12 @@ fn check_statement(alloc: Global, symbols: &Symbols, labelled: bool, tokens: &[T
 }
 
 /// Whether a label is new, and a statement follows it.
-fn check_labelled(alloc: Global, symbols: &mut Symbols, tokens: &[Token], name: &Name) -> Result<(), LineStop>
+fn check_labelled(
+    alloc: Global,
+    symbols: &mut Symbols,
+    tokens: &[Token],
+    name: &Name,
+) -> Result<(), LineStop>
     ensures { StepsOfLine result symbols.new (check_labelled symbols.old tokens.now name.now) }
 {
     if symbols.value_of(name).is_some() {

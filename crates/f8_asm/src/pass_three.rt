@@ -18,7 +18,12 @@ use std::alloc::Global;
 
 /// The bytes of a line's tokens.
 #[tactic(auto, unfolding(crate::specs::PassThree::line_bytes))]
-fn line_bytes(alloc: Global, symbols: &Symbols, address: u32, tokens: &[Token]) -> Result<Vec<u8>, LineStop>
+fn line_bytes(
+    alloc: Global,
+    symbols: &Symbols,
+    address: u32,
+    tokens: &[Token],
+) -> Result<Vec<u8>, LineStop>
     ensures { SaysOfBytes result (line_bytes symbols.now address tokens.now) }
 {
     let scope = Scope { symbols, address };
@@ -29,7 +34,12 @@ fn line_bytes(alloc: Global, symbols: &Symbols, address: u32, tokens: &[Token]) 
 
 /// Puts the bytes of one line more.
 #[tactic(auto, unfolding(crate::specs::PassThree::emit))]
-fn emit(alloc: Global, symbols: &Symbols, table: &mut Table, placed: &PlacedLine) -> Result<(), AsmAnswer>
+fn emit(
+    alloc: Global,
+    symbols: &Symbols,
+    table: &mut Table,
+    placed: &PlacedLine,
+) -> Result<(), AsmAnswer>
     ensures { StepsOfText result table.new (emit symbols.now table.old placed.now) }
 {
     let tokens = placed.line.tokens.as_slice();

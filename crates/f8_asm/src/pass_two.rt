@@ -101,7 +101,14 @@ impl Layout {
     }
 
     /// Does what a statement does.
-    fn settled(&mut self, alloc: Global, room: Room, label: Option<&Name>, column: Option<u32>, effect: Effect) -> Result<(), LineStop>
+    fn settled(
+        &mut self,
+        alloc: Global,
+        room: Room,
+        label: Option<&Name>,
+        column: Option<u32>,
+        effect: Effect,
+    ) -> Result<(), LineStop>
         ensures { StepsOfLine result self.new (settled room (option_copied label.entry) column self.old effect) }
     {
         match effect {

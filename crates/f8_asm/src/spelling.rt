@@ -1,7 +1,7 @@
 // How a listing writes statements.
 ghost use Rattle.std.specs.Prelude.{◌≡◌, ◌<◌, ◌++◌, ◌∷◌, [], OnOk};
 ghost use Rattle.asm_text.specs.Spelling.{hex_digit, hex2, hex4};
-ghost use Rattle.f8_asm.specs.Listing.{small_decimal, register_text, front_of, field_of, FieldFits, field_text, back_of, with_head, with_entry};
+ghost use Rattle.f8_asm.specs.Listing.{small_decimal, register_text, front_of, field_of, FieldFits, EntryFits, field_text, back_of, with_head, with_entry};
 
 use f8_ops::name;
 use f8_spec::Op;
@@ -117,7 +117,24 @@ fn front_of(op: Op) -> &'static str
         Op::Sr1 | Op::Sl1 => " 1",
         Op::Sr4 | Op::Sl4 => " 4",
         Op::LrAR { .. } => " A,",
-        Op::Pk | Op::Lm | Op::St | Op::Com | Op::Lnk | Op::Di | Op::Ei | Op::Pop | Op::Inc | Op::Nop | Op::Xdc | Op::Am | Op::Amd | Op::Nm | Op::Om | Op::Xm | Op::Cm | Op::Adc => "",
+        Op::Pk
+        | Op::Lm
+        | Op::St
+        | Op::Com
+        | Op::Lnk
+        | Op::Di
+        | Op::Ei
+        | Op::Pop
+        | Op::Inc
+        | Op::Nop
+        | Op::Xdc
+        | Op::Am
+        | Op::Amd
+        | Op::Nm
+        | Op::Om
+        | Op::Xm
+        | Op::Cm
+        | Op::Adc => "",
         _ => " ",
     }
 }

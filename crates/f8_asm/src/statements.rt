@@ -184,7 +184,12 @@ fn items(alloc: Global, scope: &Scope, tokens: &[Token]) -> Result<OperandList, 
 }
 
 /// A list of items.
-fn item_list(alloc: Global, scope: &Scope, size: ItemSize, tokens: &[Token]) -> Result<Statement, LineStop>
+fn item_list(
+    alloc: Global,
+    scope: &Scope,
+    size: ItemSize,
+    tokens: &[Token],
+) -> Result<Statement, LineStop>
     ensures { let acts = values scope.now.symbols.now scope.now.address in SaysOfLine result (item_list acts size tokens.now) }
 {
     let list = items(alloc, scope, tokens)?;
@@ -200,7 +205,12 @@ fn without_memory(answer: Result<Statement, LineFault>) -> Result<Statement, Lin
 
 /// What goes behind a mnemonic or directive.
 #[tactic(auto, unfolding(crate::specs::Statements::operands))]
-fn operands(alloc: Global, scope: &Scope, shape: Shape, tokens: &[Token]) -> Result<Statement, LineStop>
+fn operands(
+    alloc: Global,
+    scope: &Scope,
+    shape: Shape,
+    tokens: &[Token],
+) -> Result<Statement, LineStop>
     requires { HasRoom shape }
     ensures { let acts = values scope.now.symbols.now scope.now.address in SaysOfLine result (operands acts shape tokens.now) }
 {
@@ -235,7 +245,14 @@ fn no_mnemonic(column: u32, name: &Name) -> LineFault
 }
 
 /// The statement that a name begins.
-fn statement_of(alloc: Global, scope: &Scope, labelled: bool, column: u32, name: &Name, tokens: &[Token]) -> Result<Statement, LineStop>
+fn statement_of(
+    alloc: Global,
+    scope: &Scope,
+    labelled: bool,
+    column: u32,
+    name: &Name,
+    tokens: &[Token],
+) -> Result<Statement, LineStop>
     ensures { let acts = values scope.now.symbols.now scope.now.address in SaysOfLine result (statement_of acts labelled column name.now tokens.now (shape_of name.now)) }
 {
     match shape_of(name.as_str().as_bytes()) {
@@ -247,7 +264,12 @@ fn statement_of(alloc: Global, scope: &Scope, labelled: bool, column: u32, name:
 
 /// The statement of a line behind its label.
 #[tactic(auto, unfolding(crate::specs::Statements::statement))]
-pub fn statement(alloc: Global, scope: &Scope, labelled: bool, tokens: &[Token]) -> Result<Statement, LineStop>
+pub fn statement(
+    alloc: Global,
+    scope: &Scope,
+    labelled: bool,
+    tokens: &[Token],
+) -> Result<Statement, LineStop>
     ensures { let acts = values scope.now.symbols.now scope.now.address in SaysOfLine result (statement acts labelled tokens.now) }
 {
     let Some((first, behind)) = tokens.split_first() else {

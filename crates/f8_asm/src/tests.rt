@@ -42,7 +42,10 @@ fn texts_have_images(rt: HostRuntime) -> Result<(), Fail> {
     for (text, want) in [
         ("", ""),
         ("LOOP: NOP\nBR LOOP", "0:2B 1:90 2:FE LOOP=0"),
-        (" ORG 3\r\n DB -1,'A'\n ORG 0\n DW $102", "0:01 1:02 3:FF 4:41 "),
+        (
+            " ORG 3\r\n DB -1,'A'\n ORG 0\n DW $102",
+            "0:01 1:02 3:FF 4:41 ",
+        ),
         ("X: ORG .+2\n lr a,J\n Lr 9,a", "2:49 3:59 X=0"),
         ("X: EQU -1&$FFFFFFFF", "X=4294967295"),
     ] {
@@ -98,7 +101,8 @@ fn bytes_are_listed(rt: HostRuntime) -> Result<(), Fail> {
     let bytes = [
         0x71, 0x2D, 0x4C, 0x90, 0xFE, 0x90, 0x80, 0xA4, 0x28, 0x12, 0x34, 0x20,
     ];
-    let want = "ORG $0000\nLIS 1\nDB $2D\nLR A,S\nBF 0,$0002\nDB $90\nDB $80\nINS 4\nPI $1234\nDB $20\n";
+    let want =
+        "ORG $0000\nLIS 1\nDB $2D\nLR A,S\nBF 0,$0002\nDB $90\nDB $80\nINS 4\nPI $1234\nDB $20\n";
     let Ok(text) = disassemble(rt.alloc(), &bytes) else {
         return Ok(());
     };
