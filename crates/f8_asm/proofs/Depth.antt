@@ -1,11 +1,11 @@
 -- Operands with some prefixes and parentheses still to open.
-use Rattle.std.proofs.Common.{◌≡◌, ℕ, zero, suc, ◌-◌, ◌<◌, List, ◌∷◌, Some, None, Err, Bool, false, refl, arith}
+use Rattle.std.proofs.Common.{◌≡◌, ℕ, zero, suc, ◌-◌, ◌<◌, List, ◌∷◌, Some, Err, false, refl, arith}
 use Rattle.std.specs.Prelude.{◌==◌}
 use Rattle.asm_text.specs.declared.answers.Token.{Token}
 use Rattle.asm_text.specs.declared.answers.TokenKind.TheVariants as kind
 use Rattle.f8_asm.specs.declared.values.Prefix.TheVariants.{Negative, LowByte, HighByte}
 use Rattle.f8_asm.specs.Answers.{form}
-use Rattle.f8_asm.specs.Grammar.{Actions, Read, behind_prefix, parenthesised, opened, operand_of, operand, deeper}
+use Rattle.f8_asm.specs.Grammar.{Actions, behind_prefix, parenthesised, opened, operand_of, operand, deeper}
 
 module _ {A : Type 0} (acts : Actions A) where
   -- one may be opened

@@ -1,7 +1,6 @@
 -- The loop over the bytes that are listed.
-use Rattle.std.proofs.Common.{◌≡◌, ℕ, zero, suc, ◌+◌, ◌-◌, ◌<◌, ◌≤◌, List, [], ◌∷◌, length, drop, take, Option, Some, None, refl, sym, ◌∙◌, ap, arith, lit<, add-zero, length-drop}
+use Rattle.std.proofs.Common.{◌≡◌, ℕ, zero, suc, ◌+◌, ◌-◌, ◌<◌, List, [], ◌∷◌, length, drop, take, refl, sym, ◌∙◌, ap, arith, add-zero, length-drop}
 use Rattle.std.proofs.lemmas.List.{take_all}
-use Rattle.f8_asm.specs.declared.spelling.Entry.{Entry}
 use Rattle.f8_asm.specs.declared.pieces.Piece.{Piece}
 use Rattle.f8_asm.specs.Listing.{piece, entries, with_entry, with_entries}
 

@@ -1,11 +1,11 @@
 -- Items of a list: where the loop over them begins, goes on and ends.
-use Rattle.std.proofs.Common.{◌≡◌, ℕ, zero, suc, ◌<◌, ◌≤◌, List, [], ◌∷◌, ◌++◌, length, None, Result, Ok, Err, refl, sym, ◌∙◌, ap, arith, append_assoc}
+use Rattle.std.proofs.Common.{◌≡◌, ℕ, zero, suc, ◌<◌, ◌≤◌, List, [], ◌∷◌, ◌++◌, length, Result, Ok, Err, refl, sym, ◌∙◌, ap, arith, append_assoc}
 use Rattle.asm_text.specs.declared.answers.Token.{Token}
 use Rattle.f8_asm.specs.declared.faults.LineFault.{LineFault}
 use Rattle.f8_asm.specs.declared.operands.Operand.{Operand}
 use Rattle.f8_asm.specs.declared.values.Outcome.{Outcome}
-use Rattle.f8_asm.specs.Answers.{form, ◌>>=◌}
-use Rattle.f8_asm.specs.Grammar.{Actions, column_of}
+use Rattle.f8_asm.specs.Answers.{◌>>=◌}
+use Rattle.f8_asm.specs.Grammar.{Actions}
 use Rattle.f8_asm.specs.Statements.{operand_at, comma, item_before, items}
 
 -- the items so far, then what is still read

@@ -1,9 +1,8 @@
 -- Names looked up and given in a map by text, against the list that a contract sees.
-use Rattle.std.proofs.Common.{◌≡◌, ℕ, ℤ, Bool, true, false, cond, List, [], ◌∷◌, map, Option, Some, None, refl, ap, arith, bytes_eq}
-use Rattle.std.specs.Prelude.{String, string_bytes, string_eq, if◌then◌else◌}
+use Rattle.std.proofs.Common.{◌≡◌, ℕ, ℤ, Bool, true, false, cond, List, [], ◌∷◌, map, Some, refl, ap, bytes_eq}
+use Rattle.std.specs.Prelude.{String, string_bytes, string_eq}
 use Rattle.std.specs.Global.{Global}
 use Rattle.std.specs.Map.{lookup}
-use Rattle.std.proofs.lemmas.Grind.{common_steps}
 use Rattle.indexmap.specs.IndexMap.{insert_entry}
 use Rattle.f8_asm.specs.Names.{value_of, with_name}
 

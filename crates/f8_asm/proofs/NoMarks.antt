@@ -1,5 +1,5 @@
 -- The marks of addresses before any is filled. The list is long, so it's never written out.
-use Rattle.std.proofs.Common.{◌≡◌, ℕ, Bool, false, List, length, replicate, refl, ◌∙◌, ap}
+use Rattle.std.proofs.Common.{◌≡◌, ℕ, Bool, false, List, length, replicate, ◌∙◌, ap}
 use Rattle.std.proofs.lemmas.List.{length-replicate}
 use Rattle.f8_asm.specs.Marks.{no_marks}
 

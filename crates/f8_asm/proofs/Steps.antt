@@ -5,7 +5,7 @@ use Rattle.std.proofs.lemmas.List.{drop_all}
 use Rattle.f8_asm.specs.declared.answers.AsmAnswer.{AsmAnswer}
 use Rattle.f8_asm.specs.declared.answers.AsmAnswer.TheVariants as answer
 use Rattle.f8_asm.specs.declared.answers.AsmFault.{AsmFault}
-use Rattle.f8_asm.specs.Answers.{◌>>=◌, SaysOfText, StepsOfText}
+use Rattle.f8_asm.specs.Answers.{SaysOfText, StepsOfText}
 use Rattle.f8_asm.specs.declared.answers.Room.{Room}
 use Rattle.f8_asm.specs.declared.line.Line.{Line}
 use Rattle.f8_asm.specs.declared.line.PlacedLine.{PlacedLine}

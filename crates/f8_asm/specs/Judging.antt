@@ -1,7 +1,6 @@
 -- Operands judged: whether their values fit their places.
-use Rattle.std.specs.Prelude.{ℕ, ℤ, pos, ◌+◌, ◌-ℤ◌, Option, Some, None, option_and_then, Result, Ok, Err}
+use Rattle.std.specs.Prelude.{ℕ, ℤ, pos, ◌+◌, ◌-ℤ◌, Option, Some, None, Result, Ok, Err}
 use Rattle.f8_spec.specs.declared.instructions.Op.{Op}
-use Rattle.f8_spec.specs.Instructions.{encoded}
 use Rattle.f8_asm.specs.declared.answers.AsmCause.{AsmCause}
 use Rattle.f8_asm.specs.declared.answers.AsmCause.TheVariants as cause
 use Rattle.f8_asm.specs.declared.faults.LineFault.{LineFault}

@@ -9,7 +9,7 @@ use Rattle.f8_asm.specs.declared.answers.AsmCause.TheVariants as cause
 use Rattle.f8_asm.specs.declared.answers.AsmFault.{AsmFault}
 use Rattle.f8_asm.specs.declared.faults.LineFault.{LineFault}
 use Rattle.f8_asm.specs.declared.line.Line.{Line}
-use Rattle.f8_asm.specs.Answers.{form, ◌>>=◌}
+use Rattle.f8_asm.specs.Answers.{◌>>=◌}
 use Rattle.f8_asm.specs.Evaluation.{values}
 use Rattle.f8_asm.specs.Grammar.{column_of}
 use Rattle.f8_asm.specs.Names.{value_of, with_name}

@@ -1,5 +1,5 @@
 -- The third pass: the bytes of each line at its address, with the values of all names.
-use Rattle.std.specs.Prelude.{ℕ, ℤ, ◌+◌, List, [], ◌∷◌, replicate, slice_set, Option, Some, None, is_some, Result, Ok, Err}
+use Rattle.std.specs.Prelude.{ℕ, ℤ, ◌+◌, List, [], ◌∷◌, replicate, slice_set, Option, Some, None, is_some, Result, Ok}
 use Rattle.asm_text.specs.declared.answers.Token.{Token}
 use Rattle.f8_asm.specs.declared.answers.AsmFault.{AsmFault}
 use Rattle.f8_asm.specs.declared.faults.LineFault.{LineFault}

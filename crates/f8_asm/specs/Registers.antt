@@ -1,7 +1,6 @@
 -- Register words, and the instruction LR between two of them.
 use Rattle.std.specs.Prelude.{ℕ, Bool, true, false, List, codes, Option, Some, None, if◌then◌else◌, bytes_eq, map, length, ◌==◌}
 use Rattle.std.specs.Char.{to_ascii_lowercase}
-use Rattle.std.specs.Option.{option_or}
 use Rattle.f8_spec.specs.declared.instructions.Op.{Op}
 use Rattle.f8_spec.specs.declared.instructions.Op.TheVariants as op
 use Rattle.f8_asm.specs.declared.registers.Register.{Register}

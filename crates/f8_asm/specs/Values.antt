@@ -1,5 +1,5 @@
 -- The numbers of expressions, and what operators and prefixes make of them.
-use Rattle.std.specs.Prelude.{ℕ, zero, ℤ, pos, negsuc, ◌+ℤ◌, ◌-ℤ◌, ◌*ℤ◌, neg_ℤ, int_le, int_div, int_rem, Bool, ◌&&◌, if◌then◌else◌}
+use Rattle.std.specs.Prelude.{zero, ℤ, pos, negsuc, ◌+ℤ◌, ◌-ℤ◌, ◌*ℤ◌, neg_ℤ, int_le, int_div, int_rem, ◌&&◌, if◌then◌else◌}
 use Rattle.std.specs.Int.{w64, int_bit_and, int_bit_or}
 use Rattle.f8_asm.specs.declared.values.Outcome.{Outcome}
 use Rattle.f8_asm.specs.declared.values.Outcome.TheVariants.{Value, OutOfRange, Undefined}

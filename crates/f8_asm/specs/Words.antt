@@ -7,7 +7,6 @@ use Rattle.f8_spec.specs.declared.instructions.Op.TheVariants as op
 use Rattle.f8_spec.specs.declared.instructions.Row.{Row}
 use Rattle.f8_spec.specs.declared.instructions.Row.TheVariants as row
 use Rattle.f8_asm.specs.declared.fields.Field.TheVariants as field
-use Rattle.f8_asm.specs.declared.words.Single.{Single}
 use Rattle.f8_asm.specs.declared.words.Single.TheVariants as single
 use Rattle.f8_asm.specs.declared.words.ItemSize.TheVariants as item
 use Rattle.f8_asm.specs.declared.words.Shape.{Shape}

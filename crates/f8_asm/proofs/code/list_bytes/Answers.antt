@@ -1,4 +1,3 @@
-use Rattle.std.proofs.Common.{◌≡◌}
 use Rattle.std.proofs.lemmas.Result.{err_from_is_err_and}
 use Rattle.f8_asm.proofs.ListBytes.{more_at, stop_at, end_at}
 use Rattle.f8_asm.proofs.code.list_bytes.Goals as goal

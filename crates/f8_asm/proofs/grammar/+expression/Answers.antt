@@ -1,9 +1,7 @@
-use Rattle.std.proofs.Common.{◌≡◌, ◌<◌, ◌-◌, suc, ◌∙◌, sym, ap, arith, length}
+use Rattle.std.proofs.Common.{◌∙◌, sym, ap, arith, length}
 use Rattle.std.proofs.lemmas.Result.{err_from_is_err_and}
 use Rattle.std.proofs.lemmas.List.{nil_from_length}
 use Rattle.std.proofs.lemmas.Bool.Decides.{nat_tests}
-use Rattle.f8_asm.specs.Evaluation.{values}
-use Rattle.f8_asm.specs.Grammar.{operand}
 use Rattle.f8_asm.proofs.Chain.{chain_goes, chain_stops, chain_fails, chain_ends}
 use Rattle.f8_asm.proofs.Depth.{opened_none, opened_minus, opened_low, opened_high, opened_parenthesis, operand_mark}
 use Rattle.f8_asm.proofs.grammar.+expression.Goals as goal

@@ -1,4 +1,4 @@
-use Rattle.std.proofs.Common.{◌≡◌, ◌∙◌, ap, arith, length, length-drop, []}
+use Rattle.std.proofs.Common.{◌≡◌, ap, arith, length, length-drop, []}
 use Rattle.std.proofs.lemmas.List.{nil_from_length}
 use Rattle.f8_asm.proofs.Entries.{rest_from, listed_all, listed_step}
 use Rattle.f8_asm.proofs.listing.list.Goals as goal

@@ -1,4 +1,4 @@
-use Rattle.std.proofs.Common.{◌≡◌, refl}
+use Rattle.std.proofs.Common.{refl}
 use Rattle.std.proofs.lemmas.Result.{err_from_is_err_and}
 use Rattle.f8_asm.proofs.Steps.{emitted_all, emitted_more, emit_stops}
 use Rattle.f8_asm.proofs.pass_three.emit_all.Goals as goal

@@ -1,8 +1,7 @@
-use Rattle.std.proofs.Common.{◌≡◌, ◌∙◌, sym, ap}
+use Rattle.std.proofs.Common.{◌∙◌, sym}
 use Rattle.std.proofs.lemmas.List.{nil_from_length}
 use Rattle.std.proofs.lemmas.Result.{err_from_is_err_and}
 use Rattle.std.specs.Vec.Iter.{into_iter_items}
-use Rattle.f8_asm.specs.PassTwo.{place_lines}
 use Rattle.f8_asm.proofs.Steps.{placed_all, placed_more, place_stops}
 use Rattle.f8_asm.proofs.pass_two.place_lines.Goals as goal
 

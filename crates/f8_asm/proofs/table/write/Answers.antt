@@ -1,4 +1,4 @@
-use Rattle.std.proofs.Common.{◌≡◌, ◌+◌, ◌∙◌, sym, arith, get_or, set, Some}
+use Rattle.std.proofs.Common.{◌+◌, arith, get_or, Some}
 use Rattle.std.proofs.lemmas.List.{set_past}
 use Rattle.f8_asm.proofs.Tables.{written_more}
 use Rattle.f8_asm.proofs.table.write.Goals as goal

@@ -1,6 +1,5 @@
-use Rattle.std.proofs.Common.{◌≡◌, ◌+◌, ◌∙◌, ◌∷◌, sym, ap, arith, length, get_or, drop}
+use Rattle.std.proofs.Common.{◌≡◌, arith, get_or}
 use Rattle.std.proofs.lemmas.Bool.Decides.{nat_tests}
-use Rattle.f8_asm.specs.Lines.{lines, without_return}
 use Rattle.f8_asm.proofs.LineLaws.{rest_from, split_at_feed, whole_text}
 use Rattle.f8_asm.proofs.text.first_line.Goals as goal
 
