@@ -10,3 +10,4 @@ pub mod ListBytes
 pub mod Tables
 pub mod Entries
 pub mod FieldLimits
+mod Examples
