@@ -1,0 +1,25 @@
+-- The image of a text, or its first fault.
+use Rattle.std.specs.Prelude.{ℕ, ℤ, ◌+◌, List, [], ◌∷◌, Option, Some, None, Result, Ok}
+use Rattle.f8_asm.specs.declared.answers.AsmFault.{AsmFault}
+use Rattle.f8_asm.specs.declared.answers.Room.{Room}
+use Rattle.f8_asm.specs.Answers.{◌>>=◌}
+use Rattle.f8_asm.specs.Lines.{lines}
+use Rattle.f8_asm.specs.PassOne.{no_reading, read_lines}
+use Rattle.f8_asm.specs.PassTwo.{no_layout, place_lines}
+use Rattle.f8_asm.specs.PassThree.{no_bytes, emit_lines}
+
+-- bytes with their addresses, ascending, and names with their values, in the order in which they were defined
+pub record Picture : Type 0 where
+  pub bytes : List (ℕ × ℕ)
+  pub symbols : List (List ℕ × ℤ)
+
+-- the bytes of a table whose first address this is
+abbrev pub ascending : ℕ → List (Option ℕ) → List (ℕ × ℕ)
+ascending at [] = []
+ascending at (None ∷ slots) = ascending (at + 1) slots
+ascending at (Some b ∷ slots) = (at, b) ∷ ascending (at + 1) slots
+
+-- three passes over the whole text: the first fault of the earliest is told
+unfoldable pub image_of : List ℕ → Room → Result Picture AsmFault
+image_of text room =
+    read_lines 1 no_reading (lines text) >>= λ read. place_lines room no_layout read.lines >>= λ laid. emit_lines laid.names no_bytes laid.placed >>= λ table. Ok (record { bytes = ascending 0 table; symbols = laid.names })

@@ -1,0 +1,16 @@
+-- Which addresses hold a byte.
+use Rattle.std.specs.Prelude.{ℕ, zero, suc, ◌+◌, Bool, true, false, not, List, replicate, slice_set, slice_range}
+use Rattle.std.specs.List.{list_any}
+
+-- no address is marked
+unfoldable pub no_marks : List Bool
+no_marks = replicate 65536 false
+
+-- so many addresses from one on are marked
+abbrev pub marked : List Bool → ℕ → ℕ → List Bool
+marked marks at zero = marks
+marked marks at (suc n) = slice_set (marked marks at n) (at + n) true
+
+-- none of so many addresses from one on is marked
+abbrev pub is_free : List Bool → ℕ → ℕ → Bool
+is_free marks at size = not (list_any (λ mark. mark) (slice_range marks at (at + size)))

@@ -1,0 +1,92 @@
+-- The first pass: the tokens of each line, whether they make a statement, and whether a name is given twice.
+use Rattle.std.specs.Prelude.{ℕ, ℤ, pos, ◌+◌, ◌-◌, Bool, true, false, List, [], ◌∷◌, ◌++◌, length, slice_get, Option, Some, None, is_some, Result, Ok, Err, if◌then◌else◌}
+use Rattle.std.specs.Str.{is_utf8}
+use Rattle.asm_text.specs.Tokens.{tokens_of}
+use Rattle.asm_text.specs.declared.answers.Token.{Token}
+use Rattle.asm_text.specs.declared.answers.TokenFault.{TokenFault}
+use Rattle.asm_text.specs.declared.answers.TokenFault.TheVariants as fault
+use Rattle.f8_asm.specs.declared.answers.AsmCause.TheVariants as cause
+use Rattle.f8_asm.specs.declared.answers.AsmFault.{AsmFault}
+use Rattle.f8_asm.specs.declared.faults.LineFault.{LineFault}
+use Rattle.f8_asm.specs.declared.line.Line.{Line}
+use Rattle.f8_asm.specs.Answers.{◌>>=◌}
+use Rattle.f8_asm.specs.Evaluation.{values}
+use Rattle.f8_asm.specs.Grammar.{column_of}
+use Rattle.f8_asm.specs.Names.{value_of, with_name}
+use Rattle.f8_asm.specs.Statements.{statement, label_of, unlabelled, twice}
+
+-- ---- faults in their line
+
+-- the column past the last token
+abbrev pub end_in : Option Token → ℕ
+end_in None = 1
+end_in (Some t) = t.end
+
+abbrev pub end_of : List Token → ℕ
+end_of ts = end_in (slice_get ts (length ts - 1))
+
+abbrev pub column_or : ℕ → Option ℕ → ℕ
+column_or end None = end
+column_or end (Some column) = column
+
+-- a line's fault with the line's number; where no token is left it stands past the last
+abbrev pub told : ℕ → List Token → LineFault → AsmFault
+told number ts fault = record { line = number; column = column_or (end_of ts) fault.column; cause = fault.cause }
+
+abbrev pub in_line : {A : Type 0} → ℕ → List Token → Result A LineFault → Result A AsmFault
+in_line number ts (Ok x) = Ok x
+in_line number ts (Err fault) = Err (told number ts fault)
+
+-- ---- tokens
+
+-- what begins no token is Token, a number too wide is Range
+abbrev pub token_fault : ℕ → TokenFault → AsmFault
+token_fault number (fault.Bad column) = record { line = number; column = column; cause = cause.Token }
+token_fault number (fault.Wide column) = record { line = number; column = column; cause = cause.Range }
+token_fault number fault.Memory = record { line = number; column = 1; cause = cause.Token }
+
+abbrev pub tokens_in : ℕ → Result (List Token) TokenFault → Result (List Token) AsmFault
+tokens_in number (Ok ts) = Ok ts
+tokens_in number (Err fault) = Err (token_fault number fault)
+
+-- the tokens of a line, if it is UTF-8
+unfoldable pub line_tokens : ℕ → List ℕ → Result (List Token) AsmFault
+line_tokens number bytes =
+    if is_utf8 bytes then tokens_in number (tokens_of bytes) else Err (record { line = number; column = 1; cause = cause.Utf8 })
+
+-- ---- lines
+
+-- tokens make a statement. Names have no values yet, for which 0 stands: whether tokens make a statement doesn't
+-- hang on values.
+abbrev pub statement_checked : List (List ℕ × ℤ) → Bool → List Token → Result (Unit {0}) LineFault
+statement_checked names labelled ts = statement (values names 0) labelled ts >>= λ _. Ok tt
+
+-- a new label and a statement: the names after them
+abbrev pub check_labelled : List (List ℕ × ℤ) → List Token → List ℕ → Result (List (List ℕ × ℤ)) LineFault
+check_labelled names ts name =
+    if is_some (value_of names name) then Err (twice (column_of ts))
+    else (statement_checked names true (unlabelled ts) >>= λ _. Ok (with_name names name (pos 0)))
+
+abbrev pub check_with : List (List ℕ × ℤ) → List Token → Option (List ℕ) → Result (List (List ℕ × ℤ)) LineFault
+check_with names ts None = statement_checked names false ts >>= λ _. Ok names
+check_with names ts (Some name) = check_labelled names ts name
+
+abbrev pub check : List (List ℕ × ℤ) → List Token → Result (List (List ℕ × ℤ)) LineFault
+check names ts = check_with names ts (label_of ts)
+
+-- what is known after some lines
+pub record Reading : Type 0 where
+  pub names : List (List ℕ × ℤ)
+  pub lines : List Line
+
+unfoldable pub read_line : ℕ → Reading → List ℕ → Result Reading AsmFault
+read_line number s bytes =
+    line_tokens number bytes >>= λ ts. in_line number ts (check s.names ts) >>= λ names. Ok (record { names = names; lines = s.lines ++ (record { number = number; tokens = ts }) ∷ [] })
+
+-- lines from this number on
+unfoldable pub read_lines : ℕ → Reading → List (List ℕ) → Result Reading AsmFault
+read_lines number s [] = Ok s
+read_lines number s (l ∷ ls) = read_line number s l >>= λ t. read_lines (number + 1) t ls
+
+unfoldable pub no_reading : Reading
+no_reading = record { names = []; lines = [] }

@@ -1,0 +1,72 @@
+-- The second pass: the address of each line, the values of names, and which addresses are filled.
+use Rattle.std.specs.Prelude.{ℕ, ℤ, pos, ◌+◌, Bool, ◌||◌, ◌&&◌, ◌==◌, nat_le, List, [], ◌∷◌, ◌++◌, Option, Some, None, is_some, Result, Ok, Err, if◌then◌else◌}
+use Rattle.asm_text.specs.declared.answers.Token.{Token}
+use Rattle.f8_asm.specs.declared.answers.AsmCause.TheVariants as cause
+use Rattle.f8_asm.specs.declared.answers.AsmFault.{AsmFault}
+use Rattle.f8_asm.specs.declared.answers.Room.{Room}
+use Rattle.f8_asm.specs.declared.faults.LineFault.{LineFault}
+use Rattle.f8_asm.specs.declared.line.Line.{Line}
+use Rattle.f8_asm.specs.declared.line.PlacedLine.{PlacedLine}
+use Rattle.f8_asm.specs.declared.operands.Effect.{Effect}
+use Rattle.f8_asm.specs.declared.operands.Effect.TheVariants.{Names, Moves, Fills}
+use Rattle.f8_asm.specs.Answers.{◌>>=◌}
+use Rattle.f8_asm.specs.Evaluation.{values}
+use Rattle.f8_asm.specs.Grammar.{column_of}
+use Rattle.f8_asm.specs.Judging.{taken, unsigned}
+use Rattle.f8_asm.specs.Marks.{no_marks, marked, is_free}
+use Rattle.f8_asm.specs.Names.{with_name}
+use Rattle.f8_asm.specs.PassOne.{in_line}
+use Rattle.f8_asm.specs.Statements.{statement, label_of, unlabelled, effect_of}
+
+-- what is known after some lines: the next address, the names so far, the filled addresses, and the lines with
+-- their addresses
+pub record Layout : Type 0 where
+  pub here : ℕ
+  pub names : List (List ℕ × ℤ)
+  pub filled : List Bool
+  pub placed : List PlacedLine
+
+abbrev pub no_layout : Layout
+no_layout = record { here = 0; names = []; filled = no_marks; placed = [] }
+
+-- all of so many bytes lie in the room
+abbrev pub is_inside : Room → ℕ → ℕ → Bool
+is_inside room here size = (size == 0) || (nat_le room.first here && nat_le (here + size) (room.last + 1))
+
+-- a label's name has this value
+abbrev pub with_label : Option (List ℕ) → ℤ → Layout → Layout
+with_label None v s = s
+with_label (Some name) v s = record { here = s.here; names = with_name s.names name v; filled = s.filled; placed = s.placed }
+
+abbrev pub moved_to : ℕ → Layout → Layout
+moved_to address s = record { here = address; names = s.names; filled = s.filled; placed = s.placed }
+
+abbrev pub filled_by : ℕ → Layout → Layout
+filled_by size s = record { here = s.here + size; names = s.names; filled = marked s.filled s.here size; placed = s.placed }
+
+-- bytes in the room, and on addresses that are free
+abbrev pub fits : Room → Option ℕ → ℕ → Layout → Result (Unit {0}) LineFault
+fits room column size s =
+    if is_inside room s.here size
+    then (if is_free s.filled s.here size then Ok tt else Err (record { column = column; cause = cause.Overlap }))
+    else Err (record { column = column; cause = cause.Outside })
+
+-- what a statement does: EQU names a value, ORG moves, and all else fills; a label before ORG has the address before it
+abbrev pub settled : Room → Option (List ℕ) → Option ℕ → Layout → Effect → Result Layout LineFault
+settled room label column s (Names o) = taken o >>= λ v. Ok (with_label label v s)
+settled room label column s (Moves o) = unsigned 65535 o >>= λ address. Ok (moved_to address (with_label label (pos s.here) s))
+settled room label column s (Fills size) = fits room column size s >>= λ _. Ok (filled_by size (with_label label (pos s.here) s))
+
+-- the tokens of a line
+unfoldable pub settle : Room → Layout → List Token → Result Layout LineFault
+settle room s ts = statement (values s.names s.here) (is_some (label_of ts)) (unlabelled ts) >>= λ st. settled room (label_of ts) (column_of (unlabelled ts)) s (effect_of st)
+
+abbrev pub with_placed : PlacedLine → Layout → Layout
+with_placed p s = record { here = s.here; names = s.names; filled = s.filled; placed = s.placed ++ p ∷ [] }
+
+unfoldable pub place : Room → Layout → Line → Result Layout AsmFault
+place room s l = in_line l.number l.tokens (settle room s l.tokens) >>= λ t. Ok (with_placed (record { address = s.here; line = l }) t)
+
+unfoldable pub place_lines : Room → Layout → List Line → Result Layout AsmFault
+place_lines room s [] = Ok s
+place_lines room s (l ∷ ls) = place room s l >>= λ t. place_lines room t ls

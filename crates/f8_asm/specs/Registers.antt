@@ -1,0 +1,143 @@
+-- Register words, and the instruction LR between two of them.
+use Rattle.std.specs.Prelude.{ℕ, Bool, true, false, List, codes, Option, Some, None, if◌then◌else◌, bytes_eq, map, length, ◌==◌}
+use Rattle.std.specs.Char.{to_ascii_lowercase}
+use Rattle.f8_spec.specs.declared.instructions.Op.{Op}
+use Rattle.f8_spec.specs.declared.instructions.Op.TheVariants as op
+use Rattle.f8_asm.specs.declared.registers.Register.{Register}
+use Rattle.f8_asm.specs.declared.registers.Register.TheVariants.{A, J, Hu, Hl, Ku, Kl, Qu, Ql, K, Q, H, S, I, D, Is, P, P0, Dc, W}
+
+-- two words are the same in either case
+unfoldable pub same_word : List ℕ → List ℕ → Bool
+same_word a b = bytes_eq (map to_ascii_lowercase a) (map to_ascii_lowercase b)
+
+-- register words of one letter
+unfoldable pub one_letter_register : List ℕ → Option Register
+one_letter_register name =
+    if same_word name (codes "A") then Some A else
+    if same_word name (codes "J") then Some J else
+    if same_word name (codes "K") then Some K else
+    if same_word name (codes "Q") then Some Q else
+    if same_word name (codes "H") then Some H else
+    if same_word name (codes "S") then Some S else
+    if same_word name (codes "I") then Some I else
+    if same_word name (codes "D") then Some D else
+    if same_word name (codes "P") then Some P else
+    if same_word name (codes "W") then Some W else
+    None
+
+-- register words of two letters
+unfoldable pub two_letter_register : List ℕ → Option Register
+two_letter_register name =
+    if same_word name (codes "HU") then Some Hu else
+    if same_word name (codes "HL") then Some Hl else
+    if same_word name (codes "KU") then Some Ku else
+    if same_word name (codes "KL") then Some Kl else
+    if same_word name (codes "QU") then Some Qu else
+    if same_word name (codes "QL") then Some Ql else
+    if same_word name (codes "IS") then Some Is else
+    if same_word name (codes "P0") then Some P0 else
+    if same_word name (codes "DC") then Some Dc else
+    None
+
+-- the register that a word names
+unfoldable pub register_of : List ℕ → Option Register
+register_of name =
+    if length name == 1 then one_letter_register name else
+    if length name == 2 then two_letter_register name else
+    None
+
+-- the scratchpad register that a word stands for as an operand r
+abbrev pub number_of : Register → Option ℕ
+number_of J = Some 9
+number_of Hu = Some 10
+number_of Hl = Some 11
+number_of S = Some 12
+number_of I = Some 13
+number_of D = Some 14
+number_of register = None
+
+abbrev pub is_accumulator : Register → Bool
+is_accumulator A = true
+is_accumulator register = false
+
+-- LR A,from
+abbrev pub loaded : Register → Option Op
+loaded Ku = Some op.LrAKu
+loaded Kl = Some op.LrAKl
+loaded Qu = Some op.LrAQu
+loaded Ql = Some op.LrAQl
+loaded Is = Some op.LrAIs
+loaded J = Some (op.LrAR 9)
+loaded Hu = Some (op.LrAR 10)
+loaded Hl = Some (op.LrAR 11)
+loaded S = Some (op.LrAR 12)
+loaded I = Some (op.LrAR 13)
+loaded D = Some (op.LrAR 14)
+loaded from = None
+
+-- LR to,A
+abbrev pub stored : Register → Option Op
+stored Ku = Some op.LrKuA
+stored Kl = Some op.LrKlA
+stored Qu = Some op.LrQuA
+stored Ql = Some op.LrQlA
+stored Is = Some op.LrIsA
+stored J = Some (op.LrRA 9)
+stored Hu = Some (op.LrRA 10)
+stored Hl = Some (op.LrRA 11)
+stored S = Some (op.LrRA 12)
+stored I = Some (op.LrRA 13)
+stored D = Some (op.LrRA 14)
+stored to = None
+
+-- LR to,from past the accumulator
+abbrev pub into_k : Register → Option Op
+into_k P = Some op.LrKP
+into_k from = None
+
+abbrev pub into_p : Register → Option Op
+into_p K = Some op.LrPK
+into_p from = None
+
+abbrev pub into_p0 : Register → Option Op
+into_p0 Q = Some op.LrP0Q
+into_p0 from = None
+
+abbrev pub into_q : Register → Option Op
+into_q Dc = Some op.LrQDc
+into_q from = None
+
+abbrev pub into_dc : Register → Option Op
+into_dc Q = Some op.LrDcQ
+into_dc H = Some op.LrDcH
+into_dc from = None
+
+abbrev pub into_h : Register → Option Op
+into_h Dc = Some op.LrHDc
+into_h from = None
+
+abbrev pub into_w : Register → Option Op
+into_w J = Some op.LrWJ
+into_w from = None
+
+abbrev pub into_j : Register → Option Op
+into_j W = Some op.LrJW
+into_j from = None
+
+abbrev pub moved : Register → Register → Option Op
+moved K from = into_k from
+moved P from = into_p from
+moved P0 from = into_p0 from
+moved Q from = into_q from
+moved Dc from = into_dc from
+moved H from = into_h from
+moved W from = into_w from
+moved J from = into_j from
+moved to from = None
+
+-- LR to,from, if there is such an instruction
+unfoldable pub pair_op : Register → Register → Option Op
+pair_op to from =
+    if is_accumulator to then loaded from else
+    if is_accumulator from then stored to else
+    moved to from

@@ -1,0 +1,68 @@
+// The image of a text.
+ghost use Rattle.std.specs.Prelude.{◌≡◌, ◌≤◌, length};
+ghost use Rattle.f8_asm.specs.Answers.{SaysOfText};
+ghost use Rattle.f8_asm.specs.Image.{image_of};
+
+use crate::answers::{AsmAnswer, Room};
+use crate::pass_one::read_lines;
+use crate::pass_three::emit_lines;
+use crate::pass_two::place_lines;
+use crate::symbols::Symbols;
+use asm_text::LINE_LIMIT;
+use std::alloc::Global;
+use std::marker::Model;
+
+/// The image of a text: bytes with their addresses, ascending, and names with their values. A contract sees both
+/// lists.
+#[derive(Drop)]
+pub struct Image {
+    bytes: Vec<(u16, u8)>,
+    symbols: Symbols,
+}
+
+impl Model for Image {
+    ghost use Rattle.f8_asm.specs.Image.{Picture};
+
+    ghost Value = { Picture };
+
+    ghost view = { λ i. record { bytes = i.bytes.items; symbols = i.symbols } };
+}
+
+impl Image {
+    ghost use Rattle.std.specs.Prelude.{◌≡◌, slice_get};
+    ghost use Rattle.f8_asm.specs.Names.{symbol_seen};
+
+    /// The addresses that hold a byte, ascending, each with its byte.
+    pub fn bytes(&self) -> &[(u16, u8)]
+        ensures { result.now ≡ self.now.bytes }
+    {
+        self.bytes.as_slice()
+    }
+
+    /// The name and the value of a symbol, counted from 0 in the order in which they were defined, and `None` from
+    /// their number on.
+    pub fn symbol(&self, k: u32) -> Option<(&str, i64)>
+        ensures { symbol_seen result ≡ slice_get self.now.symbols k }
+    {
+        self.symbols.get(k as usize)
+    }
+}
+
+/// The image of a text, with its bytes in the room.
+///
+/// # Errors
+///
+/// `Fault`: the first fault of the text, in text order within the earliest of three passes (docs/ASSEMBLY.md).
+/// `Memory`: memory is missing.
+#[tactic(auto, unfolding(crate::specs::Image::image_of))]
+pub fn assemble(alloc: Global, text: &[u8], room: Room) -> Result<Image, AsmAnswer>
+    requires { length text.now ≤ LINE_LIMIT }
+    ensures { SaysOfText result (image_of text.now room) }
+{
+    let reading = read_lines(alloc, text)?;
+    let layout = place_lines(alloc, room, reading.into_lines())?;
+    let table = emit_lines(alloc, &layout)?;
+    let bytes = table.ascending(alloc)?;
+    let symbols = layout.into_symbols();
+    Ok(Image { bytes, symbols })
+}

@@ -1,0 +1,199 @@
+// The second pass: the address of each line, the values of names, and which addresses are filled.
+ghost use Rattle.std.specs.Prelude.{◌≡◌, ◌≤◌, ◌+◌, IfOk, OnOk, option_copied};
+ghost use Rattle.f8_asm.specs.Answers.{SaysOfText, StepsOfLine, StepsOfText};
+ghost use Rattle.f8_asm.specs.PassTwo.{is_inside, fits, with_label, filled_by, settled, settle, place, place_lines, no_layout};
+
+use crate::answers::{AsmAnswer, AsmCause, Room};
+use crate::faults::{LineFault, LineStop};
+use crate::grammar::{Scope, column_of};
+use crate::judging::{taken, unsigned};
+use crate::line::{Line, PlacedLine};
+use crate::marks::{is_free, mark, no_marks};
+use crate::operands::{Effect, effect_of};
+use crate::statements::{label_of, statement, unlabelled};
+use crate::symbols::Symbols;
+use crate::text::told;
+use asm_text::{Name, Token};
+use std::alloc::{AllocError, Global};
+use std::marker::Model;
+
+/// Whether all of so many bytes lie in the room.
+fn is_inside(room: Room, here: u32, size: usize) -> bool
+    requires { here ≤ 65536 }
+    ensures { result ≡ is_inside room here size }
+{
+    let end = u32::from(room.last) + 1;
+    size == 0 || (u32::from(room.first) <= here && here <= end && size <= (end - here) as usize)
+}
+
+/// What is known after some lines: the next address, the names so far, the filled addresses, and the lines with
+/// their addresses.
+#[derive(Drop)]
+pub struct Layout {
+    here: u32,
+    symbols: Symbols,
+    filled: Vec<bool>,
+    placed: Vec<PlacedLine>,
+}
+
+impl Model for Layout {
+    ghost use Rattle.std.specs.Prelude.{◌≡◌, ◌≤◌, length};
+    ghost use Rattle.f8_asm.specs.PassTwo.{Layout};
+
+    ghost Value = { Layout };
+
+    ghost view = { λ s. record { here = s.here; names = s.symbols; filled = s.filled.items; placed = s.placed.items } };
+
+    ghost invariant = { λ s. (s.here ≤ 65536) × (length s.filled.items ≡ 65536) };
+}
+
+impl Layout {
+    /// Nothing is known before the first line.
+    fn new(alloc: Global) -> Result<Layout, AllocError>
+        ensures { IfOk result (λ s. s ≡ no_layout) }
+    {
+        Ok(Layout {
+            here: 0,
+            symbols: Symbols::new(alloc),
+            filled: no_marks(alloc)?,
+            placed: Vec::new(alloc),
+        })
+    }
+
+    /// Gives a label's name its value.
+    fn name(&mut self, alloc: Global, label: Option<&Name>, value: i64) -> Result<(), AllocError>
+        ensures value { OnOk result (self.new ≡ with_label (option_copied label.entry) value self.old) }
+        ensures here { self.new.here ≡ self.old.here }
+    {
+        match label {
+            Some(name) => self.symbols.define(alloc, name, value),
+            None => Ok(()),
+        }
+    }
+
+    /// Whether so many bytes lie in the room, on addresses that are free.
+    fn fits(&self, room: Room, column: Option<u32>, size: usize) -> Result<(), LineFault>
+        ensures value { result ≡ fits room column size self.now }
+        ensures end { OnOk result (self.now.here + size ≤ 65536) }
+    {
+        if !is_inside(room, self.here, size) {
+            return Err(LineFault {
+                column,
+                cause: AsmCause::Outside,
+            });
+        }
+        if !is_free(self.filled.as_slice(), self.here as usize, size) {
+            return Err(LineFault {
+                column,
+                cause: AsmCause::Overlap,
+            });
+        }
+        Ok(())
+    }
+
+    /// Takes so many bytes.
+    fn fill(&mut self, size: usize)
+        requires { self.old.here + size ≤ 65536 }
+        ensures { self.new ≡ filled_by size self.old }
+    {
+        mark(self.filled.as_mut_slice(), self.here as usize, size);
+        self.here += size as u32;
+    }
+
+    /// Does what a statement does.
+    fn settled(
+        &mut self,
+        alloc: Global,
+        room: Room,
+        label: Option<&Name>,
+        column: Option<u32>,
+        effect: Effect,
+    ) -> Result<(), LineStop>
+        ensures { StepsOfLine result self.new (settled room (option_copied label.entry) column self.old effect) }
+    {
+        match effect {
+            Effect::Names(operand) => {
+                let value = taken(operand)?;
+                self.name(alloc, label, value)?;
+                Ok(())
+            }
+            Effect::Moves(operand) => {
+                let address = unsigned(u16::MAX, operand)?;
+                self.name(alloc, label, i64::from(self.here))?;
+                self.here = u32::from(address);
+                Ok(())
+            }
+            Effect::Fills(size) => {
+                self.fits(room, column, size)?;
+                self.name(alloc, label, i64::from(self.here))?;
+                self.fill(size);
+                Ok(())
+            }
+        }
+    }
+
+    /// Does what the tokens of a line say.
+    #[tactic(auto, unfolding(crate::specs::PassTwo::settle))]
+    fn settle(&mut self, alloc: Global, room: Room, tokens: &[Token]) -> Result<(), LineStop>
+        ensures { StepsOfLine result self.new (settle room self.old tokens.now) }
+    {
+        let label = label_of(tokens);
+        let rest = unlabelled(tokens);
+        let scope = Scope {
+            symbols: &self.symbols,
+            address: self.here,
+        };
+        let statement = statement(alloc, &scope, label.is_some(), rest)?;
+        self.settled(alloc, room, label, column_of(rest), effect_of(&statement))
+    }
+
+    /// Places one line more.
+    #[tactic(auto, unfolding(crate::specs::PassTwo::place))]
+    fn place(&mut self, alloc: Global, room: Room, line: Line) -> Result<(), AsmAnswer>
+        ensures { StepsOfText result self.new (place room self.old line) }
+    {
+        let address = self.here;
+        match self.settle(alloc, room, line.tokens.as_slice()) {
+            Ok(()) => {
+                self.placed.push(PlacedLine { address, line })?;
+                Ok(())
+            }
+            Err(LineStop::Fault(fault)) => {
+                Err(AsmAnswer::Fault(told(line.number, line.tokens.as_slice(), fault)))
+            }
+            Err(LineStop::Memory) => Err(AsmAnswer::Memory),
+        }
+    }
+
+    /// The lines with their addresses.
+    pub fn placed(&self) -> &[PlacedLine]
+        ensures { result.now ≡ self.now.placed }
+    {
+        self.placed.as_slice()
+    }
+
+    /// The names with their values.
+    pub fn symbols(&self) -> &Symbols
+        ensures { result.now ≡ self.now.names }
+    {
+        &self.symbols
+    }
+
+    /// The names with their values, where nothing else is wanted any more.
+    pub fn into_symbols(self) -> Symbols
+        ensures { result ≡ self.names }
+    {
+        self.symbols
+    }
+}
+
+/// The layout of lines, if all bytes lie in the room and on addresses of their own.
+pub fn place_lines(alloc: Global, room: Room, lines: Vec<Line>) -> Result<Layout, AsmAnswer>
+    ensures { SaysOfText result (place_lines room no_layout lines.items) }
+{
+    let mut layout = Layout::new(alloc)?;
+    for line in lines {
+        layout.place(alloc, room, line)?;
+    }
+    Ok(layout)
+}

@@ -1,0 +1,60 @@
+// Names with their values.
+ghost use Rattle.std.specs.Prelude.{◌≡◌, [], OnOk, slice_get};
+ghost use Rattle.f8_asm.specs.Names.{value_of, with_name, symbol_seen};
+
+use asm_text::Name;
+use indexmap::IndexMap;
+use std::alloc::{AllocError, Global};
+use std::marker::Model;
+
+/// Names with their values, in the order in which they were first given one. A contract sees that list.
+#[derive(Drop)]
+pub struct Symbols {
+    entries: IndexMap<String, i64>,
+}
+
+impl Model for Symbols {
+    ghost use Rattle.std.specs.Prelude.{ℕ, ℤ, List, map};
+    ghost use Rattle.std.specs.String.{string_bytes};
+
+    ghost Value = { List (List ℕ × ℤ) };
+
+    ghost view = { λ s. map (λ e. (string_bytes e.0, e.1)) s.entries.entries };
+}
+
+impl Symbols {
+    /// No name.
+    pub fn new(alloc: Global) -> Symbols
+        ensures { result ≡ [] }
+    {
+        Symbols {
+            entries: IndexMap::new(alloc),
+        }
+    }
+
+    /// The value of a name.
+    #[tactic(auto, using(crate::proofs::NameLookup::looked_up))]
+    pub fn value_of(&self, name: &Name) -> Option<i64>
+        ensures { result ≡ value_of self.now name.now }
+    {
+        self.entries.get(name.as_str()).copied()
+    }
+
+    /// Gives a name a value. The one error is want of memory, and nothing has changed then.
+    #[tactic(auto, using(crate::proofs::NameLookup::inserted))]
+    pub fn define(&mut self, alloc: Global, name: &Name, value: i64) -> Result<(), AllocError>
+        ensures { OnOk result (self.new ≡ with_name self.old name.now value) }
+    {
+        let key = String::from_str(alloc, name.as_str())?;
+        self.entries.insert(key, value)?;
+        Ok(())
+    }
+
+    /// The name and the value of an entry, counted from 0.
+    pub fn get(&self, k: usize) -> Option<(&str, i64)>
+        ensures { symbol_seen result ≡ slice_get self.now k }
+    {
+        let (name, value) = self.entries.get_index(k)?;
+        Some((name.as_str(), *value))
+    }
+}

@@ -1,0 +1,111 @@
+use super::*;
+use std::alloc::Global;
+use std::test::Fail;
+
+/// All addresses.
+const EVERYWHERE: Room = Room {
+    first: 0,
+    last: 0xFFFF,
+};
+
+/// What `assemble` answers, as text: bytes, then names with their values, or the fault.
+fn answer(alloc: Global, text: &str, room: Room) -> Result<String, Fail> {
+    let mut written = String::new(alloc);
+    if text.len() > LIMIT {
+        return Ok(written);
+    }
+    match assemble(alloc, text.as_bytes(), room) {
+        Ok(image) => {
+            for (address, byte) in image.bytes() {
+                write!(written, "{address:X}:{byte:02X} ")?;
+            }
+            if let Some((name, value)) = image.symbol(0) {
+                write!(written, "{name}={value}")?;
+            }
+        }
+        Err(AsmAnswer::Fault(fault)) => {
+            let number = fault.cause.number();
+            let line = fault.line;
+            let column = fault.column;
+            write!(written, "{line} {column} {number}")?
+        }
+        Err(AsmAnswer::Memory) => write!(written, "memory")?,
+    }
+    Ok(written)
+}
+
+/// Longer texts are not tried here.
+const LIMIT: usize = 1_000;
+
+#[test]
+fn texts_have_images(rt: HostRuntime) -> Result<(), Fail> {
+    for (text, want) in [
+        ("", ""),
+        ("LOOP: NOP\nBR LOOP", "0:2B 1:90 2:FE LOOP=0"),
+        (
+            " ORG 3\r\n DB -1,'A'\n ORG 0\n DW $102",
+            "0:01 1:02 3:FF 4:41 ",
+        ),
+        ("X: ORG .+2\n lr a,J\n Lr 9,a", "2:49 3:59 X=0"),
+        ("X: EQU -1&$FFFFFFFF", "X=4294967295"),
+    ] {
+        let got = answer(rt.alloc(), text, EVERYWHERE)?;
+        assert_eq!(rt; got.as_str(), want, "{text}");
+    }
+    Ok(())
+}
+
+#[test]
+fn texts_have_faults(rt: HostRuntime) -> Result<(), Fail> {
+    for (text, want) in [
+        (" LI 256", "1 5 6"),
+        (" BT 1,$200", "1 7 7"),
+        (" ORG 2\n DB 1\n ORG 2\n DB 2", "4 2 9"),
+        ("X: EQU $100000000", "1 8 6"),
+        (" #", "1 2 2"),
+        ("X: Y: NOP", "1 4 3"),
+        ("X:\nX: NOP", "2 1 4"),
+        ("X: ORG X", "1 8 5"),
+        (" DW 1,2", "1 2 8"),
+        (" BT 1", "1 6 11"),
+        (" LI (5", "1 7 11"),
+        ("NOP: NOP", "1 4 11"),
+        (" A 5", "1 2 11"),
+        (" EQU 5", "1 2 11"),
+        (" LR A,A", "1 7 11"),
+        (" LR HU,W", "1 8 11"),
+        (" LI 1/0+X", "1 9 5"),
+        (" DB 1/0,X", "1 5 6"),
+        (" LR 12,A", "1 5 6"),
+    ] {
+        let room = Room { first: 0, last: 2 };
+        let got = answer(rt.alloc(), text, room)?;
+        assert_eq!(rt; got.as_str(), want, "{text}");
+    }
+    Ok(())
+}
+
+#[test]
+fn bytes_past_utf8_are_told(rt: HostRuntime) {
+    let got = assemble(rt.alloc(), b" NOP\n ;\xFF", EVERYWHERE);
+    let fault = AsmFault {
+        line: 2,
+        column: 1,
+        cause: AsmCause::Utf8,
+    };
+    assert!(rt; matches!(got, Err(AsmAnswer::Fault(told)) if told == fault));
+}
+
+#[test]
+fn bytes_are_listed(rt: HostRuntime) -> Result<(), Fail> {
+    let bytes = [
+        0x71, 0x2D, 0x4C, 0x90, 0xFE, 0x90, 0x80, 0xA4, 0x28, 0x12, 0x34, 0x20,
+    ];
+    let want =
+        "ORG $0000\nLIS 1\nDB $2D\nLR A,S\nBF 0,$0002\nDB $90\nDB $80\nINS 4\nPI $1234\nDB $20\n";
+    let Ok(text) = disassemble(rt.alloc(), &bytes) else {
+        return Ok(());
+    };
+    assert_eq!(rt; text.as_bytes(), want.as_bytes());
+    Ok(())
+}
