@@ -157,10 +157,10 @@ branch_traced = refl
 -- the three bus steps of reset
 reset_traced : reset_course (power_position (psu 0 4 (0x71 ∷ []) ∷ []) 0) ≡ record {
   steps =
-    record { romc = 0x1C; long = false; byte = 0; who = Nobody; taker = None }
-    ∷ record { romc = 0x08; long = true; byte = 0; who = Cpu; taker = None }
-    ∷ record { romc = 0x00; long = false; byte = 0x71; who = Socket 0; taker = None }
-    ∷ [];
+      record { romc = 0x1C; long = false; byte = 0; who = Nobody; taker = None }
+      ∷ record { romc = 0x08; long = true; byte = 0; who = Cpu; taker = None }
+      ∷ record { romc = 0x00; long = false; byte = 0x71; who = Socket 0; taker = None }
+      ∷ [];
   fault = None;
 }
 unfolding first_memory

@@ -8,10 +8,10 @@ mod rack;
 mod table;
 
 pub use built::is_built;
-pub use rack::is_built_on_rack;
 pub use f8_spec::{Op, Row};
 pub use mnemonics::name;
 pub use opcodes::{Reserved, decode, encode};
+pub use rack::is_built_on_rack;
 pub use table::{length, phi, row_of, shields};
 
 #[cfg(test)]
