@@ -137,15 +137,15 @@ module _ (m : MachineState) (states news : List ChipState) (op : Op) (x : Positi
       let registers_in_range : AreInRange x.flat.state.registers = subst AreInRange r.stands.registers range in
       let bytes : GetsBytes i = gets_bytes op seats x.flat registers_in_range r.stands.memory.bytes in
       let small : AreAddresses y.flat.state.flow =
-          subst AreAddresses (flow_after-with_opcode (row_of op) i.opcode (gets op x.flat) true x.flat.state.flow) (flow_small (row_of op) i true x.flat.state.flow bytes r.stands.addresses) in
+      subst AreAddresses (flow_after-with_opcode (row_of op) i.opcode (gets op x.flat) true x.flat.state.flow) (flow_small (row_of op) i true x.flat.state.flow bytes r.stands.addresses) in
       let same_flow : flow ≡ y.flat.state.flow = moved ∙ ap unfetched carried.reference ∙ unfetched-fetched y.flat.state.flow small in
       let same_registers : cpu.registers ≡ y.flat.state.registers =
-          ap (λ (k : CpuState). k.registers) carried.processor
-          ∙ ap (λ (regs : Registers). result_of op i regs) r.stands.registers
-          ∙ result_of-with_opcode op i.opcode (gets op x.flat) x.flat.state.registers in
+      ap (λ (k : CpuState). k.registers) carried.processor
+      ∙ ap (λ (regs : Registers). result_of op i regs) r.stands.registers
+      ∙ result_of-with_opcode op i.opcode (gets op x.flat) x.flat.state.registers in
       let same_clocks : m.phi + clocks ≡ y.flat.state.phi =
-          ap (λ (n : ℕ). n + clocks) r.stands.phi
-          ∙ ap (λ (n : ℕ). x.flat.state.phi + n) (spent ∙ ap (λ (regs : Registers). row_clocks (row_of op) (is_taken op regs)) r.stands.registers ∙ ap (row_clocks (row_of op)) (sym (own_taken op x.flat))) in
+      ap (λ (n : ℕ). n + clocks) r.stands.phi
+      ∙ ap (λ (n : ℕ). x.flat.state.phi + n) (spent ∙ ap (λ (regs : Registers). row_clocks (row_of op) (is_taken op regs)) r.stands.registers ∙ ap (row_clocks (row_of op)) (sym (own_taken op x.flat))) in
       let trace = course_with x m.cpu.opcode true (Some op) r.opcode built held ∙ carried.trace in
       record {
         after = y;
@@ -203,10 +203,10 @@ faulted_from m k same states op x held built r cpu now probe kept fault copied l
     let there : Represents k states x = subst (λ (y : MachineState). Represents y states x) (sym same) r in
     let after : MachineState = record k { probe = probe; cpu = now; mode = Stopped (FaultHalt copied long) } in
     let put_back : after ≡ record k { probe = probe; mode = Stopped (FaultHalt fault long) } =
-        ap (λ (c : CpuState). record k { probe = probe; cpu = c; mode = Stopped (FaultHalt copied long) }) (restored_same k.cpu cpu now kept kept_is now_is restorable)
-        ∙ ap (λ (f : BusFault). record k { probe = probe; mode = Stopped (FaultHalt f long) }) copy in
+    ap (λ (c : CpuState). record k { probe = probe; cpu = c; mode = Stopped (FaultHalt copied long) }) (restored_same k.cpu cpu now kept kept_is now_is restorable)
+    ∙ ap (λ (f : BusFault). record k { probe = probe; mode = Stopped (FaultHalt f long) }) copy in
     subst (λ (y : MachineState). IsFaulted y after (next x) (turn_course x) fault long steps) same
-        (faulted_of k states states op x held built there after fault long steps (cut (holds_of k states op x held built range there)) put_back)
+    (faulted_of k states states op x held built there after fault long steps (cut (holds_of k states op x held built range there)) put_back)
 
 -- a stopped machine tells no step
 pub no_steps : (halt : Halt) → steps_in (halted halt) ≡ []

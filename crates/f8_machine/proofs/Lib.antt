@@ -18,3 +18,4 @@ pub mod RackLaws
 pub mod Remains
 pub mod Carried
 pub mod Instructions
+pub mod Resets

@@ -51,7 +51,7 @@ pub returns-in-Err-clause-cut : goal.returns-in-Err-clause-cut
 returns-in-Err-clause-cut g c = λ op x holds.
     let within : c.loop-index.index < length c.args.plan.now = search rules in
     let stopped = remaining_stops op x _ _ _ c.args.plan.now c.index-plan-index.result c.loop-index.index c.loop-index.cpu c.loop-index.probe _ c.loop-index.steps
-        c.in-Err.fault c.bus_step.new.probe _ c.bus_step.new.steps within c.index-plan-index.is c.in-Err.ensures.refused (c.loop-index.invariant.left op x holds) in
+    c.in-Err.fault c.bus_step.new.probe _ c.bus_step.new.steps within c.index-plan-index.is c.in-Err.ensures.refused (c.loop-index.invariant.left op x holds) in
     record { unserved = stopped.fault_is; so_far = stopped.so_far; recorded = stopped.told_so_far; trace = stopped.course_is }
 
 pub returns-in-Err-clause-restorable : goal.returns-in-Err-clause-restorable

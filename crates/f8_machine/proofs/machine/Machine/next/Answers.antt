@@ -20,15 +20,17 @@ returns-in-Ok-carried-clause-refines g c = λ x r.
     let found = some_of (decoded c.self.inside.cpu.opcode) (c.in-Ok.ensures.instruction.0 refl) in
     let built : is_built_on_rack c.self.inside.cpu.opcode ≡ true = search rules in
     let clocks = c.from.ensures ∙ c.clocks.ensures
-        ∙ ap (λ (steps : List Step). sum_by (λ (step : Step). step_clocks step.long) steps) c.in-Ok.ensures.steps
-        ∙ clocks_planned c.self.inside.cpu found.0 found.1 in
-    (refl, done_from c.args.self.now _ c.self.view_is _ _ found.0 x found.1 built r c.carry_out-carried.new.cpu c.carry_out-carried.new.probe _ c.from.result c.carry_out-carried.new.steps
-        c.kept-kept.ensures.ranges (λ holds. c.in-Ok-carried.ensures.done found.0 x holds) (c.of-self-inside.ensures c.carry_out-carried.new.probe c.counters.ensures) clocks)
+    ∙ ap (λ (steps : List Step). sum_by (λ (step : Step). step_clocks step.long) steps) c.in-Ok.ensures.steps
+    ∙ clocks_planned c.self.inside.cpu found.0 found.1 in (
+      refl,
+      done_from c.args.self.now _ c.self.view_is _ _ found.0 x found.1 built r c.carry_out-carried.new.cpu c.carry_out-carried.new.probe _ c.from.result c.carry_out-carried.new.steps
+          c.kept-kept.ensures.ranges (λ holds. c.in-Ok-carried.ensures.done found.0 x holds) (c.of-self-inside.ensures c.carry_out-carried.new.probe c.counters.ensures) clocks,
+    )
 
 pub returns-in-Err-carried-clause-refines : goal.returns-in-Err-carried-clause-refines
 returns-in-Err-carried-clause-refines g c = λ x r.
     let found = some_of (decoded c.self.inside.cpu.opcode) (c.in-Ok.ensures.instruction.0 refl) in
     let built : is_built_on_rack c.self.inside.cpu.opcode ≡ true = search rules in
     faulted_from c.args.self.now _ c.self.view_is _ found.0 x found.1 built r c.carry_out-carried.new.cpu c.restore.new.self c.carry_out-carried.new.probe c.kept-kept.result
-        c.in-Err-carried.field-0.fault c.copy.result c.in-Err-carried.field-0.long c.carry_out-carried.new.steps c.kept-kept.ensures.ranges (λ holds. c.in-Err-carried.ensures.cut found.0 x holds)
-        c.kept-kept.ensures.kept c.restore.ensures c.in-Err-carried.ensures.restorable c.copy.ensures
+    c.in-Err-carried.field-0.fault c.copy.result c.in-Err-carried.field-0.long c.carry_out-carried.new.steps c.kept-kept.ensures.ranges (λ holds. c.in-Err-carried.ensures.cut found.0 x holds)
+    c.kept-kept.ensures.kept c.restore.ensures c.in-Err-carried.ensures.restorable c.copy.ensures
