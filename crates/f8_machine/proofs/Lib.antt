@@ -19,3 +19,4 @@ pub mod Remains
 pub mod Carried
 pub mod Instructions
 pub mod Resets
+pub mod ResetPositions

@@ -1,17 +1,14 @@
-use Rattle.std.proofs.Common.{rules, ◌≡◌, ◌≤◌, ◌<◌, ◌^◌, length, map, ℕ, ◌+◌, ◌-◌, ◌*◌, ◌/◌, ◌%◌, Bool, true, false, nat_eq, nat_lt, List, [], ◌∷◌, ◌++◌, slice_index_or, slice_set, bit_and, bit_or, Fits, w8, w32, w64, Bor, MutBor}
-use Rattle.console_spec.specs.Processor.{shown}
-use Rattle.console_spec.specs.RackRun.{Position}
-use Rattle.probe.specs.ProbeState.{probe_counters}
-use Rattle.data_bus.specs.Racks.{RackStays}
-use Rattle.f8_machine.specs.MachineState.{IsReset, halted, steps_in, powered_machine, probe_after_steps}
-use Rattle.f8_machine.specs.Refinement.{Represents, IsPowered, Refines, ResetRefines}
-use Rattle.f8_machine.specs.Rounds.{RackPowers, RackRuns}
+-- Reset leads to the position before the first instruction.
+use Rattle.std.proofs.Common.{refl}
+use Rattle.f8_machine.proofs.ResetPositions.{reset_done, reset_cut}
 use Rattle.f8_machine.proofs.machine.Machine.reset.Goals as goal
 
--- src/machine.rt:77:5
 pub returns-in-Ok-clause-refines : goal.returns-in-Ok-clause-refines
-returns-in-Ok-clause-refines g c = ?
+returns-in-Ok-clause-refines g c = λ x p.
+    (refl, reset_done c.args.self.now _ c.self.view_is _ _ x c.in-Ok.opcode c.fetch_first.new.probe c.fetch.new.self _ c.fetch_first.new.steps p
+        (λ at. c.in-Ok.ensures.fetched x at) c.fetch.ensures (c.of-self-inside.ensures c.fetch_first.new.probe c.counters.ensures))
 
--- src/machine.rt:77:5
 pub returns-in-Err-clause-refines : goal.returns-in-Err-clause-refines
-returns-in-Err-clause-refines g c = ?
+returns-in-Err-clause-refines g c = λ x p.
+    reset_cut c.args.self.now _ c.self.view_is _ x c.fetch_first.new.probe c.in-Err.field-0.fault c.copy.result c.in-Err.field-0.long c.fetch_first.new.steps p
+        (λ at. c.in-Err.ensures.cut x at) c.copy.ensures
