@@ -20,3 +20,4 @@ pub mod Carried
 pub mod Instructions
 pub mod Resets
 pub mod ResetPositions
+pub mod PowerPositions

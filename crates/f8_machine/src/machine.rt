@@ -45,11 +45,11 @@ impl Model for Machine {
 impl Machine {
     ghost use Rattle.std.specs.Prelude.{◌≡◌, ◌≤◌, ◌<◌, ◌^◌, length, map};
     ghost use Rattle.console_spec.specs.Processor.{shown};
-    ghost use Rattle.console_spec.specs.RackRun.{Position};
+    ghost use Rattle.console_spec.specs.RackRun.{Position, power_position};
     ghost use Rattle.probe.specs.ProbeState.{probe_counters};
-    ghost use Rattle.data_bus.specs.Racks.{RackStays};
+    ghost use Rattle.data_bus.specs.Racks.{RackStays, views};
     ghost use Rattle.f8_machine.specs.MachineState.{IsReset, halted, steps_in, powered_machine, probe_after_steps};
-    ghost use Rattle.f8_machine.specs.Refinement.{Represents, IsPowered, Refines, ResetRefines};
+    ghost use Rattle.f8_machine.specs.Refinement.{AreWhole, Represents, IsPowered, Refines, ResetRefines};
     ghost use Rattle.f8_machine.specs.Rounds.{RackPowers, RackRuns};
 
     /// Power-on of the machine and of every chip of the rack, of which there are at most 16. The power byte is in the accumulator, in
@@ -60,6 +60,7 @@ impl Machine {
         requires few { length rack.old.items ≤ 16 }
         ensures machine { result ≡ powered_machine fill chain }
         ensures powered { RackPowers fill (map state rack.old.items) (map state rack.new.items) }
+        ensures pair { AreWhole (map state rack.old.items) → IsPowered result (map state rack.new.items) (power_position (views (map state rack.old.items)) fill) }
         ensures chips { length rack.new.items ≡ length rack.old.items }
     {
         power_all(rack, fill);
