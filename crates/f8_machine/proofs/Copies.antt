@@ -85,13 +85,13 @@ copies_end now last row i (c ∷ cs) (v ∷ vs) moves are = (
   copies_end now last row i cs vs moves are.1,
 )
 
--- the same where each set ends as it began
-pub copies_reset : (now : Bool → Flow → Count) (last : ℕ) (cs : List Copy) (vs : List ChipView) →
-    ((second : Bool) (c : Flow) → now second c ≡ fetched c) → AreCopies now last cs vs → AreCopies (λ second c. fetched c) last cs vs
-copies_reset now last [] [] moves are = tt
-copies_reset now last [] (v ∷ vs) moves are = absurd are
-copies_reset now last (c ∷ cs) [] moves are = absurd are
-copies_reset now last (c ∷ cs) (v ∷ vs) moves are = (
-  record { seat = are.0.seat; counters = are.0.counters ∙ moves (has_second_counter c.seat.kind) c.flow; heard = are.0.heard; filled = are.0.filled },
-  copies_reset now last cs vs moves are.1,
+-- the same counters, said otherwise
+pub copies_same : (now then : Bool → Flow → Count) (last : ℕ) (cs : List Copy) (vs : List ChipView) →
+    ((second : Bool) (c : Flow) → now second c ≡ then second c) → AreCopies now last cs vs → AreCopies then last cs vs
+copies_same now then last [] [] same are = tt
+copies_same now then last [] (v ∷ vs) same are = absurd are
+copies_same now then last (c ∷ cs) [] same are = absurd are
+copies_same now then last (c ∷ cs) (v ∷ vs) same are = (
+  record { seat = are.0.seat; counters = are.0.counters ∙ same (has_second_counter c.seat.kind) c.flow; heard = are.0.heard; filled = are.0.filled },
+  copies_same now then last cs vs same are.1,
 )

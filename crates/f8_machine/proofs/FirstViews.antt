@@ -43,7 +43,7 @@ get_or-append_left (x ∷ xs) ys zero below = refl
 get_or-append_left (x ∷ xs) ys (suc i) below = get_or-append_left xs ys i (omega arith)
 
 -- the bytes at power-on are as many
-length-filled_bytes : (fill : ℕ) (pages : List Page) (bytes : List ℕ) → length bytes ≡ length pages * 256 → length (filled_bytes fill pages bytes) ≡ length pages * 256
+pub length-filled_bytes : (fill : ℕ) (pages : List Page) (bytes : List ℕ) → length bytes ≡ length pages * 256 → length (filled_bytes fill pages bytes) ≡ length pages * 256
 length-filled_bytes fill [] bytes size = size
 length-filled_bytes fill (p ∷ ps) bytes size =
     let whole : 256 ≤ length bytes = omega arith in

@@ -98,7 +98,7 @@ unfolding own_inputs
 own_taken op f = refl
 
 -- the counters, from the probe's
-unfetched-fetched : (c : Flow) → AreAddresses c → unfetched (fetched c) ≡ c
+pub unfetched-fetched : (c : Flow) → AreAddresses c → unfetched (fetched c) ≡ c
 unfetched-fetched c small =
     let back : ((c.p + 1) % 65536 + 65535) % 65536 ≡ c.p = (let p : c.p < 65536 = small.p in omega arith) in
     ap (λ (n : ℕ). record c { p = n }) back

@@ -18,3 +18,6 @@ pub mod RackLaws
 pub mod Remains
 pub mod Carried
 pub mod Instructions
+pub mod Resets
+pub mod ResetPositions
+pub mod PowerPositions

@@ -7,3 +7,4 @@ pub mod Rounds
 pub mod MachineState
 pub mod Refinement
 pub mod Carrying
+pub mod Resetting

@@ -1,7 +1,7 @@
 -- A machine with its rack stands for the flat machine with copies of its counters, one in each chip. Nothing says that the copies agree.
-use Rattle.std.specs.Prelude.{◌≡◌, ℕ, ◌<◌, Bool, List, [], ◌∷◌, length, map, Option, Some, None}
+use Rattle.std.specs.Prelude.{◌≡◌, ℕ, ◌<◌, Bool, List, [], ◌∷◌, length, map, slice_get, Option, Some, None}
 use Rattle.f8_spec.specs.BusCodes.{Count}
-use Rattle.f8_spec.specs.ChipState.{ChipState}
+use Rattle.f8_spec.specs.ChipState.{ChipState, IsWhole}
 use Rattle.console_spec.specs.AddressSpace.{byte_at}
 use Rattle.console_spec.specs.Processor.{Flow}
 use Rattle.console_spec.specs.CounterCopies.{Copy, fetched, unreset}
@@ -100,3 +100,7 @@ ResetRefines (FaultOutcome fault long steps) before after states x =
     IsFaulted before after (goes_unless (reset_fault x) (position_after_reset x)) (reset_course x) fault long steps
 ResetRefines (Reserved at code) before after states x = ⊥
 ResetRefines (Unbuilt at code) before after states x = ⊥
+
+-- every chip has 256 bytes for each of its pages
+abbrev pub AreWhole : List ChipState → Type 0
+AreWhole states = (place : ℕ) (s : ChipState) → slice_get states place ≡ Some s → IsWhole s.view

@@ -12,6 +12,7 @@ mod mode;
 mod outcome;
 mod power;
 mod record;
+mod reset;
 
 pub use chain::Chain;
 pub use console_board::PortWrite;

@@ -5,6 +5,7 @@ use super::mode::{Halt, Mode};
 use super::outcome::Outcome;
 use super::power::power_all;
 use super::record::Record;
+use super::reset::{RESET_PHI, fetch_first};
 use chip_face::{Chip, Counters};
 use console_spec::Regs;
 use cpu3850::Cpu;
@@ -44,11 +45,11 @@ impl Model for Machine {
 impl Machine {
     ghost use Rattle.std.specs.Prelude.{◌≡◌, ◌≤◌, ◌<◌, ◌^◌, length, map};
     ghost use Rattle.console_spec.specs.Processor.{shown};
-    ghost use Rattle.console_spec.specs.RackRun.{Position};
+    ghost use Rattle.console_spec.specs.RackRun.{Position, power_position};
     ghost use Rattle.probe.specs.ProbeState.{probe_counters};
-    ghost use Rattle.data_bus.specs.Racks.{RackStays};
+    ghost use Rattle.data_bus.specs.Racks.{RackStays, views};
     ghost use Rattle.f8_machine.specs.MachineState.{IsReset, halted, steps_in, powered_machine, probe_after_steps};
-    ghost use Rattle.f8_machine.specs.Refinement.{Represents, Refines};
+    ghost use Rattle.f8_machine.specs.Refinement.{AreWhole, Represents, IsPowered, Refines, ResetRefines};
     ghost use Rattle.f8_machine.specs.Rounds.{RackPowers, RackRuns};
 
     /// Power-on of the machine and of every chip of the rack, of which there are at most 16. The power byte is in the accumulator, in
@@ -59,6 +60,7 @@ impl Machine {
         requires few { length rack.old.items ≤ 16 }
         ensures machine { result ≡ powered_machine fill chain }
         ensures powered { RackPowers fill (map state rack.old.items) (map state rack.new.items) }
+        ensures pair { AreWhole (map state rack.old.items) → IsPowered result (map state rack.new.items) (power_position (views (map state rack.old.items)) fill) }
         ensures chips { length rack.new.items ≡ length rack.old.items }
     {
         power_all(rack, fill);
@@ -69,6 +71,35 @@ impl Machine {
             phi: 0,
             chain,
             mode: Mode::Powered,
+        }
+    }
+
+    /// Reset, once after power-on: the opcode at 0 is fetched. Where that isn't served the machine is stopped. It takes 14 Φ.
+    pub fn reset(&mut self, rack: &mut Rack) -> Outcome
+        requires few { length rack.old.items ≤ 16 }
+        requires mode { self.old.mode ≡ Mode.Powered }
+        requires phi { self.old.phi < 2 ^ 62 }
+        ensures refines { (x : Position) → IsPowered self.old (map state rack.old.items) x → ResetRefines result self.old self.new (map state rack.new.items) x }
+        ensures ran { RackRuns (steps_in result) (map state rack.old.items) (map state rack.new.items) }
+        ensures reference { self.new.probe ≡ probe_after_steps (steps_in result) self.old.probe }
+        ensures chips { length rack.new.items ≡ length rack.old.items }
+    {
+        let mut steps = Record::new();
+        match fetch_first(rack, &mut self.probe, &mut steps) {
+            Ok(opcode) => {
+                self.cpu.fetch(opcode);
+                self.flow = Flow::of(self.probe.counters());
+                self.phi += RESET_PHI;
+                self.mode = Mode::Running;
+                Outcome::Done { wrote: None, steps }
+            }
+            Err(Unserved { fault, long }) => {
+                self.mode = Mode::Stopped(Halt::Fault {
+                    fault: fault.copy(),
+                    long,
+                });
+                Outcome::Fault { fault, long, steps }
+            }
         }
     }
 

@@ -1,0 +1,71 @@
+-- Power-on of a machine on a rack of chips that are fitted makes the position of power-on.
+use Rattle.std.proofs.Common.{◌≡◌, ℕ, suc, ◌+◌, ◌<◌, Bool, true, List, [], ◌∷◌, length, map, refl, sym, ap, ◌∙◌, subst, arith}
+use Rattle.std.specs.Prelude.{if◌then◌else◌, Option, Some, None, slice_get, slice_index}
+use Rattle.std.specs.List.{enumerate_from}
+use Rattle.std.proofs.lemmas.Option.{slice_get-map}
+use Rattle.f8_spec.specs.BusCodes.{Count, count_at}
+use Rattle.f8_spec.specs.BusArbitration.{Seat, seat_of}
+use Rattle.f8_spec.specs.ChipState.{ChipView, ChipState, IsFilled, IsWhole, has_counters, powered}
+use Rattle.f8_spec.specs.declared.chips.ChipKind.{ChipKind}
+use Rattle.f8_spec.specs.declared.chips.ChipKind.TheVariants.{Psu, Smi}
+use Rattle.console_spec.specs.CounterCopies.{reset_copy, power_start, unreset}
+use Rattle.console_spec.specs.RackRun.{power_position}
+use Rattle.data_bus.specs.Racks.{views}
+use Rattle.f8_machine.specs.ChipCopies.{AreCopies}
+use Rattle.f8_machine.specs.FlatViews.{HoldsFlat}
+use Rattle.f8_machine.specs.MachineState.{powered_machine}
+use Rattle.f8_machine.specs.Refinement.{AreWhole, AreAtZero, IsPowered}
+use Rattle.f8_machine.specs.Rounds.{RackPowers}
+use Rattle.f8_machine.proofs.FirstViews.{powered_views, views_powered, first_flat, first_bytes, length-first_memory, length-filled_bytes}
+use Rattle.f8_machine.proofs.Kept.{comes}
+
+counts : (k : ChipKind) (c d : Count) → (if has_counters k then c else d) ≡ c
+counts Psu c d = refl
+counts Smi c d = refl
+
+-- each chip stands where its copy will be reset from
+copies_powered : (fill n : ℕ) (vs : List ChipView) → ((k : ℕ) (v : ChipView) → slice_get vs k ≡ Some v → IsFilled v) →
+    AreCopies (λ second c. unreset c) 0 (map (reset_copy fill) (enumerate_from n (map seat_of vs))) (map (λ x. powered fill (power_start fill x.0) x.1) (enumerate_from n vs))
+copies_powered fill n [] filled = tt
+copies_powered fill n (v ∷ vs) filled =
+    (record {
+      seat = refl;
+      counters = counts v.kind (count_at (power_start fill n)) v.counters;
+      heard = refl;
+      filled = length-filled_bytes fill v.pages v.bytes (filled 0 v refl);
+    }, copies_powered fill (n + 1) vs (λ k w lies. filled (suc k) w lies))
+
+resets_to_zero : (fill n : ℕ) (seats : List Seat) → AreAtZero (map (reset_copy fill) (enumerate_from n seats))
+resets_to_zero fill n [] = tt
+resets_to_zero fill n (s ∷ seats) = (refl, resets_to_zero fill (n + 1) seats)
+
+-- the views of whole chips
+view_whole : (states : List ChipState) → AreWhole states → (k : ℕ) (v : ChipView) → slice_get (views states) k ≡ Some v → IsWhole v
+view_whole states whole k v lies =
+    let found = comes (λ (s : ChipState). s.view) (slice_get states k) v (sym (slice_get-map (λ (s : ChipState). s.view) states k) ∙ lies) in
+    subst IsWhole (sym found.gives) (whole k found.from found.is)
+
+pub powers_pair : (fill : ℕ) (chain : List ℕ) (olds news : List ChipState) → fill < 256 → AreWhole olds → RackPowers fill olds news →
+    IsPowered (powered_machine fill chain) news (power_position (views olds) fill)
+powers_pair fill chain olds news small whole powers =
+    let vs = views olds in
+    let filled : (k : ℕ) (v : ChipView) → slice_get vs k ≡ Some v → IsFilled v = λ k v lies. (view_whole olds whole k v lies).filled in
+    let same : views news ≡ powered_views fill vs = views_powered fill olds news powers in
+    record {
+      stands = record {
+        registers = refl;
+        flow = refl;
+        phi = refl;
+        reference = refl;
+        copies = subst (λ ws. AreCopies (λ second c. unreset c) 0 (map (reset_copy fill) (enumerate_from 0 (map seat_of vs))) ws) (sym same) (copies_powered fill 0 vs filled);
+        flat = subst (λ ws. HoldsFlat (power_position vs fill).flat.memory ws) (sym same) (first_flat fill vs filled);
+        memory = record {
+          whole = length-first_memory vs fill;
+          bytes = first_bytes vs fill small (λ k v lies i. (view_whole olds whole k v lies).bytes i);
+        };
+        addresses = record { p = omega arith; p1 = omega arith; d0 = omega arith; d1 = omega arith };
+      };
+      at_zero = refl;
+      copies_at_zero = resets_to_zero fill 0 (map seat_of vs);
+      powered = refl;
+    }

@@ -1,0 +1,88 @@
+-- Reset of a machine, from power-on to the position before the first instruction.
+use Rattle.std.proofs.Common.{◌≡◌, ℕ, ◌+◌, ◌%◌, ◌<◌, Bool, List, [], ◌∷◌, map, Option, Some, None, refl, sym, ap, ◌∙◌, subst, arith}
+use Rattle.f8_spec.specs.BusCodes.{Count}
+use Rattle.f8_spec.specs.ChipState.{ChipView, ChipState}
+use Rattle.console_spec.specs.AddressSpace.{byte_at}
+use Rattle.console_spec.specs.Processor.{Flow}
+use Rattle.console_spec.specs.CounterCopies.{Copy, fetched}
+use Rattle.console_spec.specs.Services.{Fault}
+use Rattle.console_spec.specs.BusTrace.{Course}
+use Rattle.console_spec.specs.RackRun.{Position, goes_unless, reset_fault, reset_course, position_after_reset}
+use Rattle.cpu3850.specs.CpuSteps.{CpuState}
+use Rattle.probe.specs.ProbeState.{ProbeState}
+use Rattle.data_bus.specs.Racks.{views}
+use Rattle.data_bus.specs.declared.fault.BusFault.{BusFault}
+use Rattle.f8_machine.specs.ChipCopies.{AreCopies}
+use Rattle.f8_machine.specs.Faults.{fault_of}
+use Rattle.f8_machine.specs.MachineState.{MachineState, unfetched}
+use Rattle.f8_machine.specs.Refinement.{AreAtZero, IsPowered, IsDone, IsFaulted}
+use Rattle.f8_machine.specs.Resetting.{IsAtPower, IsFetched, IsNotFetched}
+use Rattle.f8_machine.specs.Rounds.{heard_of}
+use Rattle.f8_machine.specs.declared.heard.Heard.{Heard}
+use Rattle.f8_machine.specs.declared.mode.Mode.TheVariants.{Running, Stopped}
+use Rattle.f8_machine.specs.declared.mode.Halt.TheVariants.{Fault as FaultHalt}
+use Rattle.f8_machine.proofs.Instructions.{unfetched-fetched}
+
+at_power : (m : MachineState) (states : List ChipState) (x : Position) → IsPowered m states x → IsAtPower m.probe states x
+at_power m states x p = record { reference = p.stands.reference; copies = p.stands.copies; flat = p.stands.flat; whole = p.stands.memory.whole }
+
+-- a set of counters that is at 0
+at_zero : (c : Flow) → c.p ≡ 0 → record c { p = 0 } ≡ c
+at_zero c zero = ap (λ (n : ℕ). record c { p = n }) (sym zero)
+
+copies_at_zero : (last : ℕ) (cs : List Copy) (vs : List ChipView) → AreAtZero cs → AreCopies (λ second c. fetched (record c { p = 0 })) last cs vs → AreCopies (λ second c. fetched c) last cs vs
+copies_at_zero last [] [] zero are = tt
+copies_at_zero last [] (v ∷ vs) zero are = absurd are
+copies_at_zero last (c ∷ cs) [] zero are = absurd are
+copies_at_zero last (c ∷ cs) (v ∷ vs) zero are =
+    (record { seat = are.0.seat; counters = are.0.counters ∙ ap fetched (at_zero c.flow zero.0); heard = are.0.heard; filled = are.0.filled }, copies_at_zero last cs vs zero.1 are.1)
+
+reset_done_of : (m : MachineState) (states news : List ChipState) (x : Position) (opcode : ℕ) (probe : ProbeState) (cpu : CpuState) (flow : Flow) (steps : List Heard) → IsPowered m states x →
+    IsFetched opcode probe news steps x → cpu ≡ record m.cpu { opcode = opcode } → flow ≡ unfetched probe.count →
+    IsDone (record m { probe = probe; cpu = cpu; flow = flow; phi = m.phi + 14; mode = Running }) news (goes_unless (reset_fault x) (position_after_reset x)) (reset_course x) steps
+reset_done_of m states news x opcode probe cpu flow steps p is holds moved =
+    let c = x.flat.state.flow in
+    let zero : record c { p = 0 } ≡ c = at_zero c p.at_zero in
+    let reference : probe.count ≡ fetched c = is.reference ∙ ap fetched zero in
+    record {
+      after = position_after_reset x;
+      turns = ap (λ (f : Option Fault). goes_unless f (position_after_reset x)) is.served;
+      represents = record {
+        stands = record {
+          registers = ap (λ (k : CpuState). k.registers) holds ∙ p.stands.registers;
+          flow = moved ∙ ap unfetched reference ∙ unfetched-fetched c p.stands.addresses;
+          phi = ap (λ (n : ℕ). n + 14) p.stands.phi;
+          reference = reference;
+          copies = copies_at_zero probe.last x.copies (views news) p.copies_at_zero is.copies;
+          flat = is.flat;
+          memory = p.stands.memory;
+          addresses = p.stands.addresses;
+        };
+        opcode = ap (λ (k : CpuState). k.opcode) holds ∙ is.opcode_is ∙ ap (byte_at x.flat.memory) (sym p.at_zero);
+        running = refl;
+      };
+      trace = is.trace ∙ ap (λ (k : Course). record { steps = k.steps; fault = None }) (sym is.trace);
+      recorded = is.recorded ∙ ap (λ (k : Course). map heard_of k.steps) (sym is.trace);
+    }
+
+-- reset that is done
+pub reset_done : (m k : MachineState) → k ≡ m → (states news : List ChipState) (x : Position) (opcode : ℕ) (probe : ProbeState) (cpu : CpuState) (flow : Flow) (steps : List Heard) → IsPowered m states x →
+    (IsAtPower k.probe states x → IsFetched opcode probe news steps x) → cpu ≡ record k.cpu { opcode = opcode } → flow ≡ unfetched probe.count →
+    IsDone (record k { probe = probe; cpu = cpu; flow = flow; phi = k.phi + 14; mode = Running }) news (goes_unless (reset_fault x) (position_after_reset x)) (reset_course x) steps
+reset_done m k same states news x opcode probe cpu flow steps p is holds moved =
+    let there : IsPowered k states x = subst (λ (y : MachineState). IsPowered y states x) (sym same) p in
+    reset_done_of k states news x opcode probe cpu flow steps there (is (at_power k states x there)) holds moved
+
+-- and reset that is not
+pub reset_cut : (m k : MachineState) → k ≡ m → (states : List ChipState) (x : Position) (probe : ProbeState) (fault copied : BusFault) (long : Bool) (steps : List Heard) → IsPowered m states x →
+    (IsAtPower k.probe states x → IsNotFetched steps fault long x) → copied ≡ fault →
+    IsFaulted m (record k { probe = probe; mode = Stopped (FaultHalt copied long) }) (goes_unless (reset_fault x) (position_after_reset x)) (reset_course x) fault long steps
+reset_cut m k same states x probe fault copied long steps p cut copy =
+    let there : IsPowered k states x = subst (λ (y : MachineState). IsPowered y states x) (sym same) p in
+    let is = cut (at_power k states x there) in
+    subst (λ (y : MachineState). IsFaulted y (record k { probe = probe; mode = Stopped (FaultHalt copied long) }) (goes_unless (reset_fault x) (position_after_reset x)) (reset_course x) fault long steps) same (record {
+      turns = ap (λ (f : Option Fault). goes_unless f (position_after_reset x)) is.unserved;
+      trace = is.trace ∙ ap (λ (c : Course). record { steps = c.steps; fault = Some (fault_of fault, long) }) (sym is.trace);
+      recorded = is.recorded ∙ ap (λ (c : Course). map heard_of c.steps) (sym is.trace);
+      kept = ap (λ (f : BusFault). record k { probe = probe; mode = Stopped (FaultHalt f long) }) copy;
+    })

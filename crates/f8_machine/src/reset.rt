@@ -1,0 +1,75 @@
+ghost use Rattle.std.specs.Prelude.{◌≡◌, ◌<◌, ◌≤◌, ◌+◌, [], length, map, IfOk, IfErr, OnOk};
+ghost use Rattle.console_spec.specs.RackRun.{Position};
+ghost use Rattle.f8_machine.specs.BusSteps.{IsPlain, IsServed, IsRefused};
+ghost use Rattle.f8_machine.specs.MachineState.{probe_after_steps};
+ghost use Rattle.f8_machine.specs.Resetting.{IsAtPower, IsFetched, IsNotFetched};
+ghost use Rattle.f8_machine.specs.Rounds.{RackRuns};
+
+use super::bus_step::bus_step;
+use super::carry::Unserved;
+use super::record::Record;
+use chip_face::Chip;
+use cpu3850::{Romc, Step};
+use data_bus::Rack;
+use probe::Probe;
+
+/// The clocks of reset, in Φ.
+pub(crate) const RESET_PHI: u64 = 14;
+
+/// The steps of reset: the CPU works by itself, the program counters go to 0, and the opcode there is fetched.
+const IDLE: Step = Step {
+    romc: Romc::IDLE,
+    long: false,
+};
+
+const TO_ZERO: Step = Step {
+    romc: Romc::RESET,
+    long: true,
+};
+
+const FETCH: Step = Step {
+    romc: Romc::FETCH,
+    long: false,
+};
+
+/// A bus step in which the CPU places 00.
+fn quiet_step(
+    rack: &mut Rack,
+    probe: &mut Probe,
+    step: Step,
+    steps: &mut Record,
+) -> Result<u8, Unserved>
+    requires few { length rack.old.items ≤ 16 }
+    requires room { length steps.old < 9 }
+    requires plain { IsPlain step.romc }
+    ensures served { IfOk result (λ byte. IsServed step 0 probe.old probe.new (map state rack.old.items) (map state rack.new.items) steps.old steps.new byte) }
+    ensures told { OnOk result (length steps.new ≡ length steps.old + 1) }
+    ensures refused { IfErr result (λ unserved. IsRefused step unserved.fault probe.old probe.new (map state rack.old.items) (map state rack.new.items) steps.old steps.new) }
+    ensures long { IfErr result (λ unserved. unserved.long ≡ step.long) }
+    ensures chips { length rack.new.items ≡ length rack.old.items }
+{
+    let long = step.long;
+    match bus_step(rack, probe, step, 0, steps) {
+        Ok(byte) => Ok(byte),
+        Err(fault) => Err(Unserved { fault, long }),
+    }
+}
+
+/// The bus steps of reset, each told in `steps`. It answers the opcode at 0.
+pub(crate) fn fetch_first(
+    rack: &mut Rack,
+    probe: &mut Probe,
+    steps: &mut Record,
+) -> Result<u8, Unserved>
+    requires few { length rack.old.items ≤ 16 }
+    requires none { steps.old ≡ [] }
+    ensures fetched { (x : Position) → IsAtPower probe.old (map state rack.old.items) x → IfOk result (λ opcode. IsFetched opcode probe.new (map state rack.new.items) steps.new x) }
+    ensures cut { (x : Position) → IsAtPower probe.old (map state rack.old.items) x → IfErr result (λ unserved. IsNotFetched steps.new unserved.fault unserved.long x) }
+    ensures ran { RackRuns steps.new (map state rack.old.items) (map state rack.new.items) }
+    ensures reference { probe.new ≡ probe_after_steps steps.new probe.old }
+    ensures chips { length rack.new.items ≡ length rack.old.items }
+{
+    quiet_step(rack, probe, IDLE, steps)?;
+    quiet_step(rack, probe, TO_ZERO, steps)?;
+    quiet_step(rack, probe, FETCH, steps)
+}
