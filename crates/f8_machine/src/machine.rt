@@ -82,6 +82,7 @@ impl Machine {
         ensures refines { (x : Position) → IsPowered self.old (map state rack.old.items) x → ResetRefines result self.old self.new (map state rack.new.items) x }
         ensures ran { RackRuns (steps_in result) (map state rack.old.items) (map state rack.new.items) }
         ensures reference { self.new.probe ≡ probe_after_steps (steps_in result) self.old.probe }
+        ensures mode { IsReset self.new.mode }
         ensures chips { length rack.new.items ≡ length rack.old.items }
     {
         let mut steps = Record::new();
@@ -115,6 +116,7 @@ impl Machine {
         ensures same { (halt : Halt) → self.old.mode ≡ Mode.Stopped halt → self.new ≡ self.old }
         ensures ran { RackRuns (steps_in result) (map state rack.old.items) (map state rack.new.items) }
         ensures reference { self.new.probe ≡ probe_after_steps (steps_in result) self.old.probe }
+        ensures mode { IsReset self.new.mode }
         ensures chips { length rack.new.items ≡ length rack.old.items }
     {
         match &self.mode {
@@ -126,10 +128,12 @@ impl Machine {
     /// The next instruction of a machine that isn't stopped.
     fn next(&mut self, rack: &mut Rack) -> Outcome
         requires few { length rack.old.items ≤ 16 }
+        requires mode { IsReset self.old.mode }
         requires phi { self.old.phi < 2 ^ 62 }
         ensures refines { (x : Position) → Represents self.old (map state rack.old.items) x → Refines result self.old self.new (map state rack.new.items) x }
         ensures ran { RackRuns (steps_in result) (map state rack.old.items) (map state rack.new.items) }
         ensures reference { self.new.probe ≡ probe_after_steps (steps_in result) self.old.probe }
+        ensures mode { IsReset self.new.mode }
         ensures chips { length rack.new.items ≡ length rack.old.items }
     {
         let code = self.cpu.opcode();
