@@ -41,7 +41,6 @@ impl Bytes {
         ensures same { result.now ≡ self.now }
         ensures below { (place : ℕ) → slice_index self.now place < 256 }
     {
-        // By its type each item of a slice with a name is below 256.
         let bytes = self.items.as_slice();
         bytes
     }

@@ -27,13 +27,15 @@ counts Smi c d = refl
 copies_powered : (fill n : ℕ) (vs : List ChipView) → ((k : ℕ) (v : ChipView) → slice_get vs k ≡ Some v → IsFilled v) →
     AreCopies (λ second c. unreset c) 0 (map (reset_copy fill) (enumerate_from n (map seat_of vs))) (map (λ x. powered fill (power_start fill x.0) x.1) (enumerate_from n vs))
 copies_powered fill n [] filled = tt
-copies_powered fill n (v ∷ vs) filled =
-    (record {
-      seat = refl;
-      counters = counts v.kind (count_at (power_start fill n)) v.counters;
-      heard = refl;
-      filled = length-filled_bytes fill v.pages v.bytes (filled 0 v refl);
-    }, copies_powered fill (n + 1) vs (λ k w lies. filled (suc k) w lies))
+copies_powered fill n (v ∷ vs) filled = (
+  record {
+    seat = refl;
+    counters = counts v.kind (count_at (power_start fill n)) v.counters;
+    heard = refl;
+    filled = length-filled_bytes fill v.pages v.bytes (filled 0 v refl);
+  },
+  copies_powered fill (n + 1) vs (λ k w lies. filled (suc k) w lies),
+)
 
 resets_to_zero : (fill n : ℕ) (seats : List Seat) → AreAtZero (map (reset_copy fill) (enumerate_from n seats))
 resets_to_zero fill n [] = tt
