@@ -1,12 +1,12 @@
 -- What is left of an instruction or of reset, on the bus: from here the steps that are left lead to the end, or to the first access that
 -- is not served. The bus rule is never opened here.
 use Rattle.std.proofs.Common.{append-nil, eqb-true, ◌≡◌, ℕ, ◌<◌, Bool, true, false, List, [], ◌∷◌, ◌++◌, length, map, refl, ap, ◌∙◌, sym, subst}
-use Rattle.std.specs.Prelude.{◌==◌, if◌then◌else◌, Option, Some, None, Result, Ok, Err}
+use Rattle.std.specs.Prelude.{◌==◌, if◌then◌else◌, Option, Some, None}
 use Rattle.std.specs.List.{enumerate_from}
 use Rattle.std.proofs.lemmas.List.{append_assoc}
 use Rattle.f8_spec.specs.BusCodes.{Count, driver_of, moved_by}
-use Rattle.f8_spec.specs.ChipState.{ChipView, ChipState, after_step, counter_byte}
-use Rattle.f8_spec.specs.BusArbitration.{Verdict, Served, Conflict, Undriven, Astray, Seat, PlacedSeat, seat_of, place_in, parties, bystanders, lowest, judged, rule_by, rule_of, view_verdict, byte_by, bus_byte}
+use Rattle.f8_spec.specs.ChipState.{ChipView, after_step}
+use Rattle.f8_spec.specs.BusArbitration.{Verdict, Served, Conflict, Undriven, Astray, Seat, PlacedSeat, place_in, parties, bystanders, lowest, judged, rule_by, rule_of, view_verdict, bus_byte}
 use Rattle.f8_spec.specs.MicroSteps.{Step}
 use Rattle.f8_spec.specs.declared.bus.Driver.{Driver}
 use Rattle.f8_spec.specs.declared.bus.Driver.TheVariants.{Memory, CounterByte, Vector as VectorDriver, Port, Cpu, Nobody}
@@ -16,29 +16,23 @@ use Rattle.console_spec.specs.Processor.{Flow, Inputs, byte_of}
 use Rattle.console_spec.specs.FlatMemory.{stored_at}
 use Rattle.console_spec.specs.CounterCopies.{Copy}
 use Rattle.console_spec.specs.BusAccesses.{Access}
-use Rattle.console_spec.specs.Services.{Fault, fault_by, access_verdict, access_fault, or_later, first_fault}
+use Rattle.console_spec.specs.Services.{Fault, fault_by, access_verdict, first_fault}
 use Rattle.console_spec.specs.BusTrace.{TracedStep, Course, traced, with_step, stopped_by, course_by, course_of, is_access, who_of}
 use Rattle.console_spec.specs.RackRun.{Position, seats_of}
 use Rattle.console_spec.specs.CounterCopies.{fetched}
 use Rattle.console_spec.proofs.Walks.{moved_along}
 use Rattle.cpu3850.specs.Reaching.{is_placed_by, Places}
-use Rattle.probe.specs.ProbeState.{ProbeState, probe_after}
-use Rattle.data_bus.specs.Racks.{RackSettles, clocks_of, views, named_views}
-use Rattle.data_bus.specs.Steps.{answered, probe_place, step_answer}
-use Rattle.data_bus.specs.declared.cycle.Cycle.{Cycle}
-use Rattle.data_bus.specs.declared.cycle.Served.{Served as ServedStep}
-use Rattle.data_bus.specs.declared.fault.BusFault.{BusFault}
+use Rattle.probe.specs.ProbeState.{ProbeState}
 use Rattle.f8_machine.specs.FlatViews.{HoldsFlat}
-use Rattle.f8_machine.specs.Faults.{fault_of}
 use Rattle.f8_machine.specs.Traces.{told_who}
-use Rattle.f8_machine.proofs.Places.{places_along, with_place, named_place}
-use Rattle.f8_machine.proofs.Values.{Values, ValueIs, memory_by, memory_along}
+use Rattle.f8_machine.proofs.Places.{places_along, named_place}
+use Rattle.f8_machine.proofs.Values.{Values, ValueIs, memory_along}
 use Rattle.f8_machine.proofs.Bounds.{AreAt}
 use Rattle.f8_machine.proofs.ServedReads.{read_value, served_read}
 use Rattle.f8_machine.proofs.Slots.{plain_step}
 use Rattle.f8_machine.proofs.Stores.{keeps_flat, store_keeps_flat, stored_long}
 use Rattle.f8_machine.specs.ChipCopies.{AreCopies}
-use Rattle.f8_machine.proofs.Copies.{seats_same, all_filled, verdict_same, copies_more}
+use Rattle.f8_machine.proofs.Copies.{seats_same, all_filled}
 
 -- the trace of each step tells who drives by the code
 abbrev pub Quiet : List Step → Type 0

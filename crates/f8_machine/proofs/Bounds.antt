@@ -1,17 +1,16 @@
 -- Bytes are below 256, and addresses below 65,536.
-use Rattle.std.proofs.Common.{◌≡◌, ℕ, ◌+◌, ◌<◌, Bool, true, false, ℤ, pos, negsuc, List, [], ◌∷◌, ◌++◌, refl, arith}
+use Rattle.std.proofs.Common.{◌≡◌, ℕ, ◌<◌, Bool, true, false, ℤ, pos, negsuc, List, [], ◌∷◌, ◌++◌, arith}
 use Rattle.std.specs.Prelude.{if◌then◌else◌}
 use Rattle.std.specs.Int.{w8, cast_signed}
 use Rattle.f8_spec.specs.Words.{word, places_on, wrapped, displaced}
 use Rattle.f8_spec.specs.declared.instructions.Op.{Op}
-use Rattle.f8_spec.specs.Instructions.{row_of}
 use Rattle.f8_spec.specs.Built.{is_built_row_on_rack}
 use Rattle.f8_spec.specs.BusArbitration.{Seat}
 use Rattle.f8_spec.specs.declared.instructions.Row.{Row}
 use Rattle.f8_spec.specs.declared.instructions.Row.TheVariants.{StackToK, StackFromK, CallK, JumpQ, DataToPair, DataFromQ, DataFromH, ReadData, StoreData, Return, Immediate, PortIn, PortOut, Call, Jump, LoadData, Exchange, AddData, Branch, BranchIsar, ShortIn, ShortOut}
 use Rattle.console_spec.specs.AddressSpace.{byte_at}
 use Rattle.console_spec.specs.FlatMachine.{FlatState, gets_all}
-use Rattle.console_spec.specs.Processor.{Flow, Registers, Inputs, scratch_byte, flow_after, own_inputs}
+use Rattle.console_spec.specs.Processor.{Flow, Inputs, flow_after, own_inputs}
 use Rattle.console_spec.specs.BusAccesses.{Access, accesses_before_fetch, last_access}
 use Rattle.console_spec.proofs.Walks.{HasBytes}
 use Rattle.cpu3850.specs.CpuSteps.{AreInRange}

@@ -1,6 +1,6 @@
 -- What an answer of the bus says of the bus rule.
-use Rattle.std.proofs.Common.{◌≡◌, ℕ, true, false, List, [], ◌∷◌, ◌++◌, refl, ap, ◌∙◌, sym}
-use Rattle.std.specs.Prelude.{Option, Some, None, Result, Ok, Err}
+use Rattle.std.proofs.Common.{◌≡◌, ℕ, true, false, List, [], ◌∷◌, ◌++◌, ap, ◌∙◌, sym}
+use Rattle.std.specs.Prelude.{Some, None, Ok, Err}
 use Rattle.f8_spec.specs.ChipState.{ChipState}
 use Rattle.f8_spec.specs.BusArbitration.{Verdict, Served as ServedBy, Conflict, Undriven, Astray}
 use Rattle.console_spec.specs.Services.{fault_by}
@@ -8,7 +8,6 @@ use Rattle.probe.specs.ProbeState.{ProbeState, probe_after}
 use Rattle.cpu3850.specs.declared.steps.Step.{Step}
 use Rattle.data_bus.specs.Racks.{ChosenAsks, RackSettles, RackStays}
 use Rattle.data_bus.specs.Steps.{answered, step_answer}
-use Rattle.data_bus.specs.declared.cycle.Cycle.{Cycle}
 use Rattle.data_bus.specs.declared.cycle.Served.{Served}
 use Rattle.data_bus.specs.declared.fault.BusFault.{BusFault}
 use Rattle.f8_machine.specs.BusSteps.{IsPlain, IsServed, IsRefused, told}

@@ -1,18 +1,16 @@
 -- How the bus steps of an instruction begin and end, with the processor.
-use Rattle.std.proofs.Common.{◌≡◌, ℕ, ◌+◌, ◌≤◌, Bool, true, List, [], ◌∷◌, map, length, drop, Option, Some, None, refl, sym, ap, ◌∙◌, subst}
+use Rattle.std.proofs.Common.{◌≡◌, ℕ, ◌≤◌, Bool, true, List, [], ◌∷◌, map, length, Option, refl, sym, ap, ◌∙◌, subst}
 use Rattle.std.proofs.lemmas.List.{drop_all}
-use Rattle.f8_spec.specs.Built.{is_built_row_on_rack}
-use Rattle.f8_spec.specs.BusCodes.{Count}
 use Rattle.f8_spec.specs.BusArbitration.{Seat}
-use Rattle.f8_spec.specs.ChipState.{ChipView, ChipState, has_second_counter}
-use Rattle.f8_spec.specs.Instructions.{decoded, row_of}
+use Rattle.f8_spec.specs.ChipState.{ChipState, has_second_counter}
+use Rattle.f8_spec.specs.Instructions.{row_of}
 use Rattle.f8_spec.specs.MicroSteps.{Step as MicroStep, steps_of}
 use Rattle.f8_spec.specs.declared.instructions.Op.{Op}
 use Rattle.f8_spec.specs.declared.instructions.Row.{Row}
 use Rattle.f8_spec.specs.declared.instructions.Row.TheVariants.{Idle}
-use Rattle.console_spec.specs.Processor.{Flow, Registers, Inputs, flow_after, is_taken, own_inputs}
+use Rattle.console_spec.specs.Processor.{Flow, Registers, Inputs, is_taken, own_inputs}
 use Rattle.console_spec.specs.CounterCopies.{Copy, fetched, copy_after, copies_after}
-use Rattle.console_spec.specs.FlatMachine.{FlatState, flat_after, gets, gets_all}
+use Rattle.console_spec.specs.FlatMachine.{FlatState, gets, gets_all}
 use Rattle.console_spec.specs.RackRun.{Position, seats_of}
 use Rattle.console_spec.proofs.InputLaws.{with_opcode, flow_after-with_opcode}
 use Rattle.cpu3850.specs.declared.steps.Step.{Step}
@@ -23,13 +21,12 @@ use Rattle.probe.specs.ProbeState.{ProbeState}
 use Rattle.data_bus.specs.Racks.{views}
 use Rattle.f8_machine.specs.Carrying.{Holds, IsCarriedOut}
 use Rattle.f8_machine.specs.ChipCopies.{AreCopies}
-use Rattle.f8_machine.specs.FlatViews.{HoldsFlat}
 use Rattle.f8_machine.specs.declared.heard.Heard.{Heard}
 use Rattle.f8_machine.proofs.Along.{Along}
 use Rattle.f8_machine.proofs.Bounds.{gets_bytes}
 use Rattle.f8_machine.proofs.Copies.{copies_end}
 use Rattle.f8_machine.proofs.Remains.{OnBus, Remaining}
-use Rattle.f8_machine.proofs.Starts.{instruction_aim, along-starts, Ended, along-ends}
+use Rattle.f8_machine.proofs.Starts.{instruction_aim, along-starts, along-ends}
 
 no_port_byte : (row : Row) → own_port_byte row 0 ≡ 0
 no_port_byte Idle = refl

@@ -1,10 +1,10 @@
 -- The chips of a rack and the copies of their counters, along bus steps.
-use Rattle.std.proofs.Common.{◌≡◌, ℕ, zero, suc, ◌+◌, Bool, true, false, List, [], ◌∷◌, map, refl, ap, ◌∙◌, sym, subst}
-use Rattle.std.specs.Prelude.{Option, Some, None, slice_get}
+use Rattle.std.proofs.Common.{◌≡◌, ℕ, zero, suc, ◌+◌, Bool, true, List, [], ◌∷◌, map, refl, ap, ◌∙◌, sym, subst}
+use Rattle.std.specs.Prelude.{Some, None, slice_get}
 use Rattle.std.specs.List.{enumerate_from}
 use Rattle.f8_spec.specs.BusCodes.{Count, moved_by}
 use Rattle.f8_spec.specs.ChipState.{ChipView, after_step, has_second_counter}
-use Rattle.f8_spec.specs.BusArbitration.{Seat, seat_of, PlacedSeat, place_in, named_placed, verdict, view_verdict}
+use Rattle.f8_spec.specs.BusArbitration.{Seat, seat_of, place_in, named_placed, verdict, view_verdict}
 use Rattle.f8_spec.specs.declared.instructions.Row.{Row}
 use Rattle.console_spec.specs.Processor.{Flow, Inputs, flow_after}
 use Rattle.console_spec.specs.CounterCopies.{Copy, copies_after}

@@ -6,7 +6,7 @@ use Rattle.std.proofs.lemmas.Bool.{cases_lt}
 use Rattle.std.proofs.lemmas.List.{get_or_past, get_or-replicate, get_or-take, get_or-drop, get_or-append-add, length-replicate, length-take-le}
 use Rattle.std.proofs.lemmas.List.FromFn.{length-map-range_with_len, get_or-map-range_with_len}
 use Rattle.std.proofs.lemmas.Option.{slice_get-map}
-use Rattle.f8_spec.specs.ChipState.{ChipView, ChipState, PowersOn, byte_in, held_byte, holds, place_of, filled_bytes, is_ram, powered}
+use Rattle.f8_spec.specs.ChipState.{ChipView, ChipState, byte_in, held_byte, holds, place_of, filled_bytes, is_ram, powered}
 use Rattle.f8_spec.specs.BusArbitration.{seat_of}
 use Rattle.f8_spec.specs.declared.chips.Page.{Page}
 use Rattle.f8_spec.specs.declared.chips.PageSort.{PageSort}

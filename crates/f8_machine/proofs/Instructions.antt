@@ -1,8 +1,7 @@
 -- An instruction of a machine, from the position that it stands for to the next one.
-use Rattle.std.proofs.Common.{◌≡◌, ℕ, ◌+◌, ◌%◌, ◌<◌, ◌≤◌, Bool, true, false, List, [], ◌∷◌, map, length, Option, Some, None, refl, sym, ap, ◌∙◌, subst, arith}
-use Rattle.std.specs.Prelude.{IsSome, sum_by, if◌then◌else◌}
+use Rattle.std.proofs.Common.{◌≡◌, ℕ, ◌+◌, ◌%◌, ◌<◌, ◌≤◌, Bool, true, false, List, [], map, Option, Some, None, refl, sym, ap, ◌∙◌, subst, arith}
+use Rattle.std.specs.Prelude.{IsSome, sum_by}
 use Rattle.f8_spec.specs.Built.{is_built_row_on_rack, is_built_op_on_rack, is_built_as_on_rack, is_built_on_rack}
-use Rattle.f8_spec.specs.BusCodes.{Count}
 use Rattle.f8_spec.specs.BusArbitration.{Seat}
 use Rattle.f8_spec.specs.ChipState.{ChipState}
 use Rattle.f8_spec.specs.Instructions.{decoded, row_of, row_clocks}
@@ -11,27 +10,25 @@ use Rattle.f8_spec.specs.declared.instructions.Op.{Op}
 use Rattle.f8_spec.specs.declared.instructions.Op.TheVariants.{Ins, Outs}
 use Rattle.f8_spec.specs.declared.instructions.Row.{Row}
 use Rattle.f8_spec.specs.declared.instructions.Row.TheVariants.{StoreData, Branch, BranchIsar}
-use Rattle.console_spec.specs.AddressSpace.{byte_at}
 use Rattle.console_spec.specs.Processor.{Flow, Registers, Inputs, is_taken, result_of, own_inputs}
 use Rattle.console_spec.specs.CounterCopies.{fetched}
-use Rattle.console_spec.specs.FlatMachine.{FlatState, memory_after, flat_after, gets, gets_all}
+use Rattle.console_spec.specs.FlatMachine.{FlatState, memory_after, gets, gets_all}
 use Rattle.console_spec.specs.Services.{Fault}
 use Rattle.console_spec.specs.BusTrace.{Course}
-use Rattle.console_spec.specs.RackRun.{Position, Stop, Unserved, Reserved, Unbuilt, Turn, Goes, Stops, goes_unless, decided, next, opcode_at, seats_of, instruction_fault, instruction_course, position_after, course_as, turn_course}
+use Rattle.console_spec.specs.RackRun.{Position, Reserved, Unbuilt, Turn, Stops, goes_unless, decided, next, opcode_at, seats_of, instruction_fault, position_after, course_as, turn_course}
 use Rattle.console_spec.proofs.InputLaws.{result_of-with_opcode, flow_after-with_opcode}
 use Rattle.cpu3850.specs.declared.steps.Step.{Step}
 use Rattle.cpu3850.specs.CpuSteps.{CpuState, AreInRange, bus_step, planned_as, planned}
 use Rattle.cpu3850.specs.Keeping.{KeptRegisters, kept_of, restored, IsRestorable}
-use Rattle.cpu3850.specs.Reaching.{done}
 use Rattle.probe.specs.ProbeState.{ProbeState}
 use Rattle.data_bus.specs.declared.fault.BusFault.{BusFault}
 use Rattle.f8_machine.specs.Carrying.{Holds, IsCarriedOut, IsCutShort}
 use Rattle.f8_machine.specs.Faults.{fault_of}
 use Rattle.f8_machine.specs.MachineState.{MachineState, unfetched, halted, steps_in}
-use Rattle.f8_machine.specs.Refinement.{AreAddresses, IsMemory, Stands, Represents, IsDone, IsFaulted}
+use Rattle.f8_machine.specs.Refinement.{AreAddresses, IsMemory, Represents, IsDone, IsFaulted}
 use Rattle.f8_machine.specs.Rounds.{heard_of}
 use Rattle.f8_machine.specs.declared.heard.Heard.{Heard}
-use Rattle.f8_machine.specs.declared.mode.Mode.TheVariants.{Running, Stopped}
+use Rattle.f8_machine.specs.declared.mode.Mode.TheVariants.{Stopped}
 use Rattle.f8_machine.specs.declared.mode.Halt.{Halt}
 use Rattle.f8_machine.specs.declared.mode.Halt.TheVariants.{Fault as FaultHalt, Reserved as ReservedHalt, Unbuilt as UnbuiltHalt}
 use Rattle.f8_machine.proofs.Bounds.{GetsBytes, gets_bytes, flow_small}

@@ -1,16 +1,15 @@
 -- Along the bus steps of an instruction the steps of the accesses go by the places of the accesses, on every set of counters.
-use Rattle.std.proofs.Common.{◌≡◌, ℕ, ◌<◌, Bool, true, false, List, [], ◌∷◌, ◌++◌, map, refl, ap, ◌∙◌, sym}
+use Rattle.std.proofs.Common.{◌≡◌, ℕ, Bool, true, false, List, [], ◌∷◌, ◌++◌, map, refl, ap, ◌∙◌, sym}
 use Rattle.std.proofs.lemmas.List.{map-append}
-use Rattle.std.specs.Prelude.{if◌then◌else◌}
 use Rattle.f8_spec.specs.BusCodes.{Count, moved_by}
 use Rattle.f8_spec.specs.BusArbitration.{place_in, rule_of}
 use Rattle.f8_spec.specs.MicroSteps.{Step, steps_before_fetch, last_fetch, steps_of}
 use Rattle.f8_spec.specs.declared.instructions.Row.{Row}
 use Rattle.f8_spec.specs.declared.instructions.Row.TheVariants.{Call, Jump, LoadData, Branch, BranchIsar}
-use Rattle.console_spec.specs.Processor.{Flow, Inputs, byte_of, flow_after}
+use Rattle.console_spec.specs.Processor.{Flow, Inputs, byte_of}
 use Rattle.console_spec.specs.BusAccesses.{Access, accesses_before_fetch, last_access}
 use Rattle.console_spec.specs.BusTrace.{is_access}
-use Rattle.console_spec.specs.CounterCopies.{fetched, resting}
+use Rattle.console_spec.specs.CounterCopies.{fetched}
 use Rattle.console_spec.proofs.Walks.{HasBytes, moved_along, rests, places_on-places_on}
 
 abbrev pub with_place : Bool → ℕ × ℕ → List (ℕ × ℕ) → List (ℕ × ℕ)

@@ -1,13 +1,13 @@
 -- A rack over the steps of a record, one by one.
-use Rattle.std.proofs.Common.{◌≡◌, ℕ, ◌+◌, Bool, List, [], ◌∷◌, ◌++◌, append-nil, map, refl, ap, ◌∙◌, sym, subst}
-use Rattle.std.specs.Prelude.{Option, Some, None}
+use Rattle.std.proofs.Common.{◌≡◌, ℕ, ◌+◌, List, [], ◌∷◌, ◌++◌, append-nil, map, refl, ap, ◌∙◌, sym, subst}
+use Rattle.std.specs.Prelude.{None}
 use Rattle.std.proofs.lemmas.List.{append_assoc, map-append}
-use Rattle.f8_spec.specs.ChipState.{ChipView, ChipState, HeardStep, HearsStep, Settles, after_step, told_step}
-use Rattle.data_bus.specs.Racks.{NumberedZip, SettlesStep, RackSettles, clocks_of}
+use Rattle.f8_spec.specs.ChipState.{ChipView, ChipState, after_step, told_step}
+use Rattle.data_bus.specs.Racks.{NumberedZip, SettlesStep}
 use Rattle.f8_machine.specs.declared.heard.Heard.{Heard}
 use Rattle.probe.specs.ProbeState.{ProbeState, probe_after}
 use Rattle.f8_machine.specs.MachineState.{probe_after_steps}
-use Rattle.f8_machine.specs.Rounds.{heard_in, after_steps, HearsSteps, Runs, RackRuns}
+use Rattle.f8_machine.specs.Rounds.{heard_in, after_steps, Runs, RackRuns}
 
 after_steps-append : (socket : ℕ) (first later : List Heard) (v : ChipView) → after_steps socket (first ++ later) v ≡ after_steps socket later (after_steps socket first v)
 after_steps-append socket [] later v = refl

@@ -1,11 +1,7 @@
 -- A turn of the loop over the bus steps of an instruction: what is left of it, with the processor.
-use Rattle.std.proofs.Common.{◌≡◌, ℕ, ◌+◌, ◌<◌, ◌≤◌, Bool, true, false, List, [], ◌∷◌, ◌++◌, map, length, drop, get_or, Option, Some, None, refl, sym, ap, ◌∙◌, subst, arith}
-use Rattle.std.specs.Prelude.{◌==◌, ◌||◌}
-use Rattle.std.specs.List.{enumerate_from}
-use Rattle.std.proofs.lemmas.List.{drop_more, drop_all, map-append}
-use Rattle.f8_spec.specs.Built.{is_built_row_on_rack}
-use Rattle.f8_spec.specs.BusCodes.{Count, driver_of}
-use Rattle.f8_spec.specs.BusArbitration.{Verdict, Served, view_verdict, bus_byte}
+use Rattle.std.proofs.Common.{◌≡◌, ℕ, ◌+◌, ◌<◌, Bool, true, false, List, [], ◌∷◌, ◌++◌, map, length, drop, get_or, Option, Some, None, refl, sym, ap, ◌∙◌, subst}
+use Rattle.std.proofs.lemmas.List.{drop_more, map-append}
+use Rattle.f8_spec.specs.BusCodes.{driver_of}
 use Rattle.f8_spec.specs.ChipState.{ChipView, ChipState}
 use Rattle.f8_spec.specs.Instructions.{decoded, row_of}
 use Rattle.f8_spec.specs.MicroSteps.{Step as MicroStep, steps_of}
@@ -13,24 +9,21 @@ use Rattle.f8_spec.specs.declared.instructions.Op.{Op}
 use Rattle.f8_spec.specs.declared.instructions.Row.{Row}
 use Rattle.f8_spec.specs.declared.instructions.Row.TheVariants.{Plain, PlainLong, Idle, StackToK, StackFromK, CallK, JumpQ, DataToPair, DataFromQ, DataFromH, ReadData, StoreData, Return, Immediate, PortIn, PortOut, Call, Jump, LoadData, Exchange, AddData, Branch, BranchIsar, ShortIn, ShortOut}
 use Rattle.console_spec.specs.Processor.{Inputs, Registers, byte_of, is_taken}
-use Rattle.console_spec.specs.BusTrace.{TracedStep, Course, traced, who_of}
-use Rattle.console_spec.specs.FlatMachine.{gets_all}
-use Rattle.console_spec.specs.RackRun.{Position, seats_of}
-use Rattle.console_spec.specs.Services.{fault_by}
+use Rattle.console_spec.specs.BusTrace.{TracedStep, traced}
+use Rattle.console_spec.specs.RackRun.{Position}
 use Rattle.cpu3850.specs.declared.steps.Step.{Step}
 use Rattle.cpu3850.specs.CpuSteps.{CpuState, bus_step, planned_as, planned, driven, taken}
-use Rattle.cpu3850.specs.Reaching.{Reaches, Places, is_placed_by, done}
+use Rattle.cpu3850.specs.Reaching.{Reaches, Places, is_placed_by}
 use Rattle.probe.specs.ProbeState.{ProbeState, probe_after}
-use Rattle.data_bus.specs.Racks.{RackSettles, clocks_of, views, named_views}
+use Rattle.data_bus.specs.Racks.{clocks_of, views}
 use Rattle.data_bus.specs.declared.fault.BusFault.{BusFault}
 use Rattle.f8_machine.specs.BusSteps.{IsPlain, IsServed, IsRefused, told}
 use Rattle.f8_machine.specs.Faults.{fault_of}
 use Rattle.f8_machine.specs.Rounds.{heard_of}
-use Rattle.f8_machine.specs.Traces.{told_who}
 use Rattle.f8_machine.specs.declared.heard.Heard.{Heard}
 use Rattle.f8_machine.proofs.Along.{Aim, Along}
-use Rattle.f8_machine.proofs.Slots.{plain_step, views_settled}
-use Rattle.f8_machine.proofs.Turns.{step_verdict, stepped, Stopped, along-stops, along-byte, along-more}
+use Rattle.f8_machine.proofs.Slots.{views_settled}
+use Rattle.f8_machine.proofs.Turns.{stepped, along-stops, along-byte, along-more}
 
 -- ---- codes of the plan
 

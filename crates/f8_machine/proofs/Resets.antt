@@ -1,12 +1,11 @@
 -- The bus steps of reset, one by one.
-use Rattle.std.proofs.Common.{◌≡◌, ℕ, ◌+◌, Bool, List, [], ◌∷◌, length, map, Option, Some, None, refl, sym, ap, subst, ◌∙◌}
+use Rattle.std.proofs.Common.{◌≡◌, ℕ, Bool, List, [], ◌∷◌, Some, refl, sym, ap, subst, ◌∙◌}
 use Rattle.std.specs.Prelude.{Result, Ok, Err, IfOk, IfErr}
 use Rattle.f8_spec.specs.BusCodes.{driver_of}
 use Rattle.f8_spec.specs.ChipState.{ChipState}
 use Rattle.f8_spec.specs.MicroSteps.{Step, Opcode, short_step, reset_steps}
-use Rattle.console_spec.specs.AddressSpace.{byte_at}
 use Rattle.console_spec.specs.CounterCopies.{fetched}
-use Rattle.console_spec.specs.Processor.{Flow, byte_of}
+use Rattle.console_spec.specs.Processor.{byte_of}
 use Rattle.console_spec.specs.RackRun.{Position, reset_gets}
 use Rattle.cpu3850.specs.CpuSteps.{bus_step}
 use Rattle.cpu3850.specs.Reaching.{is_placed_by, Places}
@@ -15,7 +14,6 @@ use Rattle.data_bus.specs.Racks.{views}
 use Rattle.data_bus.specs.declared.fault.BusFault.{BusFault}
 use Rattle.cpu3850.specs.declared.steps.Step.{Step as Cpu3850Step}
 use Rattle.f8_machine.specs.BusSteps.{IsServed, IsRefused, told}
-use Rattle.f8_machine.specs.ChipCopies.{AreCopies}
 use Rattle.f8_machine.specs.Faults.{fault_of}
 use Rattle.f8_machine.specs.Rounds.{RackRuns}
 use Rattle.f8_machine.specs.declared.carry.Unserved.{Unserved}

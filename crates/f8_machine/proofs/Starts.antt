@@ -1,22 +1,19 @@
 -- How an instruction and reset begin and end on the bus.
-use Rattle.std.proofs.Common.{◌≡◌, ℕ, ◌<◌, Bool, true, false, List, [], ◌∷◌, ◌++◌, append-nil, length, map, refl, ap, ◌∙◌, sym, subst, arith}
-use Rattle.std.specs.Prelude.{if◌then◌else◌, Option, Some, None}
-use Rattle.std.specs.List.{enumerate_from}
+use Rattle.std.proofs.Common.{◌≡◌, Bool, true, false, List, [], ◌∷◌, ◌++◌, append-nil, length, map, refl, ap, ◌∙◌, sym, subst, arith}
+use Rattle.std.specs.Prelude.{None}
 use Rattle.f8_spec.specs.Built.{is_built_row_on_rack}
 use Rattle.f8_spec.specs.BusCodes.{Count}
-use Rattle.f8_spec.specs.BusArbitration.{Seat}
 use Rattle.f8_spec.specs.ChipState.{ChipView}
 use Rattle.f8_spec.specs.Instructions.{row_of}
-use Rattle.f8_spec.specs.MicroSteps.{Step, steps_of, reset_steps}
+use Rattle.f8_spec.specs.MicroSteps.{steps_of, reset_steps}
 use Rattle.f8_spec.specs.declared.instructions.Op.{Op}
 use Rattle.f8_spec.specs.declared.instructions.Row.{Row}
 use Rattle.f8_spec.specs.declared.instructions.Row.TheVariants.{StackToK, StackFromK, CallK, JumpQ, DataToPair, DataFromQ, DataFromH, ReadData, StoreData, Return, Immediate, PortIn, PortOut, Call, Jump, LoadData, Exchange, AddData, Branch, BranchIsar, ShortIn, ShortOut, Idle}
 use Rattle.console_spec.specs.Processor.{Flow, Inputs, flow_after}
-use Rattle.console_spec.specs.CounterCopies.{Copy}
-use Rattle.console_spec.specs.FlatMachine.{gets, gets_all, flat_after, memory_after}
-use Rattle.console_spec.specs.BusAccesses.{Access, accesses_of, accesses_before_fetch, last_access}
-use Rattle.console_spec.specs.Services.{Fault, first_fault}
-use Rattle.console_spec.specs.BusTrace.{TracedStep, Course}
+use Rattle.console_spec.specs.FlatMachine.{gets, gets_all, flat_after}
+use Rattle.console_spec.specs.BusAccesses.{Access, accesses_before_fetch, last_access}
+use Rattle.console_spec.specs.Services.{first_fault}
+use Rattle.console_spec.specs.BusTrace.{TracedStep}
 use Rattle.console_spec.specs.RackRun.{Position, seats_of, instruction_fault, instruction_course, reset_fault, reset_access, reset_gets, reset_course}
 use Rattle.console_spec.proofs.InputLaws.{accesses-with_opcode}
 use Rattle.console_spec.specs.CounterCopies.{fetched, unreset}
@@ -28,7 +25,7 @@ use Rattle.f8_machine.proofs.Values.{Values, memory_along, memory_goes, memory_a
 use Rattle.f8_machine.specs.Refinement.{AreAddresses}
 use Rattle.f8_machine.proofs.Bounds.{GetsBytes, places_small}
 use Rattle.f8_machine.specs.ChipCopies.{AreCopies}
-use Rattle.f8_machine.proofs.Along.{Quiet, Aim, Along, with_steps}
+use Rattle.f8_machine.proofs.Along.{Quiet, Aim, Along}
 
 -- ---- an instruction
 

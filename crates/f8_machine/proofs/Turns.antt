@@ -1,25 +1,22 @@
 -- A bus step takes one step of what is left of an instruction or of reset, or stops it.
-use Rattle.std.proofs.Common.{◌≡◌, ℕ, ◌<◌, Bool, true, false, List, [], ◌∷◌, ◌++◌, append-nil, length, map, refl, ap, ◌∙◌, sym, subst}
-use Rattle.std.specs.Prelude.{◌==◌, if◌then◌else◌, Option, Some, None, Result, Ok, Err}
+use Rattle.std.proofs.Common.{◌≡◌, ℕ, ◌<◌, Bool, true, false, List, [], ◌∷◌, ◌++◌, map, refl, ap, ◌∙◌, sym, subst}
+use Rattle.std.specs.Prelude.{◌==◌, if◌then◌else◌, Option, Some, None}
 use Rattle.std.specs.List.{enumerate_from}
 use Rattle.f8_spec.specs.BusCodes.{Count, driver_of, moved_by}
-use Rattle.f8_spec.specs.ChipState.{ChipView, ChipState, after_step}
+use Rattle.f8_spec.specs.ChipState.{ChipView, after_step}
 use Rattle.f8_spec.specs.BusArbitration.{Verdict, Served, place_in, rule_of, view_verdict, bus_byte}
 use Rattle.f8_spec.specs.MicroSteps.{Step}
 use Rattle.console_spec.specs.Processor.{Flow, Inputs, byte_of}
 use Rattle.console_spec.specs.FlatMemory.{stored_at}
 use Rattle.console_spec.specs.BusAccesses.{Access}
 use Rattle.console_spec.specs.Services.{Fault, fault_by, access_verdict, or_later, first_fault}
-use Rattle.console_spec.specs.BusTrace.{TracedStep, Course, traced, with_step, stopped_by, course_by, course_of, is_access}
+use Rattle.console_spec.specs.BusTrace.{TracedStep, traced, with_step, course_by, course_of, is_access}
 use Rattle.console_spec.specs.RackRun.{Position, seats_of}
-use Rattle.console_spec.specs.CounterCopies.{fetched}
 use Rattle.cpu3850.specs.Reaching.{is_placed_by, Places}
 use Rattle.probe.specs.ProbeState.{ProbeState, probe_after}
-use Rattle.f8_machine.specs.FlatViews.{HoldsFlat}
 use Rattle.f8_machine.proofs.Places.{places_along, with_place, named_place}
 use Rattle.f8_machine.proofs.Bounds.{AreAt}
 use Rattle.f8_machine.proofs.Slots.{plain_step}
-use Rattle.f8_machine.specs.ChipCopies.{AreCopies}
 use Rattle.f8_machine.proofs.Copies.{verdict_same, copies_more}
 use Rattle.f8_machine.proofs.Along.{Aim, Along, AtAccess, at_access, with_steps, with_steps-step, with_steps-stop, fault_stops, no_fault, no_access, course_idle, course_access, flat_more, long_more, byte_is}
 

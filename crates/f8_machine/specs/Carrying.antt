@@ -1,11 +1,11 @@
 -- The bus steps of an instruction on a machine and its rack.
-use Rattle.std.specs.Prelude.{◌≡◌, ℕ, true, Bool, List, [], map, Option, Some, None}
+use Rattle.std.specs.Prelude.{◌≡◌, true, Bool, List, map, Some, None}
 use Rattle.f8_spec.specs.Built.{is_built_row_on_rack}
 use Rattle.f8_spec.specs.ChipState.{ChipState}
 use Rattle.f8_spec.specs.Instructions.{decoded, row_of}
 use Rattle.f8_spec.specs.declared.instructions.Op.{Op}
 use Rattle.console_spec.specs.CounterCopies.{fetched, copies_after}
-use Rattle.console_spec.specs.BusTrace.{TracedStep, Course}
+use Rattle.console_spec.specs.BusTrace.{TracedStep}
 use Rattle.console_spec.specs.FlatMachine.{flat_after, gets, gets_all}
 use Rattle.console_spec.specs.RackRun.{Position, seats_of, instruction_fault, instruction_course}
 use Rattle.cpu3850.specs.CpuSteps.{CpuState, AreInRange}

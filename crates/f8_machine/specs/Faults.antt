@@ -1,5 +1,4 @@
 -- A fault of the bus as the definitions of a run have it.
-use Rattle.f8_spec.specs.declared.bus.Party.{Party}
 use Rattle.console_spec.specs.Services.{Fault, Conflict, Undriven, Astray}
 use Rattle.data_bus.specs.declared.fault.BusFault.{BusFault}
 use Rattle.data_bus.specs.declared.fault.BusFault.TheVariants.{Conflict as ConflictFault, Undriven as UndrivenFault, Astray as AstrayFault}

@@ -1,8 +1,6 @@
 -- What the chips of a rack hold of the flat machine's memory, and of its counters. Nothing says that the chips agree.
-use Rattle.std.specs.Prelude.{◌≡◌, ℕ, ◌*◌, ◌<◌, true, List, length, map, slice_get, Option, Some, All}
-use Rattle.f8_spec.specs.BusCodes.{Count}
+use Rattle.std.specs.Prelude.{◌≡◌, ℕ, ◌<◌, true, List, slice_get, Some}
 use Rattle.f8_spec.specs.ChipState.{ChipView, holds, held_byte}
-use Rattle.f8_spec.specs.BusArbitration.{Seat, seat_of}
 use Rattle.console_spec.specs.AddressSpace.{byte_at}
 
 -- every chip that holds the address stands at this place

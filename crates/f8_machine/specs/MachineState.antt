@@ -1,5 +1,5 @@
 -- A machine as contracts see it.
-use Rattle.std.specs.Prelude.{◌≡◌, ℕ, ◌+◌, ◌%◌, List, [], ◌∷◌}
+use Rattle.std.specs.Prelude.{ℕ, ◌+◌, ◌%◌, List, [], ◌∷◌}
 use Rattle.f8_spec.specs.BusCodes.{Count}
 use Rattle.console_spec.specs.Processor.{Flow}
 use Rattle.probe.specs.ProbeState.{ProbeState, new_probe, probe_after}

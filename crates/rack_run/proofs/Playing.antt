@@ -1,16 +1,16 @@
 -- A whole run: power-on, reset, and what reset leads to.
-use Rattle.std.proofs.Common.{◌≡◌, ℕ, Bool, List, [], ◌∷◌, ◌++◌, append-nil, map, refl, sym, ap, ◌∙◌, subst}
+use Rattle.std.proofs.Common.{◌≡◌, ℕ, Bool, List, ◌++◌, append-nil, map, refl, sym, ap, ◌∙◌, subst}
 use Rattle.std.specs.Prelude.{Option, Some, None}
 use Rattle.f8_spec.specs.ChipState.{ChipView, ChipState}
 use Rattle.console_spec.specs.Processor.{State, Flow, Registers}
-use Rattle.console_spec.specs.BusTrace.{TracedStep, Course}
+use Rattle.console_spec.specs.BusTrace.{TracedStep}
 use Rattle.console_spec.specs.Services.{Fault}
 use Rattle.console_spec.specs.RackRun.{Position, Turn, Goes, Stops, Unserved, Ending as FlatEnding, goes_unless, goes_on, next, run, recorded, recorded_on, power_position, reset_fault, reset_course, position_after_reset, played, played_record}
 use Rattle.data_bus.specs.Racks.{views}
 use Rattle.data_bus.specs.declared.fault.BusFault.{BusFault}
 use Rattle.f8_machine.specs.Faults.{fault_of}
 use Rattle.f8_machine.specs.MachineState.{MachineState}
-use Rattle.f8_machine.specs.Refinement.{IsPowered, IsDone, IsFaulted, Represents}
+use Rattle.f8_machine.specs.Refinement.{IsPowered, IsDone, IsFaulted}
 use Rattle.f8_machine.specs.Rounds.{RackPowers, RackRuns, heard_of}
 use Rattle.f8_machine.specs.declared.heard.Heard.{Heard}
 use Rattle.f8_machine.specs.declared.mode.Mode.TheVariants.{Stopped}

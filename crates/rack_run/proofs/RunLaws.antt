@@ -5,11 +5,11 @@ use Rattle.std.specs.Prelude.{Option, Some, None}
 use Rattle.std.proofs.lemmas.List.{append_assoc, map-append}
 use Rattle.f8_spec.specs.Built.{is_built_on_rack}
 use Rattle.f8_spec.specs.Instructions.{decoded}
-use Rattle.f8_spec.specs.ChipState.{ChipView, ChipState, HeardStep, told_step}
+use Rattle.f8_spec.specs.ChipState.{ChipView, ChipState, told_step}
 use Rattle.f8_spec.specs.declared.instructions.Op.{Op}
 use Rattle.console_spec.specs.Services.{Fault}
 use Rattle.console_spec.specs.BusTrace.{TracedStep}
-use Rattle.console_spec.specs.RackRun.{Position, Stop, Done, Turn, Goes, Stops, Ending as FlatEnding, goes_unless, decided, next, run, goes_on, opcode_at, instruction_fault, position_after, turn_course, recorded, recorded_on}
+use Rattle.console_spec.specs.RackRun.{Position, Stop, Done, Goes, Stops, Ending as FlatEnding, goes_unless, decided, next, run, goes_on, opcode_at, instruction_fault, position_after, turn_course, recorded, recorded_on}
 use Rattle.data_bus.specs.Racks.{NumberedZip}
 use Rattle.f8_machine.specs.declared.heard.Heard.{Heard}
 use Rattle.console_spec.specs.Processor.{State, Flow, Registers}
@@ -19,7 +19,7 @@ use Rattle.f8_machine.proofs.RackLaws.{rack_runs_none}
 use Rattle.rack_run.specs.Endings.{Tells, GoesOn, StopsAt, PlaysOut, told_state, stop_of, stop_at}
 use Rattle.rack_run.specs.declared.ending.Ending.{Ending}
 use Rattle.rack_run.specs.declared.ending.Halt.{Halt}
-use Rattle.f8_machine.specs.Rounds.{heard_in, heard_of, after_steps, HearsSteps, Runs, RackRuns}
+use Rattle.f8_machine.specs.Rounds.{heard_in, heard_of, after_steps, Runs, RackRuns}
 
 left_over : (n i : ℕ) → i < n → n - i ≡ suc (n - (i + 1))
 left_over n i h = omega arith

@@ -1,5 +1,5 @@
 -- A turn takes one step of what is left; at its end the instruction is done, and at a step that isn't served it is cut short.
-use Rattle.std.proofs.Common.{◌≡◌, ◌+◌, ◌<◌, ◌≤◌, ◌++◌, ◌∷◌, [], refl, length, map, ap, sym, subst, ◌∙◌, arith, rules}
+use Rattle.std.proofs.Common.{◌+◌, ◌<◌, ◌≤◌, refl, length, ap, sym, subst, ◌∙◌, arith, rules}
 use Rattle.std.proofs.lemmas.List.{length-append}
 use Rattle.cpu3850.proofs.KeepingLaws.{IsRestorable-start, IsRestorable-taken}
 use Rattle.cpu3850.proofs.PlanLaws.{planned-taken}
@@ -8,8 +8,6 @@ use Rattle.cpu3850.specs.Keeping.{IsRestorable}
 use Rattle.probe.specs.ProbeState.{ProbeState, probe_after}
 use Rattle.f8_machine.specs.BusSteps.{told}
 use Rattle.f8_machine.specs.MachineState.{probe_after_steps}
-use Rattle.f8_machine.specs.Rounds.{RackRuns}
-use Rattle.f8_machine.specs.declared.heard.Heard.{Heard}
 use Rattle.f8_machine.proofs.Carried.{remaining_first, remaining_ends}
 use Rattle.f8_machine.proofs.RackLaws.{rack_runs_none, rack_runs_more, rack_runs_stays, probe_after_steps-more}
 use Rattle.f8_machine.proofs.Remains.{ArePlain, planned_plain, split_plan, remaining_more, remaining_stops}

@@ -1,7 +1,6 @@
 -- Each step of reset leads on, or is not served.
-use Rattle.std.proofs.Common.{◌≡◌, [], ◌∷◌, refl, sym}
+use Rattle.std.proofs.Common.{[], ◌∷◌, refl, sym}
 use Rattle.f8_spec.specs.MicroSteps.{Opcode, NoByte, short_step, long_step}
-use Rattle.console_spec.specs.RackRun.{Position}
 use Rattle.f8_machine.proofs.RackLaws.{rack_runs_nothing}
 use Rattle.f8_machine.proofs.Resets.{reset_first, reset_more, reset_last, reset_stops, if_ok, if_err_both, rack_served, rack_ran}
 use Rattle.f8_machine.proofs.reset.fetch_first.Goals as goal

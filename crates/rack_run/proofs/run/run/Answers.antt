@@ -1,6 +1,5 @@
 -- Each turn leads on or ends the run.
-use Rattle.std.proofs.Common.{◌≡◌, ◌+◌, ◌<◌, ◌≤◌, refl, ap, sym, ◌∙◌, arith, rules}
-use Rattle.rack_run.specs.Endings.{Tells, told_state, stop_at}
+use Rattle.std.proofs.Common.{◌+◌, refl, ap, ◌∙◌, arith, rules}
 use Rattle.rack_run.proofs.RunLaws.{reached_first, reached_more, plays_out_done, plays_out_stopped}
 use Rattle.rack_run.proofs.run.run.Goals as goal
 

@@ -1,7 +1,6 @@
 -- Each chip is fitted by its socket, and the chips behind it are as they were.
-use Rattle.std.proofs.Common.{◌≡◌, ◌∙◌, ◌+◌, ◌<◌, ◌≤◌, length, map, get_or, refl, ap, vec_len, arith, add-one}
-use Rattle.data_bus.proofs.Racks.{changed-none, changed-more, changed-written, unchanged_at, whole_again}
-use Rattle.rack_run.specs.Seating.{FitsWhole}
+use Rattle.std.proofs.Common.{◌≡◌, ◌∙◌, ◌+◌, ◌<◌, ◌≤◌, length, refl, ap, vec_len, arith, add-one}
+use Rattle.data_bus.proofs.Racks.{changed-none, changed-more, changed-written, unchanged_at}
 use Rattle.rack_run.proofs.Seats.{counted_here, counted_more, kinds_from, all_whole, fits_seated}
 use Rattle.rack_run.proofs.seat.fit_all.Goals as goal
 

@@ -1,5 +1,5 @@
 -- The instruction that is held is the flat machine's next one.
-use Rattle.std.proofs.Common.{◌≡◌, ℕ, List, true, refl, ap, sym, ◌∙◌, rules}
+use Rattle.std.proofs.Common.{◌≡◌, List, true, refl, ap, ◌∙◌, rules}
 use Rattle.std.specs.Prelude.{sum_by}
 use Rattle.f8_spec.specs.Built.{is_built_on_rack}
 use Rattle.f8_spec.specs.Instructions.{decoded}
