@@ -41,6 +41,7 @@ impl Bytes {
         ensures same { result.now ≡ self.now }
         ensures below { (place : ℕ) → slice_index self.now place < 256 }
     {
+        // By its type each item of a slice with a name is below 256.
         let bytes = self.items.as_slice();
         bytes
     }
@@ -154,7 +155,7 @@ mod tests {
     #[test]
     fn keeps_vectors(rt: HostRuntime) -> Result<(), Fail> {
         let bytes = Bytes::from_vec(vec![in rt.alloc(); 0x2B, 0xFF]?);
-        assert_eq!(rt; bytes.as_slice(), &[0x2B, 0xFF]);
+        assert_eq!(rt; bytes.as_slice(), [0x2B, 0xFF].as_slice());
 
         let pages = PageList::from_vec(Vec::new(rt.alloc()));
         assert_eq!(rt; pages.is_empty(), true);
