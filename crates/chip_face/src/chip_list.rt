@@ -1,3 +1,6 @@
+ghost use Rattle.std.specs.Prelude.{◌≡◌, ◌==◌, false, length};
+ghost use Rattle.chip_face.specs.Fitting.{IsChipList, IsSpec, is_blank};
+
 use super::ChipSpec;
 use std::marker::Model;
 
@@ -21,9 +24,6 @@ impl Model for ChipList {
 }
 
 impl ChipList {
-    ghost use Rattle.std.specs.Prelude.{◌≡◌, ◌==◌, length};
-    ghost use Rattle.chip_face.specs.Fitting.{IsChipList};
-
     /// The chips of a vector, which is kept as it is.
     pub fn from_vec(items: Vec<ChipSpec>) -> ChipList
         requires { IsChipList items.items }
@@ -57,9 +57,6 @@ impl ChipList {
 
 #[cfg(test)]
 mod tests {
-    ghost use Rattle.std.specs.Prelude.{◌≡◌, false};
-    ghost use Rattle.chip_face.specs.Fitting.{IsSpec, is_blank};
-
     use super::*;
     use crate::{Bytes, PageList};
     use std::alloc::Global;
