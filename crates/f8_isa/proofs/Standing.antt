@@ -15,10 +15,10 @@ use Rattle.console_spec.specs.Processor.{Flow, Inputs, State, at_power, own_inpu
 use Rattle.console_spec.specs.FlatMemory.{first_byte, first_memory, is_ram_sort}
 use Rattle.console_spec.specs.FlatMachine.{FlatState, memory_after}
 use Rattle.console_spec.specs.CounterCopies.{Copy, copies_after, reset_copy}
-use Rattle.console_spec.specs.RackRun.{Position, Reserved, seats_of, position_after, position_after_reset, power_position}
+use Rattle.console_spec.specs.RackRun.{Reserved, seats_of, position_after, position_after_reset, power_position}
 use Rattle.chip_face.specs.declared.specification.ChipSpec.{ChipSpec}
 use Rattle.memory_map.specs.MapOf.{MapTable, IsMapOf, views_of, seats_of as seats_of_chips}
-use Rattle.f8_isa.specs.IsaState.{IsaState, KnowsRam, StandsAt, LeadsTo, GoesTo, StopsBy, state_of, flat_of, memory_by}
+use Rattle.f8_isa.specs.IsaState.{IsaState, KnowsRam, StandsAt, GoesTo, StopsBy, state_of, flat_of, memory_by}
 use Rattle.f8_isa.specs.KeptMemory.{KeptMemory, IsFirstMemory}
 
 -- ---- seats
@@ -69,8 +69,8 @@ StandsAt-at_power table chips fill memory mapped first = record {
 -- ---- a step
 
 memory_by-memory_after : (row : Row) (ram_pages : List Bool) (seats : List Seat) (i : Inputs) (c : Flow) (memory : List ℕ) →
-    KnowsRam ram_pages seats → c.d0 < 65536 → memory_after row seats i c memory ≡ memory_by row ram_pages c.d0 i.accumulator memory
-memory_by-memory_after StoreData ram_pages seats i c memory knows below = rw (knows.page c.d0 below) refl
+    KnowsRam ram_pages seats → (row ≡ StoreData → c.d0 < 65536) → memory_after row seats i c memory ≡ memory_by row ram_pages c.d0 i.accumulator memory
+memory_by-memory_after StoreData ram_pages seats i c memory knows below = rw (knows.page c.d0 (below refl)) refl
 memory_by-memory_after row ram_pages seats i c memory knows below = refl
 
 same_flat : (s t : State) (memory other : List ℕ) → s ≡ t → memory ≡ other → ◌≡◌ {A = FlatState} (record { state = s; memory = memory }) (record { state = t; memory = other })
@@ -80,7 +80,7 @@ pub goes_to : (before after : IsaState) (op : Op) → decoded (byte_at before.me
     is_built_on_rack (byte_at before.memory before.flow.p) ≡ true →
     ((count : ℕ) → state_of after (count + 1) ≡ after_instruction op before.memory (state_of before count)) →
     after.memory ≡ memory_by (row_of op) before.ram_pages before.flow.d0 before.registers.accumulator before.memory →
-    after.ram_pages ≡ before.ram_pages → before.flow.d0 < 65536 → GoesTo before after
+    after.ram_pages ≡ before.ram_pages → (row_of op ≡ StoreData → before.flow.d0 < 65536) → GoesTo before after
 unfolding own_inputs
 goes_to before after op found ready state memory ram below = λ count x stands. record {
   next = position_after op x;

@@ -118,7 +118,44 @@ impl Isa {
         ensures clocks { self.new.phi ≤ self.old.phi + 26 }
         ensures memory { self.new.memory ≡ memory_by (row_of instruction.op) self.old.ram_pages self.old.flow.d0 self.old.registers.accumulator self.old.memory }
         ensures ram { self.new.ram_pages ≡ self.old.ram_pages }
-        ensures address { self.old.flow.d0 < 65536 }
+        ensures address { row_of instruction.op ≡ Row.StoreData → self.old.flow.d0 < 65536 }
+    {
+        if instruction.row == Row::Plain {
+            self.carry_out_plain(instruction);
+        } else {
+            self.carry_out_other(instruction);
+        }
+    }
+
+    /// A whole instruction of the plainest row, which most belong to.
+    #[tactic(auto, using(crate::proofs::Results::after_plain))]
+    #[inline]
+    fn carry_out_plain(&mut self, instruction: Instruction)
+        requires right { IsInstruction instruction }
+        requires plain { instruction.row ≡ Row.Plain }
+        requires phi { self.old.phi < 2 ^ 62 }
+        ensures state { (count : ℕ) → state_of self.new (count + 1) ≡ after_instruction instruction.op self.old.memory (state_of self.old count) }
+        ensures clocks { self.new.phi ≤ self.old.phi + 26 }
+        ensures memory { self.new.memory ≡ self.old.memory }
+        ensures ram { self.new.ram_pages ≡ self.old.ram_pages }
+        ensures address { row_of instruction.op ≡ Row.StoreData → self.old.flow.d0 < 65536 }
+    {
+        self.registers.execute(instruction.op, 0);
+        self.flow.p = self.ahead(1);
+        self.phi += u64::from(instruction.clocks);
+    }
+
+    /// A whole instruction of any row.
+    #[tactic(auto, unfolding(console_spec::specs::Processor::own_inputs))]
+    #[inline]
+    fn carry_out_other(&mut self, instruction: Instruction)
+        requires right { IsInstruction instruction }
+        requires phi { self.old.phi < 2 ^ 62 }
+        ensures state { (count : ℕ) → state_of self.new (count + 1) ≡ after_instruction instruction.op self.old.memory (state_of self.old count) }
+        ensures clocks { self.new.phi ≤ self.old.phi + 26 }
+        ensures memory { self.new.memory ≡ memory_by (row_of instruction.op) self.old.ram_pages self.old.flow.d0 self.old.registers.accumulator self.old.memory }
+        ensures ram { self.new.ram_pages ≡ self.old.ram_pages }
+        ensures address { row_of instruction.op ≡ Row.StoreData → self.old.flow.d0 < 65536 }
     {
         let Instruction {
             op,

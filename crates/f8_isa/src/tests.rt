@@ -79,62 +79,84 @@ fn step(rt: &impl Abort, isa: &mut Isa) -> Result<Done, Reserved> {
     isa.step()
 }
 
-fn steps(rt: &impl Abort, isa: &mut Isa, count: u32) -> Result<(), Reserved> {
+// such a program after so many instructions
+fn after(rt: &impl Abort, alloc: Global, bytes: &[u8], fill: u8, count: u32) -> Result<Isa, Fail> {
+    assert!(rt; bytes.len() <= 1024);
+    let mut isa = program(alloc, bytes, fill)?;
     for _ in 0..count {
-        let _done = step(rt, isa)?;
+        let _done = step(rt, &mut isa)?;
+    }
+    Ok(isa)
+}
+
+// the registers P, P1, DC0 and DC1
+fn counters(regs: &Regs) -> [u16; 4] {
+    [regs.p, regs.p1, regs.d0, regs.d1]
+}
+
+// a return to 0, exchanges, a load from RAM, a load of each byte of the ROM, and a jump
+#[test]
+fn counters_and_loads(rt: HostRuntime) -> Result<(), Fail> {
+    let programs: [(&[u8], u8, u32, [u16; 4], u8, u64); 5] = [
+        (&[0x1C], 0x04, 3, [0x0000, 0x0000, 0x0000, 0x0000], 0x04, 38),
+        (
+            &[0x2A, 0x00, 0x05, 0x2C, 0x16],
+            0x00,
+            2,
+            [0x0004, 0x0000, 0x0000, 0x0005],
+            0x00,
+            46,
+        ),
+        (
+            &[
+                0x2A, 0x28, 0x00, 0x2C, 0x2A, 0x28, 0x01, 0x2C, 0x16, 0x90, 0xFF,
+            ],
+            0x5A,
+            6,
+            [0x0009, 0x0000, 0x2801, 0x2801],
+            0x5A,
+            102,
+        ),
+        (
+            &[0x2A, 0x00, 0x00, 0x16, 0x90, 0xFE],
+            0x00,
+            2049,
+            [0x0003, 0x0000, 0x0400, 0x0000],
+            0xFF,
+            24614,
+        ),
+        (
+            &[0x29, 0x03, 0xFE],
+            0x00,
+            1,
+            [0x03FE, 0x0000, 0x0000, 0x0000],
+            0x03,
+            36,
+        ),
+    ];
+    for (bytes, fill, count, places, accumulator, phi) in programs {
+        let isa = after(&rt, rt.alloc(), bytes, fill, count)?;
+        let regs = isa.regs();
+        assert_eq!(rt; counters(&regs), places, "of {bytes:?}");
+        assert_eq!(rt; regs.a, accumulator, "of {bytes:?}");
+        assert_eq!(rt; isa.phi(), phi, "of {bytes:?}");
     }
     Ok(())
 }
 
-// the registers P, P1, DC0, DC1 and A, and the clocks
-fn told(isa: &Isa) -> ([u16; 4], u8, u64) {
-    let regs = isa.regs();
-    ([regs.p, regs.p1, regs.d0, regs.d1], regs.a, isa.phi())
-}
-
-// returns to 0, exchanges, a load from RAM, a load from each byte of the ROM, and a jump
-#[test]
-fn counters(rt: HostRuntime) -> Result<(), Fail> {
-    let mut isa = program(rt.alloc(), &[0x1C], 0x04)?;
-    steps(&rt, &mut isa, 3)?;
-    assert_eq!(rt; told(&isa), ([0x0000, 0x0000, 0x0000, 0x0000], 0x04, 38));
-
-    let mut isa = program(rt.alloc(), &[0x2A, 0x00, 0x05, 0x2C, 0x16], 0x00)?;
-    steps(&rt, &mut isa, 2)?;
-    assert_eq!(rt; told(&isa), ([0x0004, 0x0000, 0x0000, 0x0005], 0x00, 46));
-
-    let exchanges = [
-        0x2A, 0x28, 0x00, 0x2C, 0x2A, 0x28, 0x01, 0x2C, 0x16, 0x90, 0xFF,
-    ];
-    let mut isa = program(rt.alloc(), &exchanges, 0x5A)?;
-    steps(&rt, &mut isa, 6)?;
-    assert_eq!(rt; told(&isa), ([0x0009, 0x0000, 0x2801, 0x2801], 0x5A, 102));
-    assert_eq!(rt; isa.regs().isar, 0o32);
-
-    let mut isa = program(rt.alloc(), &[0x2A, 0x00, 0x00, 0x16, 0x90, 0xFE], 0x00)?;
-    steps(&rt, &mut isa, 2049)?;
-    assert_eq!(rt; told(&isa), ([0x0003, 0x0000, 0x0400, 0x0000], 0xFF, 24614));
-
-    let mut isa = program(rt.alloc(), &[0x29, 0x03, 0xFE], 0x00)?;
-    steps(&rt, &mut isa, 1)?;
-    assert_eq!(rt; told(&isa), ([0x03FE, 0x0000, 0x0000, 0x0000], 0x03, 36));
-    Ok(())
-}
-
-// 33 stored at an address, and the byte there afterwards
-fn stored(rt: &impl Abort, isa: &mut Isa, at: u16) -> Result<u8, Reserved> {
-    steps(rt, isa, 3)?;
-    Ok(isa.peek(at))
-}
-
-// in RAM, in ROM, in a void page, and where there is no chip
+// 33 stored in RAM, in ROM, in a void page, and where there is no chip
 #[test]
 fn stores(rt: HostRuntime) -> Result<(), Fail> {
     for (high, byte) in [(0x28, 0x33), (0x02, 0xFF), (0x80, 0xFF), (0x40, 0xFF)] {
-        let mut isa = program(rt.alloc(), &[0x2A, high, 0x01, 0x20, 0x33, 0x17], 0x5A)?;
+        let isa = after(
+            &rt,
+            rt.alloc(),
+            &[0x2A, high, 0x01, 0x20, 0x33, 0x17],
+            0x5A,
+            3,
+        )?;
         let at = u16::from(high) * 256 + 1;
-        assert_eq!(rt; stored(&rt, &mut isa, at)?, byte, "at {at}");
-        assert_eq!(rt; isa.regs().d0, at + 1);
+        assert_eq!(rt; isa.peek(at), byte, "at {at}");
         assert_eq!(rt; isa.p(), 0x0006);
     }
     Ok(())
@@ -150,10 +172,9 @@ fn shared_and_reserved(rt: HostRuntime) -> Result<(), Fail> {
         psu(alloc, 0x0000, &[0x2B])?,
     )?;
     let mut isa = isa_of(alloc, &chips, 0x00)?;
-    for _ in 0..2 {
-        assert_eq!(rt; step(&rt, &mut isa), Err(Reserved { code: 0xFF }));
-        assert_eq!(rt; told(&isa), ([0x0000, 0x0000, 0x0000, 0x0000], 0x00, 14));
-    }
+    assert_eq!(rt; step(&rt, &mut isa), Err(Reserved { code: 0xFF }));
+    assert_eq!(rt; isa.p(), 0x0000);
+    assert_eq!(rt; isa.phi(), 14);
     Ok(())
 }
 
@@ -199,9 +220,7 @@ fn results(rt: HostRuntime) -> Result<(), Fail> {
         ),
     ];
     for (bytes, count, accumulator, status, first, next, phi) in programs {
-        assert!(rt; bytes.len() <= 7);
-        let mut isa = program(rt.alloc(), bytes, 0x00)?;
-        steps(&rt, &mut isa, count)?;
+        let isa = after(&rt, rt.alloc(), bytes, 0x00, count)?;
         let regs = isa.regs();
         assert_eq!(rt; regs.a, accumulator, "of {bytes:?}");
         assert_eq!(rt; regs.w, status, "of {bytes:?}");
