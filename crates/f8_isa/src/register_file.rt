@@ -48,15 +48,15 @@ impl RegisterFile {
     ghost use Rattle.f8_words.specs.StatusWord.{status_of_flags};
     ghost use Rattle.console_spec.specs.Processor.{at_power, scratch_byte, with_scratch, with_pair, field_byte, register_of, with_isar_stepped, stepped_isar, with_result, with_sum, with_decimal_sum, compared, decremented, effect, any_chosen, is_taken};
 
-    /// The registers after power-on with 00.
-    pub fn at_power() -> RegisterFile
-        ensures { result ≡ (at_power 0).registers }
+    /// The registers after power-on with a byte.
+    pub fn at_power(fill: u8) -> RegisterFile
+        ensures { result ≡ (at_power fill).registers }
     {
         RegisterFile {
-            accumulator: 0,
-            isar: 0,
+            accumulator: fill,
+            isar: fill % 64,
             status: Flags::default(),
-            scratchpad: [0; 64],
+            scratchpad: [fill; 64],
         }
     }
 

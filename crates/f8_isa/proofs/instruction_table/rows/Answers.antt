@@ -2,7 +2,7 @@
 use Rattle.std.proofs.Common.{arith}
 use Rattle.std.proofs.lemmas.Grind.{common_steps}
 use Rattle.f8_isa.proofs.InstructionRows.{one_row_more}
-use Rattle.f8_isa.proofs.instruction_table.InstructionTable.new.Goals as goal
+use Rattle.f8_isa.proofs.instruction_table.rows.Goals as goal
 
 pub loop-code-preserved : goal.loop-code-preserved
 loop-code-preserved c = record {
