@@ -1,5 +1,5 @@
 -- An instruction of a machine, from the position that it stands for to the next one.
-use Rattle.std.proofs.Common.{◌≡◌, ℕ, ◌+◌, ◌%◌, ◌<◌, Bool, true, false, List, [], ◌∷◌, map, length, Option, Some, None, refl, sym, ap, ◌∙◌, subst, arith}
+use Rattle.std.proofs.Common.{◌≡◌, ℕ, ◌+◌, ◌%◌, ◌<◌, ◌≤◌, Bool, true, false, List, [], ◌∷◌, map, length, Option, Some, None, refl, sym, ap, ◌∙◌, subst, arith}
 use Rattle.std.specs.Prelude.{IsSome, sum_by, if◌then◌else◌}
 use Rattle.f8_spec.specs.Built.{is_built_row_on_rack, is_built_op_on_rack, is_built_as_on_rack, is_built_on_rack}
 use Rattle.f8_spec.specs.BusCodes.{Count}
@@ -92,6 +92,21 @@ pub clocks_planned : (cpu : CpuState) (op : Op) → decoded cpu.opcode ≡ Some 
     sum_by (λ (step : Step). step_clocks step.long) (planned cpu) ≡ row_clocks (row_of op) (is_taken op cpu.registers)
 clocks_planned cpu op held =
     ap (λ (found : Option Op). sum_by (λ (step : Step). step_clocks step.long) (planned_as found cpu.registers)) held ∙ clocks_listed (row_of op) (is_taken op cpu.registers)
+
+-- no instruction takes more than 26 Φ
+row_clocks_small : (row : Row) (branched : Bool) → row_clocks row branched ≤ 26
+row_clocks_small Branch true = omega arith
+row_clocks_small Branch false = omega arith
+row_clocks_small BranchIsar true = omega arith
+row_clocks_small BranchIsar false = omega arith
+row_clocks_small row branched = omega arith
+
+clocks_small_as : (found : Option Op) (m : Registers) → sum_by (λ (step : Step). step_clocks step.long) (planned_as found m) ≤ 26
+clocks_small_as None m = omega arith
+clocks_small_as (Some op) m = rw (clocks_listed (row_of op) (is_taken op m)) (row_clocks_small (row_of op) (is_taken op m))
+
+pub clocks_small : (cpu : CpuState) → sum_by (λ (step : Step). step_clocks step.long) (planned cpu) ≤ 26
+clocks_small cpu = clocks_small_as (decoded cpu.opcode) cpu.registers
 
 own_taken : (op : Op) (f : FlatState) → (gets op f).taken ≡ is_taken op f.state.registers
 unfolding own_inputs

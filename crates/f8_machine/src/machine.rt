@@ -43,7 +43,7 @@ impl Model for Machine {
 }
 
 impl Machine {
-    ghost use Rattle.std.specs.Prelude.{◌≡◌, ◌≤◌, ◌<◌, ◌^◌, length, map};
+    ghost use Rattle.std.specs.Prelude.{◌≡◌, ◌≤◌, ◌<◌, ◌+◌, ◌^◌, length, map};
     ghost use Rattle.console_spec.specs.Processor.{shown};
     ghost use Rattle.console_spec.specs.RackRun.{Position, power_position};
     ghost use Rattle.probe.specs.ProbeState.{probe_counters};
@@ -82,6 +82,7 @@ impl Machine {
         ensures refines { (x : Position) → IsPowered self.old (map state rack.old.items) x → ResetRefines result self.old self.new (map state rack.new.items) x }
         ensures ran { RackRuns (steps_in result) (map state rack.old.items) (map state rack.new.items) }
         ensures reference { self.new.probe ≡ probe_after_steps (steps_in result) self.old.probe }
+        ensures clocks { self.new.phi ≤ self.old.phi + 14 }
         ensures mode { IsReset self.new.mode }
         ensures chips { length rack.new.items ≡ length rack.old.items }
     {
@@ -116,6 +117,7 @@ impl Machine {
         ensures same { (halt : Halt) → self.old.mode ≡ Mode.Stopped halt → self.new ≡ self.old }
         ensures ran { RackRuns (steps_in result) (map state rack.old.items) (map state rack.new.items) }
         ensures reference { self.new.probe ≡ probe_after_steps (steps_in result) self.old.probe }
+        ensures clocks { self.new.phi ≤ self.old.phi + 26 }
         ensures mode { IsReset self.new.mode }
         ensures chips { length rack.new.items ≡ length rack.old.items }
     {
@@ -133,6 +135,7 @@ impl Machine {
         ensures refines { (x : Position) → Represents self.old (map state rack.old.items) x → Refines result self.old self.new (map state rack.new.items) x }
         ensures ran { RackRuns (steps_in result) (map state rack.old.items) (map state rack.new.items) }
         ensures reference { self.new.probe ≡ probe_after_steps (steps_in result) self.old.probe }
+        ensures clocks { self.new.phi ≤ self.old.phi + 26 }
         ensures mode { IsReset self.new.mode }
         ensures chips { length rack.new.items ≡ length rack.old.items }
     {
