@@ -1,5 +1,6 @@
 -- How a run on a rack goes on: what a turn of a loop over its instructions needs.
 use Rattle.std.proofs.Common.{◌≡◌, ℕ, suc, ◌+◌, ◌-◌, ◌<◌, ◌≤◌, Bool, true, false, List, [], ◌∷◌, ◌++◌, append-nil, map, refl, sym, ap, ◌∙◌, subst, arith}
+use Rattle.std.proofs.Math.Nat.{sub-zero}
 use Rattle.std.specs.Prelude.{Option, Some, None}
 use Rattle.std.proofs.lemmas.List.{append_assoc, map-append}
 use Rattle.f8_spec.specs.Built.{is_built_on_rack}
@@ -8,9 +9,16 @@ use Rattle.f8_spec.specs.ChipState.{ChipView, ChipState, HeardStep, told_step}
 use Rattle.f8_spec.specs.declared.instructions.Op.{Op}
 use Rattle.console_spec.specs.Services.{Fault}
 use Rattle.console_spec.specs.BusTrace.{TracedStep}
-use Rattle.console_spec.specs.RackRun.{Position, Stop, Done, Turn, Goes, Stops, Ending, goes_unless, decided, next, run, goes_on, opcode_at, instruction_fault, position_after, turn_course, recorded, recorded_on}
+use Rattle.console_spec.specs.RackRun.{Position, Stop, Done, Turn, Goes, Stops, Ending as FlatEnding, goes_unless, decided, next, run, goes_on, opcode_at, instruction_fault, position_after, turn_course, recorded, recorded_on}
 use Rattle.data_bus.specs.Racks.{NumberedZip}
 use Rattle.f8_machine.specs.declared.heard.Heard.{Heard}
+use Rattle.console_spec.specs.Processor.{State, Flow, Registers}
+use Rattle.f8_machine.specs.MachineState.{MachineState}
+use Rattle.f8_machine.specs.Refinement.{Represents}
+use Rattle.f8_machine.proofs.RackLaws.{rack_runs_none}
+use Rattle.rack_run.specs.Endings.{Tells, GoesOn, StopsAt, PlaysOut, told_state, stop_of, stop_at}
+use Rattle.rack_run.specs.declared.ending.Ending.{Ending}
+use Rattle.rack_run.specs.declared.ending.Halt.{Halt}
 use Rattle.f8_machine.specs.Rounds.{heard_in, heard_of, after_steps, HearsSteps, Runs, RackRuns}
 
 left_over : (n i : ℕ) → i < n → n - i ≡ suc (n - (i + 1))
@@ -101,3 +109,79 @@ rack_then n first later (x ∷ xs) (y ∷ ys) (z ∷ zs) one two =
 pub rack_runs_then : (first later : List TracedStep) (xs ys zs : List ChipState) → RackRuns (map heard_of first) xs ys → RackRuns (map heard_of later) ys zs → RackRuns (map heard_of (first ++ later)) xs zs
 rack_runs_then first later xs ys zs one two =
     subst (λ (l : List Heard). RackRuns l xs zs) (sym (map-append heard_of first later)) (rack_then 0 (map heard_of first) (map heard_of later) xs ys zs one two)
+
+-- ---- a turn of the loop
+
+-- after so many instructions of a run: a position from which the rest of them leads to the run's end, and whose steps are heard
+pub record Reached (start : Position) (count done : ℕ) (m : MachineState) (olds news : List ChipState) : Type 0 where
+  pub here : Position
+  pub represents : Represents m news here
+  pub counted : here.flat.state.count ≡ done
+  pub rest : run next (count - done) here ≡ run next count start
+  pub so_far : List TracedStep
+  pub ran : RackRuns (map heard_of so_far) olds news
+  pub steps : so_far ++ recorded (count - done) here ≡ recorded count start
+
+pub reached_first : (x : Position) (count : ℕ) (m : MachineState) (states : List ChipState) → Represents m states x → x.flat.state.count ≡ 0 → Reached x count 0 m states states
+reached_first x count m states r zero = record {
+  here = x;
+  represents = r;
+  counted = zero;
+  rest = ap (λ k. run next k x) (sub-zero count);
+  so_far = [];
+  ran = rack_runs_none 0 states;
+  steps = ap (λ k. recorded k x) (sub-zero count);
+}
+
+pub reached_more : (x : Position) (count done : ℕ) (m n : MachineState) (olds mids news : List ChipState) → done < count → Reached x count done m olds mids →
+    ((y : Position) → Represents m mids y → GoesOn n mids news y) → Reached x count (done + 1) n olds news
+reached_more x count done m n olds mids news more reached goes =
+    let on = goes reached.here reached.represents in
+    record {
+      here = on.there;
+      represents = on.represents;
+      counted = next_count reached.here on.there on.turns ∙ ap (λ k. k + 1) reached.counted;
+      rest = sym (run-goes count done reached.here on.there more on.turns) ∙ reached.rest;
+      so_far = reached.so_far ++ (turn_course reached.here).steps;
+      ran = rack_runs_then reached.so_far (turn_course reached.here).steps olds mids news reached.ran on.ran;
+      steps = append_assoc reached.so_far (turn_course reached.here).steps (recorded (count - (done + 1)) on.there)
+          ∙ ap (λ l. reached.so_far ++ l) (sym (recorded-goes count done reached.here on.there more on.turns)) ∙ reached.steps;
+    }
+
+-- the end of the run, told with the state that the machine tells
+told_same : (told : Ending) (s t : State) (a b : Stop) → s ≡ t → a ≡ b → Tells told s a → Tells told t b
+told_same told s t a b same stop tells = subst (λ (u : State). Tells told u b) same (subst (λ (c : Stop). Tells told s c) stop tells)
+
+state_told : (m : MachineState) (states : List ChipState) (x : Position) (count : ℕ) → Represents m states x → x.flat.state.count ≡ count → told_state m count ≡ x.flat.state
+state_told m states x count r counted =
+    ap (λ (c : Flow). record { flow = c; registers = m.cpu.registers; count = count; phi = m.phi }) r.stands.flow
+    ∙ ap (λ (k : Registers). record { flow = x.flat.state.flow; registers = k; count = count; phi = m.phi }) r.stands.registers
+    ∙ ap (λ (n : ℕ). record { flow = x.flat.state.flow; registers = x.flat.state.registers; count = count; phi = n }) r.stands.phi
+    ∙ ap (λ (n : ℕ). record { flow = x.flat.state.flow; registers = x.flat.state.registers; count = n; phi = x.flat.state.phi }) (sym counted)
+
+pub plays_out_done : (told : Ending) (x : Position) (count done : ℕ) (m : MachineState) (olds news : List ChipState) → count ≤ done → Reached x count done m olds news →
+    Tells told (told_state m done) Done → PlaysOut told (run next count x) (recorded count x) olds news
+plays_out_done told x count done m olds news past reached tells =
+    let ends : run next count x ≡ record { position = reached.here; stop = Done } = sym reached.rest ∙ run-done count done reached.here past in
+    let steps : reached.so_far ≡ recorded count x = sym (append-nil reached.so_far) ∙ ap (λ l. reached.so_far ++ l) (sym (recorded-done count done reached.here past)) ∙ reached.steps in
+    record {
+      tells = subst (λ (e : FlatEnding). Tells told e.position.flat.state e.stop) (sym ends)
+          (told_same told (told_state m done) reached.here.flat.state Done Done (state_told m news reached.here done reached.represents reached.counted) refl tells);
+      ran = subst (λ (l : List TracedStep). RackRuns (map heard_of l) olds news) steps reached.ran;
+    }
+
+pub plays_out_stopped : (told : Ending) (x : Position) (count done : ℕ) (m n : MachineState) (olds mids news : List ChipState) (halt : Halt) → done < count → Reached x count done m olds mids →
+    ((y : Position) → Represents m mids y → StopsAt m n mids news y halt) → Tells told (told_state n done) (stop_at (Some halt)) →
+    PlaysOut told (run next count x) (recorded count x) olds news
+plays_out_stopped told x count done m n olds mids news halt more reached stops tells =
+    let here = reached.here in
+    let at = stops here reached.represents in
+    let ends : run next count x ≡ record { position = here; stop = stop_of halt } = sym reached.rest ∙ run-stops count done here (stop_of halt) more at.turns in
+    let steps : reached.so_far ++ (turn_course here).steps ≡ recorded count x =
+        ap (λ l. reached.so_far ++ l) (sym (recorded-stops count done here (stop_of halt) more at.turns)) ∙ reached.steps in
+    let kept : told_state n done ≡ told_state m done = subst (λ (k : ℕ). told_state n k ≡ told_state m k) reached.counted at.state in
+    record {
+      tells = subst (λ (e : FlatEnding). Tells told e.position.flat.state e.stop) (sym ends)
+          (told_same told (told_state n done) here.flat.state (stop_of halt) (stop_of halt) (kept ∙ state_told m mids here done reached.represents reached.counted) refl tells);
+      ran = subst (λ (l : List TracedStep). RackRuns (map heard_of l) olds news) steps (rack_runs_then reached.so_far (turn_course here).steps olds mids news reached.ran at.ran);
+    }
