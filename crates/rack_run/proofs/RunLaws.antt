@@ -87,11 +87,14 @@ runs_then socket first later a b c one two = record {
   heard = record {
     told = λ now is.
         let last = two.heard.told now is in
-        let earlier = one.heard.told last.0 last.1 in
-        (earlier.0, earlier.1, last.2
-            ∙ ap (λ l. l ++ map (λ h. told_step (heard_in socket h)) later) earlier.2
-            ∙ append_assoc earlier.0 (map (λ h. told_step (heard_in socket h)) first) (map (λ h. told_step (heard_in socket h)) later)
-            ∙ ap (λ l. earlier.0 ++ l) (sym (map-append (λ h. told_step (heard_in socket h)) first later)));
+        let earlier = one.heard.told last.0 last.1 in (
+          earlier.0,
+          earlier.1,
+          last.2
+              ∙ ap (λ l. l ++ map (λ h. told_step (heard_in socket h)) later) earlier.2
+              ∙ append_assoc earlier.0 (map (λ h. told_step (heard_in socket h)) first) (map (λ h. told_step (heard_in socket h)) later)
+              ∙ ap (λ l. earlier.0 ++ l) (sym (map-append (λ h. told_step (heard_in socket h)) first later)),
+        );
   };
   patch = two.patch ∙ one.patch;
 }
@@ -178,7 +181,7 @@ plays_out_stopped told x count done m n olds mids news halt more reached stops t
     let at = stops here reached.represents in
     let ends : run next count x ≡ record { position = here; stop = stop_of halt } = sym reached.rest ∙ run-stops count done here (stop_of halt) more at.turns in
     let steps : reached.so_far ++ (turn_course here).steps ≡ recorded count x =
-        ap (λ l. reached.so_far ++ l) (sym (recorded-stops count done here (stop_of halt) more at.turns)) ∙ reached.steps in
+    ap (λ l. reached.so_far ++ l) (sym (recorded-stops count done here (stop_of halt) more at.turns)) ∙ reached.steps in
     let kept : told_state n done ≡ told_state m done = subst (λ (k : ℕ). told_state n k ≡ told_state m k) reached.counted at.state in
     record {
       tells = subst (λ (e : FlatEnding). Tells told e.position.flat.state e.stop) (sym ends)

@@ -16,7 +16,7 @@ loop-init g c = record {
 pub returns-in-Err-clause-plays : goal.returns-in-Err-clause-plays
 returns-in-Err-clause-plays g c = λ x r zero.
     plays_out_stopped c.ending.result x c.args.count c.loop.counter c.loop.machine c.turn.new.machine _ _ _ c.in-Err.halt (search rules) (c.loop.invariant.reached x r zero)
-        (λ y there. c.in-Err.ensures.stops y there) (rw c.loop.invariant.done at c.ending.ensures)
+    (λ y there. c.in-Err.ensures.stops y there) (rw c.loop.invariant.done at c.ending.ensures)
 
 pub loop-preserved : goal.loop-preserved
 loop-preserved g c = record {

@@ -14,6 +14,6 @@ invariant-loop g l = record {
   chips : length l.rack.items ≡ length l.fn.rack.items;
   reached : (x : Position) → Represents l.fn.machine (map (λ b. (goal.Chip-dyn g (b.vtable, b.value)).state b.value) l.fn.rack.items) x → x.flat.state.count ≡ 0 →
       Reached x l.count l.counter l.machine
-          (map (λ b. (goal.Chip-dyn g (b.vtable, b.value)).state b.value) l.fn.rack.items)
-          (map (λ b. (goal.Chip-dyn g (b.vtable, b.value)).state b.value) l.rack.items);
+      (map (λ b. (goal.Chip-dyn g (b.vtable, b.value)).state b.value) l.fn.rack.items)
+      (map (λ b. (goal.Chip-dyn g (b.vtable, b.value)).state b.value) l.rack.items);
 }
