@@ -1,0 +1,74 @@
+-- The chips of a kind, and what sits in the sockets of a rack.
+use Rattle.std.proofs.Common.{◌≡◌, ℕ, zero, suc, ◌+◌, ◌<◌, Bool, true, List, [], ◌∷◌, length, get_or, map, drop, refl, sym, ap, ◌∙◌, subst, arith}
+use Rattle.std.specs.Prelude.{Some, slice_get}
+use Rattle.std.proofs.Math.Seq.{drop-nil}
+use Rattle.chip_face.specs.Fitting.{Fits}
+use Rattle.chip_face.specs.declared.specification.ChipSpec.{ChipSpec}
+use Rattle.data_bus.specs.Racks.{NumberedZip}
+use Rattle.f8_spec.specs.ChipState.{ChipState, IsWhole}
+use Rattle.f8_spec.specs.declared.chips.ChipKind.{ChipKind}
+use Rattle.f8_spec.specs.declared.chips.ChipKind.TheVariants.{Psu, Smi}
+use Rattle.f8_machine.specs.Refinement.{AreWhole}
+use Rattle.rack_run.specs.Seating.{is_kind, seat_at, seated_from, kinds_of, before_of, psus_after, smis_after, FitsWhole}
+
+pub kind_of_is : (kind other : ChipKind) → is_kind kind other ≡ true → other ≡ kind
+kind_of_is Psu Psu e = refl
+kind_of_is Psu Smi e = cc
+kind_of_is Smi Psu e = cc
+kind_of_is Smi Smi e = refl
+
+-- what sits in the next socket, and in those behind it
+seated_more : (chips : List ChipSpec) (psus smis : ℕ) (kind : ChipKind) (kinds : List ChipKind) →
+    seated_from chips psus smis (kind ∷ kinds) ≡ seat_at chips kind (before_of kind psus smis) ∷ seated_from chips (psus_after kind psus) (smis_after kind smis) kinds
+seated_more chips psus smis Psu kinds = refl
+seated_more chips psus smis Smi kinds = refl
+
+first_of : {A : Type 0} (xs ys : List A) (i : ℕ) (x : A) → drop i xs ≡ x ∷ ys → slice_get xs i ≡ Some x
+first_of [] ys i x e = let none : [] ≡ x ∷ ys = sym (drop-nil i) ∙ e in cc
+first_of (z ∷ xs) ys zero x e = cc
+first_of (z ∷ xs) ys (suc i) x e = first_of xs ys i x e
+
+rest_of : {A : Type 0} (xs ys : List A) (i : ℕ) (x : A) → drop i xs ≡ x ∷ ys → drop (suc i) xs ≡ ys
+rest_of [] ys i x e = let none : [] ≡ x ∷ ys = sym (drop-nil i) ∙ e in cc
+rest_of (z ∷ xs) ys zero x e = cc
+rest_of (z ∷ xs) ys (suc i) x e = rest_of xs ys i x e
+
+-- so far the sockets are counted by their kinds
+pub record Counted (chips : List ChipSpec) (specs : List ChipSpec) (kinds : List ChipKind) (i psus smis : ℕ) : Type 0 where
+  pub left : seated_from chips psus smis (drop i kinds) ≡ drop i specs
+
+pub counted_here : (chips specs : List ChipSpec) (kinds : List ChipKind) (i psus smis : ℕ) (kind : ChipKind) (later : List ChipKind) → drop i kinds ≡ kind ∷ later →
+    Counted chips specs kinds i psus smis → slice_get specs i ≡ Some (seat_at chips kind (before_of kind psus smis))
+counted_here chips specs kinds i psus smis kind later e counted =
+    first_of specs _ i _ (sym counted.left ∙ ap (seated_from chips psus smis) e ∙ seated_more chips psus smis kind later)
+
+pub counted_more : (chips specs : List ChipSpec) (kinds : List ChipKind) (i psus smis : ℕ) (kind : ChipKind) (later : List ChipKind) → drop i kinds ≡ kind ∷ later →
+    Counted chips specs kinds i psus smis → Counted chips specs kinds (suc i) (psus_after kind psus) (smis_after kind smis)
+counted_more chips specs kinds i psus smis kind later e counted = record {
+  left = ap (seated_from chips (psus_after kind psus) (smis_after kind smis)) (rest_of kinds later i kind e)
+      ∙ sym (rest_of specs _ i _ (sym counted.left ∙ ap (seated_from chips psus smis) e ∙ seated_more chips psus smis kind later));
+}
+
+-- the kinds from a socket on
+pub kinds_from : (states : List ChipState) (i : ℕ) (s : ChipState) → slice_get states i ≡ Some s → drop i (kinds_of states) ≡ s.view.kind ∷ drop (suc i) (kinds_of states)
+kinds_from [] i s lies = cc
+kinds_from (t ∷ states) zero s lies = let same : t ≡ s = cc in ap (λ (u : ChipState). u.view.kind ∷ kinds_of states) same
+kinds_from (t ∷ states) (suc i) s lies = kinds_from states i s lies
+
+-- every chip of a rack that is fitted is whole
+whole_from : (specs : List ChipSpec) (n : ℕ) (olds news : List ChipState) → NumberedZip (FitsWhole specs) n olds news → AreWhole news
+whole_from specs n [] [] all place s lies = cc
+whole_from specs n [] (y ∷ news) all place s lies = absurd all
+whole_from specs n (x ∷ olds) [] all place s lies = absurd all
+whole_from specs n (x ∷ olds) (y ∷ news) all zero s lies = let same : y ≡ s = cc in subst (λ (u : ChipState). IsWhole u.view) same all.0.whole
+whole_from specs n (x ∷ olds) (y ∷ news) all (suc place) s lies = whole_from specs (n + 1) olds news all.1 place s lies
+
+pub all_whole : (specs : List ChipSpec) (olds news : List ChipState) → NumberedZip (FitsWhole specs) 0 olds news → AreWhole news
+all_whole specs olds news all = whole_from specs 0 olds news all
+
+-- a chip that is fitted as what sits in the next socket
+pub fits_seated : (specs : List ChipSpec) (socket : ℕ) (seat : ChipSpec) (old new : ChipState) → slice_get specs socket ≡ Some seat → Fits seat old new → IsWhole new.view → FitsWhole specs socket old new
+fits_seated specs socket seat old new is fits whole = record {
+  fits = λ spec lies. let same : Some seat ≡ Some spec = sym is ∙ lies in let seats : seat ≡ spec = cc in subst (λ (c : ChipSpec). Fits c old new) seats fits;
+  whole = whole;
+}

@@ -1,0 +1,52 @@
+-- Each chip is fitted by its socket, and the chips behind it are as they were.
+use Rattle.std.proofs.Common.{◌≡◌, ◌∙◌, ◌+◌, ◌<◌, ◌≤◌, length, map, get_or, refl, ap, vec_len, arith, add-one}
+use Rattle.data_bus.proofs.Racks.{changed-none, changed-more, changed-written, unchanged_at, whole_again}
+use Rattle.rack_run.specs.Seating.{FitsWhole}
+use Rattle.rack_run.proofs.Seats.{counted_here, counted_more, kinds_from, all_whole, fits_seated}
+use Rattle.rack_run.proofs.seat.fit_all.Goals as goal
+
+pub loop-chip-init : goal.loop-chip-init
+loop-chip-init g c = record { few = refl; counted = record { left = refl }; changed = changed-none _ _ }
+
+pub fit_next-requires-clause-psus : goal.fit_next-requires-clause-psus
+fit_next-requires-clause-psus g c =
+    let within : c.loop-chip.chip-index < length c.args.rack.now.items = rw c.deref_mut-chip-items.ensures.value at c.loop-chip-test.true in
+    omega (arith, within, c.requires.few, c.loop-chip.invariant.few)
+
+pub fit_next-requires-clause-smis : goal.fit_next-requires-clause-smis
+fit_next-requires-clause-smis g c =
+    let within : c.loop-chip.chip-index < length c.args.rack.now.items = rw c.deref_mut-chip-items.ensures.value at c.loop-chip-test.true in
+    omega (arith, within, c.requires.few, c.loop-chip.invariant.few)
+
+pub loop-chip-preserved : goal.loop-chip-preserved
+loop-chip-preserved g c =
+    let here = unchanged_at (λ b. (goal.Chip-dyn g (b.vtable, b.value)).state b.value) _ c.deref_mut-chip-items.result.now c.loop-chip.chip-items c.loop-chip.chip-index c.chip-item.result
+    c.loop-chip-test.true c.loop-chip.auto.chip-items c.loop-chip.invariant.changed in
+    let kinds = kinds_from _ c.loop-chip.chip-index _ here in
+    let seat = counted_here c.as_slice-chips.result.now _ _ c.loop-chip.chip-index c.loop-chip.sockets.psus c.loop-chip.sockets.smis _ _ kinds c.loop-chip.invariant.counted in
+    record {
+      few = c.fit_next.ensures.more ∙ ap (λ n. n + 1) c.loop-chip.invariant.few;
+      counted = rw (c.fit_next.ensures.psus, c.fit_next.ensures.smis, add-one)
+          (counted_more c.as_slice-chips.result.now _ _ c.loop-chip.chip-index c.loop-chip.sockets.psus c.loop-chip.sockets.smis _ _ kinds c.loop-chip.invariant.counted);
+      changed = changed-more (λ b. (goal.Chip-dyn g (b.vtable, b.value)).state b.value) _ c.deref_mut-chip-items.result.now c.loop-chip.chip-items c.loop-chip.chip-index c.chip-item.result
+          c.fit_next.new.chip c.loop-chip-test.true c.loop-chip.auto.chip-items c.loop-chip.invariant.changed
+          (fits_seated _ c.loop-chip.chip-index _ _ _ seat c.in_ok-fit_next.ensures.fits c.in_ok-fit_next.ensures.whole);
+    }
+
+pub returns-clause-fitted : goal.returns-clause-fitted
+returns-clause-fitted g c =
+    let long : length c.loop-chip.chip-items ≡ length c.args.rack.now.items = rw c.deref_mut-chip-items.ensures.value at c.loop-chip.auto.chip-items in
+    let count : length c.args.rack.now.items ≡ vec_len c.args.rack.now = rw c.deref_mut-chip-items.ensures.value at c.deref_mut-chip-items.ensures.len in
+    let past : length c.args.rack.now.items ≤ c.loop-chip.chip-index = rw c.deref_mut-chip-items.ensures.value at c.loop-chip-test.false in
+    let fitted = changed-written (λ b. (goal.Chip-dyn g (b.vtable, b.value)).state b.value) _ c.args.rack.now.items c.loop-chip.chip-items _ c.loop-chip.chip-index count long past
+    (rw c.deref_mut-chip-items.ensures.value at c.loop-chip.invariant.changed) in
+    rw c.as_slice-chips.ensures.chips at fitted
+
+pub returns-clause-whole : goal.returns-clause-whole
+returns-clause-whole g c =
+    let long : length c.loop-chip.chip-items ≡ length c.args.rack.now.items = rw c.deref_mut-chip-items.ensures.value at c.loop-chip.auto.chip-items in
+    let count : length c.args.rack.now.items ≡ vec_len c.args.rack.now = rw c.deref_mut-chip-items.ensures.value at c.deref_mut-chip-items.ensures.len in
+    let past : length c.args.rack.now.items ≤ c.loop-chip.chip-index = rw c.deref_mut-chip-items.ensures.value at c.loop-chip-test.false in
+    let fitted = changed-written (λ b. (goal.Chip-dyn g (b.vtable, b.value)).state b.value) _ c.args.rack.now.items c.loop-chip.chip-items _ c.loop-chip.chip-index count long past
+    (rw c.deref_mut-chip-items.ensures.value at c.loop-chip.invariant.changed) in
+    all_whole _ _ _ fitted

@@ -1,0 +1,130 @@
+ghost use Rattle.std.specs.Prelude.{◌≡◌, ◌≢◌, ◌≤◌, ◌<◌, ◌+◌, length, map, slice_get, IfSome, OnOk, OnErr, Some, None, All};
+ghost use Rattle.f8_spec.specs.ChipState.{IsWhole};
+ghost use Rattle.chip_face.specs.Fitting.{Fits, IsSpec, kind_of};
+ghost use Rattle.f8_machine.specs.Refinement.{AreWhole};
+ghost use Rattle.rack_run.specs.Seating.{is_kind, of_kind, seat_at, before_of, psus_after, smis_after, seated, RackFits};
+
+use chip_face::{Chip, ChipKind, ChipList, ChipSpec, FitFault, Memory};
+use data_bus::Rack;
+use std::alloc::Global;
+
+/// Fits a chip of the specification's kind, or is in want of memory. Then the chip is as it was.
+fn fit_one(alloc: Global, chip: &mut Box<dyn Chip>, spec: &ChipSpec) -> Result<(), Memory>
+    requires spec { IsSpec spec.now }
+    requires kind { kind_of spec.now ≡ (state chip.old).view.kind }
+    ensures fits { OnOk result (Fits spec.now (state chip.old) (state chip.new)) }
+    ensures whole { OnOk result (IsWhole (state chip.new).view) }
+    ensures same { OnErr result (state chip.new ≡ state chip.old) }
+{
+    match chip.fit(alloc, spec) {
+        Ok(()) => Ok(()),
+        Err(FitFault::Memory) => Err(Memory),
+        Err(FitFault::WrongKind) => unreachable!(),
+    }
+}
+
+/// The specification is for a chip of this kind.
+fn is_for(spec: &ChipSpec, kind: ChipKind) -> bool
+    ensures { result ≡ is_kind kind (kind_of spec.now) }
+{
+    match kind {
+        ChipKind::Psu => matches!(spec.kind(), ChipKind::Psu),
+        ChipKind::Smi => matches!(spec.kind(), ChipKind::Smi),
+    }
+}
+
+/// The chip of a kind with so many of the kind before it.
+#[tactic(auto, using(crate::proofs::Seats::kind_of_is))]
+fn nth_of_kind(chips: &[ChipSpec], kind: ChipKind, before: usize) -> Option<&ChipSpec>
+    requires specified { All IsSpec chips.now }
+    ensures some { IfSome result (λ spec. slice_get (of_kind kind chips.now) before ≡ Some spec.now) }
+    ensures kind { IfSome result (λ spec. kind_of spec.now ≡ kind) }
+    ensures specified { IfSome result (λ spec. IsSpec spec.now) }
+    ensures none { result ≡ None → slice_get (of_kind kind chips.now) before ≡ None }
+{
+    let mut left = before;
+    for spec in chips {
+        if is_for(spec, kind) {
+            if left == 0 {
+                return Some(spec);
+            }
+            left -= 1;
+        }
+    }
+    None
+}
+
+/// Fits the chip in a socket with the chip of its kind that sits there, by the sockets of its kind before it. A socket that is left over
+/// is blank.
+fn fit_socket(
+    alloc: Global,
+    chips: &[ChipSpec],
+    kind: ChipKind,
+    before: usize,
+    chip: &mut Box<dyn Chip>,
+) -> Result<(), Memory>
+    requires specified { All IsSpec chips.now }
+    requires kind { kind ≡ (state chip.old).view.kind }
+    ensures fits { OnOk result (Fits (seat_at chips.now kind before) (state chip.old) (state chip.new)) }
+    ensures whole { OnOk result (IsWhole (state chip.new).view) }
+    ensures same { OnErr result (state chip.new ≡ state chip.old) }
+{
+    match nth_of_kind(chips, kind, before) {
+        Some(spec) => fit_one(alloc, chip, spec),
+        None => fit_one(alloc, chip, &ChipSpec::Blank(kind)),
+    }
+}
+
+/// The sockets of each kind so far.
+#[derive(Clone, Copy, Debug)]
+struct Sockets {
+    psus: usize,
+    smis: usize,
+}
+
+/// Fits the chip in the next socket, and counts the socket.
+fn fit_next(
+    alloc: Global,
+    chips: &[ChipSpec],
+    sockets: &mut Sockets,
+    chip: &mut Box<dyn Chip>,
+) -> Result<(), Memory>
+    requires specified { All IsSpec chips.now }
+    requires psus { sockets.old.psus < 16 }
+    requires smis { sockets.old.smis < 16 }
+    ensures fits { OnOk result (Fits (seat_at chips.now (state chip.old).view.kind (before_of (state chip.old).view.kind sockets.old.psus sockets.old.smis)) (state chip.old) (state chip.new)) }
+    ensures whole { OnOk result (IsWhole (state chip.new).view) }
+    ensures psus { sockets.new.psus ≡ psus_after (state chip.old).view.kind sockets.old.psus }
+    ensures smis { sockets.new.smis ≡ smis_after (state chip.old).view.kind sockets.old.smis }
+    ensures more { sockets.new.psus + sockets.new.smis ≡ sockets.old.psus + sockets.old.smis + 1 }
+{
+    let kind = chip.kind();
+    match kind {
+        ChipKind::Psu => {
+            let before = sockets.psus;
+            sockets.psus = before + 1;
+            fit_socket(alloc, chips, kind, before, chip)
+        }
+        ChipKind::Smi => {
+            let before = sockets.smis;
+            sockets.smis = before + 1;
+            fit_socket(alloc, chips, kind, before, chip)
+        }
+    }
+}
+
+/// Fits a rack of at most 16 chips for a description: the k-th chip of a kind goes to the k-th socket of that kind, and all other sockets
+/// are blank. Where memory is wanting, chips in lower sockets may have been fitted.
+pub fn fit_all(alloc: Global, chips: &ChipList, rack: &mut Rack) -> Result<(), Memory>
+    requires few { length rack.old.items ≤ 16 }
+    ensures fitted { OnOk result (RackFits (seated chips.now (map state rack.old.items)) (map state rack.old.items) (map state rack.new.items)) }
+    ensures whole { OnOk result (AreWhole (map state rack.new.items)) }
+    ensures chips { length rack.new.items ≡ length rack.old.items }
+{
+    let chips = chips.as_slice();
+    let mut sockets = Sockets { psus: 0, smis: 0 };
+    for chip in rack.iter_mut() {
+        fit_next(alloc, chips, &mut sockets, chip)?;
+    }
+    Ok(())
+}
