@@ -7,5 +7,6 @@ pub mod Services
 pub mod BusTrace
 pub mod FlatMachine
 pub mod RackRun
+pub mod RackText
 pub mod Run
 pub mod RunText
