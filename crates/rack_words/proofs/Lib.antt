@@ -1,0 +1,2 @@
+pub mod Specified
+pub mod ChipLists

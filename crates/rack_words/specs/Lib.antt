@@ -1,0 +1,4 @@
+pub mod Digits
+pub mod ChipWords
+pub mod CommandLine
+pub mod Games
