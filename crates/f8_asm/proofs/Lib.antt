@@ -10,4 +10,9 @@ pub mod ListBytes
 pub mod Tables
 pub mod Entries
 pub mod FieldLimits
+pub mod ListedLines
+pub mod ListedBytes
+pub mod ListedPieces
+pub mod ListedPasses
+pub mod RoundTrip
 mod Examples

@@ -23,3 +23,16 @@ ascending at (Some b ∷ slots) = (at, b) ∷ ascending (at + 1) slots
 unfoldable pub image_of : List ℕ → Room → Result Picture AsmFault
 image_of text room =
     read_lines 1 no_reading (lines text) >>= λ read. place_lines room no_layout read.lines >>= λ laid. emit_lines laid.names no_bytes laid.placed >>= λ table. Ok (record { bytes = ascending 0 table; symbols = laid.names })
+
+-- all addresses
+abbrev pub everywhere : Room
+everywhere = record { first = 0; last = 65535 }
+
+-- bytes one after the other, the first at this address
+abbrev pub bytes_from : ℕ → List ℕ → List (ℕ × ℕ)
+bytes_from at [] = []
+bytes_from at (b ∷ bs) = (at, b) ∷ bytes_from (at + 1) bs
+
+-- bytes at the addresses 0, 1, 2 and so on, and no names
+abbrev pub picture_of : List ℕ → Picture
+picture_of bytes = record { bytes = bytes_from 0 bytes; symbols = [] }

@@ -1,5 +1,6 @@
 -- The one text of bytes: a statement a line, with no alias.
-use Rattle.std.specs.Prelude.{ℕ, zero, suc, ◌+◌, ◌-◌, ◌*◌, ◌<◌, ◌==◌, nat_lt, nat_le, List, [], ◌∷◌, ◌++◌, codes, Option, Some, None, if◌then◌else◌}
+use Rattle.std.specs.Borrow.{Bor}
+use Rattle.std.specs.Prelude.{ℕ, zero, suc, ◌+◌, ◌-◌, ◌*◌, ◌<◌, ◌==◌, nat_lt, nat_le, List, [], ◌∷◌, ◌++◌, codes, unwrap_or, Option, Some, None, if◌then◌else◌}
 use Rattle.asm_text.specs.Spelling.{hex2, hex4}
 use Rattle.f8_spec.specs.Instructions.{decoded, row_of, mnemonic_of}
 use Rattle.f8_spec.specs.declared.instructions.Op.{Op}
@@ -28,51 +29,64 @@ register_text r =
     if r == 14 then codes "D" else
     small_decimal r
 
+-- the operands of an LR between two registers that words alone name
+unfoldable pub pair_text : Op → Option (List ℕ)
+pair_text op.LrAKu = Some (codes " A,KU")
+pair_text op.LrAKl = Some (codes " A,KL")
+pair_text op.LrAQu = Some (codes " A,QU")
+pair_text op.LrAQl = Some (codes " A,QL")
+pair_text op.LrKuA = Some (codes " KU,A")
+pair_text op.LrKlA = Some (codes " KL,A")
+pair_text op.LrQuA = Some (codes " QU,A")
+pair_text op.LrQlA = Some (codes " QL,A")
+pair_text op.LrKP = Some (codes " K,P")
+pair_text op.LrPK = Some (codes " P,K")
+pair_text op.LrAIs = Some (codes " A,IS")
+pair_text op.LrIsA = Some (codes " IS,A")
+pair_text op.LrP0Q = Some (codes " P0,Q")
+pair_text op.LrQDc = Some (codes " Q,DC")
+pair_text op.LrDcQ = Some (codes " DC,Q")
+pair_text op.LrDcH = Some (codes " DC,H")
+pair_text op.LrHDc = Some (codes " H,DC")
+pair_text op.LrWJ = Some (codes " W,J")
+pair_text op.LrJW = Some (codes " J,W")
+pair_text other = None
+
+-- a text, as the list of its bytes
+abbrev pub seen_text : Option (Bor (List ℕ)) → Option (List ℕ)
+seen_text (Some text) = Some text.now
+seen_text None = None
+
+-- what stands between the mnemonic and the field of any other instruction
+unfoldable pub gap_of : Op → List ℕ
+gap_of op.Sr1 = codes " 1"
+gap_of op.Sl1 = codes " 1"
+gap_of op.Sr4 = codes " 4"
+gap_of op.Sl4 = codes " 4"
+gap_of (op.LrAR r) = codes " A,"
+gap_of op.Pk = []
+gap_of op.Lm = []
+gap_of op.St = []
+gap_of op.Com = []
+gap_of op.Lnk = []
+gap_of op.Di = []
+gap_of op.Ei = []
+gap_of op.Pop = []
+gap_of op.Inc = []
+gap_of op.Nop = []
+gap_of op.Xdc = []
+gap_of op.Am = []
+gap_of op.Amd = []
+gap_of op.Nm = []
+gap_of op.Om = []
+gap_of op.Xm = []
+gap_of op.Cm = []
+gap_of op.Adc = []
+gap_of other = codes " "
+
 -- what stands between the mnemonic and the field, or what the operands are
 unfoldable pub front_of : Op → List ℕ
-front_of op.LrAKu = codes " A,KU"
-front_of op.LrAKl = codes " A,KL"
-front_of op.LrAQu = codes " A,QU"
-front_of op.LrAQl = codes " A,QL"
-front_of op.LrKuA = codes " KU,A"
-front_of op.LrKlA = codes " KL,A"
-front_of op.LrQuA = codes " QU,A"
-front_of op.LrQlA = codes " QL,A"
-front_of op.LrKP = codes " K,P"
-front_of op.LrPK = codes " P,K"
-front_of op.LrAIs = codes " A,IS"
-front_of op.LrIsA = codes " IS,A"
-front_of op.LrP0Q = codes " P0,Q"
-front_of op.LrQDc = codes " Q,DC"
-front_of op.LrDcQ = codes " DC,Q"
-front_of op.LrDcH = codes " DC,H"
-front_of op.LrHDc = codes " H,DC"
-front_of op.LrWJ = codes " W,J"
-front_of op.LrJW = codes " J,W"
-front_of op.Sr1 = codes " 1"
-front_of op.Sl1 = codes " 1"
-front_of op.Sr4 = codes " 4"
-front_of op.Sl4 = codes " 4"
-front_of (op.LrAR r) = codes " A,"
-front_of op.Pk = []
-front_of op.Lm = []
-front_of op.St = []
-front_of op.Com = []
-front_of op.Lnk = []
-front_of op.Di = []
-front_of op.Ei = []
-front_of op.Pop = []
-front_of op.Inc = []
-front_of op.Nop = []
-front_of op.Xdc = []
-front_of op.Am = []
-front_of op.Amd = []
-front_of op.Nm = []
-front_of op.Om = []
-front_of op.Xm = []
-front_of op.Cm = []
-front_of op.Adc = []
-front_of other = codes " "
+front_of op = unwrap_or (pair_text op) (gap_of op)
 
 -- the field that an instruction shows
 abbrev pub field_of : Op → FieldText

@@ -15,8 +15,8 @@ use Rattle.f8_asm.specs.Fields.{limit_of}
 use Rattle.f8_asm.specs.Registers.{same_word, register_of}
 
 -- instructions of two letters whose operand is no field of the opcode, in alphabetical order
-unfoldable pub two_letter_op_to_l : List ℕ → Option Op
-two_letter_op_to_l name =
+unfoldable pub two_letter_op_a_to_b : List ℕ → Option Op
+two_letter_op_a_to_b name =
     if same_word name (codes "AI") then Some op.Ai else
     if same_word name (codes "AM") then Some op.Am else
     if same_word name (codes "BC") then Some (op.Bt 2) else
@@ -24,6 +24,10 @@ two_letter_op_to_l name =
     if same_word name (codes "BP") then Some (op.Bt 1) else
     if same_word name (codes "BR") then Some (op.Bf 0) else
     if same_word name (codes "BZ") then Some (op.Bt 4) else
+    None
+
+unfoldable pub two_letter_op_c_to_l : List ℕ → Option Op
+two_letter_op_c_to_l name =
     if same_word name (codes "CI") then Some op.Ci else
     if same_word name (codes "CM") then Some op.Cm else
     if same_word name (codes "DI") then Some op.Di else
@@ -33,8 +37,8 @@ two_letter_op_to_l name =
     if same_word name (codes "LM") then Some op.Lm else
     None
 
-unfoldable pub two_letter_op_from_n : List ℕ → Option Op
-two_letter_op_from_n name =
+unfoldable pub two_letter_op_n_to_x : List ℕ → Option Op
+two_letter_op_n_to_x name =
     if same_word name (codes "NI") then Some op.Ni else
     if same_word name (codes "NM") then Some op.Nm else
     if same_word name (codes "OI") then Some op.Oi else
@@ -46,9 +50,12 @@ two_letter_op_from_n name =
     if same_word name (codes "XM") then Some op.Xm else
     None
 
+unfoldable pub two_letter_op : List ℕ → Option Op
+two_letter_op name = option_or (two_letter_op_a_to_b name) (option_or (two_letter_op_c_to_l name) (two_letter_op_n_to_x name))
+
 -- and of three
-unfoldable pub three_letter_op : List ℕ → Option Op
-three_letter_op name =
+unfoldable pub three_letter_op_a_to_c : List ℕ → Option Op
+three_letter_op_a_to_c name =
     if same_word name (codes "ADC") then Some op.Adc else
     if same_word name (codes "AMD") then Some op.Amd else
     if same_word name (codes "BNC") then Some (op.Bf 2) else
@@ -57,6 +64,10 @@ three_letter_op name =
     if same_word name (codes "BR7") then Some op.Br7 else
     if same_word name (codes "CLR") then Some (op.Lis 0) else
     if same_word name (codes "COM") then Some op.Com else
+    None
+
+unfoldable pub three_letter_op_d_to_x : List ℕ → Option Op
+three_letter_op_d_to_x name =
     if same_word name (codes "DCI") then Some op.Dci else
     if same_word name (codes "INC") then Some op.Inc else
     if same_word name (codes "JMP") then Some op.Jmp else
@@ -66,6 +77,9 @@ three_letter_op name =
     if same_word name (codes "POP") then Some op.Pop else
     if same_word name (codes "XDC") then Some op.Xdc else
     None
+
+unfoldable pub three_letter_op : List ℕ → Option Op
+three_letter_op name = option_or (three_letter_op_a_to_c name) (three_letter_op_d_to_x name)
 
 -- the operand that an opcode wants behind it, by the row of its instruction
 abbrev pub op_shape : Row → ℕ → Shape
@@ -114,7 +128,7 @@ longer_shape name =
 -- the instruction that a word of two or three letters names alone
 unfoldable pub op_of : List ℕ → Option Op
 op_of name =
-    if length name == 2 then option_or (two_letter_op_to_l name) (two_letter_op_from_n name) else
+    if length name == 2 then two_letter_op name else
     if length name == 3 then three_letter_op name else
     None
 

@@ -1,5 +1,6 @@
 // The disassembler.
-ghost use Rattle.std.specs.Prelude.{◌≡◌, ◌≤◌, length, IfOk};
+ghost use Rattle.std.specs.Prelude.{◌≡◌, ◌≤◌, ◌+◌, ◌*◌, length, IfOk, Ok};
+ghost use Rattle.f8_asm.specs.Image.{image_of, everywhere, picture_of};
 ghost use Rattle.f8_asm.specs.Listing.{listing};
 
 use crate::pieces::next_piece;
@@ -52,14 +53,17 @@ fn list(alloc: Global, bytes: &[u8]) -> Result<Vec<u8>, AllocError>
 }
 
 /// The text of bytes from address 0000 on: `ORG $0000`, and then one statement a line without aliases. What is no
-/// instruction, or leads out of the addresses, is listed byte by byte.
+/// instruction, or leads out of the addresses, is listed byte by byte. In the room of all addresses `assemble` makes these
+/// bytes of the text again. The text has at most 8 bytes for each of them, and 10 for its first line.
 ///
 /// # Errors
 ///
 /// Memory is missing.
 pub fn disassemble(alloc: Global, bytes: &[u8]) -> Result<Text, Memory>
     requires { length bytes.now ≤ 65536 }
-    ensures { IfOk result (λ text. text ≡ listing bytes.now) }
+    ensures text { IfOk result (λ text. text ≡ listing bytes.now) }
+    ensures round_trip { IfOk result (λ text. image_of text everywhere ≡ Ok (picture_of bytes.now)) }
+    ensures size { IfOk result (λ text. length text ≤ 8 * length bytes.now + 10) }
 {
     match list(alloc, bytes) {
         Ok(bytes) => Ok(Text { bytes }),

@@ -1,7 +1,7 @@
 // Register words, and the instruction LR between two of them.
 ghost use Rattle.std.specs.Prelude.{◌≡◌, ◌<◌, IfSome};
 ghost use Rattle.f8_spec.specs.Instructions.{InRange};
-ghost use Rattle.f8_asm.specs.Registers.{same_word, one_letter_register, two_letter_register, register_of, number_of, is_accumulator, loaded, stored, moved, pair_op};
+ghost use Rattle.f8_asm.specs.Registers.{same_word, one_letter_register, two_letter_register, register_of, number_of, is_accumulator, loaded, stored, into_dc, moved, pair_op};
 
 use asm_text::Name;
 use f8_spec::Op;
@@ -188,6 +188,18 @@ fn stored(to: Register) -> Option<Op>
     Some(op)
 }
 
+/// `LR DC,from`.
+fn into_dc(from: Register) -> Option<Op>
+    ensures value { result ≡ into_dc from }
+    ensures in_range { IfSome result InRange }
+{
+    match from {
+        Register::Q => Some(Op::LrDcQ),
+        Register::H => Some(Op::LrDcH),
+        _ => None,
+    }
+}
+
 /// `LR to,from` past the accumulator.
 fn moved(to: Register, from: Register) -> Option<Op>
     ensures value { result ≡ moved to from }
@@ -210,11 +222,7 @@ fn moved(to: Register, from: Register) -> Option<Op>
             Register::Dc => Some(Op::LrQDc),
             _ => None,
         },
-        Register::Dc => match from {
-            Register::Q => Some(Op::LrDcQ),
-            Register::H => Some(Op::LrDcH),
-            _ => None,
-        },
+        Register::Dc => into_dc(from),
         Register::H => match from {
             Register::Dc => Some(Op::LrHDc),
             _ => None,

@@ -1,7 +1,7 @@
 // How a listing writes statements.
 ghost use Rattle.std.specs.Prelude.{◌≡◌, ◌<◌, ◌++◌, ◌∷◌, [], OnOk};
 ghost use Rattle.asm_text.specs.Spelling.{hex_digit, hex2, hex4};
-ghost use Rattle.f8_asm.specs.Listing.{small_decimal, register_text, front_of, field_of, FieldFits, EntryFits, field_text, back_of, with_head, with_entry};
+ghost use Rattle.f8_asm.specs.Listing.{small_decimal, register_text, pair_text, seen_text, gap_of, front_of, field_of, FieldFits, EntryFits, field_text, back_of, with_head, with_entry};
 
 use f8_ops::name;
 use f8_spec::Op;
@@ -89,31 +89,41 @@ fn push_register(text: &mut Vec<u8>, register: u8) -> Result<(), AllocError>
     }
 }
 
-/// What stands between the mnemonic and the field, or what the operands are.
-#[tactic(auto, unfolding(crate::specs::Listing::front_of))]
-fn front_of(op: Op) -> &'static str
-    ensures { result.now ≡ front_of op }
+/// The operands of an LR between two registers that words alone name.
+#[tactic(auto, unfolding(crate::specs::Listing::pair_text))]
+fn pair_text(op: Op) -> Option<&'static str>
+    ensures { seen_text result ≡ pair_text op }
 {
     match op {
-        Op::LrAKu => " A,KU",
-        Op::LrAKl => " A,KL",
-        Op::LrAQu => " A,QU",
-        Op::LrAQl => " A,QL",
-        Op::LrKuA => " KU,A",
-        Op::LrKlA => " KL,A",
-        Op::LrQuA => " QU,A",
-        Op::LrQlA => " QL,A",
-        Op::LrKP => " K,P",
-        Op::LrPK => " P,K",
-        Op::LrAIs => " A,IS",
-        Op::LrIsA => " IS,A",
-        Op::LrP0Q => " P0,Q",
-        Op::LrQDc => " Q,DC",
-        Op::LrDcQ => " DC,Q",
-        Op::LrDcH => " DC,H",
-        Op::LrHDc => " H,DC",
-        Op::LrWJ => " W,J",
-        Op::LrJW => " J,W",
+        Op::LrAKu => Some(" A,KU"),
+        Op::LrAKl => Some(" A,KL"),
+        Op::LrAQu => Some(" A,QU"),
+        Op::LrAQl => Some(" A,QL"),
+        Op::LrKuA => Some(" KU,A"),
+        Op::LrKlA => Some(" KL,A"),
+        Op::LrQuA => Some(" QU,A"),
+        Op::LrQlA => Some(" QL,A"),
+        Op::LrKP => Some(" K,P"),
+        Op::LrPK => Some(" P,K"),
+        Op::LrAIs => Some(" A,IS"),
+        Op::LrIsA => Some(" IS,A"),
+        Op::LrP0Q => Some(" P0,Q"),
+        Op::LrQDc => Some(" Q,DC"),
+        Op::LrDcQ => Some(" DC,Q"),
+        Op::LrDcH => Some(" DC,H"),
+        Op::LrHDc => Some(" H,DC"),
+        Op::LrWJ => Some(" W,J"),
+        Op::LrJW => Some(" J,W"),
+        _ => None,
+    }
+}
+
+/// What stands between the mnemonic and the field of any other instruction.
+#[tactic(auto, unfolding(crate::specs::Listing::gap_of))]
+fn gap_of(op: Op) -> &'static str
+    ensures { result.now ≡ gap_of op }
+{
+    match op {
         Op::Sr1 | Op::Sl1 => " 1",
         Op::Sr4 | Op::Sl4 => " 4",
         Op::LrAR { .. } => " A,",
@@ -136,6 +146,17 @@ fn front_of(op: Op) -> &'static str
         | Op::Cm
         | Op::Adc => "",
         _ => " ",
+    }
+}
+
+/// What stands between the mnemonic and the field, or what the operands are.
+#[tactic(auto, unfolding(crate::specs::Listing::front_of))]
+fn front_of(op: Op) -> &'static str
+    ensures { result.now ≡ front_of op }
+{
+    match pair_text(op) {
+        Some(text) => text,
+        None => gap_of(op),
     }
 }
 

@@ -109,3 +109,75 @@ fn bytes_are_listed(rt: HostRuntime) -> Result<(), Fail> {
     assert_eq!(rt; text.as_bytes(), want.as_bytes());
     Ok(())
 }
+
+/// No limit is tried here: the text of a few bytes is short.
+#[test]
+fn a_listing_assembles_to_its_bytes(rt: HostRuntime) -> Result<(), Fail> {
+    let bytes = [0x12, 0x00, 0x2D, 0x8F, 0xFC, 0x8F, 0x80, 0x90];
+    let Ok(text) = disassemble(rt.alloc(), &bytes) else {
+        return Ok(());
+    };
+    let Ok(image) = assemble(rt.alloc(), text.as_bytes(), EVERYWHERE) else {
+        return Ok(());
+    };
+    let want: [(u16, u8); 8] = [
+        (0, 0x12),
+        (1, 0x00),
+        (2, 0x2D),
+        (3, 0x8F),
+        (4, 0xFC),
+        (5, 0x8F),
+        (6, 0x80),
+        (7, 0x90),
+    ];
+    assert_eq!(rt; image.bytes(), want.as_slice());
+    Ok(())
+}
+
+/// An operand behind so many prefixes or parentheses.
+fn opened(alloc: Global, open: &str, depth: u32, close: &str) -> Result<String, Fail> {
+    let mut text = String::from_str(alloc, " LI ")?;
+    for _ in 0..depth {
+        text.push_str(open)?;
+    }
+    text.push_str("5")?;
+    for _ in 0..depth {
+        text.push_str(close)?;
+    }
+    Ok(text)
+}
+
+#[test]
+fn at_most_64_constructs_are_open(rt: HostRuntime) -> Result<(), Fail> {
+    for (open, depth, close, want) in [
+        ("(", 64, ")", "0:20 1:05 "),
+        ("(", 65, ")", "1 69 11"),
+        ("-", 64, "", "0:20 1:05 "),
+        ("-", 65, "", "1 69 11"),
+        ("(-", 32, ")", "0:20 1:05 "),
+        ("(-", 33, ")", "1 69 11"),
+        ("-0+", 65, "", "0:20 1:05 "),
+    ] {
+        let text = opened(rt.alloc(), open, depth, close)?;
+        let got = answer(rt.alloc(), text.as_str(), EVERYWHERE)?;
+        assert_eq!(rt; got.as_str(), want, "{text}");
+    }
+    Ok(())
+}
+
+#[test]
+fn addresses_end_at_65535(rt: HostRuntime) -> Result<(), Fail> {
+    for (text, want) in [
+        (" ORG $FFFE\n BR $FFFF", "FFFE:90 FFFF:00 "),
+        (" ORG $FFFE\n BR 0", "2 5 7"),
+        (" BR $FFFF", "1 5 7"),
+        (" ORG $FFFF\n NOP\nX:", "FFFF:2B X=65536"),
+        (" ORG $FFFF\n NOP\n NOP", "3 2 8"),
+        (" ORG $FFFF\n DW 1", "2 2 8"),
+        (" ORG 65536", "1 6 6"),
+    ] {
+        let got = answer(rt.alloc(), text, EVERYWHERE)?;
+        assert_eq!(rt; got.as_str(), want, "{text}");
+    }
+    Ok(())
+}

@@ -1,7 +1,7 @@
 // Mnemonics and directives: which words there are, and what operands go behind each.
 ghost use Rattle.std.specs.Prelude.{◌≡◌, IfSome};
 ghost use Rattle.f8_spec.specs.Instructions.{InRange};
-ghost use Rattle.f8_asm.specs.Words.{two_letter_op_to_l, two_letter_op_from_n, three_letter_op, op_of, op_shape, shape_of_op, two_letter_shape, longer_shape, shape_of, is_reserved, HasRoom};
+ghost use Rattle.f8_asm.specs.Words.{two_letter_op_a_to_b, two_letter_op_c_to_l, two_letter_op_n_to_x, two_letter_op, three_letter_op_a_to_c, three_letter_op_d_to_x, three_letter_op, op_of, op_shape, shape_of_op, two_letter_shape, longer_shape, shape_of, is_reserved, HasRoom};
 
 use crate::fields::Field;
 use crate::registers::{is_word, register_of};
@@ -51,10 +51,10 @@ pub enum Shape {
     Items(ItemSize),
 }
 
-/// Instructions of two letters whose operand is no field of the opcode.
-#[tactic(auto, unfolding(crate::specs::Words::two_letter_op_to_l))]
-fn two_letter_op_to_l(name: &[u8]) -> Option<Op>
-    ensures value { result ≡ two_letter_op_to_l name.now }
+/// Instructions of two letters whose operand is no field of the opcode, in alphabetical order.
+#[tactic(auto, unfolding(crate::specs::Words::two_letter_op_a_to_b))]
+fn two_letter_op_a_to_b(name: &[u8]) -> Option<Op>
+    ensures value { result ≡ two_letter_op_a_to_b name.now }
     ensures in_range { IfSome result InRange }
 {
     if is_word(name, b"AI") {
@@ -78,6 +78,15 @@ fn two_letter_op_to_l(name: &[u8]) -> Option<Op>
     if is_word(name, b"BZ") {
         return Some(Op::Bt { t: 4 });
     }
+    None
+}
+
+/// The next of these.
+#[tactic(auto, unfolding(crate::specs::Words::two_letter_op_c_to_l))]
+fn two_letter_op_c_to_l(name: &[u8]) -> Option<Op>
+    ensures value { result ≡ two_letter_op_c_to_l name.now }
+    ensures in_range { IfSome result InRange }
+{
     if is_word(name, b"CI") {
         return Some(Op::Ci);
     }
@@ -103,9 +112,9 @@ fn two_letter_op_to_l(name: &[u8]) -> Option<Op>
 }
 
 /// The rest of these.
-#[tactic(auto, unfolding(crate::specs::Words::two_letter_op_from_n))]
-fn two_letter_op_from_n(name: &[u8]) -> Option<Op>
-    ensures value { result ≡ two_letter_op_from_n name.now }
+#[tactic(auto, unfolding(crate::specs::Words::two_letter_op_n_to_x))]
+fn two_letter_op_n_to_x(name: &[u8]) -> Option<Op>
+    ensures value { result ≡ two_letter_op_n_to_x name.now }
     ensures in_range { IfSome result InRange }
 {
     if is_word(name, b"NI") {
@@ -139,9 +148,9 @@ fn two_letter_op_from_n(name: &[u8]) -> Option<Op>
 }
 
 /// The same of three letters.
-#[tactic(auto, unfolding(crate::specs::Words::three_letter_op))]
-fn three_letter_op(name: &[u8]) -> Option<Op>
-    ensures value { result ≡ three_letter_op name.now }
+#[tactic(auto, unfolding(crate::specs::Words::three_letter_op_a_to_c))]
+fn three_letter_op_a_to_c(name: &[u8]) -> Option<Op>
+    ensures value { result ≡ three_letter_op_a_to_c name.now }
     ensures in_range { IfSome result InRange }
 {
     if is_word(name, b"ADC") {
@@ -168,6 +177,15 @@ fn three_letter_op(name: &[u8]) -> Option<Op>
     if is_word(name, b"COM") {
         return Some(Op::Com);
     }
+    None
+}
+
+/// The rest of these.
+#[tactic(auto, unfolding(crate::specs::Words::three_letter_op_d_to_x))]
+fn three_letter_op_d_to_x(name: &[u8]) -> Option<Op>
+    ensures value { result ≡ three_letter_op_d_to_x name.now }
+    ensures in_range { IfSome result InRange }
+{
     if is_word(name, b"DCI") {
         return Some(Op::Dci);
     }
@@ -195,6 +213,33 @@ fn three_letter_op(name: &[u8]) -> Option<Op>
     None
 }
 
+/// An instruction of two letters.
+#[tactic(auto, unfolding(crate::specs::Words::two_letter_op))]
+fn two_letter_op(name: &[u8]) -> Option<Op>
+    ensures value { result ≡ two_letter_op name.now }
+    ensures in_range { IfSome result InRange }
+{
+    if let Some(op) = two_letter_op_a_to_b(name) {
+        return Some(op);
+    }
+    if let Some(op) = two_letter_op_c_to_l(name) {
+        return Some(op);
+    }
+    two_letter_op_n_to_x(name)
+}
+
+/// An instruction of three letters.
+#[tactic(auto, unfolding(crate::specs::Words::three_letter_op))]
+fn three_letter_op(name: &[u8]) -> Option<Op>
+    ensures value { result ≡ three_letter_op name.now }
+    ensures in_range { IfSome result InRange }
+{
+    if let Some(op) = three_letter_op_a_to_c(name) {
+        return Some(op);
+    }
+    three_letter_op_d_to_x(name)
+}
+
 /// The instruction that a word of two or three letters names alone.
 #[tactic(auto, unfolding(crate::specs::Words::op_of))]
 fn op_of(name: &[u8]) -> Option<Op>
@@ -202,10 +247,7 @@ fn op_of(name: &[u8]) -> Option<Op>
     ensures in_range { IfSome result InRange }
 {
     match name.len() {
-        2 => match two_letter_op_to_l(name) {
-            Some(op) => Some(op),
-            None => two_letter_op_from_n(name),
-        },
+        2 => two_letter_op(name),
         3 => three_letter_op(name),
         _ => None,
     }

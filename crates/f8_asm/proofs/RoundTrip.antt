@@ -1,0 +1,98 @@
+-- A listing assembles to its bytes again, and isn't long.
+use Rattle.std.proofs.Common.{◌≡◌, ℕ, ◌+◌, ◌*◌, zero, suc, ◌≤◌, false, List, [], ◌∷◌, ◌++◌, length, length-append, map, replicate, Option, None, Ok, refl, sym, ◌∙◌, ap, arith}
+use Rattle.std.specs.Prelude.{codes}
+use Rattle.std.specs.List.{list_any}
+use Rattle.std.proofs.lemmas.Str.{IsUtf8-from_ascii}
+use Rattle.asm_text.specs.Tokens.{tokens_of}
+use Rattle.asm_text.specs.declared.answers.Token.{Token}
+use Rattle.asm_text.specs.declared.answers.TokenKind.TheVariants as kind
+use Rattle.f8_asm.specs.declared.spelling.Entry.{Entry}
+use Rattle.f8_asm.specs.Image.{ascending, image_of, everywhere, bytes_from, picture_of}
+use Rattle.f8_asm.specs.Lines.{lines}
+use Rattle.f8_asm.specs.Listing.{entries, listing}
+use Rattle.f8_asm.specs.Marks.{no_marks}
+use Rattle.f8_asm.specs.PassOne.{read_line, read_lines, no_reading}
+use Rattle.f8_asm.specs.PassTwo.{no_layout, place, place_lines, settle}
+use Rattle.f8_asm.specs.PassThree.{no_bytes, written, line_bytes, emit, emit_lines}
+use Rattle.f8_asm.proofs.LineTokens.{some_utf8}
+use Rattle.f8_asm.proofs.ListedBytes.{all_open, numbers_open}
+use Rattle.f8_asm.proofs.ListedLines.{line_of, text_of, all_written, line_first}
+use Rattle.f8_asm.proofs.ListedPieces.{AreBytes, Coded, coded_none, coded_more, coded_entries}
+use Rattle.f8_asm.proofs.ListedPasses.{printable_ascii, reading, numbered, read_all, FreeFrom, layout, place_all, emit_all, image_bytes}
+
+-- ---- the first line
+
+abbrev org : List ℕ
+org = codes "ORG $0000"
+
+abbrev org_tokens : List Token
+org_tokens = (record { column = 1; end = 4; kind = kind.Name (codes "ORG") }) ∷ (record { column = 5; end = 10; kind = kind.Number 0 }) ∷ []
+
+org_read : tokens_of org ≡ Ok org_tokens
+unfolding numbers_open
+org_read = refl
+
+org_line : read_line 1 no_reading org ≡ Ok (reading (numbered 1 org_tokens ∷ []))
+unfolding all_open read_line no_reading
+org_line = rw (some_utf8 1 org (IsUtf8-from_ascii org (printable_ascii org refl)), org_read) refl
+
+org_placed : place everywhere no_layout (numbered 1 org_tokens) ≡ Ok (layout 0 no_marks ((record { address = 0; line = numbered 1 org_tokens }) ∷ []))
+unfolding all_open place settle
+org_placed = refl
+
+org_emitted : (table : List (Option ℕ)) → emit [] table (record { address = 0; line = numbered 1 org_tokens }) ≡ Ok table
+unfolding all_open emit line_bytes
+org_emitted table = refl
+
+-- ---- the text
+
+-- the lines of a listing are its statements
+lines_coded : {at : ℕ} {es : List Entry} {bytes : List ℕ} → Coded at es bytes → lines (text_of es) ≡ map line_of es
+lines_coded coded_none = refl
+lines_coded (coded_more {at} {e} {es} says behind) = line_first (line_of e) (text_of es) says.printable ∙ ap (λ ls. line_of e ∷ ls) (lines_coded behind)
+
+listed : (bytes : List ℕ) → Coded 0 (entries 0 0 0 bytes) bytes → lines (listing bytes) ≡ org ∷ map line_of (entries 0 0 0 bytes)
+unfolding listing
+listed bytes coded = ap lines (all_written (org ++ 10 ∷ []) (entries 0 0 0 bytes)) ∙ line_first org (text_of (entries 0 0 0 bytes)) refl ∙ ap (λ ls. org ∷ ls) (lines_coded coded)
+
+-- ---- nothing is filled before
+
+any_none : (n : ℕ) → list_any (λ m. m) (replicate n false) ≡ false
+any_none zero = refl
+any_none (suc n) = any_none n
+
+no_mark : (n : ℕ) → n ≡ 65536 → list_any (λ m. m) no_marks ≡ false
+unfolding no_marks
+no_mark n same = ap (λ k. list_any (λ m. m) (replicate k false)) (sym same) ∙ any_none n
+
+-- every address is free at first
+free : (n : ℕ) → n ≡ 65536 → FreeFrom no_marks 0
+free n same = record { is = no_mark n same }
+
+-- bytes put in an empty table; the number of addresses is a variable, so that no list of them is written out
+image_is : (n : ℕ) (bytes : List ℕ) → n ≡ 65536 → length bytes ≤ n → ascending 0 (written no_bytes 0 bytes) ≡ bytes_from 0 bytes
+unfolding no_bytes
+image_is n bytes same fits = ap (λ k. ascending 0 (written (replicate k None) 0 bytes)) (sym same) ∙ image_bytes n bytes fits
+
+-- the image of a listing has its bytes, and no names
+pub round_trip : (n : ℕ) (bytes : List ℕ) → n ≡ 65536 → AreBytes bytes → length bytes ≤ n → image_of (listing bytes) everywhere ≡ Ok (picture_of bytes)
+unfolding image_of read_lines place_lines emit_lines
+round_trip n bytes same all fits =
+    let coded = coded_entries 0 0 0 bytes all (omega arith) in
+    let read = read_all coded 2 (numbered 1 org_tokens ∷ []) in
+    let placed = place_all read.reads no_marks ((record { address = 0; line = numbered 1 org_tokens }) ∷ []) (free n same) (omega arith) in
+    rw (listed bytes coded, org_line, read.is, org_placed, placed.is, placed.names, placed.placed, org_emitted no_bytes, emit_all placed.emits no_bytes, image_is n bytes same fits) refl
+
+-- ---- the size of a text
+
+text_short : {at : ℕ} {es : List Entry} {bytes : List ℕ} → Coded at es bytes → length (text_of es) ≤ 8 * length bytes
+text_short coded_none = omega arith
+text_short (coded_more {at} {e} {es} {front} {rest} says behind) = omega (arith, length-append (line_of e) (10 ∷ text_of es), length-append front rest, says.short, text_short behind)
+
+-- a text has at most 8 bytes for each byte, behind the 10 of its first line
+pub listing_short : (bytes : List ℕ) → AreBytes bytes → length bytes ≤ 65536 → length (listing bytes) ≤ 8 * length bytes + 10
+unfolding listing
+listing_short bytes all fits =
+    let coded = coded_entries 0 0 0 bytes all (omega arith) in
+    let parts = ap length (all_written (org ++ 10 ∷ []) (entries 0 0 0 bytes)) ∙ length-append (org ++ 10 ∷ []) (text_of (entries 0 0 0 bytes)) in
+    omega (arith, parts, text_short coded)
