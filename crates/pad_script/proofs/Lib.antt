@@ -1,0 +1,5 @@
+pub mod LineLaws
+pub mod WordLaws
+pub mod NumberLaws
+pub mod LineSteps
+pub mod Told

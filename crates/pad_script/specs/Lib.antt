@@ -1,0 +1,6 @@
+pub mod Answers
+pub mod Lines
+pub mod Numbers
+pub mod Statements
+pub mod Reading
+pub mod Telling

@@ -1,0 +1,95 @@
+-- The script of a text, or its first fault.
+use Rattle.std.specs.Prelude.{◌≡◌, ℕ, ◌+◌, ◌==◌, Bool, if◌then◌else◌, List, [], ◌∷◌, ◌++◌, length, Option, Some, None, is_some, unwrap_or, Result, Ok, Err}
+use Rattle.pad_script.specs.declared.answers.ScriptCause.{ScriptCause}
+use Rattle.pad_script.specs.declared.answers.ScriptCause.TheVariants.{Twice, TooMany, NoEnd}
+use Rattle.pad_script.specs.declared.answers.ScriptFault.{ScriptFault}
+use Rattle.pad_script.specs.declared.answers.ScriptAnswer.{ScriptAnswer}
+use Rattle.pad_script.specs.declared.answers.ScriptAnswer.TheVariants as answer
+use Rattle.pad_script.specs.declared.script.At.{At}
+use Rattle.pad_script.specs.declared.script.End.{End}
+use Rattle.pad_script.specs.declared.script.Script.{Script as KeptScript}
+use Rattle.pad_script.specs.declared.statement.Statement.{Statement}
+use Rattle.pad_script.specs.declared.statement.Statement.TheVariants.{Power, Ends, Comes, Shows}
+use Rattle.pad_script.specs.Lines.{lines}
+use Rattle.pad_script.specs.Statements.{line_of}
+
+-- a script, without where it lies in memory
+pub record Script : Type 0 where
+  pub power : ℕ
+  pub end : End
+  pub events : List At
+  pub shows : List ℕ
+
+abbrev pub seen : KeptScript → Script
+seen script = record { power = script.power; end = script.end; events = script.events; shows = script.shows }
+
+-- what some lines have said
+pub record Draft : Type 0 where
+  pub power : Option ℕ
+  pub end : Option End
+  pub events : List At
+  pub shows : List ℕ
+
+unfoldable pub no_draft : Draft
+no_draft = record { power = None; end = None; events = []; shows = [] }
+
+-- ---- one line
+
+abbrev pub told : {A : Type 0} → ℕ → ScriptCause → Result A ScriptFault
+told number cause = Err (record { line = number; cause = cause })
+
+-- 1,024 lines of events and shown frames
+abbrev pub is_full : Draft → Bool
+is_full d = length d.events + length d.shows == 1024
+
+-- a second power-on byte and a second end are Twice, and the 1,025th line of an event or a shown frame is TooMany
+unfoldable pub said : ℕ → Draft → Statement → Result Draft ScriptFault
+said number d (Power byte) = if is_some d.power then told number Twice else Ok (record d { power = Some byte })
+said number d (Ends end) = if is_some d.end then told number Twice else Ok (record d { end = Some end })
+said number d (Comes at) = if is_full d then told number TooMany else Ok (record d { events = d.events ++ at ∷ [] })
+said number d (Shows frame) = if is_full d then told number TooMany else Ok (record d { shows = d.shows ++ frame ∷ [] })
+
+abbrev pub said_by : ℕ → Draft → Result (Option Statement) ScriptCause → Result Draft ScriptFault
+said_by number d (Err cause) = told number cause
+said_by number d (Ok None) = Ok d
+said_by number d (Ok (Some statement)) = said number d statement
+
+unfoldable pub read_line : ℕ → Draft → List ℕ → Result Draft ScriptFault
+read_line number d line = said_by number d (line_of line)
+
+-- ---- all lines
+
+-- the text ends before this line
+abbrev pub ended : ℕ → Draft → Option End → Result Script ScriptFault
+ended number d None = told number NoEnd
+ended number d (Some end) = Ok (record { power = unwrap_or d.power 0; end = end; events = d.events; shows = d.shows })
+
+unfoldable pub finished : ℕ → Draft → Result Script ScriptFault
+finished number d = ended number d d.end
+
+abbrev pub and_then : {A B : Type 0} → Result A ScriptFault → (A → Result B ScriptFault) → Result B ScriptFault
+and_then (Ok x) f = f x
+and_then (Err e) f = Err e
+
+-- lines from this number on
+unfoldable pub read_lines : ℕ → Draft → List (List ℕ) → Result Script ScriptFault
+read_lines number d [] = finished number d
+read_lines number d (l ∷ ls) = and_then (read_line number d l) (λ next. read_lines (number + 1) next ls)
+
+-- the script of a text, or its first fault
+abbrev pub script_of : List ℕ → Result Script ScriptFault
+script_of text = read_lines 1 no_draft (lines text)
+
+-- ---- answers
+
+-- an answer is what is said of a text; want of memory says nothing of it
+abbrev pub SaysOfText : Result KeptScript ScriptAnswer → Result Script ScriptFault → Type 0
+SaysOfText (Ok script) said = said ≡ Ok (seen script)
+SaysOfText (Err (answer.Fault fault)) said = said ≡ Err fault
+SaysOfText (Err answer.Memory) said = Unit {0}
+
+-- a step leads to the draft that is said of a line
+abbrev pub StepsOfText : Result (Unit {0}) ScriptAnswer → Draft → Result Draft ScriptFault → Type 0
+StepsOfText (Ok u) new said = said ≡ Ok new
+StepsOfText (Err (answer.Fault fault)) new said = said ≡ Err fault
+StepsOfText (Err answer.Memory) new said = Unit {0}

@@ -1,0 +1,93 @@
+// What is wrong with a script.
+ghost use Rattle.std.specs.Prelude.{◌≡◌};
+ghost use Rattle.pad_script.specs.Answers.{cause_number};
+
+use std::alloc::{AllocError, AllocFailed};
+use thiserror::Error;
+
+/// What is wrong with a line.
+#[derive(Clone, Copy, Debug, PartialEq, Eq, Error)]
+pub enum ScriptCause {
+    /// A byte that isn't printable ASCII, or words that make no line.
+    #[error("no line of a script")]
+    Word,
+    /// The digits of a number are out of form.
+    #[error("not a number")]
+    Number,
+    /// A number is too small or too large for its place.
+    #[error("out of range")]
+    Range,
+    /// There are 1,024 lines of events and shown frames before this one.
+    #[error("too many lines")]
+    TooMany,
+    /// A second end of the run, or a second power-on byte.
+    #[error("given twice")]
+    Twice,
+    /// The text ends, and has no end of the run.
+    #[error("no end of the run")]
+    NoEnd,
+}
+
+impl ScriptCause {
+    /// The number of the cause, 1 to 6.
+    pub fn number(self) -> u8
+        ensures { result ≡ cause_number self }
+    {
+        match self {
+            ScriptCause::Word => 1,
+            ScriptCause::Number => 2,
+            ScriptCause::Range => 3,
+            ScriptCause::TooMany => 4,
+            ScriptCause::Twice => 5,
+            ScriptCause::NoEnd => 6,
+        }
+    }
+}
+
+/// The first fault of a text. Lines are counted from 1, blank lines and comments too.
+#[derive(Clone, Copy, Debug, PartialEq, Eq, Error)]
+#[error("line {line}: {cause}")]
+pub struct ScriptFault {
+    pub line: u32,
+    pub cause: ScriptCause,
+}
+
+/// Why a text is no script.
+#[derive(Clone, Copy, Debug, PartialEq, Eq, Error)]
+pub enum ScriptAnswer {
+    /// The text is at fault.
+    #[error("{0}")]
+    Fault(ScriptFault),
+    /// Memory is missing. It says nothing of the text.
+    #[error("out of memory")]
+    Memory,
+}
+
+/// A fault of a line.
+pub fn fault(line: u32, cause: ScriptCause) -> ScriptAnswer
+    ensures { result ≡ ScriptAnswer.Fault (record { line = line; cause = cause }) }
+{
+    ScriptAnswer::Fault(ScriptFault { line, cause })
+}
+
+impl From<AllocError> for ScriptAnswer {
+    ghost use Rattle.std.specs.Prelude.{◌≡◌};
+    ghost use Rattle.pad_script.specs.declared.answers.ScriptAnswer.TheVariants.{Memory};
+
+    ghost from_gives = { λ _ e. e ≡ Memory };
+
+    fn from(_error: AllocError) -> ScriptAnswer {
+        ScriptAnswer::Memory
+    }
+}
+
+impl<T: Drop> From<AllocFailed<T>> for ScriptAnswer {
+    ghost use Rattle.std.specs.Prelude.{◌≡◌};
+    ghost use Rattle.pad_script.specs.declared.answers.ScriptAnswer.TheVariants.{Memory};
+
+    ghost from_gives = { λ _ e. e ≡ Memory };
+
+    fn from(_error: AllocFailed<T>) -> ScriptAnswer {
+        ScriptAnswer::Memory
+    }
+}

@@ -1,0 +1,119 @@
+// What is known after some lines.
+ghost use Rattle.std.specs.Prelude.{◌≡◌, ◌≤◌, ◌+◌, IfOk, length};
+ghost use Rattle.pad_script.specs.Reading.{StepsOfText, SaysOfText, finished, is_full, no_draft, said, read_line};
+
+use super::answers::{ScriptAnswer, ScriptCause, fault};
+use super::event_list::EventList;
+use super::script::{At, End, Script};
+use super::show_list::ShowList;
+use super::statement::{Statement, line_of};
+use std::alloc::Global;
+use std::marker::Model;
+
+/// The most lines of events and shown frames.
+const MOST_LINES: usize = 1024;
+
+/// What some lines have said.
+#[derive(Drop)]
+pub struct Draft {
+    power: Option<u8>,
+    end: Option<End>,
+    events: Vec<At>,
+    shows: Vec<u32>,
+}
+
+impl Model for Draft {
+    ghost use Rattle.std.specs.Prelude.{◌+◌, ◌≤◌, length};
+    ghost use Rattle.pad_script.specs.Reading.{Draft};
+
+    ghost Value = { Draft };
+
+    ghost view = { λ d. record { power = d.power; end = d.end; events = d.events.items; shows = d.shows.items } };
+
+    ghost invariant = { λ d. length d.events.items + length d.shows.items ≤ 1024 };
+}
+
+impl Draft {
+    /// Nothing has been said before the first line.
+    #[tactic(auto, unfolding(crate::specs::Reading::no_draft))]
+    pub fn new(alloc: Global) -> Draft
+        ensures { result ≡ no_draft }
+    {
+        Draft {
+            power: None,
+            end: None,
+            events: Vec::new(alloc),
+            shows: Vec::new(alloc),
+        }
+    }
+
+    /// There is no room for a line of an event or a shown frame.
+    fn is_full(&self) -> bool
+        ensures { result ≡ is_full self.now }
+    {
+        self.events.len() + self.shows.len() == MOST_LINES
+    }
+
+    /// One line more says something.
+    #[tactic(auto, unfolding(crate::specs::Reading::said))]
+    fn say(&mut self, line: u32, statement: Statement) -> Result<(), ScriptAnswer>
+        ensures { StepsOfText result self.new (said line self.old statement) }
+    {
+        match statement {
+            Statement::Power(byte) => {
+                if self.power.is_some() {
+                    return Err(fault(line, ScriptCause::Twice));
+                }
+                self.power = Some(byte);
+            }
+            Statement::Ends(end) => {
+                if self.end.is_some() {
+                    return Err(fault(line, ScriptCause::Twice));
+                }
+                self.end = Some(end);
+            }
+            Statement::Comes(at) => {
+                if self.is_full() {
+                    return Err(fault(line, ScriptCause::TooMany));
+                }
+                self.events.push(at)?;
+            }
+            Statement::Shows(frame) => {
+                if self.is_full() {
+                    return Err(fault(line, ScriptCause::TooMany));
+                }
+                self.shows.push(frame)?;
+            }
+        }
+        Ok(())
+    }
+
+    /// Reads one line more.
+    #[tactic(auto, unfolding(crate::specs::Reading::read_line))]
+    pub fn read_line(&mut self, number: u32, line: &[u8]) -> Result<(), ScriptAnswer>
+        ensures { StepsOfText result self.new (read_line number self.old line.now) }
+    {
+        match line_of(line) {
+            Ok(Some(statement)) => self.say(number, statement),
+            Ok(None) => Ok(()),
+            Err(cause) => Err(fault(number, cause)),
+        }
+    }
+
+    /// The script, where the text ends before this line.
+    #[tactic(auto, unfolding(crate::specs::Reading::finished))]
+    pub fn finish(self, number: u32) -> Result<Script, ScriptAnswer>
+        ensures script { SaysOfText result (finished number self) }
+        ensures limit { IfOk result (λ script. length script.events + length script.shows ≤ 1024) }
+    {
+        let Some(end) = self.end else {
+            return Err(fault(number, ScriptCause::NoEnd));
+        };
+        Ok(Script {
+            power: self.power.unwrap_or(0),
+            end,
+            events: EventList::from_vec(self.events),
+            shows: ShowList::from_vec(self.shows),
+        })
+    }
+}

@@ -1,0 +1,54 @@
+ghost use Rattle.std.specs.Prelude.{◌≡◌, ◌≤◌, length, slice_get, vec_len};
+
+use super::script::At;
+use std::marker::Model;
+
+/// The events of a script, in the order of its text, at most 1,024. Contracts see the list of them.
+#[derive(Debug, Drop)]
+pub struct EventList {
+    items: Vec<At>,
+}
+
+impl Model for EventList {
+    ghost use Rattle.std.specs.Prelude.{List, ◌≤◌, length};
+    ghost use Rattle.pad_script.specs.declared.script.At.{At};
+
+    ghost Value = { List At };
+
+    ghost view = { λ e. e.items.items };
+
+    ghost invariant = { λ e. length e.items.items ≤ 1024 };
+}
+
+impl EventList {
+    /// The events of a vector, which is kept as it is.
+    pub fn from_vec(items: Vec<At>) -> EventList
+        requires { vec_len items ≤ 1024 }
+        ensures { result ≡ items.items }
+    {
+        EventList { items }
+    }
+
+    /// All of the events.
+    pub fn as_slice(&self) -> &[At]
+        ensures events { result.now ≡ self.now }
+        ensures limit { length self.now ≤ 1024 }
+    {
+        self.items.as_slice()
+    }
+
+    /// How many events there are.
+    pub fn len(&self) -> usize
+        ensures count { result ≡ length self.now }
+        ensures limit { result ≤ 1024 }
+    {
+        self.items.len()
+    }
+
+    /// The event at a place, counted from 0.
+    pub fn get(&self, place: usize) -> Option<At>
+        ensures { result ≡ slice_get self.now place }
+    {
+        self.items.get(place).copied()
+    }
+}
