@@ -1,3 +1,2 @@
-pub mod RomViews
 pub mod SinkLaws
-pub mod Turns
+pub mod Games

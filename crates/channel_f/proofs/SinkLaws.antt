@@ -1,8 +1,8 @@
 -- What a sink gained piece by piece.
-use Rattle.std.proofs.Common.{◌≡◌, ℕ, ◌+◌, ◌<◌, ◌≤◌, List, [], ◌++◌, length, drop, get_or, Option, refl, sym, ap, ◌∙◌, append_assoc}
+use Rattle.std.proofs.Common.{◌≡◌, ℕ, ◌+◌, ◌<◌, ◌≤◌, List, [], ◌∷◌, ◌++◌, length, drop, get_or, Option, refl, sym, ap, ◌∙◌, append_assoc}
 use Rattle.std.proofs.lemmas.List.{append-nil, at_drop_more, at_drop_all}
 use Rattle.console_spec.specs.RunText.{text_of}
-use Rattle.channel_f.specs.SinkRules.{Adds, AddsPart}
+use Rattle.outside.specs.SinkRules.{Adds, AddsPart}
 
 -- nothing was put
 pub adds_none : (told : Option (List ℕ)) → Adds told told []
@@ -69,3 +69,31 @@ text_of-drop lines i line within here =
 pub text_of-drop_all : (lines : List (List ℕ)) (i : ℕ) → length lines ≤ i → text_of (drop i lines) ≡ []
 unfolding text_of
 text_of-drop_all lines i past = at_drop_all text_of lines i past
+
+-- ---- a whole piece, and then a first part of another
+
+pub adds_part_behind : (a b c : Option (List ℕ)) (x y : List ℕ) → Adds a b x → AddsPart b c y → AddsPart a c (x ++ y)
+adds_part_behind a b c x y first second = record {
+  told = λ now e.
+      let s = second.told now e in
+      let f = first.told s.0 s.3 in (
+        f.0,
+        x ++ s.1,
+        s.2,
+        f.1,
+        ap (λ (bytes : List ℕ). x ++ bytes) s.4 ∙ sym (append_assoc x s.1 s.2),
+        s.5 ∙ ap (λ (bytes : List ℕ). bytes ++ s.1) f.2 ∙ append_assoc f.0 x s.1,
+      );
+}
+
+-- a first part of one piece, with nothing of another
+pub adds_part_first : (a b : Option (List ℕ)) (x y : List ℕ) → AddsPart a b x → AddsPart a b (x ++ y)
+adds_part_first a b x y first = record {
+  told = λ now e.
+      let f = first.told now e in
+      (f.0, f.1, f.2 ++ y, f.3, ap (λ (bytes : List ℕ). bytes ++ y) f.4 ∙ append_assoc f.1 f.2 y, f.5);
+}
+
+pub text_of-cons : (line : List ℕ) (lines : List (List ℕ)) → text_of (line ∷ lines) ≡ line ++ text_of lines
+unfolding text_of
+text_of-cons line lines = refl

@@ -117,4 +117,14 @@ impl Line {
         let mut buffer = itoa::Buffer::new();
         self.text(buffer.format(number).as_bytes());
     }
+
+    /// Writes a number below 256 in decimal digits, at most three.
+    pub fn small(&mut self, number: u8)
+        requires { length self.old + 3 ≤ 512 }
+        ensures text { self.new ≡ self.old ++ decimal number }
+        ensures len { length self.new ≤ length self.old + 3 }
+    {
+        let mut buffer = itoa::Buffer::new();
+        self.text(buffer.format(number).as_bytes());
+    }
 }

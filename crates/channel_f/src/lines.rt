@@ -1,10 +1,14 @@
-ghost use Rattle.std.specs.Prelude.{◌≡◌, ◌<◌};
+ghost use Rattle.std.specs.Prelude.{◌≡◌, ◌<◌, ◌≤◌, length};
 ghost use Rattle.console_spec.specs.RunText.{verdict_line as spelled_verdict, stop_line as spelled_stop, regs_line as spelled_regs, scratch_line as spelled_scratch, total_line as spelled_total};
-ghost use Rattle.console_spec.specs.Run.{Done, Undriven, Reserved, Unbuilt};
-ghost use Rattle.channel_f.specs.Answers.{words_line as spelled_words};
+ghost use Rattle.console_spec.specs.Run.{Done, Unserved, Reserved, Unbuilt};
+ghost use Rattle.console_spec.specs.Services.{Conflict, Undriven, Astray};
+ghost use Rattle.channel_f.specs.Answers.{words_line as spelled_words, rack_line as spelled_rack, sockets_line as spelled_sockets, kind_text as spelled_kind};
 
 use super::line::Line;
+use chip_face::ChipKind;
 use console_spec::Regs;
+use f8_spec::Party;
+use rack_run::Shortage;
 
 /// `error words`: the words are none of those that the program knows.
 #[tactic(auto, unfolding(crate::specs::Answers::words_line))]
@@ -13,6 +17,44 @@ pub fn error_words() -> Line
 {
     let mut line = Line::new();
     line.text(b"error words\n");
+    line
+}
+
+/// `error rack`: the rack has so many chips, which are more than 16.
+#[tactic(auto, unfolding(crate::specs::Answers::rack_line))]
+pub fn error_rack(count: u64) -> Line
+    ensures { result ≡ spelled_rack count }
+{
+    let mut line = Line::new();
+    line.text(b"error rack ");
+    line.decimal(count);
+    line.text(b"\n");
+    line
+}
+
+fn kind_text(kind: ChipKind) -> &'static [u8]
+    ensures text { result.now ≡ spelled_kind kind }
+    ensures size { length result.now ≡ 4 }
+{
+    match kind {
+        ChipKind::Psu => b"3851",
+        ChipKind::Smi => b"3853",
+    }
+}
+
+/// `error sockets`: the rack has too few sockets for the chips of a kind.
+#[tactic(auto, unfolding(crate::specs::Answers::sockets_line))]
+pub fn error_sockets(shortage: Shortage) -> Line
+    ensures { result ≡ spelled_sockets shortage }
+{
+    let mut line = Line::new();
+    line.text(b"error sockets ");
+    line.text(kind_text(shortage.kind));
+    line.text(b" need ");
+    line.small(shortage.need);
+    line.text(b" have ");
+    line.small(shortage.have);
+    line.text(b"\n");
     line
 }
 
@@ -36,16 +78,54 @@ pub fn stop_done_line() -> Line
     line
 }
 
+/// `stop conflict`: several chips drive or take in a step with this code, each at its own address.
+#[tactic(auto, unfolding(console_spec::specs::RunText::stop_line, console_spec::specs::RunText::fault_line))]
+pub fn stop_conflict_line(romc: u8, parties: &[Party]) -> Line
+    requires few { length parties.now ≤ 16 }
+    ensures { result ≡ spelled_stop (Unserved (Conflict romc parties.now)) }
+{
+    let mut line = Line::new();
+    line.text(b"stop conflict romc ");
+    line.hex2(romc);
+    for party in parties {
+        line.text(b" socket ");
+        line.small(party.socket);
+        line.text(b" at ");
+        line.hex4(party.at);
+    }
+    line.text(b"\n");
+    line
+}
+
 /// `stop undriven`: no chip drives a step with this code at this address.
-#[tactic(auto, unfolding(console_spec::specs::RunText::stop_line))]
+#[tactic(auto, unfolding(console_spec::specs::RunText::stop_line, console_spec::specs::RunText::fault_line))]
 pub fn stop_undriven_line(romc: u8, at: u16) -> Line
-    ensures { result ≡ spelled_stop (Undriven romc at) }
+    ensures { result ≡ spelled_stop (Unserved (Undriven romc at)) }
 {
     let mut line = Line::new();
     line.text(b"stop undriven romc ");
     line.hex2(romc);
     line.text(b" at ");
     line.hex4(at);
+    line.text(b"\n");
+    line
+}
+
+/// `stop astray`: in a step with this code the chip in this socket drives or takes at an address, or holds the reference and does
+/// neither, and the reference is another.
+#[tactic(auto, unfolding(console_spec::specs::RunText::stop_line, console_spec::specs::RunText::fault_line))]
+pub fn stop_astray_line(romc: u8, socket: u8, at: u16, reference: u16) -> Line
+    ensures { result ≡ spelled_stop (Unserved (Astray romc socket at reference)) }
+{
+    let mut line = Line::new();
+    line.text(b"stop astray romc ");
+    line.hex2(romc);
+    line.text(b" socket ");
+    line.small(socket);
+    line.text(b" at ");
+    line.hex4(at);
+    line.text(b" reference ");
+    line.hex4(reference);
     line.text(b"\n");
     line
 }

@@ -5,6 +5,8 @@ pub enum Status {
     Done = 0,
     /// The words are none of the program's.
     Words = 1,
+    /// The rack has no place for the chips that the words describe.
+    Input = 2,
     /// A bus step wasn't served.
     Fault = 3,
     /// The sink failed.

@@ -1,21 +1,16 @@
 -- What an instruction does does not hang on the opcode that is fetched at its end.
-use Rattle.std.proofs.Common.{◌≡◌, ℕ, Bool, true, List, [], ◌∷◌, ◌++◌, refl, ap}
+use Rattle.std.proofs.Common.{◌≡◌, ℕ, Bool, [], ◌∷◌, ◌++◌, refl, ap}
 use Rattle.f8_spec.specs.Instructions.{row_of}
 use Rattle.f8_spec.specs.declared.instructions.Op.{Op}
 use Rattle.f8_spec.specs.declared.instructions.Op.TheVariants.{LrKP, LrQDc, LrHDc}
 use Rattle.f8_spec.specs.declared.instructions.Row.{Row}
 use Rattle.f8_spec.specs.declared.instructions.Row.TheVariants.{StoreData}
-use Rattle.console_spec.specs.AddressSpace.{byte_at}
-use Rattle.console_spec.specs.Processor.{State, Flow, Registers, Inputs, used_byte, result_of, flow_after, own_inputs, effect}
+use Rattle.console_spec.specs.Processor.{Flow, Registers, Inputs, used_byte, result_of, flow_after, effect}
 use Rattle.console_spec.specs.BusAccesses.{accesses_before_fetch, last_access}
 
 -- the same inputs with another opcode at the end
 abbrev pub with_opcode : ℕ → Inputs → Inputs
 with_opcode code i = record i { opcode = code }
-
--- all that an instruction gets
-abbrev pub inputs : Op → List ℕ → State → Inputs
-inputs op rom s = with_opcode (byte_at rom (flow_after (row_of op) (own_inputs op rom s) true s.flow).p) (own_inputs op rom s)
 
 pub used_byte-with_opcode : (row : Row) (code : ℕ) (i : Inputs) → used_byte row (with_opcode code i) ≡ used_byte row i
 used_byte-with_opcode StoreData code i = refl

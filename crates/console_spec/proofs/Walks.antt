@@ -33,17 +33,17 @@ abbrev pub moved_along : Bool → Inputs → List Step → Count → Count
 moved_along second i [] c = c
 moved_along second i (s ∷ later) c = moved_along second i later (moved_by s.romc (byte_of i s.source) second c)
 
-pub moved_along-append : (second : Bool) (i : Inputs) (first later : List Step) (c : Count) →
+moved_along-append : (second : Bool) (i : Inputs) (first later : List Step) (c : Count) →
     moved_along second i (first ++ later) c ≡ moved_along second i later (moved_along second i first c)
 moved_along-append second i [] later c = refl
 moved_along-append second i (s ∷ first) later c = moved_along-append second i first later (moved_by s.romc (byte_of i s.source) second c)
 
-pub branch_rests : (i : Inputs) (taken second : Bool) (c : Flow) → i.taken ≡ taken →
+branch_rests : (i : Inputs) (taken second : Bool) (c : Flow) → i.taken ≡ taken →
     moved_along second i (steps_before_fetch Branch i.taken) (fetched c) ≡ resting (flow_after Branch i second c)
 branch_rests i true second c e = rw e refl
 branch_rests i false second c e = rw e (rw places_on-places_on)
 
-pub branch_isar_rests : (i : Inputs) (taken second : Bool) (c : Flow) → i.taken ≡ taken →
+branch_isar_rests : (i : Inputs) (taken second : Bool) (c : Flow) → i.taken ≡ taken →
     moved_along second i (steps_before_fetch BranchIsar i.taken) (fetched c) ≡ resting (flow_after BranchIsar i second c)
 branch_isar_rests i true second c e = rw e refl
 branch_isar_rests i false second c e = rw e (rw places_on-places_on)

@@ -11,14 +11,14 @@ use Rattle.f8_spec.specs.declared.chips.Page.{Page}
 use Rattle.console_spec.specs.Processor.{own_inputs, effect}
 use Rattle.console_spec.specs.FlatMemory.{first_memory}
 use Rattle.console_spec.specs.Services.{Conflict, Undriven, Astray}
-use Rattle.console_spec.specs.RackRun.{Done, Unserved, Reserved, power_position, position_after_reset, instruction_course, reset_course, played, run, recorded, played_record}
+use Rattle.console_spec.specs.Run.{Done, Unserved, Reserved, power_position, position_after_reset, instruction_course, reset_course, played, run, recorded, played_record}
 use Rattle.console_spec.specs.declared.Who.TheVariants.{Cpu, Socket, Nobody}
 
 abbrev rom_page : ℕ → Page
 rom_page number = record { number = number; sort = Rom }
 
 -- a 3851 with these bytes, and FF behind them
-abbrev psu : ℕ → ℕ → List ℕ → ChipView
+abbrev pub psu : ℕ → ℕ → List ℕ → ChipView
 psu base ports bytes = record (blank_view Psu) {
   pages = rom_page (base / 256) ∷ rom_page (base / 256 + 1) ∷ rom_page (base / 256 + 2) ∷ rom_page (base / 256 + 3) ∷ [];
   bytes = bytes ++ replicate (1024 - length bytes) 255;
@@ -137,9 +137,9 @@ unfolding played run own_inputs effect decoded first_memory
 jump_cut_state = refl
 
 -- a chip's own byte in place of the described one, and a reserved opcode
-reserved_on_rack : (played (psu 0 4 (0x2D ∷ []) ∷ []) 0 5).stop ≡ Reserved 0 0x2D
+reserved : (played (psu 0 4 (0x2D ∷ []) ∷ []) 0 5).stop ≡ Reserved 0 0x2D
 unfolding played run own_inputs effect decoded first_memory
-reserved_on_rack = refl
+reserved = refl
 
 -- ---- traces
 

@@ -1,122 +1,119 @@
--- Runs worked out by hand, computed from the definitions.
+-- Runs on one 3851 worked out by hand, with their text, computed from the definitions.
 use Rattle.std.proofs.Common.{◌≡◌, ℕ, List, [], ◌∷◌, ◌++◌, replicate, refl}
 use Rattle.std.specs.Prelude.{codes}
 use Rattle.std.specs.Fmt.{digits}
 use Rattle.f8_spec.specs.Flags.{clear_status, status_byte}
 use Rattle.f8_spec.specs.Instructions.{decoded}
+use Rattle.f8_spec.specs.ChipState.{ChipView}
 use Rattle.console_spec.specs.Processor.{own_inputs, effect}
-use Rattle.console_spec.specs.Run.{Done, Undriven, Reserved, Unbuilt, played, referred, next, run}
-use Rattle.console_spec.specs.RunText.{run_lines, text_of, verdict_line, stop_line, regs_line, scratch_line, total_line}
+use Rattle.console_spec.specs.FlatMemory.{first_memory}
+use Rattle.console_spec.specs.Services.{Conflict, Undriven, Astray}
+use Rattle.console_spec.specs.Run.{Done, Unserved, Reserved, Unbuilt, played, referred, run}
+use Rattle.console_spec.specs.RunText.{run_lines, text_of, verdict_line, fault_line, stop_line, regs_line, scratch_line, total_line}
+use Rattle.console_spec.proofs.WorkedRacks.{psu}
 
--- these bytes, and the rest of the chip FF
-abbrev rom_of : List ℕ → List ℕ
-rom_of bytes = bytes ++ replicate 1020 255
+-- a 3851 at 0 with these bytes, and FF behind them
+abbrev rom : List ℕ → List ChipView
+rom bytes = psu 0 4 bytes ∷ []
 
 -- LIS 1, NOP, and a branch to the NOP
-branch_to_self : played (rom_of (0x71 ∷ 0x2B ∷ 0x90 ∷ 0xFE ∷ [])) 0 3 ≡ record {
-  state = record {
-    flow = record { p = 1; p1 = 0; d0 = 0; d1 = 0 };
-    registers = record { accumulator = 1; isar = 0; status = clear_status; scratchpad = replicate 64 0 };
-    count = 3;
-    phi = 36;
-  };
-  stop = Done;
+branch_to_self : (played (rom (0x71 ∷ 0x2B ∷ 0x90 ∷ 0xFE ∷ [])) 0 3).position.flat.state ≡ record {
+  flow = record { p = 1; p1 = 0; d0 = 0; d1 = 0 };
+  registers = record { accumulator = 1; isar = 0; status = clear_status; scratchpad = replicate 64 0 };
+  count = 3;
+  phi = 36;
 }
-unfolding played run own_inputs effect decoded
+unfolding played run own_inputs effect decoded first_memory
 branch_to_self = refl
 
 -- a branch to FFFE, where no chip answers
-branch_below_zero : played (rom_of (0x90 ∷ 0xFD ∷ 0xFF ∷ 0xFF ∷ [])) 0 5 ≡ record {
-  state = record {
-    flow = record { p = 0; p1 = 0; d0 = 0; d1 = 0 };
-    registers = record { accumulator = 0; isar = 0; status = clear_status; scratchpad = replicate 64 0 };
-    count = 0;
-    phi = 14;
-  };
-  stop = Undriven 0 0xFFFE;
-}
-unfolding played run own_inputs effect decoded
+branch_below_zero : (played (rom (0x90 ∷ 0xFD ∷ [])) 0 5).stop ≡ Unserved (Undriven 0 0xFFFE)
+unfolding played run own_inputs effect decoded first_memory
 branch_below_zero = refl
 
--- an opcode that is not built, a reserved one, and the same with no instruction asked for
-not_built : (played (rom_of (0x28 ∷ 0xFF ∷ 0xFF ∷ 0xFF ∷ [])) 0 1).stop ≡ Unbuilt 0 0x28
-unfolding played run own_inputs effect decoded
+branch_below_zero_state : (played (rom (0x90 ∷ 0xFD ∷ [])) 0 5).position.flat.state ≡ record {
+  flow = record { p = 0; p1 = 0; d0 = 0; d1 = 0 };
+  registers = record { accumulator = 0; isar = 0; status = clear_status; scratchpad = replicate 64 0 };
+  count = 0;
+  phi = 14;
+}
+unfolding played run own_inputs effect decoded first_memory
+branch_below_zero_state = refl
+
+-- an opcode that is not built, and one that is met when no instruction is asked for
+not_built : (played (rom (0x26 ∷ 0x04 ∷ [])) 0 1).stop ≡ Unbuilt 0 0x26
+unfolding played run own_inputs effect decoded first_memory
 not_built = refl
 
-reserved : (played (rom_of (0x2D ∷ 0xFF ∷ 0xFF ∷ 0xFF ∷ [])) 0 5).stop ≡ Reserved 0 0x2D
-unfolding played run own_inputs effect decoded
-reserved = refl
-
-no_step_asked : (played (rom_of (0xFF ∷ 0xFF ∷ 0xFF ∷ 0xFF ∷ [])) 0 0).stop ≡ Done
-unfolding played run own_inputs effect decoded
+no_step_asked : (played (rom (0xFF ∷ [])) 0 0).stop ≡ Done
+unfolding played run own_inputs effect decoded first_memory
 no_step_asked = refl
 
 -- clear, to register 0, decrement: FF there, no flag, and 28 Φ
-decrement : (played (rom_of (0x70 ∷ 0x50 ∷ 0x30 ∷ 0x90 ∷ [])) 0 3) ≡ record {
-  state = record {
-    flow = record { p = 3; p1 = 0; d0 = 0; d1 = 0 };
-    registers = record { accumulator = 0; isar = 0; status = clear_status; scratchpad = 0xFF ∷ replicate 63 0 };
-    count = 3;
-    phi = 28;
-  };
-  stop = Done;
+decrement : (played (rom (0x70 ∷ 0x50 ∷ 0x30 ∷ 0x90 ∷ [])) 0 3).position.flat.state ≡ record {
+  flow = record { p = 3; p1 = 0; d0 = 0; d1 = 0 };
+  registers = record { accumulator = 0; isar = 0; status = clear_status; scratchpad = 0xFF ∷ replicate 63 0 };
+  count = 3;
+  phi = 28;
 }
-unfolding played run own_inputs effect decoded
+unfolding played run own_inputs effect decoded first_memory
 decrement = refl
 
 -- 0 compared with 0
-compare_equal : status_byte (played (rom_of (0x70 ∷ 0x25 ∷ 0x00 ∷ 0x90 ∷ [])) 0 2).state.registers.status ≡ 0x07
-unfolding played run own_inputs effect decoded
+compare_equal : status_byte (played (rom (0x70 ∷ 0x25 ∷ 0x00 ∷ 0x90 ∷ [])) 0 2).position.flat.state.registers.status ≡ 0x07
+unfolding played run own_inputs effect decoded first_memory
 compare_equal = refl
 
 -- decimal sums: 67 and 01 less 66, and 6A and 05
-decimal_sum : (played (0x20 ∷ 0x67 ∷ 0x50 ∷ 0x71 ∷ 0xD0 ∷ 0x90 ∷ replicate 1018 255) 0 4).state.registers.accumulator ≡ 0x02
-unfolding played run own_inputs effect decoded
+decimal_sum : (played (rom (0x20 ∷ 0x67 ∷ 0x50 ∷ 0x71 ∷ 0xD0 ∷ 0x90 ∷ [])) 0 4).position.flat.state.registers.accumulator ≡ 0x02
+unfolding played run own_inputs effect decoded first_memory
 decimal_sum = refl
 
-decimal_sum_6A : (played (0x20 ∷ 0x6A ∷ 0x50 ∷ 0x75 ∷ 0xD0 ∷ 0x90 ∷ replicate 1018 255) 0 4).state.registers.accumulator ≡ 0x09
-unfolding played run own_inputs effect decoded
+decimal_sum_6A : (played (rom (0x20 ∷ 0x6A ∷ 0x50 ∷ 0x75 ∷ 0xD0 ∷ 0x90 ∷ [])) 0 4).position.flat.state.registers.accumulator ≡ 0x09
+unfolding played run own_inputs effect decoded first_memory
 decimal_sum_6A = refl
 
 -- without chips the branch to FFFE is done, and meets there what nobody holds
-flat_branch_below_zero : referred (rom_of (0x90 ∷ 0xFD ∷ 0xFF ∷ 0xFF ∷ [])) 0 2 ≡ record {
-  state = record {
-    flow = record { p = 0xFFFE; p1 = 0; d0 = 0; d1 = 0 };
-    registers = record { accumulator = 0; isar = 0; status = clear_status; scratchpad = replicate 64 0 };
-    count = 1;
-    phi = 28;
-  };
-  stop = Reserved 0xFFFE 0xFF;
+flat_branch_below_zero : (referred (rom (0x90 ∷ 0xFD ∷ [])) 0 2).position.flat.state ≡ record {
+  flow = record { p = 0xFFFE; p1 = 0; d0 = 0; d1 = 0 };
+  registers = record { accumulator = 0; isar = 0; status = clear_status; scratchpad = replicate 64 0 };
+  count = 1;
+  phi = 28;
 }
-unfolding referred run own_inputs effect decoded
+unfolding referred run own_inputs effect decoded first_memory
 flat_branch_below_zero = refl
 
--- an empty space: reset itself is not served
-nothing_held : (played [] 0 0).stop ≡ Undriven 0 0
-unfolding played run own_inputs effect decoded
-nothing_held = refl
-
--- a displacement byte past the chip's last address is read by the code of a taken branch
-displacement_past_the_end : (run (next (replicate 1023 0x2B ++ 0x90 ∷ [])) 1 (record { flow = record { p = 1023; p1 = 0; d0 = 0; d1 = 0 }; registers = record { accumulator = 0; isar = 0; status = clear_status; scratchpad = [] }; count = 0; phi = 0 })).stop ≡ Undriven 1 0x0400
-unfolding run own_inputs effect decoded
-displacement_past_the_end = refl
+flat_branch_below_zero_stop : (referred (rom (0x90 ∷ 0xFD ∷ [])) 0 2).stop ≡ Reserved 0xFFFE 0xFF
+unfolding referred run own_inputs effect decoded first_memory
+flat_branch_below_zero_stop = refl
 
 -- the text of the first run, whole
-text_of_branch_to_self : text_of (run_lines (played (rom_of (0x71 ∷ 0x2B ∷ 0x90 ∷ 0xFE ∷ [])) 0 3)) ≡
+text_of_branch_to_self : text_of (run_lines (played (rom (0x71 ∷ 0x2B ∷ 0x90 ∷ 0xFE ∷ [])) 0 3)) ≡
     codes "verdict unchecked\nstop done\nregs P=0001 P1=0000 D0=0000 D1=0000 A=01 IS=00 W=00\n"
     ++ codes "s00 00 00 00 00 00 00 00 00 00 00 00 00 00 00 00 00\n"
     ++ codes "s10 00 00 00 00 00 00 00 00 00 00 00 00 00 00 00 00\n"
     ++ codes "s20 00 00 00 00 00 00 00 00 00 00 00 00 00 00 00 00\n"
     ++ codes "s30 00 00 00 00 00 00 00 00 00 00 00 00 00 00 00 00\n"
     ++ codes "total 3 instructions 36 phi\n"
-unfolding played run own_inputs effect decoded text_of verdict_line stop_line regs_line scratch_line total_line digits
+unfolding played run own_inputs effect decoded first_memory text_of verdict_line stop_line regs_line scratch_line total_line digits
 text_of_branch_to_self = refl
 
-undriven_line : stop_line (Undriven 0 0xFFFE) ≡ codes "stop undriven romc 00 at FFFE\n"
-unfolding stop_line
+-- a line for each reason to stop
+conflict_line :
+    stop_line (Unserved (Conflict 2 (record { socket = 0; at = 0x10 } ∷ record { socket = 12; at = 0x2800 } ∷ [])))
+    ≡ codes "stop conflict romc 02 socket 0 at 0010 socket 12 at 2800\n"
+unfolding stop_line fault_line digits
+conflict_line = refl
+
+undriven_line : stop_line (Unserved (Undriven 0 0xFFFE)) ≡ codes "stop undriven romc 00 at FFFE\n"
+unfolding stop_line fault_line
 undriven_line = refl
 
-unbuilt_line : stop_line (Unbuilt 0 0xFF) ≡ codes "stop unbuilt FF at 0000\n"
+astray_line : stop_line (Unserved (Astray 2 0 5 0)) ≡ codes "stop astray romc 02 socket 0 at 0005 reference 0000\n"
+unfolding stop_line fault_line digits
+astray_line = refl
+
+unbuilt_line : stop_line (Unbuilt 0 0x26) ≡ codes "stop unbuilt 26 at 0000\n"
 unfolding stop_line
 unbuilt_line = refl
 

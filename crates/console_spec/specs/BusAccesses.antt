@@ -1,12 +1,10 @@
--- The accesses of an instruction to the bus, in order: what a chip has to answer. So far there is one chip, whose copies are the flat
--- machine's counters. So the only fault is that no chip answers.
-use Rattle.std.specs.Prelude.{ℕ, Bool, true, if◌then◌else◌, List, [], ◌∷◌, ◌++◌, Option, Some, None}
+-- The accesses of an instruction to the bus, in order: what a chip has to answer.
+use Rattle.std.specs.Prelude.{ℕ, Bool, if◌then◌else◌, List, [], ◌∷◌, ◌++◌}
 use Rattle.f8_spec.specs.Words.{places_on}
 use Rattle.f8_spec.specs.Instructions.{row_of}
 use Rattle.f8_spec.specs.declared.instructions.Op.{Op}
 use Rattle.f8_spec.specs.declared.instructions.Row.{Row}
 use Rattle.f8_spec.specs.declared.instructions.Row.TheVariants.{StackToK, DataToPair, ReadData, StoreData, Immediate, PortIn, PortOut, Call, Jump, LoadData, Branch, BranchIsar, ShortIn, ShortOut}
-use Rattle.console_spec.specs.AddressSpace.{is_held}
 use Rattle.console_spec.specs.Processor.{Flow, Inputs, flow_after}
 
 -- An access: the code of its step, and its place, which is read on a set of counters. The flag says that the set has a second data
@@ -52,14 +50,3 @@ last_access row i = record { romc = 0x00; place = λ second c. (flow_after row i
 
 abbrev pub accesses_of : Op → Inputs → List Access
 accesses_of op i = accesses_before_fetch (row_of op) i ++ last_access (row_of op) i ∷ []
-
--- a bus step that no chip serves: its code, and the address on the flat machine's counters
-pub record Unserved : Type 0 where
-  pub romc : ℕ
-  pub at : ℕ
-
--- the first access that no chip serves
-abbrev pub first_unserved : List ℕ → Flow → List Access → Option Unserved
-first_unserved rom c [] = None
-first_unserved rom c (a ∷ later) =
-    if is_held rom (a.place true c) then first_unserved rom c later else Some (record { romc = a.romc; at = a.place true c })

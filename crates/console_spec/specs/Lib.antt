@@ -6,6 +6,5 @@ pub mod CounterCopies
 pub mod Services
 pub mod BusTrace
 pub mod FlatMachine
-pub mod RackRun
 pub mod Run
 pub mod RunText

@@ -1,76 +1,187 @@
--- The run of a program: reset, and then instructions, up to a number of them or to the first that cannot be done.
-use Rattle.std.specs.Prelude.{ℕ, zero, suc, true, false, Bool, List, [], ◌∷◌, Option, Some, None}
+-- The run of a program on a rack of chips: the flat machine goes on, with the copies of the chips beside it, up to the first instruction
+-- that has an access which is not served.
+use Rattle.std.specs.Prelude.{ℕ, zero, suc, Bool, true, false, List, [], ◌∷◌, ◌++◌, map, Option, Some, None}
+use Rattle.std.specs.List.{enumerate_from}
 use Rattle.f8_spec.specs.Built.{is_built}
-use Rattle.f8_spec.specs.Instructions.{decoded}
+use Rattle.f8_spec.specs.Instructions.{decoded, row_of}
+use Rattle.f8_spec.specs.MicroSteps.{steps_of, reset_steps}
+use Rattle.f8_spec.specs.ChipState.{ChipView}
+use Rattle.f8_spec.specs.BusArbitration.{Seat, seat_of}
 use Rattle.f8_spec.specs.declared.instructions.Op.{Op}
 use Rattle.console_spec.specs.AddressSpace.{byte_at}
-use Rattle.console_spec.specs.Processor.{State, at_power, after_reset, own_inputs, after_instruction}
-use Rattle.console_spec.specs.BusAccesses.{Unserved, ahead, accesses_of, first_unserved}
+use Rattle.console_spec.specs.Processor.{Inputs, after_reset}
+use Rattle.console_spec.specs.FlatMachine.{FlatState, flat_at_power, flat_after, gets, gets_all}
+use Rattle.console_spec.specs.CounterCopies.{Copy, copies_after, reset_copy}
+use Rattle.console_spec.specs.BusAccesses.{Access, accesses_of}
+use Rattle.console_spec.specs.Services.{Fault, first_fault}
+use Rattle.console_spec.specs.BusTrace.{TracedStep, Course, course_of}
+
+-- the flat machine, and the copies of the chips by their sockets
+pub record Position : Type 0 where
+  pub flat : FlatState
+  pub copies : List Copy
+
+abbrev pub seats_of : List Copy → List Seat
+seats_of copies = map (λ c. c.seat) copies
+
+-- ---- an instruction
+
+-- why an instruction is not done: the first of its accesses that is not served
+abbrev pub instruction_fault : Op → Position → Option Fault
+instruction_fault op x = first_fault x.flat.state.flow x.copies (accesses_of op (gets op x.flat))
+
+abbrev pub position_after : Op → Position → Position
+position_after op x = record {
+  flat = flat_after op (seats_of x.copies) x.flat;
+  copies = copies_after (row_of op) (gets op x.flat) x.copies;
+}
+
+-- its bus steps, up to the first that is not served
+abbrev pub instruction_course : Op → Position → Course
+instruction_course op x =
+    let i = gets_all op (seats_of x.copies) x.flat in
+    course_of i x.flat.state.flow x.copies (steps_of (row_of op) i.taken) (accesses_of op i)
+
+-- ---- power-on and reset
+
+-- Power-on, on a rack of chips that are fitted. The copies are those that reset will leave: the stack register and the data counters of a
+-- chip stand where power-on left its counters.
+abbrev pub power_position : List ChipView → ℕ → Position
+power_position vs fill = record {
+  flat = flat_at_power vs fill;
+  copies = map (reset_copy fill) (enumerate_from 0 (map seat_of vs));
+}
+
+-- reset fetches at 0, on each set of counters
+abbrev pub reset_access : Access
+reset_access = record { romc = 0x00; place = λ second c. 0 }
+
+abbrev pub reset_fault : Position → Option Fault
+reset_fault x = first_fault x.flat.state.flow x.copies (reset_access ∷ [])
+
+-- reset gets nothing but the opcode at 0
+abbrev pub reset_gets : List ℕ → Inputs
+reset_gets memory = record {
+  taken = false;
+  vectored = false;
+  operand = 0;
+  second = 0;
+  opcode = byte_at memory 0;
+  data_byte = 0;
+  data_high = 0;
+  data_low = 0;
+  stack_high = 0;
+  stack_low = 0;
+  accumulator = 0;
+  k_high = 0;
+  k_low = 0;
+  q_high = 0;
+  q_low = 0;
+  h_high = 0;
+  h_low = 0;
+  port = 0;
+  port_byte = 0;
+  vector_high = 0;
+  vector_low = 0;
+}
+
+-- its bus steps, up to the fetch
+abbrev pub reset_course : Position → Course
+reset_course x = course_of (reset_gets x.flat.memory) x.flat.state.flow x.copies reset_steps (reset_access ∷ [])
+
+abbrev pub position_after_reset : Position → Position
+position_after_reset x = record x { flat = record x.flat { state = after_reset x.flat.state } }
+
+-- ---- a run
 
 -- why a run stops
 pub data Stop : Type 0 where
   -- all its instructions are done
   Done : Stop
-  -- no chip answers in a step with this code at this address
-  Undriven : ℕ → ℕ → Stop
+  -- a bus step is not served
+  Unserved : Fault → Stop
   -- at this address stands this opcode, which no instruction has
   Reserved : ℕ → ℕ → Stop
   -- at this address stands this opcode, whose instruction is not built
   Unbuilt : ℕ → ℕ → Stop
 
--- an instruction, or reset, is done and leaves a state, or it stops the run
-pub data Outcome : Type 0 where
-  Goes : State → Outcome
-  Stops : Stop → Outcome
+-- an instruction, or reset, is done and leads on, or it stops the run
+pub data Turn : Type 0 where
+  Goes : Position → Turn
+  Stops : Stop → Turn
 
--- the last state and why the run stops there
+-- where the run stands at its end, and why it stops there
 pub record Ending : Type 0 where
-  pub state : State
+  pub position : Position
   pub stop : Stop
 
--- The next instruction by its opcode. What becomes of an instruction is said by a function, which differs between a machine with
--- chips and one without.
-abbrev pub decided : (Op → Outcome) → ℕ → ℕ → Bool → Option Op → Outcome
+abbrev pub goes_unless : Option Fault → Position → Turn
+goes_unless None x = Goes x
+goes_unless (Some fault) x = Stops (Unserved fault)
+
+-- the next instruction by its opcode; what becomes of an instruction differs between a machine with chips and one without
+abbrev pub decided : (Op → Turn) → ℕ → ℕ → Bool → Option Op → Turn
 decided carried_out at code false op = Stops (Unbuilt at code)
 decided carried_out at code true None = Stops (Reserved at code)
 decided carried_out at code true (Some op) = carried_out op
 
-abbrev pub outcome_at : (Op → Outcome) → List ℕ → State → Outcome
-outcome_at carried_out rom s =
-    decided carried_out s.flow.p (byte_at rom s.flow.p) (is_built (byte_at rom s.flow.p)) (decoded (byte_at rom s.flow.p))
+abbrev pub opcode_at : Position → ℕ
+opcode_at x = byte_at x.flat.memory x.flat.state.flow.p
 
--- the outcome where accesses lead to a state: the first that is not served stops the run
-abbrev pub served_or_stop : Option Unserved → State → Outcome
-served_or_stop None t = Goes t
-served_or_stop (Some u) t = Stops (Undriven u.romc u.at)
+abbrev pub turn_by : (Op → Turn) → Position → Turn
+turn_by carried_out x =
+    decided carried_out x.flat.state.flow.p (opcode_at x) (is_built (opcode_at x)) (decoded (opcode_at x))
 
--- the next instruction on a chip
-abbrev pub next : List ℕ → State → Outcome
-next rom s = outcome_at
-    (λ op. served_or_stop (first_unserved rom s.flow (accesses_of op (own_inputs op rom s))) (after_instruction op rom s)) rom s
+-- the next instruction on the rack
+abbrev pub next : Position → Turn
+next x = turn_by (λ op. goes_unless (instruction_fault op x) (position_after op x)) x
 
--- the next instruction on the flat instruction set alone, without a chip
-abbrev pub flat_next : List ℕ → State → Outcome
-flat_next rom s = outcome_at (λ op. Goes (after_instruction op rom s)) rom s
+-- the next instruction on the flat instruction set alone
+abbrev pub flat_next : Position → Turn
+flat_next x = turn_by (λ op. Goes (position_after op x)) x
 
--- reset fetches at 0
-abbrev pub reset : List ℕ → State → Outcome
-reset rom s = served_or_stop (first_unserved rom s.flow (ahead 0x00 0 ∷ [])) (after_reset s)
+-- an instruction that stops the run changes nothing of it
+abbrev pub goes_on : (Position → Ending) → Position → Turn → Ending
+goes_on rest x (Goes y) = rest y
+goes_on rest x (Stops stop) = record { position = x; stop = stop }
 
--- the ending where an outcome leads on to the rest of the run; an instruction that stops the run changes nothing
-abbrev pub goes_on : (State → Ending) → State → Outcome → Ending
-goes_on rest s (Goes t) = rest t
-goes_on rest s (Stops why) = record { state = s; stop = why }
+-- a number of instructions from a position on: the end is tried first
+unfoldable pub run : (Position → Turn) → ℕ → Position → Ending
+run step zero x = record { position = x; stop = Done }
+run step (suc n) x = goes_on (λ y. run step n y) x (step x)
 
--- A number of instructions from a state on, by what becomes of each: the end is tried first.
-unfoldable pub run : (State → Outcome) → ℕ → State → Ending
-run step zero s = record { state = s; stop = Done }
-run step (suc n) s = goes_on (λ t. run step n t) s (step s)
+-- a whole run on a rack of chips that are fitted, from power-on with a power byte
+unfoldable pub played : List ChipView → ℕ → ℕ → Ending
+played vs fill n =
+    let x = power_position vs fill in
+    goes_on (λ y. run next n y) x (goes_unless (reset_fault x) (position_after_reset x))
 
--- a whole run on a chip, from power-on with a power byte
-unfoldable pub played : List ℕ → ℕ → ℕ → Ending
-played rom fill n = goes_on (λ s. run (next rom) n s) (at_power fill) (reset rom (at_power fill))
+-- a whole run on the flat instruction set alone
+unfoldable pub referred : List ChipView → ℕ → ℕ → Ending
+referred vs fill n = run flat_next n (position_after_reset (power_position vs fill))
 
--- a whole run on the flat instruction set
-unfoldable pub referred : List ℕ → ℕ → ℕ → Ending
-referred rom fill n = run (flat_next rom) n (after_reset (at_power fill))
+-- ---- its bus steps
+
+-- the bus steps of the next instruction; where its opcode stops the run there are none
+abbrev pub course_as : Position → Bool → Option Op → Course
+course_as x false found = record { steps = []; fault = None }
+course_as x true None = record { steps = []; fault = None }
+course_as x true (Some op) = instruction_course op x
+
+abbrev pub turn_course : Position → Course
+turn_course x = course_as x (is_built (opcode_at x)) (decoded (opcode_at x))
+
+abbrev pub recorded_on : (Position → List TracedStep) → Turn → List TracedStep
+recorded_on rest (Goes y) = rest y
+recorded_on rest (Stops stop) = []
+
+-- the served steps of a number of instructions
+unfoldable pub recorded : ℕ → Position → List TracedStep
+recorded zero x = []
+recorded (suc n) x = (turn_course x).steps ++ recorded_on (λ y. recorded n y) (next x)
+
+-- the served steps of a whole run on a rack, those of reset counted
+unfoldable pub played_record : List ChipView → ℕ → ℕ → List TracedStep
+played_record vs fill n =
+    let x = power_position vs fill in
+    (reset_course x).steps ++ recorded_on (λ y. recorded n y) (goes_unless (reset_fault x) (position_after_reset x))

@@ -1,17 +1,29 @@
 -- The lines that a run writes, as bytes. Every line ends with a line feed.
 use Rattle.std.specs.Prelude.{ℕ, ◌+◌, ◌*◌, List, [], ◌∷◌, ◌++◌, codes, decimal, take, drop, flat_map}
 use Rattle.f8_spec.specs.Spelling.{hex2, hex4, octal2}
+use Rattle.f8_spec.specs.declared.bus.Party.{Party}
 use Rattle.console_spec.specs.Processor.{shown}
-use Rattle.console_spec.specs.Run.{Stop, Done, Undriven, Reserved, Unbuilt, Ending}
+use Rattle.console_spec.specs.Services.{Fault, Conflict, Undriven, Astray}
+use Rattle.console_spec.specs.Run.{Stop, Done, Unserved, Reserved, Unbuilt, Ending}
 use Rattle.console_spec.specs.declared.Regs.{Regs}
 
 -- nothing was checked beforehand
 unfoldable pub verdict_line : List ℕ
 verdict_line = codes "verdict unchecked\n"
 
+-- a chip of a conflict, with its own address or the port
+abbrev pub party_text : Party → List ℕ
+party_text p = codes " socket " ++ decimal p.socket ++ codes " at " ++ hex4 p.at
+
+unfoldable pub fault_line : Fault → List ℕ
+fault_line (Conflict romc parties) = codes "stop conflict romc " ++ hex2 romc ++ flat_map party_text parties ++ codes "\n"
+fault_line (Undriven romc at) = codes "stop undriven romc " ++ hex2 romc ++ codes " at " ++ hex4 at ++ codes "\n"
+fault_line (Astray romc socket at reference) =
+    codes "stop astray romc " ++ hex2 romc ++ codes " socket " ++ decimal socket ++ codes " at " ++ hex4 at ++ codes " reference " ++ hex4 reference ++ codes "\n"
+
 unfoldable pub stop_line : Stop → List ℕ
 stop_line Done = codes "stop done\n"
-stop_line (Undriven romc at) = codes "stop undriven romc " ++ hex2 romc ++ codes " at " ++ hex4 at ++ codes "\n"
+stop_line (Unserved fault) = fault_line fault
 stop_line (Reserved at code) = codes "stop reserved " ++ hex2 code ++ codes " at " ++ hex4 at ++ codes "\n"
 stop_line (Unbuilt at code) = codes "stop unbuilt " ++ hex2 code ++ codes " at " ++ hex4 at ++ codes "\n"
 
@@ -45,9 +57,11 @@ told_lines stop regs count phi =
     ∷ []
 
 abbrev pub ending_lines : Ending → List (List ℕ)
-ending_lines e = told_lines e.stop (shown e.state) e.state.count e.state.phi
+ending_lines e =
+    let state = e.position.flat.state in
+    told_lines e.stop (shown state) state.count state.phi
 
--- the lines of a whole run on chips; one on the flat instruction set alone has no verdict
+-- the lines of a whole run on a rack; one on the flat instruction set alone has no verdict
 abbrev pub run_lines : Ending → List (List ℕ)
 run_lines e = verdict_line ∷ ending_lines e
 

@@ -54,7 +54,7 @@ impl Registers {
 
     /// Follows a bus step with its byte. `dc1` says that the chip has a second data counter, which code 1D exchanges with the first;
     /// without one nothing moves there.
-    #[inline]
+    #[inline(always)]
     pub fn hear(&mut self, romc: Romc, byte: u8, dc1: bool)
         ensures { self.new ≡ moved_by romc byte dc1 self.old }
     {

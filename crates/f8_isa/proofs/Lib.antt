@@ -1,3 +1,3 @@
 pub mod InstructionRows
 pub mod Results
-pub mod Pages
+pub mod Standing

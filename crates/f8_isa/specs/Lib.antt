@@ -1,4 +1,4 @@
 pub mod Counters
 pub mod InstructionRows
 pub mod IsaState
-pub mod PageTable
+pub mod KeptMemory

@@ -1,58 +1,104 @@
+ghost use Rattle.std.specs.Prelude.{◌≡◌, ℕ, ◌/◌, IfOk};
+ghost use Rattle.console_spec.specs.FlatMemory.{is_ram_sort};
+ghost use Rattle.memory_map.specs.MapOf.{mapped_sort};
+ghost use Rattle.f8_isa.specs.KeptMemory.{AreFirstBytes, AreRamPages, IsFirstMemory, mapped_first};
+
 use f8_spec::Memory;
-use std::alloc::Global;
+use memory_map::{Map, Sort};
+use std::alloc::{AllocError, Global};
 use std::marker::Model;
 
-/// The addresses of a page.
-const PAGE_SIZE: usize = 256;
+/// What is read where no chip, or not just one, holds an address.
+const NO_BYTE: u8 = 0xFF;
 
-/// One flat memory behind a page table. Contracts see the list of its bytes, from address 0 on.
+/// The byte that is read at each of the 65,536 addresses, and which of the 256 pages of addresses stores change. Contracts see the two
+/// lists.
 #[derive(Drop)]
 pub struct FlatMemory {
-    /// The number of each page of addresses among the pages of the bytes, and none where no chip holds it.
-    places: [Option<u8>; 256],
     bytes: Vec<u8>,
+    ram_pages: [bool; 256],
 }
 
 impl Model for FlatMemory {
-    ghost use Rattle.std.specs.Prelude.{ℕ, List};
-    ghost use Rattle.f8_isa.specs.PageTable.{IsPageTable};
+    ghost use Rattle.std.specs.Prelude.{◌≡◌, length};
+    ghost use Rattle.f8_isa.specs.KeptMemory.{KeptMemory};
 
-    ghost Value = { List ℕ };
+    ghost Value = { KeptMemory };
 
-    ghost view = { λ m. m.bytes.items };
+    ghost view = { λ m. record { bytes = m.bytes.items; ram_pages = m.ram_pages } };
 
-    ghost invariant = { λ m. IsPageTable m.places m.bytes.items };
+    ghost invariant = { λ m. length m.bytes.items ≡ 65536 };
 }
 
 impl FlatMemory {
-    ghost use Rattle.std.specs.Prelude.{◌≡◌, ◌%◌, ◌≤◌, IfOk, length};
     ghost use Rattle.console_spec.specs.AddressSpace.{byte_at};
+    ghost use Rattle.f8_isa.specs.IsaState.{stored_in};
 
-    /// A copy of whole pages, which lie from address 0 on, or want of memory.
-    pub fn of(alloc: Global, bytes: &[u8]) -> Result<FlatMemory, Memory>
-        requires whole { length bytes.now % 256 ≡ 0 }
-        requires fits { length bytes.now ≤ 65536 }
-        ensures { IfOk result (λ memory. memory ≡ bytes.now) }
+    /// The memory at power-on, with `fill` in RAM, or want of memory.
+    pub fn new(alloc: Global, map: &Map, fill: u8) -> Result<FlatMemory, Memory>
+        ensures { IfOk result (IsFirstMemory map.now fill) }
     {
-        let Ok(bytes) = bytes.to_vec(alloc) else {
-            return Err(Memory);
-        };
-        let mut places = [None; 256];
-        for page in 0..bytes.len() / PAGE_SIZE {
-            places[page] = Some(page as u8);
+        let ram_pages = ram_pages(map);
+        match first_bytes(alloc, map, fill) {
+            Ok(bytes) => Ok(FlatMemory { bytes, ram_pages }),
+            Err(_) => Err(Memory),
         }
-        Ok(FlatMemory { places, bytes })
     }
 
-    /// The byte at an address, and 255 where no chip holds it.
+    /// The byte that is read at an address.
     #[inline]
     pub fn byte(&self, at: u16) -> u8
-        ensures { result ≡ byte_at self.now at }
+        ensures { result ≡ byte_at self.now.bytes at }
     {
-        let at = at as usize;
-        match self.places[at / PAGE_SIZE] {
-            Some(page) => self.bytes[page as usize * PAGE_SIZE + at % PAGE_SIZE],
-            None => 0xFF,
+        self.bytes[usize::from(at)]
+    }
+
+    /// A byte stored at an address, which is lost where it is no RAM.
+    #[inline]
+    pub fn store(&mut self, at: u16, byte: u8)
+        ensures { self.new ≡ record self.old { bytes = stored_in self.old.ram_pages at byte self.old.bytes } }
+    {
+        if self.ram_pages[usize::from(at / 256)] {
+            self.bytes[usize::from(at)] = byte;
         }
     }
+}
+
+/// The byte that is read at an address at power-on.
+fn first_byte(map: &Map, fill: u8, at: u16) -> u8
+    ensures { result ≡ mapped_first map.now fill at }
+{
+    match map.sort(at) {
+        Sort::Ram => fill,
+        Sort::Rom | Sort::Void | Sort::Nothing | Sort::Shared => map.byte(at).unwrap_or(NO_BYTE),
+    }
+}
+
+/// The byte that is read at each address at power-on, or want of memory.
+fn first_bytes(alloc: Global, map: &Map, fill: u8) -> Result<Vec<u8>, AllocError>
+    ensures { IfOk result (λ bytes. AreFirstBytes map.now fill bytes.items 65536) }
+{
+    let mut bytes = Vec::with_capacity(alloc, 65_536)?;
+    for at in 0..65_536_u32 {
+        bytes.push(first_byte(map, fill, at as u16))?;
+    }
+    Ok(bytes)
+}
+
+/// The first address of a page is RAM, and so is the whole page.
+fn is_ram_page(map: &Map, page: u8) -> bool
+    ensures { (at : ℕ) → at / 256 ≡ page → result ≡ is_ram_sort (mapped_sort map.now at) }
+{
+    map.sort(u16::from(page) * 256) == Sort::Ram
+}
+
+/// Which pages are RAM.
+fn ram_pages(map: &Map) -> [bool; 256]
+    ensures { AreRamPages map.now result }
+{
+    let mut ram_pages = [false; 256];
+    for page in 0..256 {
+        ram_pages[page] = is_ram_page(map, page as u8);
+    }
+    ram_pages
 }

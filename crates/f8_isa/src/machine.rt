@@ -2,19 +2,20 @@ use super::counters::Flow;
 use super::flat_memory::FlatMemory;
 use super::instruction_table::{Instruction, InstructionTable};
 use super::register_file::{H, K, Q, RegisterFile};
-use chip_face::Bytes;
+use chip_face::ChipList;
 use console_board::PortWrite;
 use console_spec::Regs;
 use f8_ops::{Op, Reserved, Row};
 use f8_spec::Memory;
 use f8_words::wrap_add;
+use memory_map::Map;
 use std::alloc::Global;
 use std::marker::Model;
 
 /// The clocks of reset, in Φ.
 const RESET_PHI: u64 = 14;
 
-/// What an instruction did beyond the registers: the write to a port, if there was one, and whether an interrupt was taken at its end.
+/// What an instruction did beyond registers and memory: the write to a port, if there was one, and whether an interrupt was taken at its end.
 /// So far there is neither.
 #[derive(Clone, Copy, Debug, PartialEq, Eq)]
 pub struct Done {
@@ -41,48 +42,58 @@ impl Model for Isa {
 
     ghost Value = { IsaState };
 
-    ghost view = { λ m. record { rom = m.memory; flow = flow_of m.flow; registers = m.registers; phi = m.phi } };
+    ghost view = { λ m. record { flow = flow_of m.flow; registers = m.registers; phi = m.phi; memory = m.memory.bytes; ram_pages = m.memory.ram_pages } };
 }
 
 impl Isa {
-    ghost use Rattle.std.specs.Prelude.{◌≡◌, ℕ, ◌+◌, ◌^◌, ◌<◌, ◌≤◌, IsTrue, true, false, None, IfOk, IfErr, OnErr, OnOk, length};
+    ghost use Rattle.std.specs.Prelude.{◌≡◌, ℕ, ◌+◌, ◌^◌, ◌<◌, ◌≤◌, IsTrue, true, false, None, IfOk, IfErr, OnErr, OnOk};
     ghost use Rattle.f8_spec.specs.Built.{is_built};
     ghost use Rattle.f8_spec.specs.Instructions.{InRange, row_of};
     ghost use Rattle.f8_spec.specs.Words.{word, places_on, displaced};
     ghost use Rattle.f8_spec.specs.declared.instructions.Op.{Op};
     ghost use Rattle.console_spec.specs.AddressSpace.{byte_at};
-    ghost use Rattle.console_spec.specs.Processor.{at_power, after_reset, own_inputs, used_byte, result_of, is_taken, flow_after, after_instruction, shown};
-    ghost use Rattle.console_spec.specs.Run.{Reserved as StopReserved};
+    ghost use Rattle.console_spec.specs.Processor.{own_inputs, used_byte, result_of, is_taken, flow_after, after_instruction, shown};
+    ghost use Rattle.console_spec.specs.Run.{Reserved as StopReserved, power_position, position_after_reset};
+    ghost use Rattle.memory_map.specs.MapOf.{IsMapOf, views_of};
     ghost use Rattle.f8_isa.specs.Counters.{flow_of};
     ghost use Rattle.f8_isa.specs.InstructionRows.{IsInstruction};
-    ghost use Rattle.f8_isa.specs.IsaState.{state_of, GoesTo, StopsBy};
+    ghost use Rattle.f8_isa.specs.IsaState.{state_of, memory_by, GoesTo, StopsBy, StandsAt};
 
-    /// A program in one 3851 at address 0, after power-on with 00 and reset, or want of memory. The 1,024 bytes are copied.
-    pub fn one(alloc: Global, rom: &Bytes) -> Result<Isa, Memory>
-        requires { length rom.now ≡ 1024 }
-        ensures rom { IfOk result (λ isa. isa.rom ≡ rom.now) }
-        ensures state { IfOk result (λ isa. state_of isa 0 ≡ after_reset (at_power 0)) }
+    /// A program on some chips, after power-on with a byte and reset, or want of memory. The map is that of the chips; what it tells is
+    /// copied.
+    pub fn new(alloc: Global, map: &Map, chips: &ChipList, fill: u8) -> Result<Isa, Memory>
+        requires { IsMapOf map.now chips.now }
+        ensures { IfOk result (λ isa. StandsAt isa 0 (position_after_reset (power_position (views_of chips.now) fill))) }
     {
-        let memory = FlatMemory::of(alloc, rom.as_slice())?;
+        let _chips = chips;
+        let memory = FlatMemory::new(alloc, map, fill)?;
         Ok(Isa {
             instructions: InstructionTable::new(),
             memory,
             flow: Flow::default(),
-            registers: RegisterFile::at_power(),
+            registers: RegisterFile::at_power(fill),
             phi: RESET_PHI,
         })
     }
 
+    /// The next opcode is reserved, or what it does is built, so that `step` may be called. So far that is all but the instructions
+    /// of ports.
+    #[inline]
+    pub fn is_ready(&self) -> bool
+        ensures { result ≡ is_built (byte_at self.now.memory self.now.flow.p) }
+    {
+        self.instructions.is_built(self.memory.byte(self.flow.p))
+    }
+
     /// The next instruction, or [`Reserved`] with the opcode, exactly where no instruction has it; then nothing changes. The opcode has
-    /// to be built or reserved, which `is_built` of f8_ops tells of the byte that `peek` gives at `p`.
+    /// to be built or reserved, which `is_ready` tells.
     #[inline]
     pub fn step(&mut self) -> Result<Done, Reserved>
-        requires built { IsTrue (is_built (byte_at self.old.rom self.old.flow.p)) }
+        requires ready { IsTrue (is_built (byte_at self.old.memory self.old.flow.p)) }
         requires phi { self.old.phi < 2 ^ 62 }
         ensures goes { OnOk result (GoesTo self.old self.new) }
         ensures done { IfOk result (λ done. done ≡ record { wrote = None; vectored = false }) }
         ensures clocks { self.new.phi ≤ self.old.phi + 26 }
-        ensures memory { self.new.rom ≡ self.old.rom }
         ensures stops { IfErr result (λ error. StopsBy self.old (StopReserved self.old.flow.p error.code)) }
         ensures same { OnErr result (self.new ≡ self.old) }
     {
@@ -103,9 +114,48 @@ impl Isa {
     fn carry_out(&mut self, instruction: Instruction)
         requires right { IsInstruction instruction }
         requires phi { self.old.phi < 2 ^ 62 }
-        ensures state { (count : ℕ) → state_of self.new (count + 1) ≡ after_instruction instruction.op self.old.rom (state_of self.old count) }
+        ensures state { (count : ℕ) → state_of self.new (count + 1) ≡ after_instruction instruction.op self.old.memory (state_of self.old count) }
         ensures clocks { self.new.phi ≤ self.old.phi + 26 }
-        ensures memory { self.new.rom ≡ self.old.rom }
+        ensures memory { self.new.memory ≡ memory_by (row_of instruction.op) self.old.ram_pages self.old.flow.d0 self.old.registers.accumulator self.old.memory }
+        ensures ram { self.new.ram_pages ≡ self.old.ram_pages }
+        ensures address { row_of instruction.op ≡ Row.StoreData → self.old.flow.d0 < 65536 }
+    {
+        if instruction.row == Row::Plain {
+            self.carry_out_plain(instruction);
+        } else {
+            self.carry_out_other(instruction);
+        }
+    }
+
+    /// A whole instruction of the plainest row, which most belong to.
+    #[tactic(auto, using(crate::proofs::Results::after_plain))]
+    #[inline]
+    fn carry_out_plain(&mut self, instruction: Instruction)
+        requires right { IsInstruction instruction }
+        requires plain { instruction.row ≡ Row.Plain }
+        requires phi { self.old.phi < 2 ^ 62 }
+        ensures state { (count : ℕ) → state_of self.new (count + 1) ≡ after_instruction instruction.op self.old.memory (state_of self.old count) }
+        ensures clocks { self.new.phi ≤ self.old.phi + 26 }
+        ensures memory { self.new.memory ≡ self.old.memory }
+        ensures ram { self.new.ram_pages ≡ self.old.ram_pages }
+        ensures address { row_of instruction.op ≡ Row.StoreData → self.old.flow.d0 < 65536 }
+    {
+        self.registers.execute(instruction.op, 0);
+        self.flow.p = self.ahead(1);
+        self.phi += u64::from(instruction.clocks);
+    }
+
+    /// A whole instruction of any row.
+    #[tactic(auto, unfolding(console_spec::specs::Processor::own_inputs))]
+    #[inline]
+    fn carry_out_other(&mut self, instruction: Instruction)
+        requires right { IsInstruction instruction }
+        requires phi { self.old.phi < 2 ^ 62 }
+        ensures state { (count : ℕ) → state_of self.new (count + 1) ≡ after_instruction instruction.op self.old.memory (state_of self.old count) }
+        ensures clocks { self.new.phi ≤ self.old.phi + 26 }
+        ensures memory { self.new.memory ≡ memory_by (row_of instruction.op) self.old.ram_pages self.old.flow.d0 self.old.registers.accumulator self.old.memory }
+        ensures ram { self.new.ram_pages ≡ self.old.ram_pages }
+        ensures address { row_of instruction.op ≡ Row.StoreData → self.old.flow.d0 < 65536 }
     {
         let Instruction {
             op,
@@ -115,9 +165,21 @@ impl Isa {
         } = instruction;
         let taken = self.registers.takes_branch(op);
         let flow = self.flow_after(row, taken);
+        let (at, byte) = (self.data_counter(), self.registers.accumulator());
         self.work(op, row);
+        if row == Row::StoreData {
+            self.memory.store(at, byte);
+        }
         self.flow = flow;
         self.phi += u64::from(if taken { clocks_taken } else { clocks });
+    }
+
+    #[inline]
+    fn data_counter(&self) -> u16
+        ensures is { result ≡ self.now.flow.d0 }
+        ensures range { result < 65536 }
+    {
+        self.flow.d0
     }
 
     /// What an instruction does to the registers.
@@ -126,7 +188,7 @@ impl Isa {
     fn work(&mut self, op: Op, row: Row)
         requires row { row ≡ row_of op }
         requires in_range { InRange op }
-        ensures { self.new ≡ record self.old { registers = result_of op (own_inputs op self.old.rom (state_of self.old 0)) self.old.registers } }
+        ensures { self.new ≡ record self.old { registers = result_of op (own_inputs op self.old.memory (state_of self.old 0)) self.old.registers } }
     {
         match op {
             Op::LrKP => self.registers.set_pair(K, self.flow.p1),
@@ -143,7 +205,7 @@ impl Isa {
     #[tactic(auto, unfolding(console_spec::specs::Processor::own_inputs))]
     #[inline]
     fn used_byte(&self, row: Row) -> u8
-        ensures { (op : Op) → result ≡ used_byte row (own_inputs op self.now.rom (state_of self.now 0)) }
+        ensures { (op : Op) → result ≡ used_byte row (own_inputs op self.now.memory (state_of self.now 0)) }
     {
         match row {
             Row::Immediate | Row::Call | Row::Jump => self.memory.byte(self.ahead(1)),
@@ -156,7 +218,7 @@ impl Isa {
     #[tactic(auto, unfolding(console_spec::specs::Processor::own_inputs))]
     #[inline]
     fn flow_after(&self, row: Row, taken: bool) -> Flow
-        ensures { (op : Op) → is_taken op self.now.registers ≡ taken → flow_of result ≡ flow_after row (own_inputs op self.now.rom (state_of self.now 0)) true self.now.flow }
+        ensures { (op : Op) → is_taken op self.now.registers ≡ taken → flow_of result ≡ flow_after row (own_inputs op self.now.memory (state_of self.now 0)) true self.now.flow }
     {
         let flow = self.flow;
         let after_one = flow.with_next(self.ahead(1));
@@ -196,7 +258,7 @@ impl Isa {
     /// The word behind the opcode, its high byte first.
     #[inline]
     fn operand_word(&self) -> u16
-        ensures { result ≡ word (byte_at self.now.rom (places_on self.now.flow.p 1)) (byte_at self.now.rom (places_on self.now.flow.p 2)) }
+        ensures { result ≡ word (byte_at self.now.memory (places_on self.now.flow.p 1)) (byte_at self.now.memory (places_on self.now.flow.p 2)) }
     {
         let high = self.memory.byte(self.ahead(1));
         let low = self.memory.byte(self.ahead(2));
@@ -214,7 +276,7 @@ impl Isa {
     /// Where a branch leads to. It counts from the address of its displacement byte.
     #[inline]
     fn target(&self) -> u16
-        ensures { result ≡ displaced (places_on self.now.flow.p 1) (byte_at self.now.rom (places_on self.now.flow.p 1)) }
+        ensures { result ≡ displaced (places_on self.now.flow.p 1) (byte_at self.now.memory (places_on self.now.flow.p 1)) }
     {
         let place = self.ahead(1);
         wrap_add(place, self.memory.byte(place).cast_signed())
@@ -257,7 +319,7 @@ impl Isa {
     /// The byte at an address, and 255 where no chip holds it.
     #[inline]
     pub fn peek(&self, at: u16) -> u8
-        ensures { result ≡ byte_at self.now.rom at }
+        ensures { result ≡ byte_at self.now.memory at }
     {
         self.memory.byte(at)
     }

@@ -41,22 +41,22 @@ impl Model for RegisterFile {
 }
 
 impl RegisterFile {
-    ghost use Rattle.std.specs.Prelude.{◌≡◌, ◌+◌, ◌/◌, ◌%◌, ◌<◌, Bool, false};
+    ghost use Rattle.std.specs.Prelude.{◌≡◌, ◌+◌, ◌/◌, ◌%◌, ◌<◌, Bool, false, bit_and, bit_xor};
     ghost use Rattle.f8_spec.specs.Words.{word};
     ghost use Rattle.f8_spec.specs.Flags.{status_byte, is_positive, is_zero};
     ghost use Rattle.f8_spec.specs.Instructions.{InRange};
     ghost use Rattle.f8_words.specs.StatusWord.{status_of_flags};
     ghost use Rattle.console_spec.specs.Processor.{at_power, scratch_byte, with_scratch, with_pair, field_byte, register_of, with_isar_stepped, stepped_isar, with_result, with_sum, with_decimal_sum, compared, decremented, effect, any_chosen, is_taken};
 
-    /// The registers after power-on with 00.
-    pub fn at_power() -> RegisterFile
-        ensures { result ≡ (at_power 0).registers }
+    /// The registers after power-on with a byte.
+    pub fn at_power(fill: u8) -> RegisterFile
+        ensures { result ≡ (at_power fill).registers }
     {
         RegisterFile {
-            accumulator: 0,
-            isar: 0,
+            accumulator: fill,
+            isar: fill % 64,
             status: Flags::default(),
-            scratchpad: [0; 64],
+            scratchpad: [fill; 64],
         }
     }
 
@@ -150,34 +150,13 @@ impl RegisterFile {
             Op::Lis { n } => self.accumulator = n,
             Op::Lisu { n } => self.isar = n * 8 + self.isar % 8,
             Op::Lisl { n } => self.isar = self.isar / 8 * 8 + n,
-            Op::Ds { r } => {
-                self.decrement(r);
-                self.step_isar(r);
-            }
-            Op::LrAR { r } => {
-                self.accumulator = self.field(r);
-                self.step_isar(r);
-            }
-            Op::LrRA { r } => {
-                self.set_register(self.named_by(r), self.accumulator);
-                self.step_isar(r);
-            }
-            Op::As { r } => {
-                self.add(self.field(r), false);
-                self.step_isar(r);
-            }
-            Op::Asd { r } => {
-                self.add_decimal(self.field(r));
-                self.step_isar(r);
-            }
-            Op::Xs { r } => {
-                self.set_result(self.accumulator ^ self.field(r));
-                self.step_isar(r);
-            }
-            Op::Ns { r } => {
-                self.set_result(self.accumulator & self.field(r));
-                self.step_isar(r);
-            }
+            Op::Ds { r } => self.decrement(r),
+            Op::LrAR { r } => self.load(r),
+            Op::LrRA { r } => self.store(r),
+            Op::As { r } => self.add_field(r),
+            Op::Asd { r } => self.add_decimal_field(r),
+            Op::Xs { r } => self.xor_field(r),
+            Op::Ns { r } => self.and_field(r),
             _ => {}
         }
     }
@@ -289,14 +268,63 @@ impl RegisterFile {
         self.set_flags(add9(byte, !self.accumulator, true));
     }
 
-    /// Takes 1 from the register that a field names, as the sum with 255.
+    /// Takes 1 from the register that a field names, as the sum with 255. Like all that work on a field it then steps ISAR.
     #[inline]
     fn decrement(&mut self, field: u8)
-        ensures { self.new ≡ decremented field self.old }
+        ensures { self.new ≡ with_isar_stepped field (decremented field self.old) }
     {
         let sum = add9(self.field(field), 0xFF, false);
         self.set_register(self.named_by(field), sum.value);
         self.set_flags(sum);
+        self.step_isar(field);
+    }
+
+    #[inline]
+    fn load(&mut self, field: u8)
+        ensures { self.new ≡ with_isar_stepped field (record self.old { accumulator = field_byte field self.old }) }
+    {
+        self.accumulator = self.field(field);
+        self.step_isar(field);
+    }
+
+    #[inline]
+    fn store(&mut self, field: u8)
+        ensures { self.new ≡ with_isar_stepped field (with_scratch (register_of field self.old) self.old.accumulator self.old) }
+    {
+        self.set_register(self.named_by(field), self.accumulator);
+        self.step_isar(field);
+    }
+
+    #[inline]
+    fn add_field(&mut self, field: u8)
+        ensures { self.new ≡ with_isar_stepped field (with_sum (field_byte field self.old) false self.old) }
+    {
+        self.add(self.field(field), false);
+        self.step_isar(field);
+    }
+
+    #[inline]
+    fn add_decimal_field(&mut self, field: u8)
+        ensures { self.new ≡ with_isar_stepped field (with_decimal_sum (field_byte field self.old) self.old) }
+    {
+        self.add_decimal(self.field(field));
+        self.step_isar(field);
+    }
+
+    #[inline]
+    fn xor_field(&mut self, field: u8)
+        ensures { self.new ≡ with_isar_stepped field (with_result (bit_xor self.old.accumulator (field_byte field self.old)) self.old) }
+    {
+        self.set_result(self.accumulator ^ self.field(field));
+        self.step_isar(field);
+    }
+
+    #[inline]
+    fn and_field(&mut self, field: u8)
+        ensures { self.new ≡ with_isar_stepped field (with_result (bit_and self.old.accumulator (field_byte field self.old)) self.old) }
+    {
+        self.set_result(self.accumulator & self.field(field));
+        self.step_isar(field);
     }
 
     #[inline]

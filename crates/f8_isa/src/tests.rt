@@ -1,27 +1,186 @@
+ghost use Rattle.std.specs.Prelude.{◌≡◌, ◌%◌, ◌≤◌, IfOk, false, length};
+ghost use Rattle.chip_face.specs.Fitting.{IsSpec, is_blank};
+
 use super::*;
-use chip_face::Bytes;
-use f8_ops::is_built;
+use chip_face::{Bytes, ChipList, ChipSpec, Page, PageList, PageSort};
+use memory_map::Map;
 use std::alloc::Global;
 use std::process::Abort;
 use std::test::Fail;
 
-// the bytes from address 0 on, and FF in the rest of the ROM
-fn isa_of(alloc: Global, program: &[u8]) -> Result<Isa, Fail> {
+// a 3851 with these bytes, and FF in the rest of its ROM
+fn psu(alloc: Global, base: u16, program: &[u8]) -> Result<ChipSpec, Fail>
+    requires boundary { base % 1024 ≡ 0 }
+    requires fits { length program.now ≤ 1024 }
+    ensures spec { IfOk result IsSpec }
+    ensures kept { IfOk result (λ chip. is_blank chip ≡ false) }
+{
     let mut bytes = program.to_vec(alloc)?;
     bytes.resize(1024, 0xFF)?;
-    Ok(Isa::one(alloc, &Bytes::from_vec(bytes))?)
+    Ok(ChipSpec::Psu {
+        base,
+        rom: Bytes::from_vec(bytes),
+        ports: 0x04,
+        vector: 0x0000,
+        wired: false,
+    })
+}
+
+// a 3853 with a RAM page at 28 and a void page at 80
+fn smi(alloc: Global) -> Result<ChipSpec, Fail>
+    ensures spec { IfOk result IsSpec }
+    ensures kept { IfOk result (λ chip. is_blank chip ≡ false) }
+{
+    let pages = [
+        Page {
+            number: 0x28,
+            sort: PageSort::Ram,
+        },
+        Page {
+            number: 0x80,
+            sort: PageSort::Void,
+        },
+    ];
+    Ok(ChipSpec::Smi {
+        pages: PageList::of(alloc, &pages)?,
+        rom: Bytes::of(alloc, &[])?,
+        wired: false,
+    })
+}
+
+fn listed(alloc: Global, first: ChipSpec, second: ChipSpec) -> Result<ChipList, Fail>
+    requires first { IsSpec first }
+    requires first_kept { is_blank first ≡ false }
+    requires second { IsSpec second }
+    requires second_kept { is_blank second ≡ false }
+{
+    let mut chips = Vec::with_capacity(alloc, 2)?;
+    chips.push(first)?;
+    chips.push(second)?;
+    Ok(ChipList::from_vec(chips))
+}
+
+fn isa_of(alloc: Global, chips: &ChipList, fill: u8) -> Result<Isa, Fail> {
+    let map = Map::of(alloc, chips)?;
+    Ok(Isa::new(alloc, &map, chips, fill)?)
+}
+
+// these bytes in a 3851 at 0000, beside a 3853
+fn program(alloc: Global, bytes: &[u8], fill: u8) -> Result<Isa, Fail>
+    requires { length bytes.now ≤ 1024 }
+{
+    let chips = listed(alloc, psu(alloc, 0x0000, bytes)?, smi(alloc)?)?;
+    isa_of(alloc, &chips, fill)
 }
 
 fn step(rt: &impl Abort, isa: &mut Isa) -> Result<Done, Reserved> {
-    let next = isa.regs().p;
-    assert!(rt; is_built(isa.peek(next)));
-    assert!(rt; isa.phi() < 1000);
+    assert!(rt; isa.is_ready());
+    assert!(rt; isa.phi() < 100_000);
     isa.step()
+}
+
+// such a program after so many instructions
+fn after(rt: &impl Abort, alloc: Global, bytes: &[u8], fill: u8, count: u32) -> Result<Isa, Fail> {
+    assert!(rt; bytes.len() <= 1024);
+    let mut isa = program(alloc, bytes, fill)?;
+    for _ in 0..count {
+        let _done = step(rt, &mut isa)?;
+    }
+    Ok(isa)
+}
+
+// the registers P, P1, DC0 and DC1
+fn counters(regs: &Regs) -> [u16; 4] {
+    [regs.p, regs.p1, regs.d0, regs.d1]
+}
+
+// a return to 0, exchanges, a load from RAM, a load of each byte of the ROM, and a jump
+#[test]
+fn counters_and_loads(rt: HostRuntime) -> Result<(), Fail> {
+    let programs: [(&[u8], u8, u32, [u16; 4], u8, u64); 5] = [
+        (&[0x1C], 0x04, 3, [0x0000, 0x0000, 0x0000, 0x0000], 0x04, 38),
+        (
+            &[0x2A, 0x00, 0x05, 0x2C, 0x16],
+            0x00,
+            2,
+            [0x0004, 0x0000, 0x0000, 0x0005],
+            0x00,
+            46,
+        ),
+        (
+            &[
+                0x2A, 0x28, 0x00, 0x2C, 0x2A, 0x28, 0x01, 0x2C, 0x16, 0x90, 0xFF,
+            ],
+            0x5A,
+            6,
+            [0x0009, 0x0000, 0x2801, 0x2801],
+            0x5A,
+            102,
+        ),
+        (
+            &[0x2A, 0x00, 0x00, 0x16, 0x90, 0xFE],
+            0x00,
+            2049,
+            [0x0003, 0x0000, 0x0400, 0x0000],
+            0xFF,
+            24614,
+        ),
+        (
+            &[0x29, 0x03, 0xFE],
+            0x00,
+            1,
+            [0x03FE, 0x0000, 0x0000, 0x0000],
+            0x03,
+            36,
+        ),
+    ];
+    for (bytes, fill, count, places, accumulator, phi) in programs {
+        let isa = after(&rt, rt.alloc(), bytes, fill, count)?;
+        let regs = isa.regs();
+        assert_eq!(rt; counters(&regs), places, "of {bytes:?}");
+        assert_eq!(rt; regs.a, accumulator, "of {bytes:?}");
+        assert_eq!(rt; isa.phi(), phi, "of {bytes:?}");
+    }
+    Ok(())
+}
+
+// 33 stored in RAM, in ROM, in a void page, and where there is no chip
+#[test]
+fn stores(rt: HostRuntime) -> Result<(), Fail> {
+    for (high, byte) in [(0x28, 0x33), (0x02, 0xFF), (0x80, 0xFF), (0x40, 0xFF)] {
+        let isa = after(
+            &rt,
+            rt.alloc(),
+            &[0x2A, high, 0x01, 0x20, 0x33, 0x17],
+            0x5A,
+            3,
+        )?;
+        let at = u16::from(high) * 256 + 1;
+        assert_eq!(rt; isa.peek(at), byte, "at {at}");
+        assert_eq!(rt; isa.p(), 0x0006);
+    }
+    Ok(())
+}
+
+// two chips hold the address 0, so that it reads as FF, and that is reserved
+#[test]
+fn shared_and_reserved(rt: HostRuntime) -> Result<(), Fail> {
+    let alloc = rt.alloc();
+    let chips = listed(
+        alloc,
+        psu(alloc, 0x0000, &[0x2B])?,
+        psu(alloc, 0x0000, &[0x2B])?,
+    )?;
+    let mut isa = isa_of(alloc, &chips, 0x00)?;
+    assert_eq!(rt; step(&rt, &mut isa), Err(Reserved { code: 0xFF }));
+    assert_eq!(rt; isa.p(), 0x0000);
+    assert_eq!(rt; isa.phi(), 14);
+    Ok(())
 }
 
 // 0 less 1 in a register, 0 compared with 0, and two decimal sums whose second number has 66 added beforehand
 #[test]
-fn worked_programs(rt: HostRuntime) -> Result<(), Fail> {
+fn results(rt: HostRuntime) -> Result<(), Fail> {
     let programs: [(&[u8], u32, u8, u8, u8, u16, u64); 4] = [
         (
             &[0x70, 0x50, 0x30, 0x90, 0xFF],
@@ -60,38 +219,14 @@ fn worked_programs(rt: HostRuntime) -> Result<(), Fail> {
             40,
         ),
     ];
-    for (program, count, accumulator, status, first, next, phi) in programs {
-        let mut isa = isa_of(rt.alloc(), program)?;
-        for _ in 0..count {
-            let _done = step(&rt, &mut isa)?;
-        }
+    for (bytes, count, accumulator, status, first, next, phi) in programs {
+        let isa = after(&rt, rt.alloc(), bytes, 0x00, count)?;
         let regs = isa.regs();
-        assert_eq!(rt; regs.a, accumulator, "of {program:?}");
-        assert_eq!(rt; regs.w, status, "of {program:?}");
-        assert_eq!(rt; regs.scratch[0], first, "of {program:?}");
-        assert_eq!(rt; regs.p, next, "of {program:?}");
-        assert_eq!(rt; isa.phi(), phi, "of {program:?}");
-    }
-    Ok(())
-}
-
-// a branch to FFFE, where no chip is, and a reserved opcode there
-#[test]
-fn reserved_past_the_rom(rt: HostRuntime) -> Result<(), Fail> {
-    let mut isa = isa_of(rt.alloc(), &[0x90, 0xFD])?;
-    assert_eq!(rt; isa.peek(0x0001), 0xFD);
-    assert_eq!(rt; isa.peek(0xFFFE), 0xFF);
-    assert_eq!(rt;
-        step(&rt, &mut isa),
-        Ok(Done {
-            wrote: None,
-            vectored: false
-        })
-    );
-    for _ in 0..2 {
-        assert_eq!(rt; isa.regs().p, 0xFFFE);
-        assert_eq!(rt; isa.phi(), 28);
-        assert_eq!(rt; step(&rt, &mut isa), Err(Reserved { code: 0xFF }));
+        assert_eq!(rt; regs.a, accumulator, "of {bytes:?}");
+        assert_eq!(rt; regs.w, status, "of {bytes:?}");
+        assert_eq!(rt; regs.scratch[0], first, "of {bytes:?}");
+        assert_eq!(rt; regs.p, next, "of {bytes:?}");
+        assert_eq!(rt; isa.phi(), phi, "of {bytes:?}");
     }
     Ok(())
 }

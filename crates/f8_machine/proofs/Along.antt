@@ -18,7 +18,7 @@ use Rattle.console_spec.specs.CounterCopies.{Copy}
 use Rattle.console_spec.specs.BusAccesses.{Access}
 use Rattle.console_spec.specs.Services.{Fault, fault_by, access_verdict, first_fault}
 use Rattle.console_spec.specs.BusTrace.{TracedStep, Course, traced, with_step, stopped_by, course_by, course_of, is_access, who_of}
-use Rattle.console_spec.specs.RackRun.{Position, seats_of}
+use Rattle.console_spec.specs.Run.{Position, seats_of}
 use Rattle.console_spec.specs.CounterCopies.{fetched}
 use Rattle.console_spec.proofs.Walks.{moved_along}
 use Rattle.cpu3850.specs.Reaching.{is_placed_by, Places}

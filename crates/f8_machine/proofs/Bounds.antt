@@ -4,7 +4,7 @@ use Rattle.std.specs.Prelude.{if◌then◌else◌}
 use Rattle.std.specs.Int.{w8, cast_signed}
 use Rattle.f8_spec.specs.Words.{word, places_on, wrapped, displaced}
 use Rattle.f8_spec.specs.declared.instructions.Op.{Op}
-use Rattle.f8_spec.specs.Built.{is_built_row_on_rack}
+use Rattle.f8_spec.specs.Built.{is_built_row}
 use Rattle.f8_spec.specs.BusArbitration.{Seat}
 use Rattle.f8_spec.specs.declared.instructions.Row.{Row}
 use Rattle.f8_spec.specs.declared.instructions.Row.TheVariants.{StackToK, StackFromK, CallK, JumpQ, DataToPair, DataFromQ, DataFromH, ReadData, StoreData, Return, Immediate, PortIn, PortOut, Call, Jump, LoadData, Exchange, AddData, Branch, BranchIsar, ShortIn, ShortOut}
@@ -83,7 +83,7 @@ abbrev pub AreAt : Flow → List Access → Type 0
 AreAt c [] = Unit {0}
 AreAt c (a ∷ later) = (a.place true c < 65536) × AreAt c later
 
-before_small : (row : Row) (i : Inputs) (c : Flow) (later : List Access) → is_built_row_on_rack row ≡ true → AreAddresses c → AreAt c later → AreAt c (accesses_before_fetch row i ++ later)
+before_small : (row : Row) (i : Inputs) (c : Flow) (later : List Access) → is_built_row row ≡ true → AreAddresses c → AreAt c later → AreAt c (accesses_before_fetch row i ++ later)
 before_small StackToK i c later built s l = (s.p1, (s.p1, l))
 before_small DataToPair i c later built s l = (s.d0, (s.d0, l))
 before_small ReadData i c later built s l = (s.d0, l)
@@ -100,6 +100,6 @@ before_small ShortIn i c later built s l = cc
 before_small ShortOut i c later built s l = cc
 before_small row i c later built s l = l
 
-pub places_small : (row : Row) (i : Inputs) (c : Flow) → is_built_row_on_rack row ≡ true → GetsBytes i → AreAddresses c →
+pub places_small : (row : Row) (i : Inputs) (c : Flow) → is_built_row row ≡ true → GetsBytes i → AreAddresses c →
     AreAt c (accesses_before_fetch row i ++ last_access row i ∷ [])
 places_small row i c built b s = before_small row i c (last_access row i ∷ []) built s ((flow_small row i true c b s).p, tt)

@@ -11,7 +11,7 @@ use Rattle.f8_spec.specs.declared.instructions.Row.TheVariants.{Idle}
 use Rattle.console_spec.specs.Processor.{Flow, Registers, Inputs, is_taken, own_inputs}
 use Rattle.console_spec.specs.CounterCopies.{Copy, fetched, copy_after, copies_after}
 use Rattle.console_spec.specs.FlatMachine.{FlatState, gets, gets_all}
-use Rattle.console_spec.specs.RackRun.{Position, seats_of}
+use Rattle.console_spec.specs.Run.{Position, seats_of}
 use Rattle.console_spec.proofs.InputLaws.{with_opcode, flow_after-with_opcode}
 use Rattle.cpu3850.specs.declared.steps.Step.{Step}
 use Rattle.cpu3850.specs.CpuSteps.{CpuState, AreInRange, bus_step, planned_as, planned}

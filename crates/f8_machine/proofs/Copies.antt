@@ -10,7 +10,7 @@ use Rattle.console_spec.specs.Processor.{Flow, Inputs, flow_after}
 use Rattle.console_spec.specs.CounterCopies.{Copy, copies_after}
 use Rattle.console_spec.specs.BusAccesses.{Access}
 use Rattle.console_spec.specs.Services.{placed_copy, access_verdict}
-use Rattle.console_spec.specs.RackRun.{seats_of}
+use Rattle.console_spec.specs.Run.{seats_of}
 use Rattle.console_spec.specs.CounterCopies.{fetched}
 use Rattle.f8_spec.specs.ChipState.{IsFilled}
 use Rattle.f8_machine.specs.ChipCopies.{IsCopy, AreCopies}

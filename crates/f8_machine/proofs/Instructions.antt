@@ -1,7 +1,7 @@
 -- An instruction of a machine, from the position that it stands for to the next one.
 use Rattle.std.proofs.Common.{◌≡◌, ℕ, ◌+◌, ◌%◌, ◌<◌, ◌≤◌, Bool, true, false, List, [], map, Option, Some, None, refl, sym, ap, ◌∙◌, subst, arith}
 use Rattle.std.specs.Prelude.{IsSome, sum_by}
-use Rattle.f8_spec.specs.Built.{is_built_row_on_rack, is_built_op_on_rack, is_built_as_on_rack, is_built_on_rack}
+use Rattle.f8_spec.specs.Built.{is_built_row, is_built_op, is_built_as, is_built}
 use Rattle.f8_spec.specs.BusArbitration.{Seat}
 use Rattle.f8_spec.specs.ChipState.{ChipState}
 use Rattle.f8_spec.specs.Instructions.{decoded, row_of, row_clocks}
@@ -15,7 +15,7 @@ use Rattle.console_spec.specs.CounterCopies.{fetched}
 use Rattle.console_spec.specs.FlatMachine.{FlatState, memory_after, gets, gets_all}
 use Rattle.console_spec.specs.Services.{Fault}
 use Rattle.console_spec.specs.BusTrace.{Course}
-use Rattle.console_spec.specs.RackRun.{Position, Reserved, Unbuilt, Turn, Stops, goes_unless, decided, next, opcode_at, seats_of, instruction_fault, position_after, course_as, turn_course}
+use Rattle.console_spec.specs.Run.{Position, Reserved, Unbuilt, Turn, Stops, goes_unless, decided, next, opcode_at, seats_of, instruction_fault, position_after, course_as, turn_course}
 use Rattle.console_spec.proofs.InputLaws.{result_of-with_opcode, flow_after-with_opcode}
 use Rattle.cpu3850.specs.declared.steps.Step.{Step}
 use Rattle.cpu3850.specs.CpuSteps.{CpuState, AreInRange, bus_step, planned_as, planned}
@@ -40,40 +40,40 @@ pub some_of : (found : Option Op) → IsSome found → (op : Op) × (found ≡ S
 some_of None some = cc
 some_of (Some op) some = (op, refl)
 
-built_row : (op : Op) → is_built_op_on_rack op ≡ true → is_built_row_on_rack (row_of op) ≡ true
+built_row : (op : Op) → is_built_op op ≡ true → is_built_row (row_of op) ≡ true
 built_row (Ins n) built = cc
 built_row (Outs n) built = cc
 built_row op built = built
 
 -- the row of an opcode that is built
-pub built_of : (code : ℕ) (op : Op) → is_built_on_rack code ≡ true → decoded code ≡ Some op → is_built_row_on_rack (row_of op) ≡ true
-built_of code op built held = built_row op (ap is_built_as_on_rack (sym held) ∙ built)
+pub built_of : (code : ℕ) (op : Op) → is_built code ≡ true → decoded code ≡ Some op → is_built_row (row_of op) ≡ true
+built_of code op built held = built_row op (ap is_built_as (sym held) ∙ built)
 
 -- the next turn by the opcode at the next address
-turn_with : (x : Position) (code : ℕ) (built : Bool) (found : Option Op) → code ≡ opcode_at x → is_built_on_rack code ≡ built → decoded code ≡ found →
+turn_with : (x : Position) (code : ℕ) (built : Bool) (found : Option Op) → code ≡ opcode_at x → is_built code ≡ built → decoded code ≡ found →
     next x ≡ decided (λ op. goes_unless (instruction_fault op x) (position_after op x)) x.flat.state.flow.p code built found
-turn_with x code built found opcode is_built held =
-    ap (λ (k : ℕ). decided (λ op. goes_unless (instruction_fault op x) (position_after op x)) x.flat.state.flow.p k (is_built_on_rack k) (decoded k)) (sym opcode)
-    ∙ ap (λ (b : Bool). decided (λ op. goes_unless (instruction_fault op x) (position_after op x)) x.flat.state.flow.p code b (decoded code)) is_built
+turn_with x code built found opcode told held =
+    ap (λ (k : ℕ). decided (λ op. goes_unless (instruction_fault op x) (position_after op x)) x.flat.state.flow.p k (is_built k) (decoded k)) (sym opcode)
+    ∙ ap (λ (b : Bool). decided (λ op. goes_unless (instruction_fault op x) (position_after op x)) x.flat.state.flow.p code b (decoded code)) told
     ∙ ap (λ (o : Option Op). decided (λ op. goes_unless (instruction_fault op x) (position_after op x)) x.flat.state.flow.p code built o) held
 
-course_with : (x : Position) (code : ℕ) (built : Bool) (found : Option Op) → code ≡ opcode_at x → is_built_on_rack code ≡ built → decoded code ≡ found → turn_course x ≡ course_as x built found
-course_with x code built found opcode is_built held =
-    ap (λ (k : ℕ). course_as x (is_built_on_rack k) (decoded k)) (sym opcode)
-    ∙ ap (λ (b : Bool). course_as x b (decoded code)) is_built
+course_with : (x : Position) (code : ℕ) (built : Bool) (found : Option Op) → code ≡ opcode_at x → is_built code ≡ built → decoded code ≡ found → turn_course x ≡ course_as x built found
+course_with x code built found opcode told held =
+    ap (λ (k : ℕ). course_as x (is_built k) (decoded k)) (sym opcode)
+    ∙ ap (λ (b : Bool). course_as x b (decoded code)) told
     ∙ ap (λ (o : Option Op). course_as x built o) held
 
 unbuilt_by : (carried_out : Op → Turn) (at code : ℕ) (found : Option Op) → decided carried_out at code false found ≡ Stops (Unbuilt at code)
 unbuilt_by carried_out at code None = refl
 unbuilt_by carried_out at code (Some op) = refl
 
-pub turn_unbuilt : (x : Position) (p code : ℕ) → p ≡ x.flat.state.flow.p → code ≡ opcode_at x → is_built_on_rack code ≡ false → next x ≡ Stops (Unbuilt p code)
+pub turn_unbuilt : (x : Position) (p code : ℕ) → p ≡ x.flat.state.flow.p → code ≡ opcode_at x → is_built code ≡ false → next x ≡ Stops (Unbuilt p code)
 turn_unbuilt x p code place opcode unbuilt =
     turn_with x code false (decoded code) opcode unbuilt refl
     ∙ unbuilt_by (λ op. goes_unless (instruction_fault op x) (position_after op x)) x.flat.state.flow.p code (decoded code)
     ∙ ap (λ (n : ℕ). Stops (Unbuilt n code)) (sym place)
 
-pub turn_reserved : (x : Position) (p code : ℕ) → p ≡ x.flat.state.flow.p → code ≡ opcode_at x → is_built_on_rack code ≡ true → decoded code ≡ None → next x ≡ Stops (Reserved p code)
+pub turn_reserved : (x : Position) (p code : ℕ) → p ≡ x.flat.state.flow.p → code ≡ opcode_at x → is_built code ≡ true → decoded code ≡ None → next x ≡ Stops (Reserved p code)
 turn_reserved x p code place opcode built none = turn_with x code true None opcode built none ∙ ap (λ (n : ℕ). Stops (Reserved n code)) (sym place)
 
 -- ---- clocks, counters and memory
@@ -124,7 +124,7 @@ stored_memory row seats i c memory small is = is
 
 -- ---- an instruction that is done
 
-pub holds_of : (m : MachineState) (states : List ChipState) (op : Op) (x : Position) → decoded m.cpu.opcode ≡ Some op → is_built_on_rack m.cpu.opcode ≡ true → AreInRange m.cpu.registers →
+pub holds_of : (m : MachineState) (states : List ChipState) (op : Op) (x : Position) → decoded m.cpu.opcode ≡ Some op → is_built m.cpu.opcode ≡ true → AreInRange m.cpu.registers →
     Represents m states x → Holds m.cpu m.probe states op x
 holds_of m states op x held built range r = record {
   instruction = held;
@@ -138,7 +138,7 @@ holds_of m states op x held built range r = record {
   addresses = r.stands.addresses;
 }
 
-module _ (m : MachineState) (states news : List ChipState) (op : Op) (x : Position) (held : decoded m.cpu.opcode ≡ Some op) (built : is_built_on_rack m.cpu.opcode ≡ true) (r : Represents m states x) where
+module _ (m : MachineState) (states news : List ChipState) (op : Op) (x : Position) (held : decoded m.cpu.opcode ≡ Some op) (built : is_built m.cpu.opcode ≡ true) (r : Represents m states x) where
   pub done_of : (cpu : CpuState) (probe : ProbeState) (flow : Flow) (clocks : ℕ) (steps : List Heard) → AreInRange m.cpu.registers →
       IsCarriedOut m.cpu cpu probe news steps op x → flow ≡ unfetched probe.count → clocks ≡ row_clocks (row_of op) (is_taken op m.cpu.registers) →
       IsDone (record m { probe = probe; cpu = cpu; flow = flow; phi = m.phi + clocks }) news (next x) (turn_course x) steps
@@ -195,7 +195,7 @@ module _ (m : MachineState) (states news : List ChipState) (op : Op) (x : Positi
 
 -- ---- the same of a machine whose state is read before it is changed
 
-pub done_from : (m k : MachineState) → k ≡ m → (states news : List ChipState) (op : Op) (x : Position) → decoded k.cpu.opcode ≡ Some op → is_built_on_rack k.cpu.opcode ≡ true → Represents m states x →
+pub done_from : (m k : MachineState) → k ≡ m → (states news : List ChipState) (op : Op) (x : Position) → decoded k.cpu.opcode ≡ Some op → is_built k.cpu.opcode ≡ true → Represents m states x →
     (cpu : CpuState) (probe : ProbeState) (flow : Flow) (clocks : ℕ) (steps : List Heard) → AreInRange k.cpu.registers →
     (Holds k.cpu k.probe states op x → IsCarriedOut k.cpu cpu probe news steps op x) → flow ≡ unfetched probe.count → clocks ≡ row_clocks (row_of op) (is_taken op k.cpu.registers) →
     IsDone (record k { probe = probe; cpu = cpu; flow = flow; phi = k.phi + clocks }) news (next x) (turn_course x) steps
@@ -207,16 +207,16 @@ done_from m k same states news op x held built r cpu probe flow clocks steps ran
 restored_same : (start cpu now : CpuState) (kept : KeptRegisters) → kept ≡ kept_of start → now ≡ restored kept cpu → IsRestorable start cpu → now ≡ start
 restored_same start cpu now kept kept_is now_is restorable = now_is ∙ ap (λ (k : KeptRegisters). restored k cpu) kept_is ∙ restorable
 
-pub faulted_from : (m k : MachineState) → k ≡ m → (states : List ChipState) (op : Op) (x : Position) → decoded k.cpu.opcode ≡ Some op → is_built_on_rack k.cpu.opcode ≡ true → Represents m states x →
-    (cpu now : CpuState) (probe : ProbeState) (kept : KeptRegisters) (fault copied : BusFault) (long : Bool) (steps : List Heard) → AreInRange k.cpu.registers →
-    (Holds k.cpu k.probe states op x → IsCutShort steps fault long op x) → kept ≡ kept_of k.cpu → now ≡ restored kept cpu → IsRestorable k.cpu cpu → copied ≡ fault →
-    IsFaulted m (record k { probe = probe; cpu = now; mode = Stopped (FaultHalt copied long) }) (next x) (turn_course x) fault long steps
-faulted_from m k same states op x held built r cpu now probe kept fault copied long steps range cut kept_is now_is restorable copy =
+pub faulted_from : (m k : MachineState) → k ≡ m → (states : List ChipState) (op : Op) (x : Position) → decoded k.cpu.opcode ≡ Some op → is_built k.cpu.opcode ≡ true → Represents m states x →
+    (cpu now : CpuState) (probe : ProbeState) (kept : KeptRegisters) (fault : BusFault) (halt : Halt) (long : Bool) (steps : List Heard) → AreInRange k.cpu.registers →
+    (Holds k.cpu k.probe states op x → IsCutShort steps fault long op x) → kept ≡ kept_of k.cpu → now ≡ restored kept cpu → IsRestorable k.cpu cpu → halt ≡ FaultHalt fault long →
+    IsFaulted m (record k { probe = probe; cpu = now; mode = Stopped halt }) (next x) (turn_course x) fault long steps
+faulted_from m k same states op x held built r cpu now probe kept fault halt long steps range cut kept_is now_is restorable stopped =
     let there : Represents k states x = subst (λ (y : MachineState). Represents y states x) (sym same) r in
-    let after : MachineState = record k { probe = probe; cpu = now; mode = Stopped (FaultHalt copied long) } in
+    let after : MachineState = record k { probe = probe; cpu = now; mode = Stopped halt } in
     let put_back : after ≡ record k { probe = probe; mode = Stopped (FaultHalt fault long) } =
-    ap (λ (c : CpuState). record k { probe = probe; cpu = c; mode = Stopped (FaultHalt copied long) }) (restored_same k.cpu cpu now kept kept_is now_is restorable)
-    ∙ ap (λ (f : BusFault). record k { probe = probe; mode = Stopped (FaultHalt f long) }) copy in
+    ap (λ (c : CpuState). record k { probe = probe; cpu = c; mode = Stopped halt }) (restored_same k.cpu cpu now kept kept_is now_is restorable)
+    ∙ ap (λ (h : Halt). record k { probe = probe; mode = Stopped h }) stopped in
     subst (λ (y : MachineState). IsFaulted y after (next x) (turn_course x) fault long steps) same
     (faulted_of k states states op x held built there after fault long steps (cut (holds_of k states op x held built range there)) put_back)
 

@@ -9,7 +9,7 @@ use Rattle.f8_spec.specs.ChipState.{ChipView, ChipState, IsFilled, IsWhole, has_
 use Rattle.f8_spec.specs.declared.chips.ChipKind.{ChipKind}
 use Rattle.f8_spec.specs.declared.chips.ChipKind.TheVariants.{Psu, Smi}
 use Rattle.console_spec.specs.CounterCopies.{reset_copy, power_start, unreset}
-use Rattle.console_spec.specs.RackRun.{power_position}
+use Rattle.console_spec.specs.Run.{power_position}
 use Rattle.data_bus.specs.Racks.{views}
 use Rattle.f8_machine.specs.ChipCopies.{AreCopies}
 use Rattle.f8_machine.specs.FlatViews.{HoldsFlat}

@@ -10,7 +10,7 @@ use Rattle.f8_spec.specs.declared.instructions.Row.{Row}
 use Rattle.f8_spec.specs.declared.instructions.Row.TheVariants.{Plain, PlainLong, Idle, StackToK, StackFromK, CallK, JumpQ, DataToPair, DataFromQ, DataFromH, ReadData, StoreData, Return, Immediate, PortIn, PortOut, Call, Jump, LoadData, Exchange, AddData, Branch, BranchIsar, ShortIn, ShortOut}
 use Rattle.console_spec.specs.Processor.{Inputs, Registers, byte_of, is_taken}
 use Rattle.console_spec.specs.BusTrace.{TracedStep, traced}
-use Rattle.console_spec.specs.RackRun.{Position}
+use Rattle.console_spec.specs.Run.{Position}
 use Rattle.cpu3850.specs.declared.steps.Step.{Step}
 use Rattle.cpu3850.specs.CpuSteps.{CpuState, bus_step, planned_as, planned, driven, taken}
 use Rattle.cpu3850.specs.Reaching.{Reaches, Places, is_placed_by}

@@ -6,7 +6,7 @@ use Rattle.console_spec.specs.Processor.{Flow}
 use Rattle.console_spec.specs.CounterCopies.{Copy, fetched}
 use Rattle.console_spec.specs.Services.{Fault}
 use Rattle.console_spec.specs.BusTrace.{Course}
-use Rattle.console_spec.specs.RackRun.{Position, goes_unless, reset_fault, reset_course, position_after_reset}
+use Rattle.console_spec.specs.Run.{Position, goes_unless, reset_fault, reset_course, position_after_reset}
 use Rattle.cpu3850.specs.CpuSteps.{CpuState}
 use Rattle.probe.specs.ProbeState.{ProbeState}
 use Rattle.data_bus.specs.Racks.{views}
@@ -19,6 +19,7 @@ use Rattle.f8_machine.specs.Resetting.{IsAtPower, IsFetched, IsNotFetched}
 use Rattle.f8_machine.specs.Rounds.{heard_of}
 use Rattle.f8_machine.specs.declared.heard.Heard.{Heard}
 use Rattle.f8_machine.specs.declared.mode.Mode.TheVariants.{Running, Stopped}
+use Rattle.f8_machine.specs.declared.mode.Halt.{Halt}
 use Rattle.f8_machine.specs.declared.mode.Halt.TheVariants.{Fault as FaultHalt}
 use Rattle.f8_machine.proofs.Instructions.{unfetched-fetched}
 
@@ -73,15 +74,15 @@ reset_done m k same states news x opcode probe cpu flow steps p is holds moved =
     reset_done_of k states news x opcode probe cpu flow steps there (is (at_power k states x there)) holds moved
 
 -- and reset that is not
-pub reset_cut : (m k : MachineState) → k ≡ m → (states : List ChipState) (x : Position) (probe : ProbeState) (fault copied : BusFault) (long : Bool) (steps : List Heard) → IsPowered m states x →
-    (IsAtPower k.probe states x → IsNotFetched steps fault long x) → copied ≡ fault →
-    IsFaulted m (record k { probe = probe; mode = Stopped (FaultHalt copied long) }) (goes_unless (reset_fault x) (position_after_reset x)) (reset_course x) fault long steps
-reset_cut m k same states x probe fault copied long steps p cut copy =
+pub reset_cut : (m k : MachineState) → k ≡ m → (states : List ChipState) (x : Position) (probe : ProbeState) (fault : BusFault) (halt : Halt) (long : Bool) (steps : List Heard) → IsPowered m states x →
+    (IsAtPower k.probe states x → IsNotFetched steps fault long x) → halt ≡ FaultHalt fault long →
+    IsFaulted m (record k { probe = probe; mode = Stopped halt }) (goes_unless (reset_fault x) (position_after_reset x)) (reset_course x) fault long steps
+reset_cut m k same states x probe fault halt long steps p cut stopped =
     let there : IsPowered k states x = subst (λ (y : MachineState). IsPowered y states x) (sym same) p in
     let is = cut (at_power k states x there) in
-    subst (λ (y : MachineState). IsFaulted y (record k { probe = probe; mode = Stopped (FaultHalt copied long) }) (goes_unless (reset_fault x) (position_after_reset x)) (reset_course x) fault long steps) same (record {
+    subst (λ (y : MachineState). IsFaulted y (record k { probe = probe; mode = Stopped halt }) (goes_unless (reset_fault x) (position_after_reset x)) (reset_course x) fault long steps) same (record {
       turns = ap (λ (f : Option Fault). goes_unless f (position_after_reset x)) is.unserved;
       trace = is.trace ∙ ap (λ (c : Course). record { steps = c.steps; fault = Some (fault_of fault, long) }) (sym is.trace);
       recorded = is.recorded ∙ ap (λ (c : Course). map heard_of c.steps) (sym is.trace);
-      kept = ap (λ (f : BusFault). record k { probe = probe; mode = Stopped (FaultHalt f long) }) copy;
+      kept = ap (λ (h : Halt). record k { probe = probe; mode = Stopped h }) stopped;
     })

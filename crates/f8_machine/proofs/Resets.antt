@@ -6,7 +6,7 @@ use Rattle.f8_spec.specs.ChipState.{ChipState}
 use Rattle.f8_spec.specs.MicroSteps.{Step, Opcode, short_step, reset_steps}
 use Rattle.console_spec.specs.CounterCopies.{fetched}
 use Rattle.console_spec.specs.Processor.{byte_of}
-use Rattle.console_spec.specs.RackRun.{Position, reset_gets}
+use Rattle.console_spec.specs.Run.{Position, reset_gets}
 use Rattle.cpu3850.specs.CpuSteps.{bus_step}
 use Rattle.cpu3850.specs.Reaching.{is_placed_by, Places}
 use Rattle.probe.specs.ProbeState.{ProbeState}

@@ -1,7 +1,7 @@
 -- How an instruction and reset begin and end on the bus.
 use Rattle.std.proofs.Common.{◌≡◌, Bool, true, false, List, [], ◌∷◌, ◌++◌, append-nil, length, map, refl, ap, ◌∙◌, sym, subst, arith}
 use Rattle.std.specs.Prelude.{None}
-use Rattle.f8_spec.specs.Built.{is_built_row_on_rack}
+use Rattle.f8_spec.specs.Built.{is_built_row}
 use Rattle.f8_spec.specs.BusCodes.{Count}
 use Rattle.f8_spec.specs.ChipState.{ChipView}
 use Rattle.f8_spec.specs.Instructions.{row_of}
@@ -14,7 +14,7 @@ use Rattle.console_spec.specs.FlatMachine.{gets, gets_all, flat_after}
 use Rattle.console_spec.specs.BusAccesses.{Access, accesses_before_fetch, last_access}
 use Rattle.console_spec.specs.Services.{first_fault}
 use Rattle.console_spec.specs.BusTrace.{TracedStep}
-use Rattle.console_spec.specs.RackRun.{Position, seats_of, instruction_fault, instruction_course, reset_fault, reset_access, reset_gets, reset_course}
+use Rattle.console_spec.specs.Run.{Position, seats_of, instruction_fault, instruction_course, reset_fault, reset_access, reset_gets, reset_course}
 use Rattle.console_spec.proofs.InputLaws.{accesses-with_opcode}
 use Rattle.console_spec.specs.CounterCopies.{fetched, unreset}
 use Rattle.console_spec.proofs.Walks.{follows}
@@ -37,7 +37,7 @@ quiet_branch_isar : (taken : Bool) → Quiet (steps_of BranchIsar taken)
 quiet_branch_isar true = ((λ k. refl), ((λ k. refl), tt))
 quiet_branch_isar false = ((λ k. refl), ((λ k. refl), tt))
 
-quiet_of : (row : Row) (taken : Bool) → is_built_row_on_rack row ≡ true → Quiet (steps_of row taken)
+quiet_of : (row : Row) (taken : Bool) → is_built_row row ≡ true → Quiet (steps_of row taken)
 quiet_of StackToK taken built = ((λ k. refl), ((λ k. refl), ((λ k. refl), tt)))
 quiet_of StackFromK taken built = ((λ k. refl), ((λ k. refl), ((λ k. refl), tt)))
 quiet_of CallK taken built = ((λ k. refl), ((λ k. refl), ((λ k. refl), tt)))
@@ -72,7 +72,7 @@ instruction_aim op x = record {
   flow = flow_after (row_of op) (gets_all op (seats_of x.copies) x.flat);
 }
 
-pub along-starts : (op : Op) (x : Position) (probe : ProbeState) (vs : List ChipView) → is_built_row_on_rack (row_of op) ≡ true →
+pub along-starts : (op : Op) (x : Position) (probe : ProbeState) (vs : List ChipView) → is_built_row (row_of op) ≡ true →
     GetsBytes (gets_all op (seats_of x.copies) x.flat) → AreAddresses x.flat.state.flow →
     probe.count ≡ fetched x.flat.state.flow → AreCopies (λ second c. fetched c) probe.last x.copies vs →
     HoldsFlat x.flat.memory vs → length x.flat.memory ≡ 65536 →

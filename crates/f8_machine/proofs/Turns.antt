@@ -11,7 +11,7 @@ use Rattle.console_spec.specs.FlatMemory.{stored_at}
 use Rattle.console_spec.specs.BusAccesses.{Access}
 use Rattle.console_spec.specs.Services.{Fault, fault_by, access_verdict, or_later, first_fault}
 use Rattle.console_spec.specs.BusTrace.{TracedStep, traced, with_step, course_by, course_of, is_access}
-use Rattle.console_spec.specs.RackRun.{Position, seats_of}
+use Rattle.console_spec.specs.Run.{Position, seats_of}
 use Rattle.cpu3850.specs.Reaching.{is_placed_by, Places}
 use Rattle.probe.specs.ProbeState.{ProbeState, probe_after}
 use Rattle.f8_machine.proofs.Places.{places_along, with_place, named_place}

@@ -2,7 +2,7 @@
 use Rattle.std.proofs.Common.{◌≡◌, ℕ, ◌/◌, ◌%◌, Bool, true, false, List, [], ◌∷◌, ◌++◌, refl, ap, ◌∙◌, sym}
 use Rattle.std.specs.Prelude.{◌==◌, if◌then◌else◌}
 use Rattle.f8_spec.specs.Words.{places_on}
-use Rattle.f8_spec.specs.Built.{is_built_row_on_rack}
+use Rattle.f8_spec.specs.Built.{is_built_row}
 use Rattle.f8_spec.specs.BusCodes.{Count, driver_of, moved_by}
 use Rattle.f8_spec.specs.BusArbitration.{Seat, place_in}
 use Rattle.f8_spec.specs.ChipState.{counter_byte}
@@ -110,7 +110,7 @@ branch_isar_values : (seats : List Seat) (i : Inputs) (taken : Bool) (c : Flow) 
 branch_isar_values seats i true c last memory e f = rw e (f.operand, tt)
 branch_isar_values seats i false c last memory e f = rw e (f.operand, tt)
 
-values_before : (seats : List Seat) (row : Row) (i : Inputs) (c : Flow) (last : ℕ) (memory : List ℕ) → is_built_row_on_rack row ≡ true →
+values_before : (seats : List Seat) (row : Row) (i : Inputs) (c : Flow) (last : ℕ) (memory : List ℕ) → is_built_row row ≡ true →
     FromFlat row seats i memory c → Values seats i (steps_before_fetch row i.taken) (fetched c) last memory
 values_before seats StackToK i c last memory built f = (f.stack_high, (f.stack_low, tt))
 values_before seats StackFromK i c last memory built f = (tt, (tt, tt))
@@ -140,7 +140,7 @@ values_before seats row i c last memory built f = tt
 
 -- all steps of an instruction
 pub values_of : (seats : List Seat) (row : Row) (i : Inputs) → HasBytes i → (c : Flow) (last : ℕ) (memory : List ℕ) →
-    is_built_row_on_rack row ≡ true → FromFlat row seats i memory c → Values seats i (steps_of row i.taken) (fetched c) last memory
+    is_built_row row ≡ true → FromFlat row seats i memory c → Values seats i (steps_of row i.taken) (fetched c) last memory
 values_of seats row i b c last memory built f =
     Values-append seats i (steps_before_fetch row i.taken) (last_fetch row ∷ []) (fetched c) last memory
     (values_before seats row i c last memory built f)

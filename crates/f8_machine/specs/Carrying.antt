@@ -1,13 +1,13 @@
 -- The bus steps of an instruction on a machine and its rack.
 use Rattle.std.specs.Prelude.{◌≡◌, true, Bool, List, map, Some, None}
-use Rattle.f8_spec.specs.Built.{is_built_row_on_rack}
+use Rattle.f8_spec.specs.Built.{is_built_row}
 use Rattle.f8_spec.specs.ChipState.{ChipState}
 use Rattle.f8_spec.specs.Instructions.{decoded, row_of}
 use Rattle.f8_spec.specs.declared.instructions.Op.{Op}
 use Rattle.console_spec.specs.CounterCopies.{fetched, copies_after}
 use Rattle.console_spec.specs.BusTrace.{TracedStep}
 use Rattle.console_spec.specs.FlatMachine.{flat_after, gets, gets_all}
-use Rattle.console_spec.specs.RackRun.{Position, seats_of, instruction_fault, instruction_course}
+use Rattle.console_spec.specs.Run.{Position, seats_of, instruction_fault, instruction_course}
 use Rattle.cpu3850.specs.CpuSteps.{CpuState, AreInRange}
 use Rattle.cpu3850.specs.Reaching.{done}
 use Rattle.probe.specs.ProbeState.{ProbeState}
@@ -23,7 +23,7 @@ use Rattle.f8_machine.specs.declared.heard.Heard.{Heard}
 -- the processor holds an instruction that is built, and all stand at a position
 pub record Holds (cpu : CpuState) (probe : ProbeState) (states : List ChipState) (op : Op) (x : Position) : Type 0 where
   pub instruction : decoded cpu.opcode ≡ Some op
-  pub built : is_built_row_on_rack (row_of op) ≡ true
+  pub built : is_built_row (row_of op) ≡ true
   pub registers : cpu.registers ≡ x.flat.state.registers
   pub range : AreInRange cpu.registers
   pub reference : probe.count ≡ fetched x.flat.state.flow

@@ -6,7 +6,7 @@ use Rattle.console_spec.specs.AddressSpace.{byte_at}
 use Rattle.console_spec.specs.Processor.{Flow}
 use Rattle.console_spec.specs.CounterCopies.{Copy, fetched, unreset}
 use Rattle.console_spec.specs.BusTrace.{Course}
-use Rattle.console_spec.specs.RackRun.{Position, Stop, Unserved as UnservedStop, Reserved as ReservedStop, Unbuilt as UnbuiltStop, Turn, Goes, Stops, goes_unless, next, opcode_at, turn_course, reset_fault, reset_course, position_after_reset}
+use Rattle.console_spec.specs.Run.{Position, Stop, Unserved as UnservedStop, Reserved as ReservedStop, Unbuilt as UnbuiltStop, Turn, Goes, Stops, goes_unless, next, opcode_at, turn_course, reset_fault, reset_course, position_after_reset}
 use Rattle.data_bus.specs.Racks.{views}
 use Rattle.data_bus.specs.declared.fault.BusFault.{BusFault}
 use Rattle.f8_machine.specs.FlatViews.{HoldsFlat}

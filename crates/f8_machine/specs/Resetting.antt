@@ -4,7 +4,7 @@ use Rattle.f8_spec.specs.ChipState.{ChipState}
 use Rattle.console_spec.specs.AddressSpace.{byte_at}
 use Rattle.console_spec.specs.CounterCopies.{fetched, unreset}
 use Rattle.console_spec.specs.BusTrace.{TracedStep}
-use Rattle.console_spec.specs.RackRun.{Position, reset_fault, reset_course}
+use Rattle.console_spec.specs.Run.{Position, reset_fault, reset_course}
 use Rattle.probe.specs.ProbeState.{ProbeState}
 use Rattle.data_bus.specs.Racks.{views}
 use Rattle.data_bus.specs.declared.fault.BusFault.{BusFault}

@@ -1,6 +1,6 @@
 ghost use Rattle.std.specs.Prelude.{◌≡◌, ◌≤◌, [], length, map, IfOk, IfErr, OnOk, OnErr};
 ghost use Rattle.f8_spec.specs.declared.instructions.Op.{Op};
-ghost use Rattle.console_spec.specs.RackRun.{Position};
+ghost use Rattle.console_spec.specs.Run.{Position};
 ghost use Rattle.cpu3850.specs.CpuSteps.{planned};
 ghost use Rattle.cpu3850.specs.Keeping.{IsRestorable};
 ghost use Rattle.f8_machine.specs.Carrying.{Holds, IsCarriedOut, IsCutShort};
@@ -8,6 +8,7 @@ ghost use Rattle.f8_machine.specs.MachineState.{probe_after_steps};
 ghost use Rattle.f8_machine.specs.Rounds.{RackRuns};
 
 use super::bus_step::bus_step;
+use super::mode::Halt;
 use super::record::Record;
 use chip_face::Chip;
 use cpu3850::{Cpu, Step};
@@ -19,6 +20,18 @@ use probe::Probe;
 pub(crate) struct Unserved {
     pub(crate) fault: BusFault,
     pub(crate) long: bool,
+}
+
+impl Unserved {
+    /// What it stops a machine with.
+    pub(crate) fn halt(&self) -> Halt
+        ensures { result ≡ Halt.Fault self.now.fault self.now.long }
+    {
+        Halt::Fault {
+            fault: self.fault.copy(),
+            long: self.long,
+        }
+    }
 }
 
 /// The bus steps of the instruction that the processor holds, each told in `steps`. Where one isn't served the processor differs from

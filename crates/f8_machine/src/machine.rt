@@ -8,9 +8,9 @@ use super::record::Record;
 use super::reset::{RESET_PHI, fetch_first};
 use chip_face::{Chip, Counters};
 use console_spec::Regs;
-use cpu3850::Cpu;
+use cpu3850::{Cpu, Steps};
 use data_bus::Rack;
-use f8_ops::{Reserved, is_built_on_rack};
+use f8_ops::{Reserved, is_built};
 use probe::Probe;
 use std::marker::Model;
 
@@ -43,9 +43,12 @@ impl Model for Machine {
 }
 
 impl Machine {
-    ghost use Rattle.std.specs.Prelude.{◌≡◌, ◌≤◌, ◌<◌, ◌+◌, ◌^◌, length, map};
+    ghost use Rattle.std.specs.Prelude.{◌≡◌, ◌≤◌, ◌<◌, ◌+◌, ◌^◌, true, length, map, IsSome};
+    ghost use Rattle.f8_spec.specs.Built.{is_built};
+    ghost use Rattle.f8_spec.specs.Instructions.{decoded};
     ghost use Rattle.console_spec.specs.Processor.{shown};
-    ghost use Rattle.console_spec.specs.RackRun.{Position, power_position};
+    ghost use Rattle.console_spec.specs.Run.{Position, power_position};
+    ghost use Rattle.cpu3850.specs.CpuSteps.{planned};
     ghost use Rattle.probe.specs.ProbeState.{probe_counters};
     ghost use Rattle.data_bus.specs.Racks.{RackStays, views};
     ghost use Rattle.f8_machine.specs.MachineState.{IsReset, halted, steps_in, powered_machine, probe_after_steps};
@@ -95,11 +98,9 @@ impl Machine {
                 self.mode = Mode::Running;
                 Outcome::Done { wrote: None, steps }
             }
-            Err(Unserved { fault, long }) => {
-                self.mode = Mode::Stopped(Halt::Fault {
-                    fault: fault.copy(),
-                    long,
-                });
+            Err(unserved) => {
+                self.mode = Mode::Stopped(unserved.halt());
+                let Unserved { fault, long } = unserved;
                 Outcome::Fault { fault, long, steps }
             }
         }
@@ -140,7 +141,7 @@ impl Machine {
         ensures chips { length rack.new.items ≡ length rack.old.items }
     {
         let code = self.cpu.opcode();
-        if !is_built_on_rack(code) {
+        if !is_built(code) {
             self.mode = Mode::Stopped(Halt::Unbuilt {
                 at: self.flow.p,
                 code,
@@ -150,19 +151,36 @@ impl Machine {
                 code,
             };
         }
-        let plan = match self.cpu.plan() {
-            Ok(plan) => plan,
+        match self.cpu.plan() {
+            Ok(plan) => self.carry_plan(rack, plan),
             Err(Reserved { code }) => {
                 self.mode = Mode::Stopped(Halt::Reserved {
                     at: self.flow.p,
                     code,
                 });
-                return Outcome::Reserved {
+                Outcome::Reserved {
                     at: self.flow.p,
                     code,
-                };
+                }
             }
-        };
+        }
+    }
+
+    /// The steps of the instruction that is held, which is built. Where one isn't served, what they changed is put back.
+    fn carry_plan(&mut self, rack: &mut Rack, plan: Steps) -> Outcome
+        requires few { length rack.old.items ≤ 16 }
+        requires plan { plan ≡ planned self.old.cpu }
+        requires instruction { IsSome (decoded self.old.cpu.opcode) }
+        requires built { is_built self.old.cpu.opcode ≡ true }
+        requires mode { IsReset self.old.mode }
+        requires phi { self.old.phi < 2 ^ 62 }
+        ensures refines { (x : Position) → Represents self.old (map state rack.old.items) x → Refines result self.old self.new (map state rack.new.items) x }
+        ensures ran { RackRuns (steps_in result) (map state rack.old.items) (map state rack.new.items) }
+        ensures reference { self.new.probe ≡ probe_after_steps (steps_in result) self.old.probe }
+        ensures clocks { self.new.phi ≤ self.old.phi + 26 }
+        ensures mode { IsReset self.new.mode }
+        ensures chips { length rack.new.items ≡ length rack.old.items }
+    {
         let kept = self.cpu.kept();
         let mut steps = Record::new();
         let carried = carry_out(
@@ -178,12 +196,10 @@ impl Machine {
                 self.phi += u64::from(plan.clocks());
                 Outcome::Done { wrote: None, steps }
             }
-            Err(Unserved { fault, long }) => {
+            Err(unserved) => {
                 self.cpu.restore(kept);
-                self.mode = Mode::Stopped(Halt::Fault {
-                    fault: fault.copy(),
-                    long,
-                });
+                self.mode = Mode::Stopped(unserved.halt());
+                let Unserved { fault, long } = unserved;
                 Outcome::Fault { fault, long, steps }
             }
         }

@@ -1,5 +1,5 @@
 ghost use Rattle.std.specs.Prelude.{◌≡◌, ◌<◌, ◌≤◌, ◌+◌, [], length, map, IfOk, IfErr, OnOk};
-ghost use Rattle.console_spec.specs.RackRun.{Position};
+ghost use Rattle.console_spec.specs.Run.{Position};
 ghost use Rattle.f8_machine.specs.BusSteps.{IsPlain, IsServed, IsRefused};
 ghost use Rattle.f8_machine.specs.MachineState.{probe_after_steps};
 ghost use Rattle.f8_machine.specs.Resetting.{IsAtPower, IsFetched, IsNotFetched};

@@ -4,14 +4,12 @@
 mod built;
 mod mnemonics;
 mod opcodes;
-mod rack;
 mod table;
 
 pub use built::is_built;
 pub use f8_spec::{Op, Row};
 pub use mnemonics::name;
 pub use opcodes::{Reserved, decode, encode};
-pub use rack::is_built_on_rack;
 pub use table::{length, phi, row_of, shields};
 
 #[cfg(test)]

@@ -21,21 +21,6 @@ fn opcodes_both_ways(rt: HostRuntime) {
 #[test]
 fn built_opcodes(rt: HostRuntime) {
     for (code, built) in [
-        (0x1A, true),
-        (0x1C, false),
-        (0x25, true),
-        (0x26, false),
-        (0x90, true),
-        (0xA4, false),
-        (0xFF, true),
-    ] {
-        assert_eq!(rt; is_built(code), built, "at {code}");
-    }
-}
-
-#[test]
-fn opcodes_built_on_a_rack(rt: HostRuntime) {
-    for (code, built) in [
         (0x2B, true),
         (0x16, true),
         (0x28, true),
@@ -44,7 +29,7 @@ fn opcodes_built_on_a_rack(rt: HostRuntime) {
         (0xB1, false),
         (0xFF, true),
     ] {
-        assert_eq!(rt; is_built_on_rack(code), built, "at {code}");
+        assert_eq!(rt; is_built(code), built, "at {code}");
     }
 }
 

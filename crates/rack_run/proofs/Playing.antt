@@ -5,7 +5,7 @@ use Rattle.f8_spec.specs.ChipState.{ChipView, ChipState}
 use Rattle.console_spec.specs.Processor.{State, Flow, Registers}
 use Rattle.console_spec.specs.BusTrace.{TracedStep}
 use Rattle.console_spec.specs.Services.{Fault}
-use Rattle.console_spec.specs.RackRun.{Position, Turn, Goes, Stops, Unserved, Ending as FlatEnding, goes_unless, goes_on, next, run, recorded, recorded_on, power_position, reset_fault, reset_course, position_after_reset, played, played_record}
+use Rattle.console_spec.specs.Run.{Position, Turn, Goes, Stops, Unserved, Ending as FlatEnding, goes_unless, goes_on, next, run, recorded, recorded_on, power_position, reset_fault, reset_course, position_after_reset, played, played_record}
 use Rattle.data_bus.specs.Racks.{views}
 use Rattle.data_bus.specs.declared.fault.BusFault.{BusFault}
 use Rattle.f8_machine.specs.Faults.{fault_of}

@@ -3,13 +3,13 @@ use Rattle.std.proofs.Common.{◌≡◌, ℕ, suc, ◌+◌, ◌-◌, ◌<◌, �
 use Rattle.std.proofs.Math.Nat.{sub-zero}
 use Rattle.std.specs.Prelude.{Option, Some, None}
 use Rattle.std.proofs.lemmas.List.{append_assoc, map-append}
-use Rattle.f8_spec.specs.Built.{is_built_on_rack}
+use Rattle.f8_spec.specs.Built.{is_built}
 use Rattle.f8_spec.specs.Instructions.{decoded}
 use Rattle.f8_spec.specs.ChipState.{ChipView, ChipState, told_step}
 use Rattle.f8_spec.specs.declared.instructions.Op.{Op}
 use Rattle.console_spec.specs.Services.{Fault}
 use Rattle.console_spec.specs.BusTrace.{TracedStep}
-use Rattle.console_spec.specs.RackRun.{Position, Stop, Done, Goes, Stops, Ending as FlatEnding, goes_unless, decided, next, run, goes_on, opcode_at, instruction_fault, position_after, turn_course, recorded, recorded_on}
+use Rattle.console_spec.specs.Run.{Position, Turn, Stop, Done, Goes, Stops, Ending as FlatEnding, goes_unless, decided, next, run, goes_on, opcode_at, instruction_fault, position_after, turn_course, recorded, recorded_on}
 use Rattle.data_bus.specs.Racks.{NumberedZip}
 use Rattle.f8_machine.specs.declared.heard.Heard.{Heard}
 use Rattle.console_spec.specs.Processor.{State, Flow, Registers}
@@ -25,21 +25,21 @@ left_over : (n i : ℕ) → i < n → n - i ≡ suc (n - (i + 1))
 left_over n i h = omega arith
 
 -- an instruction that is done leads on
-pub run-goes : (n i : ℕ) (x y : Position) → i < n → next x ≡ Goes y → run next (n - i) x ≡ run next (n - (i + 1)) y
+pub run-goes : (step : Position → Turn) (n i : ℕ) (x y : Position) → i < n → step x ≡ Goes y → run step (n - i) x ≡ run step (n - (i + 1)) y
 unfolding run
-run-goes n i x y h goes =
-    ap (λ k. run next k x) (left_over n i h) ∙ ap (goes_on (λ z. run next (n - (i + 1)) z) x) goes
+run-goes step n i x y h goes =
+    ap (λ k. run step k x) (left_over n i h) ∙ ap (goes_on (λ z. run step (n - (i + 1)) z) x) goes
 
 -- one that stops the run ends it
-pub run-stops : (n i : ℕ) (x : Position) (stop : Stop) → i < n → next x ≡ Stops stop → run next (n - i) x ≡ record { position = x; stop = stop }
+pub run-stops : (step : Position → Turn) (n i : ℕ) (x : Position) (stop : Stop) → i < n → step x ≡ Stops stop → run step (n - i) x ≡ record { position = x; stop = stop }
 unfolding run
-run-stops n i x stop h stops =
-    ap (λ k. run next k x) (left_over n i h) ∙ ap (goes_on (λ z. run next (n - (i + 1)) z) x) stops
+run-stops step n i x stop h stops =
+    ap (λ k. run step k x) (left_over n i h) ∙ ap (goes_on (λ z. run step (n - (i + 1)) z) x) stops
 
 -- no instruction is left
-pub run-done : (n i : ℕ) (x : Position) → n ≤ i → run next (n - i) x ≡ record { position = x; stop = Done }
+pub run-done : (step : Position → Turn) (n i : ℕ) (x : Position) → n ≤ i → run step (n - i) x ≡ record { position = x; stop = Done }
 unfolding run
-run-done n i x h = let none_left : n - i ≡ 0 = omega arith in ap (λ k. run next k x) none_left
+run-done step n i x h = let none_left : n - i ≡ 0 = omega arith in ap (λ k. run step k x) none_left
 
 -- ---- the record of what is left
 
@@ -73,7 +73,7 @@ decided_count x y at code true (Some op) e = goes_count x y (instruction_fault o
 
 -- an instruction that is done is counted
 pub next_count : (x y : Position) → next x ≡ Goes y → y.flat.state.count ≡ x.flat.state.count + 1
-next_count x y e = decided_count x y x.flat.state.flow.p (opcode_at x) (is_built_on_rack (opcode_at x)) (decoded (opcode_at x)) e
+next_count x y e = decided_count x y x.flat.state.flow.p (opcode_at x) (is_built (opcode_at x)) (decoded (opcode_at x)) e
 
 -- ---- a rack over one record and then another
 
@@ -144,7 +144,7 @@ reached_more x count done m n olds mids news more reached goes =
       here = on.there;
       represents = on.represents;
       counted = next_count reached.here on.there on.turns ∙ ap (λ k. k + 1) reached.counted;
-      rest = sym (run-goes count done reached.here on.there more on.turns) ∙ reached.rest;
+      rest = sym (run-goes next count done reached.here on.there more on.turns) ∙ reached.rest;
       so_far = reached.so_far ++ (turn_course reached.here).steps;
       ran = rack_runs_then reached.so_far (turn_course reached.here).steps olds mids news reached.ran on.ran;
       steps = append_assoc reached.so_far (turn_course reached.here).steps (recorded (count - (done + 1)) on.there)
@@ -152,7 +152,7 @@ reached_more x count done m n olds mids news more reached goes =
     }
 
 -- the end of the run, told with the state that the machine tells
-told_same : (told : Ending) (s t : State) (a b : Stop) → s ≡ t → a ≡ b → Tells told s a → Tells told t b
+pub told_same : (told : Ending) (s t : State) (a b : Stop) → s ≡ t → a ≡ b → Tells told s a → Tells told t b
 told_same told s t a b same stop tells = subst (λ (u : State). Tells told u b) same (subst (λ (c : Stop). Tells told s c) stop tells)
 
 state_told : (m : MachineState) (states : List ChipState) (x : Position) (count : ℕ) → Represents m states x → x.flat.state.count ≡ count → told_state m count ≡ x.flat.state
@@ -165,7 +165,7 @@ state_told m states x count r counted =
 pub plays_out_done : (told : Ending) (x : Position) (count done : ℕ) (m : MachineState) (olds news : List ChipState) → count ≤ done → Reached x count done m olds news →
     Tells told (told_state m done) Done → PlaysOut told (run next count x) (recorded count x) olds news
 plays_out_done told x count done m olds news past reached tells =
-    let ends : run next count x ≡ record { position = reached.here; stop = Done } = sym reached.rest ∙ run-done count done reached.here past in
+    let ends : run next count x ≡ record { position = reached.here; stop = Done } = sym reached.rest ∙ run-done next count done reached.here past in
     let steps : reached.so_far ≡ recorded count x = sym (append-nil reached.so_far) ∙ ap (λ l. reached.so_far ++ l) (sym (recorded-done count done reached.here past)) ∙ reached.steps in
     record {
       tells = subst (λ (e : FlatEnding). Tells told e.position.flat.state e.stop) (sym ends)
@@ -179,7 +179,7 @@ pub plays_out_stopped : (told : Ending) (x : Position) (count done : ℕ) (m n :
 plays_out_stopped told x count done m n olds mids news halt more reached stops tells =
     let here = reached.here in
     let at = stops here reached.represents in
-    let ends : run next count x ≡ record { position = here; stop = stop_of halt } = sym reached.rest ∙ run-stops count done here (stop_of halt) more at.turns in
+    let ends : run next count x ≡ record { position = here; stop = stop_of halt } = sym reached.rest ∙ run-stops next count done here (stop_of halt) more at.turns in
     let steps : reached.so_far ++ (turn_course here).steps ≡ recorded count x =
     ap (λ l. reached.so_far ++ l) (sym (recorded-stops count done here (stop_of halt) more at.turns)) ∙ reached.steps in
     let kept : told_state n done ≡ told_state m done = subst (λ (k : ℕ). told_state n k ≡ told_state m k) reached.counted at.state in

@@ -1,15 +1,17 @@
 -- The chips of a kind, and what sits in the sockets of a rack.
-use Rattle.std.proofs.Common.{◌≡◌, ℕ, zero, suc, ◌+◌, true, List, [], ◌∷◌, drop, refl, sym, ap, ◌∙◌, subst}
+use Rattle.std.proofs.Common.{◌≡◌, ℕ, zero, suc, ◌+◌, inl, inr, arith, true, List, [], ◌∷◌, ◌++◌, map, length, take, drop, add-one, refl, sym, ap, ◌∙◌, subst}
 use Rattle.std.specs.Prelude.{Some, slice_get}
 use Rattle.std.proofs.Math.Seq.{drop-nil}
-use Rattle.chip_face.specs.Fitting.{Fits}
+use Rattle.chip_face.specs.Fitting.{Fits, fitted}
 use Rattle.chip_face.specs.declared.specification.ChipSpec.{ChipSpec}
-use Rattle.data_bus.specs.Racks.{NumberedZip}
-use Rattle.f8_spec.specs.ChipState.{ChipState, IsWhole}
+use Rattle.data_bus.specs.Racks.{NumberedZip, views}
+use Rattle.data_bus.proofs.Racks.{ChangedBelow, whole_again}
+use Rattle.std.proofs.lemmas.List.{length-map}
+use Rattle.f8_spec.specs.ChipState.{ChipView, ChipState, IsWhole}
 use Rattle.f8_spec.specs.declared.chips.ChipKind.{ChipKind}
 use Rattle.f8_spec.specs.declared.chips.ChipKind.TheVariants.{Psu, Smi}
 use Rattle.f8_machine.specs.Refinement.{AreWhole}
-use Rattle.rack_run.specs.Seating.{is_kind, seat_at, seated_from, kinds_of, before_of, psus_after, smis_after, FitsWhole}
+use Rattle.rack_run.specs.Seating.{is_kind, seat_at, seated_from, kinds_of, before_of, psus_after, smis_after, seated, kinds_of, fitted_as, fitted_views, FitsWhole, FitsOrStays}
 
 pub kind_of_is : (kind other : ChipKind) → is_kind kind other ≡ true → other ≡ kind
 kind_of_is Psu Psu e = refl
@@ -72,3 +74,55 @@ fits_seated specs socket seat old new is fits whole = record {
   fits = λ spec lies. let same : Some seat ≡ Some spec = sym is ∙ lies in let seats : seat ≡ spec = cc in subst (λ (c : ChipSpec). Fits c old new) seats fits;
   whole = whole;
 }
+
+-- ---- the views of a rack that is fitted
+
+seated_length : (chips : List ChipSpec) (psus smis : ℕ) (kinds : List ChipKind) → length (seated_from chips psus smis kinds) ≡ length kinds
+seated_length chips psus smis [] = refl
+seated_length chips psus smis (Psu ∷ kinds) = ap suc (seated_length chips (psus + 1) smis kinds)
+seated_length chips psus smis (Smi ∷ kinds) = ap suc (seated_length chips psus (smis + 1) kinds)
+
+views_from : (specs : List ChipSpec) (n : ℕ) (rest : List ChipSpec) (olds news : List ChipState) → drop n specs ≡ rest → length rest ≡ length olds → NumberedZip (FitsWhole specs) n olds news →
+    views news ≡ fitted_as olds rest
+views_from specs n rest [] [] lies long all = refl
+views_from specs n rest [] (y ∷ news) lies long all = absurd all
+views_from specs n rest (x ∷ olds) [] lies long all = absurd all
+views_from specs n [] (x ∷ olds) (y ∷ news) lies long all = cc
+views_from specs n (spec ∷ rest) (x ∷ olds) (y ∷ news) lies long all =
+    let here : y.view ≡ fitted x.patch spec = (all.0.fits spec (first_of specs rest n spec lies)).view in
+    let later : views news ≡ fitted_as olds rest = views_from specs (n + 1) rest olds news (rw add-one (rest_of specs rest n spec lies)) (omega (arith, long)) all.1 in
+    ap (λ (v : ChipView). v ∷ views news) here ∙ ap (λ (vs : List ChipView). fitted x.patch spec ∷ vs) later
+
+-- a rack that is fitted has the views that the description and the chips' own patches give
+pub views_fitted : (chips : List ChipSpec) (olds news : List ChipState) → NumberedZip (FitsWhole (seated chips olds)) 0 olds news → views news ≡ fitted_views chips olds
+views_fitted chips olds news all =
+    views_from (seated chips olds) 0 (seated chips olds) olds news refl (seated_length chips 0 0 (kinds_of olds) ∙ length-map olds (λ (s : ChipState). s.view.kind)) all
+
+-- ---- a rack that is fitted in part
+
+-- a rack in which nothing was fitted
+pub stays_in_part : (specs : List ChipSpec) (n : ℕ) (states : List ChipState) → NumberedZip (FitsOrStays specs) n states states
+stays_in_part specs n [] = tt
+stays_in_part specs n (s ∷ states) = (inr refl, stays_in_part specs (n + 1) states)
+
+in_part_from : (specs : List ChipSpec) (n i : ℕ) (xs ys : List ChipState) → NumberedZip (FitsOrStays specs) n (take i xs) (take i ys) → drop i ys ≡ drop i xs → NumberedZip (FitsOrStays specs) n xs ys
+in_part_from specs n zero xs ys done left = subst (λ (l : List ChipState). NumberedZip (FitsOrStays specs) n xs l) (sym left) (stays_in_part specs n xs)
+in_part_from specs n (suc i) [] [] done left = tt
+in_part_from specs n (suc i) [] (y ∷ ys) done left = absurd done
+in_part_from specs n (suc i) (x ∷ xs) [] done left = absurd done
+in_part_from specs n (suc i) (x ∷ xs) (y ∷ ys) done left = (done.0, in_part_from specs (n + 1) i xs ys done.1 left)
+
+-- a rack that is written back, whose chips were reached up to one
+pub partly_written : {X : Type 0} (V : X → ChipState) (specs : List ChipSpec) (xs ys : List X) (n i : ℕ) → length xs ≡ n → length ys ≡ length xs → ChangedBelow (FitsOrStays specs) i (map V xs) (map V ys) →
+    NumberedZip (FitsOrStays specs) 0 (map V xs) (map V (take n (ys ++ drop (length ys) xs)))
+partly_written V specs xs ys n i count long changed = rw (whole_again n xs ys count long) (in_part_from specs 0 i (map V xs) (map V ys) changed.done changed.left)
+
+widened_from : (specs : List ChipSpec) (n : ℕ) (xs ys : List ChipState) → NumberedZip (FitsWhole specs) n xs ys → NumberedZip (FitsOrStays specs) n xs ys
+widened_from specs n [] [] all = tt
+widened_from specs n [] (y ∷ ys) all = absurd all
+widened_from specs n (x ∷ xs) [] all = absurd all
+widened_from specs n (x ∷ xs) (y ∷ ys) all = (inl all.0, widened_from specs (n + 1) xs ys all.1)
+
+-- chips that are fitted are fitted or as they were
+pub widened : (specs : List ChipSpec) (i : ℕ) (xs ys : List ChipState) → ChangedBelow (FitsWhole specs) i xs ys → ChangedBelow (FitsOrStays specs) i xs ys
+widened specs i xs ys changed = record { done = widened_from specs 0 (take i xs) (take i ys) changed.done; left = changed.left }

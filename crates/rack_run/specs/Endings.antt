@@ -1,9 +1,11 @@
--- How a run on a rack ends, as the program tells it, and what the rack is then.
+-- How a run on a rack ends, as the program tells it, and what the rack is then; and how one on the flat instruction set alone ends.
 use Rattle.std.specs.Prelude.{◌≡◌, ℕ, ◌<◌, List, map, Option, Some, None}
 use Rattle.f8_spec.specs.ChipState.{ChipState}
 use Rattle.console_spec.specs.Processor.{State, shown}
 use Rattle.console_spec.specs.BusTrace.{TracedStep}
-use Rattle.console_spec.specs.RackRun.{Position, Stop, Done, Unserved, Reserved as ReservedStop, Unbuilt as UnbuiltStop, Ending as FlatEnding, Goes, Stops, next, turn_course, played, played_record}
+use Rattle.console_spec.specs.Run.{Position, Stop, Done, Unserved, Reserved as ReservedStop, Unbuilt as UnbuiltStop, Ending as FlatEnding, Goes, Stops, next, turn_course, played, played_record, referred}
+use Rattle.chip_face.specs.declared.specification.ChipSpec.{ChipSpec}
+use Rattle.memory_map.specs.MapOf.{views_of}
 use Rattle.data_bus.specs.Racks.{views}
 use Rattle.f8_machine.specs.Faults.{fault_of}
 use Rattle.f8_machine.specs.MachineState.{MachineState}
@@ -34,6 +36,10 @@ pub record Tells (told : Ending) (state : State) (stop : Stop) : Type 0 where
   pub count : told.count ≡ state.count
   pub phi : told.phi ≡ state.phi
 
+-- a run is told as it ends
+abbrev pub TellsEnd : Ending → FlatEnding → Type 0
+TellsEnd told ending = Tells told ending.position.flat.state ending.stop
+
 -- ---- one instruction
 
 -- it is done: the machine stands for the next position, and the rack has heard its steps
@@ -53,7 +59,7 @@ pub record StopsAt (before after : MachineState) (olds news : List ChipState) (x
 
 -- it is told as it ends, and the rack has heard its record
 pub record PlaysOut (told : Ending) (ending : FlatEnding) (steps : List TracedStep) (olds news : List ChipState) : Type 0 where
-  pub tells : Tells told ending.position.flat.state ending.stop
+  pub tells : TellsEnd told ending
   pub ran : RackRuns (map heard_of steps) olds news
 
 -- a whole run: every chip is powered, and hears the record of the run
@@ -61,3 +67,9 @@ pub record Plays (told : Ending) (fill count : ℕ) (olds news : List ChipState)
   pub powered : List ChipState
   pub powers : RackPowers fill olds powered
   pub plays : PlaysOut told (played (views olds) fill count) (played_record (views olds) fill count) powered news
+
+-- ---- without a chip
+
+-- a whole run on the flat instruction set alone, whose memory is that of the description's chips, each fitted without a patch
+abbrev pub Refers : Ending → List ChipSpec → ℕ → ℕ → Type 0
+Refers told chips fill count = TellsEnd told (referred (views_of chips) fill count)

@@ -1,12 +1,12 @@
 -- Which chip of a description sits in which socket of a rack, and what fitting makes of the rack. That the k-th chip of a kind goes to the
 -- k-th socket of that kind, and that all other sockets are blank, is this project's own.
-use Rattle.std.specs.Prelude.{◌≡◌, ℕ, ◌+◌, Bool, true, false, List, [], ◌∷◌, map, slice_get, Option, Some, None}
+use Rattle.std.specs.Prelude.{◌≡◌, ℕ, ◌+◌, ◌⊎◌, Bool, true, false, List, [], ◌∷◌, map, slice_get, Option, Some, None}
 use Rattle.std.specs.List.{filter}
 use Rattle.data_bus.specs.Racks.{NumberedZip}
-use Rattle.f8_spec.specs.ChipState.{ChipState, IsWhole}
+use Rattle.f8_spec.specs.ChipState.{ChipView, ChipState, IsWhole}
 use Rattle.f8_spec.specs.declared.chips.ChipKind.{ChipKind}
 use Rattle.f8_spec.specs.declared.chips.ChipKind.TheVariants.{Psu, Smi}
-use Rattle.chip_face.specs.Fitting.{Fits, kind_of}
+use Rattle.chip_face.specs.Fitting.{Fits, fitted, kind_of}
 use Rattle.chip_face.specs.declared.specification.ChipSpec.{ChipSpec}
 use Rattle.chip_face.specs.declared.specification.ChipSpec.TheVariants.{Blank}
 
@@ -62,3 +62,19 @@ pub record FitsWhole (specs : List ChipSpec) (socket : ℕ) (old new : ChipState
 -- every chip is fitted as what sits in its socket
 abbrev pub RackFits : List ChipSpec → List ChipState → List ChipState → Type 0
 RackFits specs olds news = NumberedZip (FitsWhole specs) 0 olds news
+
+-- some chips are fitted as what sits in their sockets, and all others are as they were
+abbrev pub FitsOrStays : List ChipSpec → ℕ → ChipState → ChipState → Type 0
+FitsOrStays specs socket old new = FitsWhole specs socket old new ⊎ (new ≡ old)
+
+abbrev pub RackFitsInPart : List ChipSpec → List ChipState → List ChipState → Type 0
+RackFitsInPart specs olds news = NumberedZip (FitsOrStays specs) 0 olds news
+
+-- the chips that fitting makes of a rack, each from its own patch
+abbrev pub fitted_as : List ChipState → List ChipSpec → List ChipView
+fitted_as [] specs = []
+fitted_as (s ∷ states) [] = []
+fitted_as (s ∷ states) (spec ∷ specs) = fitted s.patch spec ∷ fitted_as states specs
+
+abbrev pub fitted_views : List ChipSpec → List ChipState → List ChipView
+fitted_views chips states = fitted_as states (seated chips states)

@@ -1,5 +1,5 @@
 ghost use Rattle.std.specs.Prelude.{◌≡◌, ◌≤◌, ◌<◌, ◌+◌, ◌*◌, ◌^◌, length, map, OnOk, IfErr};
-ghost use Rattle.console_spec.specs.RackRun.{Position, next, run as run_of, recorded};
+ghost use Rattle.console_spec.specs.Run.{Position, next, run as run_of, recorded};
 ghost use Rattle.f8_machine.specs.MachineState.{IsReset};
 ghost use Rattle.f8_machine.specs.Refinement.{AreWhole, Represents};
 ghost use Rattle.f8_machine.specs.Rounds.{RackRuns};

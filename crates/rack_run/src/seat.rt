@@ -1,8 +1,9 @@
 ghost use Rattle.std.specs.Prelude.{◌≡◌, ◌≢◌, ◌≤◌, ◌<◌, ◌+◌, length, map, slice_get, IfSome, OnOk, OnErr, Some, None, All};
 ghost use Rattle.f8_spec.specs.ChipState.{IsWhole};
+ghost use Rattle.data_bus.specs.Racks.{views};
 ghost use Rattle.chip_face.specs.Fitting.{Fits, IsSpec, kind_of};
 ghost use Rattle.f8_machine.specs.Refinement.{AreWhole};
-ghost use Rattle.rack_run.specs.Seating.{is_kind, of_kind, seat_at, before_of, psus_after, smis_after, seated, RackFits};
+ghost use Rattle.rack_run.specs.Seating.{is_kind, of_kind, seat_at, before_of, psus_after, smis_after, seated, fitted_views, RackFits, RackFitsInPart};
 
 use chip_face::{Chip, ChipKind, ChipList, ChipSpec, FitFault, Memory};
 use data_bus::Rack;
@@ -24,7 +25,7 @@ fn fit_one(alloc: Global, chip: &mut Box<dyn Chip>, spec: &ChipSpec) -> Result<(
 }
 
 /// The specification is for a chip of this kind.
-fn is_for(spec: &ChipSpec, kind: ChipKind) -> bool
+pub(crate) fn is_for(spec: &ChipSpec, kind: ChipKind) -> bool
     ensures { result ≡ is_kind kind (kind_of spec.now) }
 {
     match kind {
@@ -94,6 +95,7 @@ fn fit_next(
     requires smis { sockets.old.smis < 16 }
     ensures fits { OnOk result (Fits (seat_at chips.now (state chip.old).view.kind (before_of (state chip.old).view.kind sockets.old.psus sockets.old.smis)) (state chip.old) (state chip.new)) }
     ensures whole { OnOk result (IsWhole (state chip.new).view) }
+    ensures same { OnErr result (state chip.new ≡ state chip.old) }
     ensures psus { sockets.new.psus ≡ psus_after (state chip.old).view.kind sockets.old.psus }
     ensures smis { sockets.new.smis ≡ smis_after (state chip.old).view.kind sockets.old.smis }
     ensures more { sockets.new.psus + sockets.new.smis ≡ sockets.old.psus + sockets.old.smis + 1 }
@@ -114,11 +116,13 @@ fn fit_next(
 }
 
 /// Fits a rack of at most 16 chips for a description: the k-th chip of a kind goes to the k-th socket of that kind, and all other sockets
-/// are blank. Where memory is wanting, chips in lower sockets may have been fitted.
+/// are blank. Where memory is wanting, chips may have been fitted, and all others are as they were.
 pub fn fit_all(alloc: Global, chips: &ChipList, rack: &mut Rack) -> Result<(), Memory>
     requires few { length rack.old.items ≤ 16 }
     ensures fitted { OnOk result (RackFits (seated chips.now (map state rack.old.items)) (map state rack.old.items) (map state rack.new.items)) }
+    ensures partly { OnErr result (RackFitsInPart (seated chips.now (map state rack.old.items)) (map state rack.old.items) (map state rack.new.items)) }
     ensures whole { OnOk result (AreWhole (map state rack.new.items)) }
+    ensures views { OnOk result (views (map state rack.new.items) ≡ fitted_views chips.now (map state rack.old.items)) }
     ensures chips { length rack.new.items ≡ length rack.old.items }
 {
     let chips = chips.as_slice();

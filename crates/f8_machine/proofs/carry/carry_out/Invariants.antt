@@ -2,7 +2,7 @@
 use Rattle.std.proofs.Common.{◌≡◌, ◌<◌, ◌≤◌, length, drop, map}
 use Rattle.f8_spec.specs.declared.instructions.Op.{Op}
 use Rattle.console_spec.specs.FlatMachine.{gets_all}
-use Rattle.console_spec.specs.RackRun.{Position, seats_of}
+use Rattle.console_spec.specs.Run.{Position, seats_of}
 use Rattle.cpu3850.specs.CpuSteps.{planned}
 use Rattle.cpu3850.specs.Keeping.{IsRestorable}
 use Rattle.cpu3850.specs.Reaching.{done}

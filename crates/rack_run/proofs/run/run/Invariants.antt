@@ -1,6 +1,6 @@
 -- What is left of the run leads from here to its end, and the rack has heard the steps before.
 use Rattle.std.proofs.Common.{◌≡◌, ◌+◌, ◌*◌, ◌≤◌, length, map}
-use Rattle.console_spec.specs.RackRun.{Position}
+use Rattle.console_spec.specs.Run.{Position}
 use Rattle.f8_machine.specs.MachineState.{IsReset}
 use Rattle.f8_machine.specs.Refinement.{Represents}
 use Rattle.rack_run.proofs.RunLaws.{Reached}

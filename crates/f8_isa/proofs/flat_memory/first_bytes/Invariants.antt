@@ -1,0 +1,5 @@
+use Rattle.f8_isa.specs.KeptMemory.{AreFirstBytes}
+use Rattle.f8_isa.proofs.flat_memory.first_bytes.Given as goal
+
+abbrev pub invariant-loop-at : goal.invariant-loop-at
+invariant-loop-at l = AreFirstBytes l.map l.fill l.bytes.items l.at

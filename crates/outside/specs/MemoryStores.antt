@@ -1,0 +1,86 @@
+-- The stores in memory, as contracts see them.
+use Rattle.std.specs.Prelude.{◌≡◌, ⊤, ℕ, Bool, true, not, ◌&&◌, ◌||◌, ◌==◌, nat_le, if◌then◌else◌, List, [], ◌∷◌, length, Option, Some, None, is_some, Result, Ok, Err, bytes_eq}
+use Rattle.std.specs.List.{list_any}
+use Rattle.outside.specs.Counts.{one_more}
+use Rattle.outside.specs.StoreRules.{NamedBytes, bytes_of}
+use Rattle.outside.specs.declared.store.FetchFault.{FetchFault}
+use Rattle.outside.specs.declared.store.FetchFault.TheVariants.{Failed, TooLong, Memory}
+
+abbrev pub has_name : List NamedBytes → List ℕ → Bool
+has_name files name = list_any (λ f. bytes_eq f.name name) files
+
+-- no name comes twice
+unfoldable pub names_differ : List NamedBytes → Bool
+names_differ [] = true
+names_differ (f ∷ fs) = not (has_name fs f.name) && names_differ fs
+
+-- what a fetch is to answer, but for want of memory
+pub data Answer : Type 0 where
+  Gives : List ℕ → Answer
+  Fails : Answer
+  Refuses : Answer
+
+-- a file with at most so many bytes is given, a longer one refused
+abbrev pub within_limit : ℕ → List ℕ → Answer
+within_limit limit bytes = if nat_le (length bytes) limit then Gives bytes else Refuses
+
+abbrev pub HasBytes : Answer → Type 0
+HasBytes (Gives bytes) = ⊤
+HasBytes Fails = ⊥
+HasBytes Refuses = ⊥
+
+-- A fetch that gave no bytes was to be answered so. Memory may be wanting where there are bytes to give, and nowhere else.
+abbrev pub IsRefused : {T : Type 0} → Answer → Result T FetchFault → Type 0
+IsRefused answer (Ok x) = ⊤
+IsRefused answer (Err Failed) = answer ≡ Fails
+IsRefused answer (Err TooLong) = answer ≡ Refuses
+IsRefused answer (Err Memory) = HasBytes answer
+
+-- A store that can fail: its files, the numbers of the calls that are to fail, how many calls there were, and its count of faults.
+pub record KeptFiles : Type 0 where
+  pub files : List NamedBytes
+  pub failing : List ℕ
+  pub calls : ℕ
+  pub faults : ℕ
+
+-- the call that comes is to fail
+abbrev pub call_fails : KeptFiles → Bool
+call_fails s = list_any (λ call. call == one_more s.calls) s.failing
+
+abbrev pub found : ℕ → Option (List ℕ) → Answer
+found limit None = Fails
+found limit (Some bytes) = within_limit limit bytes
+
+-- A call that is to fail does so, and a missing file is a failure.
+abbrev pub kept_answer : KeptFiles → List ℕ → ℕ → Answer
+kept_answer s name limit = if call_fails s then Fails else found limit (bytes_of s.files name)
+
+abbrev pub failures : Answer → ℕ → ℕ
+failures Fails n = one_more n
+failures (Gives bytes) n = n
+failures Refuses n = n
+
+-- the store after a fetch: one more call, and one more fault where it failed
+abbrev pub after_fetch : KeptFiles → List ℕ → ℕ → KeptFiles
+after_fetch s name limit = record s { calls = one_more s.calls; faults = failures (kept_answer s name limit) s.faults }
+
+-- A store that never fails: its files, whether it was asked for them alone so far, and how many calls there were.
+pub record SureFiles : Type 0 where
+  pub files : List NamedBytes
+  pub strayed : Bool
+  pub calls : ℕ
+
+abbrev pub told_files : SureFiles → Option (List NamedBytes)
+told_files s = if s.strayed then None else Some s.files
+
+-- A missing file is taken as an empty one.
+abbrev pub sure_found : ℕ → Option (List ℕ) → Answer
+sure_found limit None = Gives []
+sure_found limit (Some bytes) = within_limit limit bytes
+
+abbrev pub sure_answer : SureFiles → List ℕ → ℕ → Answer
+sure_answer s name limit = sure_found limit (bytes_of s.files name)
+
+-- the store after a fetch: one more call, and it has strayed from its files where it was asked for a missing one
+abbrev pub after_sure_fetch : SureFiles → List ℕ → SureFiles
+after_sure_fetch s name = record s { calls = one_more s.calls; strayed = s.strayed || not (is_some (bytes_of s.files name)) }

@@ -1,0 +1,22 @@
+-- What is read of a reader, where the bytes that it has left are known.
+use Rattle.std.specs.Prelude.{◌≡◌, ℕ, ◌<◌, List, ◌++◌, length, Option}
+use Rattle.std.specs.Io.KnownBytes.{Consumes, IsAtEnd}
+
+-- a piece of so many bytes was read and appended, and one of none only at the end
+pub record PieceRead (old new : Option (List ℕ)) (before after : List ℕ) (count : ℕ) : Type 0 where
+  pub piece : List ℕ
+  pub appended : after ≡ before ++ piece
+  pub size : length piece ≡ count
+  pub consumed : Consumes old new piece
+  pub ended : count ≡ 0 → IsAtEnd new
+
+-- these are all the bytes
+pub record AllRead (old new : Option (List ℕ)) (bytes : List ℕ) : Type 0 where
+  pub consumed : Consumes old new bytes
+  pub ended : IsAtEnd new
+
+-- more bytes than the limit were there
+pub record ReadPast (old new : Option (List ℕ)) (limit : ℕ) : Type 0 where
+  pub bytes : List ℕ
+  pub consumed : Consumes old new bytes
+  pub past : limit < length bytes

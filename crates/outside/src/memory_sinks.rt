@@ -1,0 +1,152 @@
+ghost use Rattle.std.specs.Prelude.{◌≡◌, ◌==◌, [], IfOk, OnOk, OnErr, Some, None, is_ok, IsOk, if◌then◌else◌};
+ghost use Rattle.outside.specs.MemorySinks.{takes_whole, after_put, after_sure_put};
+ghost use Rattle.outside.specs.SinkRules.{Adds, AddsPart, HasCause};
+
+use super::call_list::CallList;
+use super::sink::{Sink, SinkFault};
+use f8_spec::Memory;
+use std::alloc::Global;
+use std::marker::Model;
+
+/// A sink in memory that can fail: at the calls that are listed, and where its room is full.
+///
+/// Contracts see its bytes, its room, the calls that are to fail, the number of calls and the count of faults.
+#[derive(Drop)]
+pub struct MemSink {
+    bytes: Vec<u8>,
+    room: usize,
+    failing: CallList,
+    calls: u64,
+    faults: u64,
+}
+
+impl Model for MemSink {
+    ghost use Rattle.std.specs.Prelude.{◌≤◌, vec_len, vec_capacity};
+    ghost use Rattle.outside.specs.MemorySinks.{KeptBytes};
+
+    ghost Value = { KeptBytes };
+
+    ghost view = { λ s. record { bytes = s.bytes.items; room = s.room; failing = s.failing; calls = s.calls; faults = s.faults } };
+
+    ghost invariant = { λ s. (vec_len s.bytes ≤ s.room) × (s.room ≤ vec_capacity s.bytes) };
+}
+
+impl MemSink {
+    /// An empty sink with room for `room` bytes, which is reserved at once, and the calls that are to fail.
+    pub fn new(alloc: Global, room: u32, failing: CallList) -> Result<MemSink, Memory>
+        ensures { IfOk result (λ sink. sink ≡ record { bytes = []; room = room; failing = failing; calls = 0; faults = 0 }) }
+    {
+        let room = room as usize;
+        match Vec::with_capacity(alloc, room) {
+            Ok(bytes) => Ok(MemSink {
+                bytes,
+                room,
+                failing,
+                calls: 0,
+                faults: 0,
+            }),
+            Err(_) => Err(Memory),
+        }
+    }
+
+    /// The bytes that were written.
+    pub fn bytes(&self) -> &[u8]
+        ensures { result.now ≡ self.now.bytes }
+    {
+        self.bytes.as_slice()
+    }
+}
+
+impl Sink for MemSink {
+    ghost written = { λ s. Some s.bytes };
+
+    ghost faults = { λ s. s.faults };
+
+    fn put(&mut self, piece: &[u8]) -> Result<(), SinkFault>
+        ensures ok { OnOk result (Adds (Some self.old.bytes) (Some self.new.bytes) piece.now) }
+        ensures err { OnErr result (AddsPart (Some self.old.bytes) (Some self.new.bytes) piece.now) }
+        ensures cause { HasCause self.old.faults self.new.faults result }
+        ensures outcome { is_ok result ≡ takes_whole self.old piece.now }
+        ensures after { self.new ≡ after_put self.old piece.now }
+    {
+        self.calls = self.calls.saturating_add(1);
+        if self.failing.has(self.calls) {
+            self.faults = self.faults.saturating_add(1);
+            return Err(SinkFault);
+        }
+        let left = self.room - self.bytes.len();
+        if piece.len() <= left {
+            let _ = self.bytes.extend_from_slice(piece);
+            return Ok(());
+        }
+        let _ = self.bytes.extend_from_slice(piece.split_at(left).0);
+        self.faults = self.faults.saturating_add(1);
+        Err(SinkFault)
+    }
+}
+
+/// A sink in memory that never fails. Past its room it only counts bytes, and no longer tells what was written.
+///
+/// Contracts see its bytes, its room and the number of bytes that it didn't keep.
+#[derive(Drop)]
+pub struct SureSink {
+    bytes: Vec<u8>,
+    room: usize,
+    lost: u64,
+}
+
+impl Model for SureSink {
+    ghost use Rattle.std.specs.Prelude.{◌≤◌, vec_len, vec_capacity};
+    ghost use Rattle.outside.specs.MemorySinks.{SureBytes};
+
+    ghost Value = { SureBytes };
+
+    ghost view = { λ s. record { bytes = s.bytes.items; room = s.room; lost = s.lost } };
+
+    ghost invariant = { λ s. (vec_len s.bytes ≤ s.room) × (s.room ≤ vec_capacity s.bytes) };
+}
+
+impl SureSink {
+    /// An empty sink with room for `room` bytes, which is reserved at once.
+    pub fn new(alloc: Global, room: u32) -> Result<SureSink, Memory>
+        ensures { IfOk result (λ sink. sink ≡ record { bytes = []; room = room; lost = 0 }) }
+    {
+        let room = room as usize;
+        match Vec::with_capacity(alloc, room) {
+            Ok(bytes) => Ok(SureSink {
+                bytes,
+                room,
+                lost: 0,
+            }),
+            Err(_) => Err(Memory),
+        }
+    }
+
+    /// The bytes that were kept.
+    pub fn bytes(&self) -> &[u8]
+        ensures { result.now ≡ self.now.bytes }
+    {
+        self.bytes.as_slice()
+    }
+}
+
+impl Sink for SureSink {
+    ghost written = { λ s. if s.lost == 0 then Some s.bytes else None };
+
+    ghost faults = { λ _. 0 };
+
+    fn put(&mut self, piece: &[u8]) -> Result<(), SinkFault>
+        ensures ok { OnOk result (Adds (if self.old.lost == 0 then Some self.old.bytes else None) (if self.new.lost == 0 then Some self.new.bytes else None) piece.now) }
+        ensures err { OnErr result (AddsPart (if self.old.lost == 0 then Some self.old.bytes else None) (if self.new.lost == 0 then Some self.new.bytes else None) piece.now) }
+        ensures cause { HasCause 0 0 result }
+        ensures outcome { IsOk result }
+        ensures after { self.new ≡ after_sure_put self.old piece.now }
+    {
+        if self.lost == 0 && piece.len() <= self.room - self.bytes.len() {
+            let _ = self.bytes.extend_from_slice(piece);
+        } else {
+            self.lost = self.lost.saturating_add(piece.len() as u64);
+        }
+        Ok(())
+    }
+}

@@ -1,0 +1,82 @@
+ghost use Rattle.std.specs.Prelude.{◌≡◌, ◌≤◌, length, map};
+ghost use Rattle.rack_run.specs.Seating.{is_kind, kinds_of};
+ghost use Rattle.rack_run.specs.Sockets.{needed_of, sockets_of, shortage_of, shortage_in};
+
+use super::seat::is_for;
+use chip_face::{Chip, ChipKind, ChipList, ChipSpec};
+use data_bus::Rack;
+
+/// A kind of which a description has more chips than a rack has sockets for.
+#[derive(Clone, Copy, Debug, PartialEq, Eq)]
+pub struct Shortage {
+    /// The kind.
+    pub kind: ChipKind,
+
+    /// The chips of that kind in the description.
+    pub need: u8,
+
+    /// The sockets of that kind in the rack.
+    pub have: u8,
+}
+
+/// The chips of a kind in a description.
+fn needed(chips: &[ChipSpec], kind: ChipKind) -> u8
+    requires few { length chips.now ≤ 16 }
+    ensures { result ≡ needed_of kind chips.now }
+{
+    let mut count = 0;
+    for chip in chips {
+        if is_for(chip, kind) {
+            count += 1;
+        }
+    }
+    count
+}
+
+/// The chip is of this kind.
+fn is_of(chip: &Box<dyn Chip>, kind: ChipKind) -> bool
+    ensures { result ≡ is_kind kind (state chip.now).view.kind }
+{
+    match kind {
+        ChipKind::Psu => matches!(chip.kind(), ChipKind::Psu),
+        ChipKind::Smi => matches!(chip.kind(), ChipKind::Smi),
+    }
+}
+
+/// The sockets of a kind in a rack.
+fn sockets(rack: &Rack, kind: ChipKind) -> u8
+    requires few { length rack.now.items ≤ 16 }
+    ensures { result ≡ sockets_of kind (kinds_of (map state rack.now.items)) }
+{
+    let mut count = 0;
+    for chip in rack.iter() {
+        if is_of(chip, kind) {
+            count += 1;
+        }
+    }
+    count
+}
+
+/// The kind's own shortage, if there is one.
+fn shortage_in_kind(chips: &[ChipSpec], rack: &Rack, kind: ChipKind) -> Option<Shortage>
+    requires few { length rack.now.items ≤ 16 }
+    requires chips { length chips.now ≤ 16 }
+    ensures { result ≡ shortage_in kind chips.now (kinds_of (map state rack.now.items)) }
+{
+    let need = needed(chips, kind);
+    let have = sockets(rack, kind);
+    (have < need).then(|| Shortage { kind, need, have })
+}
+
+/// The first kind, the 3851 before the 3853, of which a description has more chips than a rack of at most 16 chips has sockets. That each
+/// chip needs a socket of its kind is this project's own.
+pub fn first_shortage(chips: &ChipList, rack: &Rack) -> Option<Shortage>
+    requires few { length rack.now.items ≤ 16 }
+    ensures { result ≡ shortage_of chips.now (kinds_of (map state rack.now.items)) }
+{
+    let chips = chips.as_slice();
+    match shortage_in_kind(chips, rack, ChipKind::Psu) {
+        Some(shortage) => Some(shortage),
+        None => shortage_in_kind(chips, rack, ChipKind::Smi),
+    }
+}
