@@ -1,0 +1,7 @@
+use Rattle.toml.specs.View.{table_view}
+use Rattle.cartridge.specs.Plans.{seen_cart}
+use Rattle.cartridge.proofs.ChipsWhole.{described_whole}
+use Rattle.cartridge.proofs.plan.read_cart.Goals as goal
+
+pub returns-clause-chips : goal.returns-clause-chips
+returns-clause-chips c = described_whole (table_view c.args.table.now) (seen_cart c.in_ok-cart.cart) c.in_ok-cart.ensures

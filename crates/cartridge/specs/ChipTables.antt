@@ -1,0 +1,71 @@
+-- The table of a chip: its kind first, then unknown keys, then each key in turn. The boundaries of a 3851 are those of the Mostek 3851
+-- data sheet; the keys, the pages of a 3853 and the order of faults are this project's own.
+use Rattle.std.specs.Prelude.{ℕ, ◌*◌, Bool, false, if◌then◌else◌, List, [], ◌∷◌, Option, None, is_some, ◌||◌, Result, Ok, Err}
+use Rattle.toml.specs.Data.{Members}
+use Rattle.f8_spec.specs.declared.chips.ChipKind.{ChipKind}
+use Rattle.f8_spec.specs.declared.chips.ChipKind.TheVariants as kind
+use Rattle.f8_spec.specs.declared.chips.PageSort.TheVariants as sort
+use Rattle.chip_face.specs.declared.specification.ChipSpec.{ChipSpec}
+use Rattle.chip_face.specs.declared.specification.ChipSpec.TheVariants.{Psu, Smi}
+use Rattle.cartridge.specs.declared.keys.Key.TheVariants.{Kind, Base, Ports, Vector, RomPage, RomPages, RamPage, RamPages, VoidPage, VoidPages, Interrupt, Rom, Source}
+use Rattle.cartridge.specs.declared.refusal.CartCause.TheVariants.{Missing}
+use Rattle.cartridge.specs.declared.refusal.KeyFault.{KeyFault}
+use Rattle.cartridge.specs.Faults.{◌>>=◌}
+use Rattle.cartridge.specs.Keys.{chip_keys, known, value_at}
+use Rattle.cartridge.specs.Pages.{run_at, pages_of}
+use Rattle.cartridge.specs.Values.{needed, usually, number_in, multiple_in, truth, kind_in, rom_in, source_in, filled}
+
+-- a chip with the bytes that its digits give, and the name of its source, where it has one
+pub record DescribedChip : Type 0 where
+  pub spec : ChipSpec
+  pub source : Option (List ℕ)
+
+-- ---- what every kind has
+
+abbrev pub wired_of : Members → Result Bool KeyFault
+wired_of table = usually Interrupt false truth table
+
+abbrev pub source_of : ℕ → Members → Result (Option (List ℕ)) KeyFault
+source_of room table = usually Source None (source_in room (is_some (value_at Rom table))) table
+
+-- the bytes of a ROM, where no digits are given all FF
+abbrev pub rom_of : ℕ → Members → Result (List ℕ) KeyFault
+rom_of room table = usually Rom (filled room []) (rom_in room) table
+
+-- the bytes of a ROM that has to come from digits or from a source
+abbrev pub mask_of : ℕ → Members → Result (List ℕ) KeyFault
+mask_of room table =
+    if is_some (value_at Rom table) || is_some (value_at Source table) then rom_of room table
+    else Err (record { key = Rom; cause = Missing })
+
+-- ---- each kind
+
+unfoldable pub psu_of : Members → Result DescribedChip KeyFault
+psu_of table =
+    needed Base (multiple_in 0 64512 1024) table >>= λ base.
+    needed Ports (multiple_in 4 252 4) table >>= λ ports.
+    usually Vector 0 (number_in 0 65535) table >>= λ vector.
+    wired_of table >>= λ wired.
+    mask_of 1024 table >>= λ rom.
+    source_of 1024 table >>= λ source.
+    Ok (record { spec = Psu base rom ports vector wired; source = source })
+
+unfoldable pub smi_of : Members → Result DescribedChip KeyFault
+smi_of table =
+    run_at sort.Rom RomPage RomPages [] table >>= λ rom.
+    run_at sort.Ram RamPage RamPages (rom ∷ []) table >>= λ ram.
+    run_at sort.Void VoidPage VoidPages (rom ∷ ram ∷ []) table >>= λ void.
+    wired_of table >>= λ wired.
+    rom_of (256 * rom.count) table >>= λ bytes.
+    source_of (256 * rom.count) table >>= λ source.
+    Ok (record { spec = Smi (pages_of (rom ∷ ram ∷ void ∷ [])) bytes wired; source = source })
+
+abbrev pub chip_of_kind : ChipKind → Members → Result DescribedChip KeyFault
+chip_of_kind kind.Psu table = psu_of table
+chip_of_kind kind.Smi table = smi_of table
+
+unfoldable pub chip_of : Members → Result DescribedChip KeyFault
+chip_of table =
+    needed Kind kind_in table >>= λ kind.
+    known (chip_keys kind) table >>= λ _.
+    chip_of_kind kind table

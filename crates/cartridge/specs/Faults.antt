@@ -1,0 +1,54 @@
+-- Faults of a value, of a table and of a description.
+use Rattle.std.specs.Prelude.{◌≡◌, ℕ, Option, Result, Ok, Err}
+use Rattle.cartridge.specs.declared.keys.Key.{Key}
+use Rattle.cartridge.specs.declared.refusal.CartCause.{CartCause}
+use Rattle.cartridge.specs.declared.refusal.CartCause.TheVariants.{Missing, Unknown, WrongType, Range, Boundary, TooMany, BadHex, Both}
+use Rattle.cartridge.specs.declared.refusal.KeyFault.{KeyFault}
+use Rattle.cartridge.specs.declared.refusal.CartFault.{CartFault}
+use Rattle.cartridge.specs.declared.refusal.CartAnswer.{CartAnswer}
+use Rattle.cartridge.specs.declared.refusal.CartAnswer.TheVariants as answer
+use Rattle.cartridge.specs.declared.refusal.TableStop.{TableStop}
+use Rattle.cartridge.specs.declared.refusal.TableStop.TheVariants as stop
+
+abbrev pub cause_number : CartCause → ℕ
+cause_number Missing = 1
+cause_number Unknown = 2
+cause_number WrongType = 3
+cause_number Range = 4
+cause_number Boundary = 5
+cause_number TooMany = 6
+cause_number BadHex = 7
+cause_number Both = 8
+
+-- what follows where something was read; a fault stays the first
+infixl 1 ◌>>=◌
+abbrev pub ◌>>=◌ : {A B E : Type 0} → Result A E → (A → Result B E) → Result B E
+Ok x >>= f = f x
+Err e >>= f = Err e
+
+-- a fault of the value at a key
+abbrev pub at_key : {A : Type 0} → Key → Result A CartCause → Result A KeyFault
+at_key key (Ok x) = Ok x
+at_key key (Err cause) = Err (record { key = key; cause = cause })
+
+-- a fault of a chip's table, or of the table at the top
+abbrev pub of_chip : {A : Type 0} → Option ℕ → Result A KeyFault → Result A CartFault
+of_chip chip (Ok x) = Ok x
+of_chip chip (Err fault) = Err (record { chip = chip; key = fault.key; cause = fault.cause })
+
+-- an answer, as it is seen, is what is said of a table; want of memory says nothing of it
+abbrev pub SaysOfTable : {A B : Type 0} → (A → B) → Result A TableStop → Result B KeyFault → Type 0
+SaysOfTable seen (Ok x) said = said ≡ Ok (seen x)
+SaysOfTable seen (Err (stop.Fault fault)) said = said ≡ Err fault
+SaysOfTable seen (Err stop.Memory) said = Unit {0}
+
+-- the same of a description
+abbrev pub SaysOfDescription : {A B : Type 0} → (A → B) → Result A CartAnswer → Result B CartFault → Type 0
+SaysOfDescription seen (Ok x) said = said ≡ Ok (seen x)
+SaysOfDescription seen (Err (answer.Fault fault)) said = said ≡ Err fault
+SaysOfDescription seen (Err answer.Memory) said = Unit {0}
+
+-- the fault of a chip's table, or of the table at the top, in a description; want of memory stays that
+abbrev pub told_at : Option ℕ → TableStop → CartAnswer
+told_at chip (stop.Fault fault) = answer.Fault (record { chip = chip; key = fault.key; cause = fault.cause })
+told_at chip stop.Memory = answer.Memory

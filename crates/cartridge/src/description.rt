@@ -1,0 +1,124 @@
+// A whole description: the keys at its top, and then its chips in order.
+ghost use Rattle.std.specs.Prelude.{◌≡◌, ◌≤◌, IfOk, [], map, length, vec_len, Some, None, Err};
+ghost use Rattle.toml.specs.View.{table_view};
+ghost use Rattle.cartridge.specs.declared.keys.Key.TheVariants.{Chip as ChipKey};
+ghost use Rattle.cartridge.specs.declared.refusal.CartCause.TheVariants.{TooMany, WrongType};
+ghost use Rattle.cartridge.specs.Faults.{SaysOfTable, SaysOfDescription, told_at};
+ghost use Rattle.cartridge.specs.Values.{usually, tables_in as tables_told};
+ghost use Rattle.cartridge.specs.Description.{top_of as top_told, chips_from, described};
+ghost use Rattle.cartridge.specs.Plans.{seen_chip, seen_table, seen_top, seen_cart};
+
+use super::chip_table::{ChipPlan, chip_of};
+use super::entries::{split_at, tables_of};
+use super::keys::Key;
+use super::known::known;
+use super::refusal::{CartAnswer, CartCause, CartFault, KeyFault, TableStop};
+use super::split::Split;
+use super::values::{needed_number, value_at};
+use std::alloc::Global;
+use toml::Table;
+
+/// The keys at the top.
+const TOP_KEYS: [Key; 3] = [Key::Format, Key::Split, Key::Chip];
+
+/// The most chips of a description.
+const MOST_CHIPS: usize = 16;
+
+/// The top of a description: the tracked registers, and the tables of the chips.
+#[derive(Drop)]
+pub struct Top<'a> {
+    pub split: Split,
+    pub tables: Vec<&'a Table>,
+}
+
+/// What a description says.
+#[derive(Drop)]
+pub struct Described {
+    pub split: Split,
+    pub chips: Vec<ChipPlan>,
+}
+
+/// The tables of the chips at their key, and none where it is left out.
+fn tables_at<'a>(alloc: Global, table: &'a Table) -> Result<Vec<&'a Table>, TableStop>
+    ensures says { SaysOfTable (λ ts. map seen_table ts.items) result (usually ChipKey [] tables_told (table_view table.now)) }
+    ensures few { IfOk result (λ ts. vec_len ts ≤ 16) }
+{
+    let key = Key::Chip;
+    let Some(value) = value_at(table, key) else {
+        return Ok(Vec::new(alloc));
+    };
+    let cause = CartCause::WrongType;
+    let Some(entries) = value.as_array() else {
+        return Err(TableStop::Fault(KeyFault { key, cause }));
+    };
+    let Some(tables) = tables_of(alloc, entries.as_slice())? else {
+        return Err(TableStop::Fault(KeyFault { key, cause }));
+    };
+    if tables.len() > MOST_CHIPS {
+        let cause = CartCause::TooMany;
+        return Err(TableStop::Fault(KeyFault { key, cause }));
+    }
+    Ok(tables)
+}
+
+/// The top of a description.
+#[tactic(auto, unfolding(crate::specs::Description::top_of))]
+fn top_of<'a>(alloc: Global, table: &'a Table) -> Result<Top<'a>, TableStop>
+    ensures says { SaysOfTable seen_top result (top_told (table_view table.now)) }
+    ensures few { IfOk result (λ top. vec_len top.tables ≤ 16) }
+{
+    known(&TOP_KEYS, table)?;
+    needed_number(table, Key::Format, 1, 1)?;
+    let split = split_at(table)?;
+    let tables = tables_at(alloc, table)?;
+    Ok(Top { split, tables })
+}
+
+/// The fault of a chip's table, or of the table at the top, in a description.
+fn answer_at(chip: Option<u8>, stop: TableStop) -> CartAnswer
+    ensures { result ≡ told_at chip stop }
+{
+    match stop {
+        TableStop::Fault(KeyFault { key, cause }) => CartAnswer::Fault(CartFault {
+            chip,
+            key,
+            cause,
+        }),
+        TableStop::Memory => CartAnswer::Memory,
+    }
+}
+
+/// The chips of some tables.
+#[tactic(auto, using(crate::proofs::ChipsRead::chips_none, crate::proofs::ChipsRead::chips_more, crate::proofs::ChipsRead::chips_bad, crate::proofs::ChipsRead::chips_all))]
+fn chips_of(alloc: Global, tables: &[&Table]) -> Result<Vec<ChipPlan>, CartAnswer>
+    requires { length tables.now ≤ 16 }
+    ensures { SaysOfDescription (λ chips. map seen_chip chips.items) result (chips_from 0 (map seen_table tables.now)) }
+{
+    let mut chips = Vec::new(alloc);
+    for index in 0..tables.len() {
+        match chip_of(alloc, tables[index]) {
+            Ok(chip) => match chips.push(chip) {
+                Ok(()) => {}
+                Err(_) => return Err(CartAnswer::Memory),
+            },
+            Err(stop) => return Err(answer_at(Some(index as u8), stop)),
+        }
+    }
+    Ok(chips)
+}
+
+/// What a description says, or its first fault. `Memory` says nothing of it.
+#[tactic(auto, unfolding(crate::specs::Description::described))]
+pub fn read_description(alloc: Global, table: &Table) -> Result<Described, CartAnswer>
+    ensures { SaysOfDescription seen_cart result (described (table_view table.now)) }
+{
+    let top = match top_of(alloc, table) {
+        Ok(top) => top,
+        Err(stop) => return Err(answer_at(None, stop)),
+    };
+    let chips = chips_of(alloc, top.tables.as_slice())?;
+    Ok(Described {
+        split: top.split,
+        chips,
+    })
+}

@@ -1,0 +1,24 @@
+//! The description of a cartridge, a TOML document of this project's own: its chips with what is in them, and the registers that the
+//! checker tracks. It is read, or refused with its first fault by chip, key and cause.
+#![tactic(auto)]
+
+mod chip_table;
+mod content;
+mod description;
+mod entries;
+mod keys;
+mod known;
+mod page_run;
+mod plan;
+mod refusal;
+mod split;
+mod values;
+
+pub use f8_spec::Memory;
+pub use keys::Key;
+pub use plan::{Plan, read_cart};
+pub use refusal::{CartAnswer, CartCause, CartFault};
+pub use split::Split;
+
+#[cfg(test)]
+mod tests;

@@ -1,0 +1,72 @@
+ghost use Rattle.std.specs.Prelude.{◌≡◌, ◌<◌, ◌++◌, [], ◌∷◌, length, false};
+ghost use Rattle.cartridge.specs.Values.{is_among};
+ghost use Rattle.cartridge.specs.Splits.{IsSplit};
+
+use std::marker::Model;
+
+/// The most registers that are tracked.
+const REGISTERS: usize = 8;
+
+/// The registers of the scratchpad that the checker tracks: at most 8, all different, each below 64. Contracts see the list of them.
+#[derive(Debug, Drop)]
+pub struct Split {
+    registers: [u8; REGISTERS],
+    len: usize,
+}
+
+impl Model for Split {
+    ghost use Rattle.std.specs.Prelude.{ℕ, List, ◌≤◌, ◌≡◌, length, take};
+    ghost use Rattle.cartridge.specs.Splits.{IsSplit};
+
+    ghost Value = { List ℕ };
+
+    ghost view = { λ s. take s.len s.registers };
+
+    ghost invariant = { λ s. (s.len ≤ 8) × (length s.registers ≡ 8) × IsSplit (take s.len s.registers) };
+}
+
+impl Split {
+    /// No register.
+    pub fn new() -> Split
+        ensures { result ≡ [] }
+    {
+        Split {
+            registers: [0; REGISTERS],
+            len: 0,
+        }
+    }
+
+    /// All of the registers.
+    pub fn as_slice(&self) -> &[u8]
+        ensures value { result.now ≡ self.now }
+        ensures limits { IsSplit result.now }
+    {
+        &self.registers[..self.len]
+    }
+
+    /// How many registers there are.
+    pub fn len(&self) -> usize
+        ensures { result ≡ length self.now }
+    {
+        self.len
+    }
+
+    /// The register is one of them.
+    pub fn contains(&self, register: u8) -> bool
+        ensures { result ≡ is_among self.now register }
+    {
+        self.as_slice().iter().any(|other| *other == register)
+    }
+
+    /// Adds a register behind the others.
+    pub fn push(&mut self, register: u8)
+        requires few { length self.old < 8 }
+        requires below { register < 64 }
+        requires other { is_among self.old register ≡ false }
+        ensures { self.new ≡ self.old ++ register ∷ [] }
+    {
+        let len = self.len;
+        self.registers[len] = register;
+        self.len = len + 1;
+    }
+}
