@@ -48,6 +48,8 @@ fn texts_have_images(rt: HostRuntime) -> Result<(), Fail> {
         ),
         ("X: ORG .+2\n lr a,J\n Lr 9,a", "2:49 3:59 X=0"),
         ("X: EQU -1&$FFFFFFFF", "X=4294967295"),
+        ("X: EQU -1|0", "X=-1"),
+        (" DB ' ',';',''' ; any \r byte", "0:20 1:3B 2:27 "),
     ] {
         let got = answer(rt.alloc(), text, EVERYWHERE)?;
         assert_eq!(rt; got.as_str(), want, "{text}");
@@ -70,6 +72,11 @@ fn texts_have_faults(rt: HostRuntime) -> Result<(), Fail> {
         (" BT 1", "1 6 11"),
         (" LI (5", "1 7 11"),
         ("NOP: NOP", "1 4 11"),
+        ("LI: NOP", "1 3 11"),
+        ("A: NOP", "1 1 11"),
+        (" LI 123abc", "1 8 11"),
+        (" LI 12ab", "1 7 11"),
+        (" NOP\r NOP", "1 5 2"),
         (" A 5", "1 2 11"),
         (" EQU 5", "1 2 11"),
         (" LR A,A", "1 7 11"),
@@ -77,6 +84,7 @@ fn texts_have_faults(rt: HostRuntime) -> Result<(), Fail> {
         (" LI 1/0+X", "1 9 5"),
         (" DB 1/0,X", "1 5 6"),
         (" LR 12,A", "1 5 6"),
+        (" LR A,12", "1 7 6"),
     ] {
         let room = Room { first: 0, last: 2 };
         let got = answer(rt.alloc(), text, room)?;
@@ -103,10 +111,10 @@ fn bytes_are_listed(rt: HostRuntime) -> Result<(), Fail> {
     ];
     let want =
         "ORG $0000\nLIS 1\nDB $2D\nLR A,S\nBF 0,$0002\nDB $90\nDB $80\nINS 4\nPI $1234\nDB $20\n";
-    let Ok(text) = disassemble(rt.alloc(), &bytes) else {
-        return Ok(());
-    };
+    let text = disassemble(rt.alloc(), &bytes)?;
     assert_eq!(rt; text.as_bytes(), want.as_bytes());
+    let text = disassemble(rt.alloc(), &[])?;
+    assert_eq!(rt; text.as_bytes(), b"ORG $0000\n".as_slice());
     Ok(())
 }
 
@@ -114,12 +122,8 @@ fn bytes_are_listed(rt: HostRuntime) -> Result<(), Fail> {
 #[test]
 fn a_listing_assembles_to_its_bytes(rt: HostRuntime) -> Result<(), Fail> {
     let bytes = [0x12, 0x00, 0x2D, 0x8F, 0xFC, 0x8F, 0x80, 0x90];
-    let Ok(text) = disassemble(rt.alloc(), &bytes) else {
-        return Ok(());
-    };
-    let Ok(image) = assemble(rt.alloc(), text.as_bytes(), EVERYWHERE) else {
-        return Ok(());
-    };
+    let text = disassemble(rt.alloc(), &bytes)?;
+    let image = assemble(rt.alloc(), text.as_bytes(), EVERYWHERE)?;
     let want: [(u16, u8); 8] = [
         (0, 0x12),
         (1, 0x00),
