@@ -4,7 +4,11 @@ use Rattle.std.specs.Prelude.{String, string_bytes, string_eq}
 use Rattle.std.specs.Global.{Global}
 use Rattle.std.specs.Map.{lookup}
 use Rattle.indexmap.specs.IndexMap.{insert_entry}
-use Rattle.f8_asm.specs.Names.{value_of, with_name}
+use Rattle.std.proofs.Common.{arith, zero, suc, slice_get}
+use Rattle.std.specs.Prelude.{IsTrue}
+use Rattle.std.proofs.lemmas.Grind.{common_steps}
+use Rattle.asm_text.specs.Bytes.{is_name}
+use Rattle.f8_asm.specs.Names.{value_of, with_name, are_names}
 
 -- names as a contract sees them
 abbrev seen_names : List (String Global × ℤ) → List (List ℕ × ℤ)
@@ -29,3 +33,21 @@ looked_up name (e ∷ es) = either (bytes_eq name (string_bytes e.0)) (Some e.1)
 pub inserted : (es : List (String Global × ℤ)) (key : String Global) (v : ℤ) → map (λ e. (string_bytes e.0, e.1)) (insert_entry string_eq es key v) ≡ with_name (map (λ e. (string_bytes e.0, e.1)) es) (string_bytes key) v
 inserted [] key v = refl
 inserted (e ∷ es) key v = either_made seen_names (bytes_eq (string_bytes key) (string_bytes e.0)) ((e.0, v) ∷ es) (e ∷ insert_entry string_eq es key v) _ _ refl (ap (λ r. (string_bytes e.0, e.1) ∷ r) (inserted es key v))
+
+-- names stay names with one more
+names_with : (b : Bool) (e : List ℕ × ℤ) (es : List (List ℕ × ℤ)) (more : List (List ℕ × ℤ)) (v : ℤ) → IsTrue (are_names (e ∷ es)) → IsTrue (are_names more) → IsTrue (are_names (cond b ((e.0, v) ∷ es) (e ∷ more)))
+names_with true e es more v all rest = all
+names_with false e es more v all rest = grind (arith, common_steps)
+
+names_behind : (e : List ℕ × ℤ) (es : List (List ℕ × ℤ)) → IsTrue (are_names (e ∷ es)) → IsTrue (are_names es)
+names_behind e es all = grind (arith, common_steps)
+
+pub names_kept : (es : List (List ℕ × ℤ)) (name : List ℕ) (v : ℤ) → IsTrue (are_names es) → IsTrue (is_name name) → IsTrue (are_names (with_name es name v))
+names_kept [] name v all one = grind (arith, common_steps)
+names_kept (e ∷ es) name v all one = names_with (bytes_eq name e.0) e es (with_name es name v) v all (names_kept es name v (names_behind e es all) one)
+
+-- each of some names is one
+pub name_at : (es : List (List ℕ × ℤ)) (k : ℕ) (name : List ℕ) (v : ℤ) → IsTrue (are_names es) → Some (name, v) ≡ slice_get es k → IsTrue (is_name name)
+name_at [] k name v all here = cc
+name_at (e ∷ es) zero name v all here = grind (arith, common_steps)
+name_at (e ∷ es) (suc k) name v all here = name_at es k name v (names_behind e es all) here

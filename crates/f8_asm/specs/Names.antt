@@ -1,6 +1,12 @@
 -- Names with their values, in the order in which they were first given one.
 use Rattle.std.specs.Borrow.{Bor}
-use Rattle.std.specs.Prelude.{ℕ, ℤ, List, [], ◌∷◌, Option, Some, None, if◌then◌else◌, bytes_eq}
+use Rattle.std.specs.Prelude.{ℕ, ℤ, Bool, List, [], ◌∷◌, Option, Some, None, if◌then◌else◌, bytes_eq}
+use Rattle.std.specs.List.{list_all}
+use Rattle.asm_text.specs.Bytes.{is_name}
+
+-- each of them is spelled as a name is
+abbrev pub are_names : List (List ℕ × ℤ) → Bool
+are_names symbols = list_all (λ s. is_name s.0) symbols
 
 -- the value of a name
 abbrev pub value_of : List (List ℕ × ℤ) → List ℕ → Option ℤ

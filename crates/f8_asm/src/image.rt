@@ -29,7 +29,8 @@ impl Model for Image {
 }
 
 impl Image {
-    ghost use Rattle.std.specs.Prelude.{◌≡◌, slice_get};
+    ghost use Rattle.std.specs.Prelude.{◌≡◌, slice_get, length, IfSome, IsTrue};
+    ghost use Rattle.asm_text.specs.Bytes.{is_name};
     ghost use Rattle.f8_asm.specs.Names.{symbol_seen};
 
     /// The addresses that hold a byte, ascending, each with its byte.
@@ -39,12 +40,20 @@ impl Image {
         self.bytes.as_slice()
     }
 
-    /// The name and the value of a symbol, counted from 0 in the order in which they were defined, and `None` from
-    /// their number on.
-    pub fn symbol(&self, k: u32) -> Option<(&str, i64)>
-        ensures { symbol_seen result ≡ slice_get self.now.symbols k }
+    /// How many symbols there are.
+    pub fn symbol_count(&self) -> usize
+        ensures { result ≡ length self.now.symbols }
     {
-        self.symbols.get(k as usize)
+        self.symbols.len()
+    }
+
+    /// The name and the value of a symbol, counted from 0 in the order in which they were defined, and `None` from
+    /// their number on. A name is a letter or `_`, and then letters, digits and `_`, at most 32 bytes.
+    pub fn symbol(&self, k: usize) -> Option<(&str, i64)>
+        ensures entry { symbol_seen result ≡ slice_get self.now.symbols k }
+        ensures name { IfSome result (λ s. IsTrue (is_name s.0.now)) }
+    {
+        self.symbols.get(k)
     }
 }
 

@@ -1,5 +1,6 @@
 // Names with their values.
-ghost use Rattle.std.specs.Prelude.{◌≡◌, [], OnOk, slice_get};
+ghost use Rattle.std.specs.Prelude.{◌≡◌, [], OnOk, slice_get, length, IfSome, IsTrue};
+ghost use Rattle.asm_text.specs.Bytes.{is_name};
 ghost use Rattle.f8_asm.specs.Names.{value_of, with_name, symbol_seen};
 
 use asm_text::Name;
@@ -14,12 +15,15 @@ pub struct Symbols {
 }
 
 impl Model for Symbols {
-    ghost use Rattle.std.specs.Prelude.{ℕ, ℤ, List, map};
+    ghost use Rattle.std.specs.Prelude.{ℕ, ℤ, List, map, IsTrue};
     ghost use Rattle.std.specs.String.{string_bytes};
+    ghost use Rattle.f8_asm.specs.Names.{are_names};
 
     ghost Value = { List (List ℕ × ℤ) };
 
     ghost view = { λ s. map (λ e. (string_bytes e.0, e.1)) s.entries.entries };
+
+    ghost invariant = { λ s. IsTrue (are_names (map (λ e. (string_bytes e.0, e.1)) s.entries.entries)) };
 }
 
 impl Symbols {
@@ -50,9 +54,17 @@ impl Symbols {
         Ok(())
     }
 
+    /// How many entries there are.
+    pub fn len(&self) -> usize
+        ensures { result ≡ length self.now }
+    {
+        self.entries.len()
+    }
+
     /// The name and the value of an entry, counted from 0.
     pub fn get(&self, k: usize) -> Option<(&str, i64)>
-        ensures { symbol_seen result ≡ slice_get self.now k }
+        ensures entry { symbol_seen result ≡ slice_get self.now k }
+        ensures name { IfSome result (λ s. IsTrue (is_name s.0.now)) }
     {
         let (name, value) = self.entries.get_index(k)?;
         Some((name.as_str(), *value))
