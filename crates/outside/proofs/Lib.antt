@@ -1,2 +1,3 @@
 pub mod FileNames
 pub mod Reading
+pub mod SinkLaws
