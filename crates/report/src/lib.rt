@@ -1,0 +1,20 @@
+//! The lines that the program tells a run and its refusals by (this project's own), each on a buffer of its own, so that no writer takes
+//! memory. Every line is ASCII and ends with a line feed; numbers are decimal without leading zeros, or have a fixed number of
+//! hexadecimal capitals.
+#![tactic(auto)]
+
+mod line_buffer;
+mod refusal_lines;
+mod run_lines;
+#[cfg(test)]
+mod tests;
+
+pub use line_buffer::{LINE_ROOM, Line};
+pub use refusal_lines::{
+    Reader, error_asm, error_cart, error_hex, error_long, error_rack, error_reader, error_sockets,
+    error_store, error_toml, error_words,
+};
+pub use run_lines::{
+    regs_line, scratch_line, stop_astray_line, stop_conflict_line, stop_done_line,
+    stop_reserved_line, stop_unbuilt_line, stop_undriven_line, total_line, verdict_line,
+};

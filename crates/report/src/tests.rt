@@ -1,0 +1,162 @@
+use super::*;
+use console_spec::Regs;
+use f8_spec::{ChipKind, Party};
+use std::process::Abort;
+
+fn tells(rt: &impl Abort, line: &Line, text: &str) {
+    assert_eq!(rt; line.as_bytes(), text.as_bytes());
+}
+
+#[test]
+fn refusals(rt: HostRuntime) {
+    tells(&rt, &error_words(), "error words\n");
+    tells(&rt, &error_toml(), "error cart toml\n");
+    tells(&rt, &error_hex(), "error hex\n");
+    tells(&rt, &error_rack(17), "error rack 17\n");
+    let sockets = error_sockets(ChipKind::Smi, 1, 0);
+    tells(&rt, &sockets, "error sockets 3853 need 1 have 0\n");
+}
+
+#[test]
+fn refusals_of_files(rt: HostRuntime) {
+    tells(&rt, &error_long("script", None), "error long script\n");
+    tells(&rt, &error_long("source", Some(3)), "error long source 3\n");
+    tells(&rt, &error_store("cart", None), "error store cart\n");
+    tells(
+        &rt,
+        &error_store("source", Some(15)),
+        "error store source 15\n",
+    );
+}
+
+#[test]
+fn refusals_with_a_place(rt: HostRuntime) {
+    tells(
+        &rt,
+        &error_cart(None, "format", 1),
+        "error cart key format cause 1\n",
+    );
+    tells(
+        &rt,
+        &error_cart(Some(10), "rom_page", 5),
+        "error cart chip 10 key rom_page cause 5\n",
+    );
+    let file = error_asm(None, 12, 7, 3);
+    tells(&rt, &file, "error asm file line 12 column 7 cause 3\n");
+    let source = error_asm(Some(0), 4_294_967_295, 1, 14);
+    tells(
+        &rt,
+        &source,
+        "error asm source 0 line 4294967295 column 1 cause 14\n",
+    );
+    tells(
+        &rt,
+        &error_reader(Reader::Script, 1, 6),
+        "error script line 1 cause 6\n",
+    );
+    tells(
+        &rt,
+        &error_reader(Reader::Cert, 20, 0),
+        "error cert line 20 cause 0\n",
+    );
+    tells(
+        &rt,
+        &error_reader(Reader::Debug, 9, 255),
+        "error debug line 9 cause 255\n",
+    );
+}
+
+#[test]
+fn stops(rt: HostRuntime) {
+    tells(&rt, &verdict_line(), "verdict unchecked\n");
+    tells(&rt, &stop_done_line(), "stop done\n");
+    let parties = [
+        Party {
+            socket: 0,
+            at: 0x0010,
+        },
+        Party {
+            socket: 12,
+            at: 0x2800,
+        },
+    ];
+    let conflict = stop_conflict_line(0x02, &parties);
+    tells(
+        &rt,
+        &conflict,
+        "stop conflict romc 02 socket 0 at 0010 socket 12 at 2800\n",
+    );
+    tells(
+        &rt,
+        &stop_undriven_line(0x02, 0x0400),
+        "stop undriven romc 02 at 0400\n",
+    );
+}
+
+#[test]
+fn stops_at_one_place(rt: HostRuntime) {
+    let astray = stop_astray_line(0x00, 1, 0x0405, 0x0000);
+    tells(
+        &rt,
+        &astray,
+        "stop astray romc 00 socket 1 at 0405 reference 0000\n",
+    );
+    tells(
+        &rt,
+        &stop_reserved_line(0xFFFE, 0xFF),
+        "stop reserved FF at FFFE\n",
+    );
+    tells(
+        &rt,
+        &stop_unbuilt_line(0x0000, 0xB4),
+        "stop unbuilt B4 at 0000\n",
+    );
+}
+
+#[test]
+fn registers(rt: HostRuntime) {
+    let mut scratch = [0x5A; 64];
+    scratch[17] = 0x0F;
+    let regs = Regs {
+        p: 0x0009,
+        p1: 0,
+        d0: 0x2801,
+        d1: 0xFFFF,
+        a: 0x5A,
+        isar: 0o32,
+        w: 0x1F,
+        scratch,
+    };
+    tells(
+        &rt,
+        &regs_line(&regs),
+        "regs P=0009 P1=0000 D0=2801 D1=FFFF A=5A IS=32 W=1F\n",
+    );
+    tells(
+        &rt,
+        &scratch_line(&regs, 1),
+        "s10 5A 0F 5A 5A 5A 5A 5A 5A 5A 5A 5A 5A 5A 5A 5A 5A\n",
+    );
+    tells(&rt, &total_line(6, 102), "total 6 instructions 102 phi\n");
+}
+
+#[test]
+fn pieces_of_lines(rt: HostRuntime) {
+    let mut line = Line::new();
+    line.byte(b'x');
+    line.text(b" = ");
+    line.hex2(0x0A);
+    line.hex4(0x2B90);
+    line.octal2(0o57);
+    line.small(255);
+    line.byte(b' ');
+    line.decimal(18_446_744_073_709_551_615);
+    line.byte(b' ');
+    line.signed(-2_147_483_648);
+    tells(
+        &rt,
+        &line,
+        "x = 0A2B9057255 18446744073709551615 -2147483648",
+    );
+    assert_eq!(rt; line.as_bytes().len(), 48);
+}
