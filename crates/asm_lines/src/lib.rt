@@ -1,0 +1,11 @@
+//! What the program prints of assembled and disassembled F8 code (this project's own): the lines of an image, and those of a text, each
+//! put into a sink by itself. No call takes memory.
+#![tactic(auto)]
+
+mod image_out;
+mod listing_out;
+#[cfg(test)]
+mod tests;
+
+pub use image_out::put_image;
+pub use listing_out::put_listing;
