@@ -1,0 +1,6 @@
+pub mod WordSorts
+pub mod Reading
+pub mod OneFile
+pub mod TwoFiles
+pub mod Parsed
+pub mod Examples

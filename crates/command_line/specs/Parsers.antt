@@ -1,0 +1,13 @@
+-- The simple commands that read the words behind each command, as clap's definitions see them.
+use Rattle.std.specs.Prelude.{true, Some}
+use Rattle.clap.specs.Walk.{Rule, Text}
+use Rattle.clap.specs.Simple.{App, new_app, new_rule, on_top}
+use Rattle.clap.specs.declared.builder.action.ArgAction.TheVariants.{Set}
+
+-- a positional that has to be there, once
+abbrev pub wanted : Text → Rule
+wanted id = record (new_rule id) { action = Some Set; required = true }
+
+-- a command without help and version
+abbrev pub bare : Text → App
+bare name = on_top (λ s. record s { disable_help_flag = true; disable_version_flag = true }) (new_app name)

@@ -1,0 +1,16 @@
+-- What the words ask for, as the program holds it, in the words of the definitions.
+use Rattle.std.specs.Prelude.{ℕ, List}
+use Rattle.std.specs.Borrow.{Bor}
+use Rattle.command_line.specs.CommandLine as line
+use Rattle.command_line.specs.declared.asked.Command.{Command}
+use Rattle.command_line.specs.declared.asked.Command.TheVariants.{Play, Ref, Asm, Dis}
+
+abbrev pub seen_command : Command → line.Command
+seen_command (Play cart script) = line.Play cart.now script.now
+seen_command (Ref cart script) = line.Ref cart.now script.now
+seen_command (Asm file) = line.Asm file.now
+seen_command (Dis file) = line.Dis file.now
+
+-- the texts of two names
+abbrev pub seen_files : Bor (List ℕ) × Bor (List ℕ) → List ℕ × List ℕ
+seen_files files = (files.0.now, files.1.now)

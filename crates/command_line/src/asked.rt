@@ -1,0 +1,33 @@
+/// What the words ask for. The names are paths of files.
+#[derive(Debug, Clone, Copy, PartialEq, Eq)]
+pub enum Command<'a> {
+    /// A run of the cartridge, by the script.
+    Play {
+        /// The description of the cartridge.
+        cart: &'a str,
+
+        /// The script of the run.
+        script: &'a str,
+    },
+
+    /// The same run on the flat instruction set alone.
+    Ref {
+        /// The description of the cartridge.
+        cart: &'a str,
+
+        /// The script of the run.
+        script: &'a str,
+    },
+
+    /// The text of a program, to be assembled.
+    Asm {
+        /// The text.
+        file: &'a str,
+    },
+
+    /// The bytes of a program, to be disassembled.
+    Dis {
+        /// The bytes.
+        file: &'a str,
+    },
+}

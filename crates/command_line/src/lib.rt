@@ -1,0 +1,18 @@
+//! The words of the program's command line, read into what they ask for (all of it this project's own): `play CART SCRIPT`,
+//! `ref CART SCRIPT`, `asm FILE` and `dis FILE`.
+//!
+//! The first word is the command, and the rest is read by that command's own `clap` command, which has no help and no version. The
+//! number of plain words has to be exact. After the first word `--` behind the command every word is plain; before it a word of two or
+//! more bytes that begins with `-` is refused. A word `-` and an empty word are plain.
+#![tactic(auto)]
+
+mod asked;
+mod files;
+mod read;
+
+pub use asked::Command;
+pub use f8_spec::Memory;
+pub use read::read_words;
+
+#[cfg(test)]
+mod tests;

@@ -1,0 +1,39 @@
+ghost use Rattle.std.specs.Prelude.{◌≡◌, ◌⊎◌, IfErr, IfOk, None, map, option_map, string_bytes};
+ghost use Rattle.clap.specs.Words.{kind_of};
+ghost use Rattle.command_line.specs.CommandLine.{command_of};
+ghost use Rattle.command_line.specs.Seen.{seen_command};
+
+use super::asked::Command;
+use super::files::{one_file, two_files};
+use clap::Error;
+use clap::error::ErrorKind;
+use f8_spec::Memory;
+use std::alloc::Global;
+
+/// What the words ask for, and `None` or an error of clap's where they are none of the program's.
+fn asked_for<'a>(alloc: Global, words: &'a [String]) -> Result<Option<Command<'a>>, Error>
+    ensures asked { IfOk result (λ asked. option_map seen_command asked ≡ command_of (map string_bytes words.now)) }
+    ensures refused { IfErr result (λ error. (kind_of error ≡ ErrorKind.OutOfMemory) ⊎ (command_of (map string_bytes words.now) ≡ None)) }
+{
+    let Some(name) = words.first() else {
+        return Ok(None);
+    };
+    match name.as_str() {
+        "play" => Ok(two_files(alloc, words)?.map(|(cart, script)| Command::Play { cart, script })),
+        "ref" => Ok(two_files(alloc, words)?.map(|(cart, script)| Command::Ref { cart, script })),
+        "asm" => Ok(one_file(alloc, words)?.map(|file| Command::Asm { file })),
+        "dis" => Ok(one_file(alloc, words)?.map(|file| Command::Dis { file })),
+        _ => Ok(None),
+    }
+}
+
+/// What the words ask for, and `None` where they are none of the program's. `Memory`: memory is missing; it says nothing of the words.
+pub fn read_words<'a>(alloc: Global, words: &'a [String]) -> Result<Option<Command<'a>>, Memory>
+    ensures { IfOk result (λ asked. option_map seen_command asked ≡ command_of (map string_bytes words.now)) }
+{
+    match asked_for(alloc, words) {
+        Ok(asked) => Ok(asked),
+        Err(error) if error.kind() == ErrorKind::OutOfMemory => Err(Memory),
+        Err(_) => Ok(None),
+    }
+}
