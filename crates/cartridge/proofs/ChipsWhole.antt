@@ -1,11 +1,9 @@
--- The chips of a description are those of a cartridge: at most 16, each as a specification has to be, and none blank.
+-- What holds of every plan holds of the plan of a description.
 use Rattle.std.proofs.Common.{◌≡◌, ℕ, ◌+◌, ◌≤◌, List, [], ◌∷◌, length, map, Option, Some, None, subst, Result, Ok, Err, refl, arith}
-use Rattle.std.specs.Prelude.{All, nat_le, false}
+use Rattle.std.specs.Prelude.{All, nat_le}
 use Rattle.std.proofs.lemmas.Bool.{leb-true}
 use Rattle.std.proofs.lemmas.List.Elements.{All-nil, All-cons}
 use Rattle.toml.specs.Data.{Data, Members, as_array, as_table}
-use Rattle.chip_face.specs.Fitting.{IsSpec, IsChipList, is_blank}
-use Rattle.chip_face.specs.declared.specification.ChipSpec.{ChipSpec}
 use Rattle.cartridge.specs.declared.keys.Key.TheVariants.{Format, Split, Chip}
 use Rattle.cartridge.specs.declared.refusal.CartCause.TheVariants.{TooMany}
 use Rattle.cartridge.specs.declared.refusal.KeyFault.{KeyFault}
@@ -14,43 +12,38 @@ use Rattle.cartridge.specs.Keys.{known, top_keys, value_at}
 use Rattle.cartridge.specs.Values.{needed, usually, optional, number_in, split_in, typed, each, few_tables, tables_in}
 use Rattle.cartridge.specs.ChipTables.{DescribedChip, chip_of}
 use Rattle.cartridge.specs.Description.{Described, Top, top_of, chips_from, described}
-use Rattle.cartridge.specs.Plans.{spec_of}
-use Rattle.cartridge.proofs.Specified.{IsWhole, bind-ok, if-ok, at_key-ok, optional-ok, chip_of-whole}
+use Rattle.cartridge.specs.Filling.{PlannedChip, IsPlannedChip, IsPlan, planned_chip, planned}
+use Rattle.cartridge.proofs.Specified.{bind-ok, if-ok, at_key-ok, optional-ok, chip_of-whole}
 
 of_chip-ok : {A : Type 0} (chip : Option ℕ) (r : Result A KeyFault) (x : A) → of_chip chip r ≡ Ok x → r ≡ Ok x
 of_chip-ok chip (Ok y) x h = cc h
 of_chip-ok chip (Err f) x h = cc h
 
-record AreWhole (count : ℕ) (specs : List ChipSpec) : Type 0 where
-  size : length specs ≡ count
-  specified : All IsSpec specs
-  none_blank : All (λ s. is_blank s ≡ false) specs
+record ArePlanned (count : ℕ) (chips : List PlannedChip) : Type 0 where
+  size : length chips ≡ count
+  each : All IsPlannedChip chips
 
-none_whole : AreWhole 0 []
-none_whole = record { size = refl; specified = All-nil IsSpec; none_blank = All-nil (λ s. is_blank s ≡ false) }
+none_planned : ArePlanned 0 []
+none_planned = record { size = refl; each = All-nil IsPlannedChip }
 
-cons_whole : (count : ℕ) (s : ChipSpec) (specs : List ChipSpec) → IsWhole s → AreWhole count specs → AreWhole (count + 1) (s ∷ specs)
-cons_whole count s specs one more =
-    let rest = more.size in record {
-      size = omega (arith, rest);
-      specified = All-cons IsSpec s specs one.specified more.specified;
-      none_blank = All-cons (λ s. is_blank s ≡ false) s specs one.no_blank more.none_blank;
-    }
+cons_planned : (count : ℕ) (chip : PlannedChip) (chips : List PlannedChip) → IsPlannedChip chip → ArePlanned count chips → ArePlanned (count + 1) (chip ∷ chips)
+cons_planned count chip chips one more =
+    let rest = more.size in record { size = omega (arith, rest); each = All-cons IsPlannedChip chip chips one more.each }
 
-chips-whole : (i : ℕ) (tables : List Members) (chips : List DescribedChip) → chips_from i tables ≡ Ok chips → AreWhole (length tables) (map spec_of chips)
+chips-whole : (i : ℕ) (tables : List Members) (chips : List DescribedChip) → chips_from i tables ≡ Ok chips → ArePlanned (length tables) (map planned_chip chips)
 unfolding chips_from
 chips-whole i [] chips h =
     let e : [] ≡ chips = cc h in
-    rw (← e) none_whole
+    rw (← e) none_planned
 chips-whole i (table ∷ tables) chips h =
-    bind-ok (AreWhole (length (table ∷ tables)) (map spec_of chips)) (of_chip (Some i) (chip_of table)) _ chips h (λ chip at_chip h.
-    bind-ok (AreWhole (length (table ∷ tables)) (map spec_of chips)) (chips_from (i + 1) tables) _ chips h (λ more at_more h.
+    bind-ok (ArePlanned (length (table ∷ tables)) (map planned_chip chips)) (of_chip (Some i) (chip_of table)) _ chips h (λ chip at_chip h.
+    bind-ok (ArePlanned (length (table ∷ tables)) (map planned_chip chips)) (chips_from (i + 1) tables) _ chips h (λ more at_more h.
     let e : chip ∷ more ≡ chips = cc h in
     let longer : length tables + 1 ≡ length (table ∷ tables) = omega arith in
     let one = chip_of-whole table chip (of_chip-ok (Some i) (chip_of table) chip at_chip) in
-    subst (λ (cs : List DescribedChip). AreWhole (length (table ∷ tables)) (map spec_of cs)) e
-    (subst (λ (n : ℕ). AreWhole n (map spec_of (chip ∷ more))) longer
-    (cons_whole (length tables) chip.spec (map spec_of more) one (chips-whole (i + 1) tables more at_more)))))
+    subst (λ (cs : List DescribedChip). ArePlanned (length (table ∷ tables)) (map planned_chip cs)) e
+    (subst (λ (n : ℕ). ArePlanned n (map planned_chip (chip ∷ more))) longer
+    (cons_planned (length tables) (planned_chip chip) (map planned_chip more) one (chips-whole (i + 1) tables more at_more)))))
 
 -- ---- at most 16
 
@@ -75,14 +68,13 @@ top-few table top h =
     (λ none. subst (λ (ts : List Members). length ts ≤ 16) none (omega arith))
     (λ d at_list. tables-few d tables at_list))))))
 
-pub described_whole : (table : Members) (cart : Described) → described table ≡ Ok cart → IsChipList (map spec_of cart.chips)
+pub described_whole : (table : Members) (cart : Described) → described table ≡ Ok cart → IsPlan (planned cart).chips
 unfolding described
 described_whole table cart h =
-    bind-ok (IsChipList (map spec_of cart.chips)) (of_chip None (top_of table)) _ cart h (λ top at_top h.
-    bind-ok (IsChipList (map spec_of cart.chips)) (chips_from 0 top.tables) _ cart h (λ chips at_chips h.
+    bind-ok (IsPlan (planned cart).chips) (of_chip None (top_of table)) _ cart h (λ top at_top h.
+    bind-ok (IsPlan (planned cart).chips) (chips_from 0 top.tables) _ cart h (λ chips at_chips h.
     let e : chips ≡ cart.chips = cc h in
     let all = chips-whole 0 top.tables chips at_chips in
     let few = top-few table top (of_chip-ok None (top_of table) top at_top) in
     let size = all.size in
-    subst (λ (cs : List DescribedChip). IsChipList (map spec_of cs)) e
-    (record { few = omega (arith, size, few); specified = all.specified; none_blank = all.none_blank })))
+    subst (λ (cs : List DescribedChip). IsPlan (map planned_chip cs)) e (record { few = omega (arith, size, few); each = all.each })))

@@ -6,3 +6,10 @@ pub mod ChipsRead
 pub mod PageNumbers
 pub mod Specified
 pub mod ChipsWhole
+pub mod PlannedChips
+pub mod BytesPut
+pub mod Finished
+pub mod Alike
+pub mod ExpressionsAlike
+pub mod StatementsAlike
+pub mod ImageRooms

@@ -1,6 +1,6 @@
--- A table that describes a chip gives one that is as a specification has to be, and not blank.
+-- A table that describes a chip gives one that is as a specification has to be, not blank, and with a room for each byte of its source.
 use Rattle.std.proofs.Common.{◌≡◌, ℕ, ◌+◌, ◌*◌, ◌-◌, ◌%◌, ◌≤◌, Bool, true, false, ◌&&◌, ◌||◌, ◌==◌, List, [], ◌∷◌, length, replicate, Option, Some, None, is_some, Result, Ok, Err, refl, sym, ap, ◌∙◌, arith, length-append}
-use Rattle.std.specs.Prelude.{nat_le, if◌then◌else◌, pos, negsuc, ℤ}
+use Rattle.std.specs.Prelude.{nat_le, not, option_map, if◌then◌else◌, pos, negsuc, ℤ}
 use Rattle.std.specs.List.{list_all}
 use Rattle.std.proofs.lemmas.Bool.{and_parts, eqb-true, leb-true}
 use Rattle.std.proofs.lemmas.List.{length-replicate}
@@ -11,25 +11,23 @@ use Rattle.f8_spec.specs.declared.chips.ChipKind.{ChipKind}
 use Rattle.f8_spec.specs.declared.chips.ChipKind.TheVariants as kind
 use Rattle.f8_spec.specs.declared.chips.PageSort.{PageSort}
 use Rattle.f8_spec.specs.declared.chips.PageSort.TheVariants as sort
-use Rattle.chip_face.specs.Fitting.{IsSpec, is_blank}
+use Rattle.f8_asm.specs.declared.answers.Room.{Room}
 use Rattle.chip_face.specs.declared.specification.ChipSpec.{ChipSpec}
 use Rattle.chip_face.specs.declared.specification.ChipSpec.TheVariants.{Psu, Smi}
 use Rattle.cartridge.specs.declared.keys.Key.{Key}
 use Rattle.cartridge.specs.declared.keys.Key.TheVariants.{Kind, Base, Ports, Vector, RomPage, RomPages, RamPage, RamPages, VoidPage, VoidPages, Rom, Source}
 use Rattle.cartridge.specs.declared.page_run.PageRun.{PageRun}
 use Rattle.cartridge.specs.declared.refusal.CartCause.{CartCause}
-use Rattle.cartridge.specs.declared.refusal.CartCause.TheVariants.{Range, Boundary, BadHex}
+use Rattle.cartridge.specs.declared.refusal.CartCause.TheVariants.{Range, Boundary, BadHex, Both}
 use Rattle.cartridge.specs.declared.refusal.KeyFault.{KeyFault}
 use Rattle.cartridge.specs.Faults.{◌>>=◌, at_key}
 use Rattle.cartridge.specs.Keys.{value_at, known, chip_keys}
 use Rattle.cartridge.specs.Pages.{lies_within, lie_apart, placed, run_at, pages_of}
-use Rattle.cartridge.specs.Values.{required, optional, needed, usually, typed, text, within, number_in, multiple_of, multiple_in, kind_in, filled, fitting, rom_in}
-use Rattle.cartridge.specs.ChipTables.{DescribedChip, rom_of, mask_of, source_of, wired_of, psu_of, smi_of, chip_of_kind, chip_of}
+use Rattle.cartridge.specs.Values.{required, optional, needed, usually, typed, text, within, number_in, multiple_of, multiple_in, kind_in, filled, fitting, rom_in, is_file_name, source_named, source_in}
+use Rattle.cartridge.specs.Rooms.{room_size, psu_room, run_room}
+use Rattle.cartridge.specs.Filling.{HasRom, IsPlannedChip, planned_chip, unfilled, rom_of as rom_of_spec}
+use Rattle.cartridge.specs.ChipTables.{DescribedChip, named_source, rom_of, mask_of, source_of, wired_of, psu_of, smi_of, chip_of_kind, chip_of}
 use Rattle.cartridge.proofs.PageNumbers.{AreSorted, pages_of-ascends, pages_of-rom_count}
-
-pub record IsWhole (chip : ChipSpec) : Type 0 where
-  pub specified : IsSpec chip
-  pub no_blank : is_blank chip ≡ false
 
 -- ---- what stands before an answer
 
@@ -57,10 +55,10 @@ optional-ok P usual judge (Some d) x h none k = k d h
 
 -- ---- numbers
 
-record IsMultiple (first last step n : ℕ) : Type 0 where
-  above : first ≤ n
-  below : n ≤ last
-  even : n % step ≡ 0
+pub record IsMultiple (first last step n : ℕ) : Type 0 where
+  pub above : first ≤ n
+  pub below : n ≤ last
+  pub even : n % step ≡ 0
 
 within-ok : (first last : ℕ) (z : ℤ) (n : ℕ) → within first last z ≡ Ok n → (first ≤ n) × (n ≤ last)
 within-ok first last (pos m) n h =
@@ -83,7 +81,7 @@ multiple-ok first last step d n h =
     let between = number-ok first last d m read in
     rw (← same) (record { above = between.0; below = between.1; even = eqb-true (m % step) 0 t }))
 
-needed-multiple : (key : Key) (first last step : ℕ) (table : Members) (n : ℕ) → needed key (multiple_in first last step) table ≡ Ok n → IsMultiple first last step n
+pub needed-multiple : (key : Key) (first last step : ℕ) (table : Members) (n : ℕ) → needed key (multiple_in first last step) table ≡ Ok n → IsMultiple first last step n
 needed-multiple key first last step table n h =
     required-ok (IsMultiple first last step n) (multiple_in first last step) (value_at key table) n
     (at_key-ok key (required (multiple_in first last step) (value_at key table)) n h) (λ d e. multiple-ok first last step d n e)
@@ -122,34 +120,65 @@ mask_of-length : (room : ℕ) (table : Members) (bytes : List ℕ) → mask_of r
 mask_of-length room table bytes h =
     chosen-length (is_some (value_at Rom table) || is_some (value_at Source table)) room (rom_of room table) _ bytes (rom_of-length room table bytes) h
 
+-- ---- sources
+
+named-some : (named other : Bool) (name source : List ℕ) → (if not named then Err Range else if other then Err Both else Ok name) ≡ Ok source → named ≡ true
+named-some true other name source h = refl
+named-some false other name source h = cc h
+
+source_in-some : (size : ℕ) (has_digits : Bool) (d : Data) (name : List ℕ) → source_in size has_digits d ≡ Ok (Some name) → 1 ≤ size
+source_in-some size has_digits d name h =
+    bind-ok (1 ≤ size) (text d) (λ read. source_named size has_digits read >>= λ source. Ok (Some source)) (Some name) h (λ read at_read h.
+    bind-ok (1 ≤ size) (source_named size has_digits read) (λ source. Ok (Some source)) (Some name) h (λ source at_source h.
+    leb-true 1 size (and_parts (is_file_name read) (nat_le 1 size)
+    (named-some (is_file_name read && nat_le 1 size) has_digits read source at_source)).1))
+
+-- where there is a source, there are addresses
+source_of-some : (size : ℕ) (table : Members) (name : List ℕ) → source_of size table ≡ Ok (Some name) → 1 ≤ size
+source_of-some size table name h =
+    optional-ok (1 ≤ size) None (source_in size (is_some (value_at Rom table))) (value_at Source table) (Some name)
+    (at_key-ok Source (optional None (source_in size (is_some (value_at Rom table))) (value_at Source table)) (Some name) h)
+    (λ none. cc none)
+    (λ d e. source_in-some size (is_some (value_at Rom table)) d name e)
+
+unfilled-rom : (spec : ChipSpec) (room : Room) (size : ℕ) (source : Option (List ℕ)) → length (rom_of_spec spec) ≡ size
+    → ((name : List ℕ) → source ≡ Some name → room.first + size ≡ room.last + 1) → HasRom spec (option_map unfilled (named_source room source))
+unfilled-rom spec room size None whole fits = tt
+unfilled-rom spec room size (Some name) whole fits =
+    let room_fits = fits name refl in
+    let bytes = length-replicate {A = ℕ} (room_size room) 255 in
+    record { rom = omega (arith, bytes, whole, room_fits); room = omega (arith, bytes, room_fits) }
+
 -- ---- a 3851
 
-psu-whole : (base ports vector : ℕ) (wired : Bool) (rom : List ℕ) → IsMultiple 0 64512 1024 base → IsMultiple 4 252 4 ports → length rom ≡ 1024
-    → IsWhole (Psu base rom ports vector wired)
-psu-whole base ports vector wired rom space first size =
+psu-whole : (base ports vector : ℕ) (wired : Bool) (rom : List ℕ) (source : Option (List ℕ)) → IsMultiple 0 64512 1024 base → IsMultiple 4 252 4 ports
+    → length rom ≡ 1024
+    → IsPlannedChip (planned_chip (record { spec = Psu base rom ports vector wired; source = named_source (psu_room base) source }))
+psu-whole base ports vector wired rom source space first size =
     record {
       specified = record { bytes = size; boundary = space.even; above_cpu = first.above; below_end = first.below; ports_boundary = first.even };
       no_blank = refl;
+      has_rom = unfilled-rom (Psu base rom ports vector wired) (psu_room base) 1024 source size (λ name at_name. omega arith);
     }
 
-psu_of-whole : (table : Members) (chip : DescribedChip) → psu_of table ≡ Ok chip → IsWhole chip.spec
+psu_of-whole : (table : Members) (chip : DescribedChip) → psu_of table ≡ Ok chip → IsPlannedChip (planned_chip chip)
 unfolding psu_of
 psu_of-whole table chip h =
-    bind-ok (IsWhole chip.spec) (needed Base (multiple_in 0 64512 1024) table) _ chip h (λ base at_base h.
-    bind-ok (IsWhole chip.spec) (needed Ports (multiple_in 4 252 4) table) _ chip h (λ ports at_ports h.
-    bind-ok (IsWhole chip.spec) (usually Vector 0 (number_in 0 65535) table) _ chip h (λ vector at_vector h.
-    bind-ok (IsWhole chip.spec) (wired_of table) _ chip h (λ wired at_wired h.
-    bind-ok (IsWhole chip.spec) (mask_of 1024 table) _ chip h (λ rom at_rom h.
-    bind-ok (IsWhole chip.spec) (source_of 1024 table) _ chip h (λ source at_source h.
-    let e : Psu base rom ports vector wired ≡ chip.spec = cc h in
-    rw (← e) (psu-whole base ports vector wired rom (needed-multiple Base 0 64512 1024 table base at_base)
+    bind-ok (IsPlannedChip (planned_chip chip)) (needed Base (multiple_in 0 64512 1024) table) _ chip h (λ base at_base h.
+    bind-ok (IsPlannedChip (planned_chip chip)) (needed Ports (multiple_in 4 252 4) table) _ chip h (λ ports at_ports h.
+    bind-ok (IsPlannedChip (planned_chip chip)) (usually Vector 0 (number_in 0 65535) table) _ chip h (λ vector at_vector h.
+    bind-ok (IsPlannedChip (planned_chip chip)) (wired_of table) _ chip h (λ wired at_wired h.
+    bind-ok (IsPlannedChip (planned_chip chip)) (mask_of 1024 table) _ chip h (λ rom at_rom h.
+    bind-ok (IsPlannedChip (planned_chip chip)) (source_of 1024 table) _ chip h (λ source at_source h.
+    let e : record { spec = Psu base rom ports vector wired; source = named_source (psu_room base) source } ≡ chip = cc h in
+    rw (← e) (psu-whole base ports vector wired rom source (needed-multiple Base 0 64512 1024 table base at_base)
     (needed-multiple Ports 4 252 4 table ports at_ports) (mask_of-length 1024 table rom at_rom))))))))
 
 -- ---- a 3853
 
-record IsRun (s : PageSort) (run : PageRun) : Type 0 where
-  sorted : run.sort ≡ s
-  inside : run.first + run.count ≤ 256
+pub record IsRun (s : PageSort) (run : PageRun) : Type 0 where
+  pub sorted : run.sort ≡ s
+  pub inside : run.first + run.count ≤ 256
 
 placed-ok : (earlier : List PageRun) (s : PageSort) (first count : ℕ) (run : PageRun)
     → placed earlier (record { sort = s; first = first; count = count }) ≡ Ok run → IsRun s run
@@ -159,7 +188,7 @@ placed-ok earlier s first count run h =
     let both = and_parts (lies_within asked) (list_all (lie_apart asked) earlier) t in
     rw (← e) (record { sorted = refl; inside = leb-true (first + count) 256 both.0 })
 
-run_at-ok : (s : PageSort) (first_key count_key : Key) (earlier : List PageRun) (table : Members) (run : PageRun)
+pub run_at-ok : (s : PageSort) (first_key count_key : Key) (earlier : List PageRun) (table : Members) (run : PageRun)
     → run_at s first_key count_key earlier table ≡ Ok run → IsRun s run
 run_at-ok s first_key count_key earlier table run h =
     bind-ok (IsRun s run) (usually first_key 0 (number_in 0 255) table) _ run h (λ first at_first h.
@@ -167,9 +196,10 @@ run_at-ok s first_key count_key earlier table run h =
     placed-ok earlier s first count run
     (at_key-ok count_key (placed earlier (record { sort = s; first = first; count = count })) run h)))
 
-smi-whole : (rom ram void : PageRun) (wired : Bool) (bytes : List ℕ) → IsRun sort.Rom rom → IsRun sort.Ram ram → IsRun sort.Void void
-    → length bytes ≡ 256 * rom.count → IsWhole (Smi (pages_of (rom ∷ ram ∷ void ∷ [])) bytes wired)
-smi-whole rom ram void wired bytes of_rom of_ram of_void size =
+smi-whole : (rom ram void : PageRun) (wired : Bool) (bytes : List ℕ) (source : Option (List ℕ)) → IsRun sort.Rom rom → IsRun sort.Ram ram
+    → IsRun sort.Void void → length bytes ≡ 256 * rom.count → ((name : List ℕ) → source ≡ Some name → 1 ≤ 256 * rom.count)
+    → IsPlannedChip (planned_chip (record { spec = Smi (pages_of (rom ∷ ram ∷ void ∷ [])) bytes wired; source = named_source (run_room rom) source }))
+smi-whole rom ram void wired bytes source of_rom of_ram of_void size some =
     let sorted : AreSorted rom ram void = record { rom_sort = of_rom.sorted; ram_sort = of_ram.sorted; void_sort = of_void.sorted } in
     record {
       specified = record {
@@ -177,30 +207,33 @@ smi-whole rom ram void wired bytes of_rom of_ram of_void size =
         bytes = size ∙ ap (λ (n : ℕ). 256 * n) (sym (pages_of-rom_count rom ram void sorted of_rom.inside));
       };
       no_blank = refl;
+      has_rom = unfilled-rom (Smi (pages_of (rom ∷ ram ∷ void ∷ [])) bytes wired) (run_room rom) (256 * rom.count) source size
+          (λ name at_name. let page = some name at_name in omega (arith, page));
     }
 
-smi_of-whole : (table : Members) (chip : DescribedChip) → smi_of table ≡ Ok chip → IsWhole chip.spec
+smi_of-whole : (table : Members) (chip : DescribedChip) → smi_of table ≡ Ok chip → IsPlannedChip (planned_chip chip)
 unfolding smi_of
 smi_of-whole table chip h =
-    bind-ok (IsWhole chip.spec) (run_at sort.Rom RomPage RomPages [] table) _ chip h (λ rom at_rom h.
-    bind-ok (IsWhole chip.spec) (run_at sort.Ram RamPage RamPages (rom ∷ []) table) _ chip h (λ ram at_ram h.
-    bind-ok (IsWhole chip.spec) (run_at sort.Void VoidPage VoidPages (rom ∷ ram ∷ []) table) _ chip h (λ void at_void h.
-    bind-ok (IsWhole chip.spec) (wired_of table) _ chip h (λ wired at_wired h.
-    bind-ok (IsWhole chip.spec) (rom_of (256 * rom.count) table) _ chip h (λ bytes at_bytes h.
-    bind-ok (IsWhole chip.spec) (source_of (256 * rom.count) table) _ chip h (λ source at_source h.
-    let e : Smi (pages_of (rom ∷ ram ∷ void ∷ [])) bytes wired ≡ chip.spec = cc h in
-    rw (← e) (smi-whole rom ram void wired bytes (run_at-ok sort.Rom RomPage RomPages [] table rom at_rom)
+    bind-ok (IsPlannedChip (planned_chip chip)) (run_at sort.Rom RomPage RomPages [] table) _ chip h (λ rom at_rom h.
+    bind-ok (IsPlannedChip (planned_chip chip)) (run_at sort.Ram RamPage RamPages (rom ∷ []) table) _ chip h (λ ram at_ram h.
+    bind-ok (IsPlannedChip (planned_chip chip)) (run_at sort.Void VoidPage VoidPages (rom ∷ ram ∷ []) table) _ chip h (λ void at_void h.
+    bind-ok (IsPlannedChip (planned_chip chip)) (wired_of table) _ chip h (λ wired at_wired h.
+    bind-ok (IsPlannedChip (planned_chip chip)) (rom_of (256 * rom.count) table) _ chip h (λ bytes at_bytes h.
+    bind-ok (IsPlannedChip (planned_chip chip)) (source_of (256 * rom.count) table) _ chip h (λ source at_source h.
+    let e : record { spec = Smi (pages_of (rom ∷ ram ∷ void ∷ [])) bytes wired; source = named_source (run_room rom) source } ≡ chip = cc h in
+    rw (← e) (smi-whole rom ram void wired bytes source (run_at-ok sort.Rom RomPage RomPages [] table rom at_rom)
     (run_at-ok sort.Ram RamPage RamPages (rom ∷ []) table ram at_ram) (run_at-ok sort.Void VoidPage VoidPages (rom ∷ ram ∷ []) table void at_void)
-    (rom_of-length (256 * rom.count) table bytes at_bytes))))))))
+    (rom_of-length (256 * rom.count) table bytes at_bytes)
+    (λ name at_name. source_of-some (256 * rom.count) table name (at_source ∙ ap Ok at_name)))))))))
 
 -- ---- either
 
-either-whole : (k : ChipKind) (table : Members) (chip : DescribedChip) → chip_of_kind k table ≡ Ok chip → IsWhole chip.spec
+either-whole : (k : ChipKind) (table : Members) (chip : DescribedChip) → chip_of_kind k table ≡ Ok chip → IsPlannedChip (planned_chip chip)
 either-whole kind.Psu table chip h = psu_of-whole table chip h
 either-whole kind.Smi table chip h = smi_of-whole table chip h
 
-pub chip_of-whole : (table : Members) (chip : DescribedChip) → chip_of table ≡ Ok chip → IsWhole chip.spec
+pub chip_of-whole : (table : Members) (chip : DescribedChip) → chip_of table ≡ Ok chip → IsPlannedChip (planned_chip chip)
 unfolding chip_of
 chip_of-whole table chip h =
-    bind-ok (IsWhole chip.spec) (needed Kind kind_in table) _ chip h (λ k at_kind h.
-    bind-ok (IsWhole chip.spec) (known (chip_keys k) table) _ chip h (λ _ knows h. either-whole k table chip h))
+    bind-ok (IsPlannedChip (planned_chip chip)) (needed Kind kind_in table) _ chip h (λ k at_kind h.
+    bind-ok (IsPlannedChip (planned_chip chip)) (known (chip_keys k) table) _ chip h (λ _ knows h. either-whole k table chip h))

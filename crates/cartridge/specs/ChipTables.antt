@@ -1,10 +1,11 @@
 -- The table of a chip: its kind first, then unknown keys, then each key in turn. The boundaries of a 3851 are those of the Mostek 3851
 -- data sheet; the keys, the pages of a 3853 and the order of faults are this project's own.
-use Rattle.std.specs.Prelude.{ℕ, ◌*◌, Bool, false, if◌then◌else◌, List, [], ◌∷◌, Option, None, is_some, ◌||◌, Result, Ok, Err}
+use Rattle.std.specs.Prelude.{ℕ, ◌*◌, Bool, false, if◌then◌else◌, List, [], ◌∷◌, Option, None, is_some, option_map, ◌||◌, Result, Ok, Err}
 use Rattle.toml.specs.Data.{Members}
 use Rattle.f8_spec.specs.declared.chips.ChipKind.{ChipKind}
 use Rattle.f8_spec.specs.declared.chips.ChipKind.TheVariants as kind
 use Rattle.f8_spec.specs.declared.chips.PageSort.TheVariants as sort
+use Rattle.f8_asm.specs.declared.answers.Room.{Room}
 use Rattle.chip_face.specs.declared.specification.ChipSpec.{ChipSpec}
 use Rattle.chip_face.specs.declared.specification.ChipSpec.TheVariants.{Psu, Smi}
 use Rattle.cartridge.specs.declared.keys.Key.TheVariants.{Kind, Base, Ports, Vector, RomPage, RomPages, RamPage, RamPages, VoidPage, VoidPages, Interrupt, Rom, Source}
@@ -13,12 +14,18 @@ use Rattle.cartridge.specs.declared.refusal.KeyFault.{KeyFault}
 use Rattle.cartridge.specs.Faults.{◌>>=◌}
 use Rattle.cartridge.specs.Keys.{chip_keys, known, value_at}
 use Rattle.cartridge.specs.Pages.{run_at, pages_of}
+use Rattle.cartridge.specs.Rooms.{psu_room, run_room}
 use Rattle.cartridge.specs.Values.{needed, usually, number_in, multiple_in, truth, kind_in, rom_in, source_in, filled}
 
--- a chip with the bytes that its digits give, and the name of its source, where it has one
+-- where the bytes of a ROM come from: the name of an assembly file, and the addresses that its image may have
+pub record DescribedSource : Type 0 where
+  pub name : List ℕ
+  pub room : Room
+
+-- a chip with the bytes that its digits give, and its source, where it has one
 pub record DescribedChip : Type 0 where
   pub spec : ChipSpec
-  pub source : Option (List ℕ)
+  pub source : Option DescribedSource
 
 -- ---- what every kind has
 
@@ -38,6 +45,10 @@ mask_of room table =
     if is_some (value_at Rom table) || is_some (value_at Source table) then rom_of room table
     else Err (record { key = Rom; cause = Missing })
 
+-- the source with this name, whose image may have these addresses
+abbrev pub named_source : Room → Option (List ℕ) → Option DescribedSource
+named_source room source = option_map (λ name. record { name = name; room = room }) source
+
 -- ---- each kind
 
 unfoldable pub psu_of : Members → Result DescribedChip KeyFault
@@ -48,7 +59,7 @@ psu_of table =
     wired_of table >>= λ wired.
     mask_of 1024 table >>= λ rom.
     source_of 1024 table >>= λ source.
-    Ok (record { spec = Psu base rom ports vector wired; source = source })
+    Ok (record { spec = Psu base rom ports vector wired; source = named_source (psu_room base) source })
 
 unfoldable pub smi_of : Members → Result DescribedChip KeyFault
 smi_of table =
@@ -58,7 +69,7 @@ smi_of table =
     wired_of table >>= λ wired.
     rom_of (256 * rom.count) table >>= λ bytes.
     source_of (256 * rom.count) table >>= λ source.
-    Ok (record { spec = Smi (pages_of (rom ∷ ram ∷ void ∷ [])) bytes wired; source = source })
+    Ok (record { spec = Smi (pages_of (rom ∷ ram ∷ void ∷ [])) bytes wired; source = named_source (run_room rom) source })
 
 abbrev pub chip_of_kind : ChipKind → Members → Result DescribedChip KeyFault
 chip_of_kind kind.Psu table = psu_of table

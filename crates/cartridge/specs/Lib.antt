@@ -2,7 +2,10 @@ pub mod Faults
 pub mod Keys
 pub mod Values
 pub mod Pages
+pub mod Rooms
 pub mod ChipTables
 pub mod Description
+pub mod Filling
+pub mod Carts
 pub mod Plans
 pub mod Splits

@@ -1,5 +1,5 @@
 -- What the program holds of a description, beside what the description says.
-use Rattle.std.specs.Prelude.{ℕ, List, String, map, slice_get, Option, option_map, option_and_then, string_bytes}
+use Rattle.std.specs.Prelude.{ℕ, List, [], ◌∷◌, String, map, Option, option_map, string_bytes}
 use Rattle.std.specs.Borrow.{Bor}
 use Rattle.std.specs.BTreeMap.{BTreeMap}
 use Rattle.std.specs.declared.alloc.Global.{Global}
@@ -8,13 +8,19 @@ use Rattle.toml.specs.View.{table_view}
 use Rattle.toml.specs.declared.value.Value.{Value}
 use Rattle.chip_face.specs.declared.specification.ChipSpec.{ChipSpec}
 use Rattle.cartridge.specs.declared.chip_table.ChipPlan.{ChipPlan}
+use Rattle.cartridge.specs.declared.rom_source.ChipSource.{ChipSource}
+use Rattle.cartridge.specs.declared.rom_source.SourceRom.{SourceRom}
 use Rattle.cartridge.specs.declared.description.Top.{Top}
 use Rattle.cartridge.specs.declared.description.Described.{Described}
 use Rattle.cartridge.specs.Description.{Top as DescribedTop, Described as DescribedCart}
-use Rattle.cartridge.specs.ChipTables.{DescribedChip}
+use Rattle.cartridge.specs.ChipTables.{DescribedChip, DescribedSource}
+use Rattle.cartridge.specs.Filling.{PlannedChip, PlannedSource}
+
+abbrev pub seen_source : ChipSource → DescribedSource
+seen_source source = record { name = string_bytes source.name; room = source.room }
 
 abbrev pub seen_chip : ChipPlan → DescribedChip
-seen_chip chip = record { spec = chip.spec; source = option_map string_bytes chip.source }
+seen_chip chip = record { spec = chip.spec; source = option_map seen_source chip.source }
 
 abbrev pub seen_table : Bor (BTreeMap (String Global) Value) → Members
 seen_table table = table_view table.now
@@ -28,9 +34,11 @@ seen_cart cart = record { split = cart.split; chips = map seen_chip cart.chips.i
 abbrev pub str_seen : Bor (List ℕ) → List ℕ
 str_seen name = name.now
 
--- the name of a chip's source, where the chip is there and has one
-abbrev pub source_at : DescribedCart → ℕ → Option (List ℕ)
-source_at cart chip = option_and_then (λ c. c.source) (slice_get cart.chips chip)
+abbrev pub seen_rom : SourceRom → PlannedSource
+seen_rom rom = record { source = seen_source rom.source; bytes = rom.bytes.items; filled = rom.filled }
 
-abbrev pub spec_of : DescribedChip → ChipSpec
-spec_of chip = chip.spec
+-- the chips of a plan: specifications, and beside each the bytes of its source
+abbrev pub seen_chips : List ChipSpec → List (Option SourceRom) → List PlannedChip
+seen_chips [] roms = []
+seen_chips (spec ∷ specs) [] = []
+seen_chips (spec ∷ specs) (rom ∷ roms) = record { spec = spec; source = option_map seen_rom rom } ∷ seen_chips specs roms

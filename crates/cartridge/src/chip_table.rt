@@ -1,16 +1,20 @@
 // The table of a chip.
+ghost use Rattle.std.specs.Prelude.{◌≡◌, ◌≤◌, option_map, string_bytes};
 ghost use Rattle.toml.specs.View.{table_view};
 ghost use Rattle.cartridge.specs.Faults.{SaysOfTable};
-ghost use Rattle.cartridge.specs.ChipTables.{psu_of as psu_told, smi_of as smi_told, chip_of as chip_told};
-ghost use Rattle.cartridge.specs.Plans.{seen_chip};
+ghost use Rattle.cartridge.specs.ChipTables.{psu_of as psu_told, smi_of as smi_told, chip_of as chip_told, named_source as source_told};
+ghost use Rattle.cartridge.specs.Rooms.{psu_room as room_told};
+ghost use Rattle.cartridge.specs.Plans.{seen_chip, seen_source};
 
 use super::content::{mask_at, rom_at, source_at};
 use super::keys::Key;
 use super::known::known;
 use super::page_run::{pages_of, run_at};
 use super::refusal::TableStop;
+use super::rom_source::ChipSource;
 use super::values::{kind_at, multiple_at, number_at, truth_at};
 use chip_face::{ChipKind, ChipSpec, PageSort};
+use f8_asm::Room;
 use std::alloc::Global;
 use toml::Table;
 
@@ -20,11 +24,30 @@ const PSU_BYTES: usize = 1024;
 /// The bytes of a page.
 const PAGE_BYTES: usize = 256;
 
-/// A chip with the bytes that its digits give, and the name of its source, where it has one.
+/// A chip with the bytes that its digits give, and its source, where it has one.
 #[derive(Debug, Drop)]
 pub struct ChipPlan {
     pub spec: ChipSpec,
-    pub source: Option<String>,
+    pub source: Option<ChipSource>,
+}
+
+/// The source with a name, whose image may have these addresses.
+fn named_source(room: Room, name: Option<String>) -> Option<ChipSource>
+    ensures { option_map seen_source result ≡ source_told room (option_map string_bytes name) }
+{
+    let name = name?;
+    Some(ChipSource { name, room })
+}
+
+/// The addresses of a 3851.
+fn psu_room(base: u16) -> Room
+    requires { base ≤ 64512 }
+    ensures { result ≡ room_told base }
+{
+    Room {
+        first: base,
+        last: base + 1023,
+    }
 }
 
 /// A 3851.
@@ -37,7 +60,8 @@ fn psu_of(alloc: Global, table: &Table) -> Result<ChipPlan, TableStop>
     let vector = number_at(table, Key::Vector, 65_535)?;
     let wired = truth_at(table, Key::Interrupt)?;
     let rom = mask_at(alloc, table, PSU_BYTES)?;
-    let source = source_at(alloc, table, PSU_BYTES)?;
+    let name = source_at(alloc, table, PSU_BYTES)?;
+    let source = named_source(psu_room(base), name);
     let spec = ChipSpec::Psu {
         base,
         rom,
@@ -63,9 +87,10 @@ fn smi_of(alloc: Global, table: &Table) -> Result<ChipPlan, TableStop>
         &[rom, ram],
     )?;
     let wired = truth_at(table, Key::Interrupt)?;
-    let room = PAGE_BYTES * usize::from(rom.count);
-    let bytes = rom_at(alloc, table, room)?;
-    let source = source_at(alloc, table, room)?;
+    let size = PAGE_BYTES * usize::from(rom.count);
+    let bytes = rom_at(alloc, table, size)?;
+    let name = source_at(alloc, table, size)?;
+    let source = named_source(rom.room(), name);
     let spec = ChipSpec::Smi {
         pages: pages_of(alloc, &[rom, ram, void])?,
         rom: bytes,

@@ -6,15 +6,18 @@ mod chip_table;
 mod content;
 mod description;
 mod entries;
+mod finish;
 mod keys;
 mod known;
 mod page_run;
 mod plan;
 mod refusal;
+mod rom_source;
 mod split;
 mod values;
 
 pub use f8_spec::Memory;
+pub use finish::{Cart, Unfilled};
 pub use keys::Key;
 pub use plan::{Plan, read_cart};
 pub use refusal::{CartAnswer, CartCause, CartFault};

@@ -1,12 +1,14 @@
-ghost use Rattle.std.specs.Prelude.{◌≡◌, IfOk};
+ghost use Rattle.std.specs.Prelude.{◌≡◌, ◌+◌, ◌≤◌, IfOk};
 ghost use Rattle.std.specs.List.{list_all};
 ghost use Rattle.toml.specs.View.{table_view};
 ghost use Rattle.cartridge.specs.Pages.{lies_within as within, lies_before as before, lie_apart as apart, placed as placed_after, run_at as run_told, has_page as includes, page_at as found_at, pages_of as all_pages};
+ghost use Rattle.cartridge.specs.Rooms.{run_room};
 
 use super::keys::Key;
 use super::refusal::{CartCause, KeyFault};
 use super::values::number_at;
 use chip_face::{Page, PageList, PageSort};
+use f8_asm::Room;
 use std::alloc::{AllocError, Global};
 use toml::Table;
 
@@ -55,6 +57,18 @@ impl PageRun {
             Ok(self)
         } else {
             Err(CartCause::Boundary)
+        }
+    }
+
+    /// The addresses of a run that has a page, 256 for each page.
+    pub fn room(self) -> Room
+        requires { self.first + self.count ≤ 256 }
+        ensures { result ≡ run_room self }
+    {
+        let end = 256 * (u32::from(self.first) + u32::from(self.count));
+        Room {
+            first: 256 * u16::from(self.first),
+            last: end.saturating_sub(1) as u16,
         }
     }
 

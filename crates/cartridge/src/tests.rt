@@ -1,4 +1,6 @@
 use super::*;
+use chip_face::ChipSpec;
+use f8_asm::{Room, assemble};
 use std::alloc::Global;
 use std::test::Fail;
 
@@ -91,20 +93,109 @@ fn sixteen_chips_are_the_most(rt: HostRuntime) -> Result<(), Fail> {
     Ok(())
 }
 
+/// The plan of two chips with sources, and a third without.
+fn plan_with_sources(alloc: Global) -> Result<Plan, Fail> {
+    let psu = "[[chip]]\nkind = '3851'\nbase = 0x400\nports = 4\nsource = 'one.asm'\n";
+    let smi = "[[chip]]\nkind = '3853'\nrom_page = 0x28\nrom_pages = 2\nsource = 'two.asm'\n";
+    let ram = "[[chip]]\nkind = '3853'\nram_page = 0x30\nram_pages = 8\n";
+    let mut text = String::new(alloc);
+    write!(text, "format = 1\nsplit = [9]\n{psu}{smi}{ram}")?;
+    let table = toml::table_from_str(alloc, text.as_str())?;
+    let plan = read_cart(alloc, &table)?;
+    Ok(plan)
+}
+
+/// Longer texts are not tried here.
+const LIMIT: usize = 1_000;
+
+/// Puts the image of a text into a chip.
+#[tactic(auto, using(crate::proofs::ImageRooms::room_for_image))]
+fn put(alloc: Global, plan: &mut Plan, chip: u8, text: &str) -> Result<(), Fail> {
+    if text.len() > LIMIT {
+        return Ok(());
+    }
+    let Some(room) = plan.room(chip) else {
+        return Ok(());
+    };
+    let image = assemble(alloc, text.as_bytes(), room)?;
+    plan.fill(chip, &image);
+    Ok(())
+}
+
+/// A byte of a chip's ROM.
+fn byte_at(cart: &Cart, chip: usize, place: usize) -> Option<u8> {
+    match cart.chips.as_slice().get(chip)? {
+        ChipSpec::Blank(_) => None,
+        ChipSpec::Psu { rom, .. } => rom.get(place),
+        ChipSpec::Smi { rom, .. } => rom.get(place),
+    }
+}
+
 #[test]
-fn plans_name_their_sources(rt: HostRuntime) -> Result<(), Fail> {
-    let psu = "[[chip]]\nkind = '3851'\nbase = 0\nports = 4\nsource = 'one.asm'\n";
-    let smi = "[[chip]]\nkind = '3853'\nram_page = 0x28\nram_pages = 8\n";
-    let mut text = String::new(rt.alloc());
-    write!(text, "format = 1\nsplit = [9]\n{psu}{smi}")?;
-    let table = toml::table_from_str(rt.alloc(), text.as_str())?;
-    match read_cart(rt.alloc(), &table) {
-        Ok(plan) => {
-            assert_eq!(rt; plan.source(0), Some("one.asm"));
-            assert_eq!(rt; plan.source(1), None);
-            assert_eq!(rt; plan.source(2), None);
+fn plans_have_sources_and_rooms(rt: HostRuntime) -> Result<(), Fail> {
+    let plan = plan_with_sources(rt.alloc())?;
+    let psu = Room {
+        first: 0x400,
+        last: 0x7FF,
+    };
+    let smi = Room {
+        first: 0x2800,
+        last: 0x29FF,
+    };
+    for (chip, source, room) in [
+        (0, Some("one.asm"), Some(psu)),
+        (1, Some("two.asm"), Some(smi)),
+        (2, None, None),
+        (3, None, None),
+    ] {
+        assert_eq!(rt; plan.source(chip), source, "{chip}");
+        assert_eq!(rt; plan.room(chip), room, "{chip}");
+    }
+    Ok(())
+}
+
+#[test]
+fn images_are_put_into_chips(rt: HostRuntime) -> Result<(), Fail> {
+    let mut plan = plan_with_sources(rt.alloc())?;
+    put(rt.alloc(), &mut plan, 0, " ORG $0402\n DB $71,2")?;
+    put(rt.alloc(), &mut plan, 1, " ORG $2900\n DB 5")?;
+    put(rt.alloc(), &mut plan, 0, " ORG $0403\n DB 3")?;
+    match plan.cart() {
+        Ok(cart) => {
+            assert_eq!(rt; cart.split.as_slice(), [9].as_slice());
+            assert_eq!(rt; cart.chips.len(), 3);
+            for (chip, place, want) in [
+                (0, 1, 0xFF),
+                (0, 2, 0x71),
+                (0, 3, 3),
+                (0, 4, 0xFF),
+                (1, 0xFF, 0xFF),
+                (1, 0x100, 5),
+            ] {
+                assert_eq!(rt; byte_at(&cart, chip, place), Some(want), "{chip} {place}");
+            }
         }
         Err(_) => assert!(rt; false),
+    }
+    Ok(())
+}
+
+#[test]
+fn the_lowest_unfilled_chip_is_told(rt: HostRuntime) -> Result<(), Fail> {
+    for (filled, want) in [
+        (2, "the source of chip 0 isn't filled"),
+        (1, "the source of chip 0 isn't filled"),
+        (0, "the source of chip 1 isn't filled"),
+    ] {
+        let mut plan = plan_with_sources(rt.alloc())?;
+        put(rt.alloc(), &mut plan, filled, "")?;
+        match plan.cart() {
+            Ok(_) => assert!(rt; false),
+            Err(unfilled) => {
+                let told = format!(in rt.alloc(); "{unfilled}")?;
+                assert_eq!(rt; told.as_str(), want);
+            }
+        }
     }
     Ok(())
 }
