@@ -1,0 +1,4 @@
+pub mod WorkLaws
+mod TableRead
+mod SourcesFilled
+mod GamesLoaded

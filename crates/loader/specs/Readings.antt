@@ -1,0 +1,91 @@
+-- What is read of the bytes of a file, or why it is refused.
+use Rattle.std.specs.Prelude.{◌≡◌, ℕ, ◌&&◌, ◌==◌, if◌then◌else◌, List, length, Option, Some, None, Result, Ok, Err}
+use Rattle.std.specs.Str.{is_utf8}
+use Rattle.toml.specs.Data.{Members}
+use Rattle.toml.specs.Parse.{parse_document}
+use Rattle.cartridge.specs.declared.refusal.CartFault.{CartFault}
+use Rattle.cartridge.specs.Filling.{Planned, plan_of}
+use Rattle.f8_asm.specs.declared.answers.AsmFault.{AsmFault}
+use Rattle.f8_asm.specs.declared.answers.Room.{Room}
+use Rattle.f8_asm.specs.Image.{Picture, image_of}
+use Rattle.pad_script.specs.declared.answers.ScriptFault.{ScriptFault}
+use Rattle.pad_script.specs.declared.script.End.{End}
+use Rattle.pad_script.specs.declared.script.End.TheVariants.{Frames, Steps}
+use Rattle.pad_script.specs.Reading.{Script, script_of}
+use Rattle.hex_file.specs.DigitText.{HexFault, bytes_of_text}
+use Rattle.hex_file.specs.DigitText as hex
+use Rattle.loader.specs.declared.drives.Drive.{Drive}
+use Rattle.loader.specs.declared.purposes.Purpose.TheVariants.{File}
+use Rattle.loader.specs.declared.refusals.Refusal.{Refusal}
+use Rattle.loader.specs.declared.refusals.Stop.{Stop}
+use Rattle.loader.specs.declared.refusals.Stop.TheVariants.{Refused, Store, Memory}
+use Rattle.loader.specs.declared.refusals.Refusal.TheVariants.{Document, Cart, Assembly, Script as AtScript, Unbuilt, Digits, Long}
+
+-- an answer, as it is seen, is what is read of bytes; want of memory says nothing of them
+abbrev pub Says : {A B : Type 0} → (A → B) → Result A Stop → Result B Refusal → Type 0
+Says seen (Ok x) read = read ≡ Ok (seen x)
+Says seen (Err (Refused refusal)) read = read ≡ Err refusal
+Says seen (Err (Store purpose)) read = ⊥
+Says seen (Err Memory) read = Unit {0}
+
+-- what follows where something was read
+infixl 1 ◌&>=◌
+abbrev pub ◌&>=◌ : {A B : Type 0} → Result A Refusal → (A → Result B Refusal) → Result B Refusal
+Ok x &>= f = f x
+Err refusal &>= f = Err refusal
+
+-- ---- descriptions
+
+abbrev pub table_told : Option Members → Result Members Refusal
+table_told None = Err Document
+table_told (Some table) = Ok table
+
+-- the table of a TOML document, which is UTF-8
+unfoldable pub table_of : List ℕ → Result Members Refusal
+table_of bytes = if is_utf8 bytes then table_told (parse_document bytes) else Err Document
+
+abbrev pub plan_told : Result Planned CartFault → Result Planned Refusal
+plan_told (Ok plan) = Ok plan
+plan_told (Err fault) = Err (Cart fault)
+
+-- the plan of a description
+unfoldable pub description_of : List ℕ → Result Planned Refusal
+description_of bytes = table_of bytes &>= λ table. plan_told (plan_of table)
+
+-- ---- assembly texts
+
+abbrev pub image_told : Option ℕ → Result Picture AsmFault → Result Picture Refusal
+image_told source (Ok picture) = Ok picture
+image_told source (Err fault) = Err (Assembly source fault)
+
+-- the image of an assembly text: that of a chip, or the one file of a command
+unfoldable pub assembled : Option ℕ → Room → List ℕ → Result Picture Refusal
+assembled source room text = image_told source (image_of text room)
+
+-- ---- scripts
+
+abbrev pub ended_by : ℕ → End → Result Drive Refusal
+ended_by power (Steps count) = Ok (record { power = power; count = count })
+ended_by power (Frames count) = Err Unbuilt
+
+-- frames, events and shown frames are not built yet
+abbrev pub drive_of : Script → Result Drive Refusal
+drive_of script = if (length script.events == 0) && (length script.shows == 0) then ended_by script.power script.end else Err Unbuilt
+
+abbrev pub script_told : Result Script ScriptFault → Result Script Refusal
+script_told (Ok script) = Ok script
+script_told (Err fault) = Err (AtScript fault)
+
+unfoldable pub drive_in : List ℕ → Result Drive Refusal
+drive_in text = script_told (script_of text) &>= drive_of
+
+-- ---- digits
+
+abbrev pub bytes_told : Result (List ℕ) HexFault → Result (List ℕ) Refusal
+bytes_told (Ok bytes) = Ok bytes
+bytes_told (Err hex.Digits) = Err Digits
+bytes_told (Err hex.Long) = Err (Long File)
+
+-- the bytes of a file of digits
+unfoldable pub bytes_in : List ℕ → Result (List ℕ) Refusal
+bytes_in text = bytes_told (bytes_of_text text)

@@ -1,0 +1,6 @@
+-- What the program holds of a run.
+use Rattle.loader.specs.declared.games.Game.{Game}
+use Rattle.loader.specs.Games.{Game as AskedGame}
+
+abbrev pub seen_game : Game → AskedGame
+seen_game game = record { power = game.power; count = game.count; chips = game.chips }

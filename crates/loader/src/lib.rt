@@ -1,0 +1,21 @@
+//! What the program's commands want of their files (this project's own): the files are fetched one after another, each is read before the
+//! next is asked for, and the first that is missing, too long or refused ends it.
+#![tactic(auto)]
+
+mod drives;
+mod fetching;
+mod games;
+mod loading;
+mod purposes;
+mod readings;
+mod refusals;
+mod sources;
+
+pub use f8_spec::Memory;
+pub use games::Game;
+pub use loading::{load_bytes, load_game, load_image};
+pub use purposes::Purpose;
+pub use refusals::{Refusal, Stop};
+
+#[cfg(test)]
+mod tests;

@@ -1,0 +1,100 @@
+// What each command wants of its files.
+ghost use Rattle.std.specs.Prelude.{◌≤◌, IfOk, length};
+ghost use Rattle.loader.specs.Games.{chips_of, drive_by, game_of, image_by, bytes_by};
+ghost use Rattle.loader.specs.Seen.{seen_game};
+ghost use Rattle.loader.specs.Works.{Works, outcome_as};
+
+use super::drives::Drive;
+use super::fetching::fetch;
+use super::games::Game;
+use super::purposes::Purpose;
+use super::readings::{read_bytes, read_description, read_drive, read_image};
+use super::refusals::Stop;
+use super::sources::{ASSEMBLY_LIMIT, load_planned};
+use chip_face::ChipList;
+use f8_asm::{Image, Room};
+use outside::Store;
+use std::alloc::Global;
+
+/// The most bytes of a description and of a script.
+const TEXT_LIMIT: u32 = 65_536;
+
+/// The most bytes of a file of digits.
+const DIGITS_LIMIT: u32 = 262_144;
+
+/// All addresses.
+const EVERYWHERE: Room = Room {
+    first: 0x0000,
+    last: 0xFFFF,
+};
+
+/// The chips of a description, with the images of their sources.
+#[tactic(auto, unfolding(crate::specs::Games::chips_of), using(crate::proofs::GamesLoaded::chips_loaded))]
+fn load_chips<S: Store>(alloc: Global, store: &mut S, cart: &str) -> Result<ChipList, Stop>
+    ensures { Works (S.files store.old) (S.files store.new) (S.faults store.old) (S.faults store.new) (S.fetches store.old) (S.fetches store.new) (chips_of cart.now) (outcome_as (λ chips. chips) result) }
+{
+    let bytes = fetch(alloc, store, Purpose::Cart, cart, TEXT_LIMIT)?;
+    let plan = read_description(alloc, bytes.as_slice())?;
+    load_planned(alloc, store, plan)
+}
+
+/// What a script gives a run.
+#[tactic(auto, unfolding(crate::specs::Games::drive_by))]
+fn load_drive<S: Store>(alloc: Global, store: &mut S, script: &str) -> Result<Drive, Stop>
+    ensures { Works (S.files store.old) (S.files store.new) (S.faults store.old) (S.faults store.new) (S.fetches store.old) (S.fetches store.new) (drive_by script.now) (outcome_as (λ drive. drive) result) }
+{
+    let text = fetch(alloc, store, Purpose::Script, script, TEXT_LIMIT)?;
+    read_drive(alloc, text.as_slice())
+}
+
+/// A run by the names of its description and its script: the description, then the source of each chip that has one, and then the script,
+/// each of them fetched and read before the next. A description and a script have at most 65,536 bytes each, and a source 262,144.
+///
+/// # Errors
+///
+/// `Refused`: the first file that is too long or at fault. `Store`: the store failed at a file. `Memory`: memory is missing; it says nothing
+/// of the files.
+#[tactic(auto, unfolding(crate::specs::Games::game_of), using(crate::proofs::GamesLoaded::game_loaded, crate::proofs::GamesLoaded::game_stops))]
+pub fn load_game<S: Store>(
+    alloc: Global,
+    store: &mut S,
+    cart: &str,
+    script: &str,
+) -> Result<Game, Stop>
+    ensures { Works (S.files store.old) (S.files store.new) (S.faults store.old) (S.faults store.new) (S.fetches store.old) (S.fetches store.new) (game_of cart.now script.now) (outcome_as seen_game result) }
+{
+    let chips = load_chips(alloc, store, cart)?;
+    let drive = load_drive(alloc, store, script)?;
+    Ok(Game {
+        chips,
+        power: drive.power,
+        count: drive.count,
+    })
+}
+
+/// The image of an assembly file, which may have all addresses. The file has at most 262,144 bytes.
+///
+/// # Errors
+///
+/// As those of `load_game`.
+#[tactic(auto, unfolding(crate::specs::Games::image_by))]
+pub fn load_image<S: Store>(alloc: Global, store: &mut S, file: &str) -> Result<Image, Stop>
+    ensures { Works (S.files store.old) (S.files store.new) (S.faults store.old) (S.faults store.new) (S.fetches store.old) (S.fetches store.new) (image_by file.now) (outcome_as (λ image. image) result) }
+{
+    let text = fetch(alloc, store, Purpose::File, file, ASSEMBLY_LIMIT)?;
+    read_image(alloc, None, text.as_slice(), EVERYWHERE)
+}
+
+/// The bytes of a file of hexadecimal digits. The file has at most 262,144 bytes and spells at most 65,536.
+///
+/// # Errors
+///
+/// As those of `load_game`.
+#[tactic(auto, unfolding(crate::specs::Games::bytes_by))]
+pub fn load_bytes<S: Store>(alloc: Global, store: &mut S, file: &str) -> Result<Vec<u8>, Stop>
+    ensures works { Works (S.files store.old) (S.files store.new) (S.faults store.old) (S.faults store.new) (S.fetches store.old) (S.fetches store.new) (bytes_by file.now) (outcome_as (λ bytes. bytes.items) result) }
+    ensures limit { IfOk result (λ bytes. length bytes.items ≤ 65536) }
+{
+    let text = fetch(alloc, store, Purpose::File, file, DIGITS_LIMIT)?;
+    read_bytes(alloc, text.as_slice())
+}

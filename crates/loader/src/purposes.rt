@@ -1,0 +1,12 @@
+/// What a file is for.
+#[derive(Clone, Copy, Debug, PartialEq, Eq)]
+pub enum Purpose {
+    /// The description of a cartridge.
+    Cart,
+    /// The script of a run.
+    Script,
+    /// The one file of a command.
+    File,
+    /// The assembly text of a chip's bytes. Chips are counted from 0, in the order of the description.
+    Source(u8),
+}

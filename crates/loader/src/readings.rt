@@ -1,0 +1,97 @@
+// What is read of the bytes of a file.
+ghost use Rattle.std.specs.Prelude.{◌≡◌, ◌≤◌, IfOk, length};
+ghost use Rattle.toml.specs.View.{table_view};
+ghost use Rattle.cartridge.specs.Filling.{IsPlan};
+ghost use Rattle.cartridge.specs.Rooms.{LiesIn};
+ghost use Rattle.pad_script.specs.Reading.{seen};
+ghost use Rattle.loader.specs.Readings.{Says, bytes_in, drive_of as drive_told, table_of, description_of, assembled, drive_in};
+
+use super::drives::Drive;
+use super::purposes::Purpose;
+use super::refusals::{Refusal, Stop};
+use cartridge::{CartAnswer, Plan, read_cart};
+use f8_asm::{AsmAnswer, Image, Room, assemble};
+use hex_file::{HexAnswer, read_hex};
+use pad_script::{End, Script, ScriptAnswer, read_script};
+use std::alloc::Global;
+use toml::Table;
+
+/// The table of a TOML document.
+#[tactic(auto, using(crate::proofs::TableRead::table_there, crate::proofs::TableRead::no_table))]
+fn read_table(alloc: Global, bytes: &[u8]) -> Result<Table, Stop>
+    ensures { Says (λ table. table_view table) result (table_of bytes.now) }
+{
+    match toml::table_from_slice(alloc, bytes) {
+        Ok(table) => Ok(table),
+        Err(error) if error.is_memory() => Err(Stop::Memory),
+        Err(_) => Err(Stop::Refused(Refusal::Document)),
+    }
+}
+
+/// The plan of a description.
+#[tactic(auto, unfolding(crate::specs::Readings::description_of))]
+pub fn read_description(alloc: Global, bytes: &[u8]) -> Result<Plan, Stop>
+    ensures says { Says (λ plan. plan) result (description_of bytes.now) }
+    ensures whole { IfOk result (λ plan. IsPlan plan.chips) }
+{
+    let table = read_table(alloc, bytes)?;
+    match read_cart(alloc, &table) {
+        Ok(plan) => Ok(plan),
+        Err(CartAnswer::Fault(fault)) => Err(Stop::Refused(Refusal::Cart(fault))),
+        Err(CartAnswer::Memory) => Err(Stop::Memory),
+    }
+}
+
+/// The image of an assembly text, that of a chip's source or the one file of a command, with its bytes in the room.
+#[tactic(auto, unfolding(crate::specs::Readings::assembled), using(cartridge::proofs::ImageRooms::image_lies_in))]
+pub fn read_image(alloc: Global, source: Option<u8>, text: &[u8], room: Room) -> Result<Image, Stop>
+    requires { length text.now ≤ 262144 }
+    ensures says { Says (λ image. image) result (assembled source room text.now) }
+    ensures inside { IfOk result (λ image. LiesIn room image.bytes) }
+{
+    match assemble(alloc, text, room) {
+        Ok(image) => Ok(image),
+        Err(AsmAnswer::Fault(fault)) => Err(Stop::Refused(Refusal::Assembly { source, fault })),
+        Err(AsmAnswer::Memory) => Err(Stop::Memory),
+    }
+}
+
+/// What a script gives a run. Frames, events and shown frames aren't built yet.
+fn drive_of(script: &Script) -> Result<Drive, Refusal>
+    ensures { result ≡ drive_told (seen script.now) }
+{
+    match script.end {
+        End::Steps(count) if script.events.len() == 0 && script.shows.len() == 0 => Ok(Drive {
+            power: script.power,
+            count,
+        }),
+        _ => Err(Refusal::Unbuilt),
+    }
+}
+
+/// What the text of a script gives a run.
+#[tactic(auto, unfolding(crate::specs::Readings::drive_in))]
+pub fn read_drive(alloc: Global, text: &[u8]) -> Result<Drive, Stop>
+    requires { length text.now ≤ 65536 }
+    ensures { Says (λ drive. drive) result (drive_in text.now) }
+{
+    match read_script(alloc, text) {
+        Ok(script) => drive_of(&script).map_err(Stop::Refused),
+        Err(ScriptAnswer::Fault(fault)) => Err(Stop::Refused(Refusal::Script(fault))),
+        Err(ScriptAnswer::Memory) => Err(Stop::Memory),
+    }
+}
+
+/// The bytes of a file of digits.
+#[tactic(auto, unfolding(crate::specs::Readings::bytes_in))]
+pub fn read_bytes(alloc: Global, text: &[u8]) -> Result<Vec<u8>, Stop>
+    ensures says { Says (λ bytes. bytes.items) result (bytes_in text.now) }
+    ensures limit { IfOk result (λ bytes. length bytes.items ≤ 65536) }
+{
+    match read_hex(alloc, text) {
+        Ok(bytes) => Ok(bytes),
+        Err(HexAnswer::Digits) => Err(Stop::Refused(Refusal::Digits)),
+        Err(HexAnswer::Long) => Err(Stop::Refused(Refusal::Long(Purpose::File))),
+        Err(HexAnswer::Memory) => Err(Stop::Memory),
+    }
+}

@@ -1,0 +1,45 @@
+use super::purposes::Purpose;
+use cartridge::CartFault;
+use f8_asm::AsmFault;
+use pad_script::ScriptFault;
+use thiserror::Error;
+
+/// What is wrong with a file that is there.
+#[derive(Clone, Copy, Debug, PartialEq, Eq, Error)]
+pub enum Refusal {
+    /// The description isn't a TOML document.
+    #[error("the description is no TOML document")]
+    Document,
+    /// The description is at fault.
+    #[error("the description is at fault")]
+    Cart(CartFault),
+    /// An assembly text is at fault: that of a chip, or the one file of a command.
+    #[error("the assembly text is at fault")]
+    Assembly { source: Option<u8>, fault: AsmFault },
+    /// The script is at fault.
+    #[error("the script is at fault")]
+    Script(ScriptFault),
+    /// The script asks for what isn't built yet.
+    #[error("the script asks for what isn't built")]
+    Unbuilt,
+    /// The file isn't pairs of hexadecimal digits.
+    #[error("the file is no hexadecimal digits")]
+    Digits,
+    /// The file has more bytes than its limit.
+    #[error("the file is too long")]
+    Long(Purpose),
+}
+
+/// Why a command doesn't get what it wants of its files.
+#[derive(Clone, Copy, Debug, PartialEq, Eq, Error)]
+pub enum Stop {
+    /// A file is refused.
+    #[error("a file is refused")]
+    Refused(Refusal),
+    /// The store failed at a file.
+    #[error("a file could not be read")]
+    Store(Purpose),
+    /// Memory was wanting. It says nothing of the files.
+    #[error("memory was wanting")]
+    Memory,
+}

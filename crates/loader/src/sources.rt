@@ -1,0 +1,81 @@
+// The sources of a description's chips.
+ghost use Rattle.std.specs.Prelude.{◌≡◌, ◌≤◌, ℕ, List, length, IfOk, position, None};
+ghost use Rattle.cartridge.specs.Filling.{filled_plan};
+ghost use Rattle.cartridge.specs.Rooms.{LiesIn};
+ghost use Rattle.cartridge.specs.Carts.{wants_image};
+ghost use Rattle.loader.specs.Games.{image_for, filled_at, filled_up_to, planned_chips};
+ghost use Rattle.loader.specs.Works.{Works, outcome_as};
+
+use super::fetching::fetch;
+use super::purposes::Purpose;
+use super::readings::read_image;
+use super::refusals::Stop;
+use cartridge::Plan;
+use chip_face::ChipList;
+use f8_asm::{Image, Room};
+use outside::Store;
+use std::alloc::Global;
+
+/// The most bytes of an assembly file.
+pub const ASSEMBLY_LIMIT: u32 = 262_144;
+
+/// The most chips of a description.
+const MOST_CHIPS: u8 = 16;
+
+/// The image of a chip's source, in its room.
+#[tactic(auto, unfolding(crate::specs::Games::image_for))]
+fn load_source<S: Store>(
+    alloc: Global,
+    store: &mut S,
+    chip: u8,
+    name: &str,
+    room: Room,
+) -> Result<Image, Stop>
+    ensures works { Works (S.files store.old) (S.files store.new) (S.faults store.old) (S.faults store.new) (S.fetches store.old) (S.fetches store.new) (image_for chip name.now room) (outcome_as (λ image. image) result) }
+    ensures inside { IfOk result (λ image. LiesIn room image.bytes) }
+{
+    let text = fetch(alloc, store, Purpose::Source(chip), name, ASSEMBLY_LIMIT)?;
+    read_image(alloc, Some(chip), text.as_slice(), room)
+}
+
+/// Puts the image of its source into the chip with this number, where the plan has such a chip and it has a source.
+#[tactic(auto, using(crate::proofs::SourcesFilled::filled_none, crate::proofs::SourcesFilled::filled_placeless, crate::proofs::SourcesFilled::same_placeless, crate::proofs::SourcesFilled::filled_some, crate::proofs::SourcesFilled::filled_stop, crate::proofs::SourcesFilled::has_room, crate::proofs::SourcesFilled::same_without))]
+fn fill_at<S: Store>(alloc: Global, store: &mut S, mut plan: Plan, chip: u8) -> Result<Plan, Stop>
+    ensures works { Works (S.files store.old) (S.files store.new) (S.faults store.old) (S.faults store.new) (S.fetches store.old) (S.fetches store.new) (filled_at chip plan) (outcome_as (λ filled. filled) result) }
+    ensures filled { IfOk result (λ filled. (bytes : List (ℕ × ℕ)) × (filled ≡ filled_plan plan chip bytes)) }
+{
+    let Some(name) = plan.source(chip) else {
+        return Ok(plan);
+    };
+    let Some(room) = plan.room(chip) else {
+        return Ok(plan);
+    };
+    let image = load_source(alloc, store, chip, name, room)?;
+    plan.fill(chip, &image);
+    Ok(plan)
+}
+
+/// Puts the image of its source into each chip that has one, the first chip first.
+fn fill_sources<S: Store>(alloc: Global, store: &mut S, mut plan: Plan) -> Result<Plan, Stop>
+    requires { length plan.chips ≤ 16 }
+    ensures works { Works (S.files store.old) (S.files store.new) (S.faults store.old) (S.faults store.new) (S.fetches store.old) (S.fetches store.new) (filled_up_to 16 plan) (outcome_as (λ filled. filled) result) }
+    ensures filled { IfOk result (λ filled. position wants_image filled.chips ≡ None) }
+{
+    for chip in 0..MOST_CHIPS {
+        plan = fill_at(alloc, store, plan, chip)?;
+    }
+    Ok(plan)
+}
+
+/// The chips of a plan, with the images of their sources.
+#[tactic(auto, using(crate::proofs::GamesLoaded::planned_stops, crate::proofs::GamesLoaded::planned_loaded, crate::proofs::GamesLoaded::cart_is, crate::proofs::GamesLoaded::cart_there))]
+pub fn load_planned<S: Store>(alloc: Global, store: &mut S, plan: Plan) -> Result<ChipList, Stop>
+    requires { length plan.chips ≤ 16 }
+    ensures { Works (S.files store.old) (S.files store.new) (S.faults store.old) (S.faults store.new) (S.fetches store.old) (S.fetches store.new) (planned_chips plan) (outcome_as (λ chips. chips) result) }
+{
+    let plan = fill_sources(alloc, store, plan)?;
+    match plan.cart() {
+        Ok(cart) => Ok(cart.chips),
+        Err(_) => unreachable!(),
+    }
+}

@@ -1,0 +1,69 @@
+use super::*;
+use outside::{FileList, NamedFile, SureStore};
+use std::alloc::Global;
+use std::test::Fail;
+
+const FILES: [(&str, &str); 4] = [
+    (
+        "cart",
+        "format = 1\n[[chip]]\nkind = '3851'\nbase = 0x400\nports = 4\nsource = 'code'\n",
+    ),
+    ("code", " ORG $0400\nBYTES: DB 1, 2\n"),
+    ("script", "power 5A\nsteps 7\n"),
+    ("digits", "7 12B\t90\r\nfe"),
+];
+
+fn store(alloc: Global) -> Result<SureStore, Fail> {
+    let mut list = Vec::new(alloc);
+    for (name, text) in FILES {
+        let bytes = Vec::from_slice(alloc, text.as_bytes())?;
+        list.push(NamedFile::new(name.to_string(alloc)?, bytes))?;
+    }
+    match FileList::from_vec(list) {
+        Some(list) => Ok(SureStore::new(list)),
+        None => Err(Fail::from("two files have one name")),
+    }
+}
+
+#[test]
+fn loads_a_game(rt: HostRuntime) -> Result<(), Fail> {
+    let mut store = store(rt.alloc())?;
+    let Ok(game) = load_game(rt.alloc(), &mut store, "cart", "script") else {
+        panic!(rt; "no game");
+    };
+    assert_eq!(rt; game.chips.len(), 1);
+    assert_eq!(rt; game.power, 0x5A);
+    assert_eq!(rt; game.count, 7);
+    Ok(())
+}
+
+#[test]
+fn loads_an_image(rt: HostRuntime) -> Result<(), Fail> {
+    let mut store = store(rt.alloc())?;
+    let Ok(image) = load_image(rt.alloc(), &mut store, "code") else {
+        panic!(rt; "no image");
+    };
+    assert_eq!(rt; image.bytes(), [(0x0400, 1), (0x0401, 2)].as_slice());
+    assert_eq!(rt; image.symbol(0), Some(("BYTES", 0x0400)));
+    Ok(())
+}
+
+#[test]
+fn loads_digits(rt: HostRuntime) -> Result<(), Fail> {
+    let mut store = store(rt.alloc())?;
+    let Ok(bytes) = load_bytes(rt.alloc(), &mut store, "digits") else {
+        panic!(rt; "no bytes");
+    };
+    assert_eq!(rt; bytes.as_slice(), [0x71, 0x2B, 0x90, 0xFE].as_slice());
+    Ok(())
+}
+
+#[test]
+fn refuses_digits_as_a_description(rt: HostRuntime) -> Result<(), Fail> {
+    let mut store = store(rt.alloc())?;
+    let Err(Stop::Refused(refusal)) = load_game(rt.alloc(), &mut store, "digits", "script") else {
+        panic!(rt; "digits are a description");
+    };
+    assert_eq!(rt; refusal, Refusal::Document);
+    Ok(())
+}
