@@ -1,22 +1,24 @@
 -- A game on a rack: its lines after one another, and what its run makes of the chips.
-use Rattle.std.proofs.Common.{◌≡◌, ◌≢◌, ℕ, inl, inr, ◌∷◌, [], List, map, refl, sym, ap, ◌∙◌, subst}
-use Rattle.std.specs.Prelude.{◌⊎◌, Option, Some, None}
+use Rattle.std.proofs.Common.{◌≡◌, ◌≢◌, ℕ, inl, inr, ◌∷◌, ◌++◌, [], List, refl, sym, ap, ◌∙◌, subst}
+use Rattle.std.specs.Prelude.{◌⊎◌, Option}
 use Rattle.f8_spec.specs.ChipState.{ChipView, ChipState}
 use Rattle.console_spec.specs.Processor.{shown}
-use Rattle.console_spec.specs.Run.{Stop, Done, Unserved, Reserved, Unbuilt, Ending as FlatEnding, played, played_record}
-use Rattle.console_spec.specs.RunText.{verdict_line, told_lines, ending_lines, run_lines, text_of}
+use Rattle.console_spec.specs.Run.{Stop, Done, Unserved, Reserved, Unbuilt, Ending as FlatEnding}
+use Rattle.console_spec.specs.RunText.{verdict_line, told_lines, ending_lines, text_of}
 use Rattle.console_spec.specs.declared.Regs.{Regs}
 use Rattle.data_bus.specs.Racks.{views}
 use Rattle.rack_run.specs.Endings.{Tells, Plays as RackPlays, stop_at}
 use Rattle.rack_run.specs.Seating.{seated, fitted_views, RackFits, RackFitsInPart}
-use Rattle.rack_run.proofs.Seats.{stays_in_part}
 use Rattle.rack_run.specs.declared.ending.Ending.{Ending}
-use Rattle.rack_words.specs.CommandLine.{Game, Command, Play, Ref}
-use Rattle.channel_f.specs.Answers.{Answer, Answers, Reports, status_of, game_ending, refusal}
-use Rattle.channel_f.specs.RackAfter.{RanOn, FailedBefore, FailedAfter, OnFitted, PlayedOn, Plays, PlaysUnless, RackAfter}
+use Rattle.loader.specs.Games.{Game}
+use Rattle.channel_f.specs.Answers.{Answer, status_of, game_ending}
+use Rattle.channel_f.specs.Reports.{Answers, Reports}
+use Rattle.channel_f.specs.RackAfter.{RanOn, OnFitted, Plays}
 use Rattle.outside.specs.Counts.{Rose}
 use Rattle.outside.specs.SinkRules.{Adds, AddsPart}
-use Rattle.channel_f.proofs.SinkLaws.{adds_none, adds_then, adds_part_behind, adds_part_first, text_of-cons}
+use Rattle.outside.proofs.SinkLaws.{adds_none, adds_then, adds_part_behind, adds_part_first}
+use Rattle.report.proofs.TextLaws.{text_of-nil, text_of-cons}
+use Rattle.std.proofs.lemmas.List.{append-nil}
 
 -- ---- lines and statuses
 
@@ -126,12 +128,25 @@ plays_fitted a b said game rack fitted news fits same six on = record {
 pub plays_wanting : (a b : Option (List ℕ)) (game : Game) (rack news : List ChipState) → RackFitsInPart (seated game.chips rack) rack news → Plays a b 6 game rack news
 plays_wanting a b game rack news partly = record { wanting = λ e. partly; played = λ six. absurd (six refl) }
 
--- memory was wanting before the rack was looked at
-untouched_unless : (refused a b : Option (List ℕ)) (game : Game) (rack : List ChipState) → PlaysUnless refused a b 6 game rack rack
-untouched_unless (Some line) a b game rack = refl
-untouched_unless None a b game rack = plays_wanting a b game rack rack (stays_in_part (seated game.chips rack) 0 rack)
+-- ---- a text as one line
 
-pub rack_untouched : (a b : Option (List ℕ)) (asked : Option Command) (rack : List ChipState) → RackAfter a b 6 asked rack rack
-rack_untouched a b None rack = refl
-rack_untouched a b (Some (Play game)) rack = untouched_unless (refusal game rack) a b game rack
-rack_untouched a b (Some (Ref game)) rack = refl
+text_of-one : (text : List ℕ) → text_of (text ∷ []) ≡ text
+text_of-one text = text_of-cons text [] ∙ ap (λ (rest : List ℕ). text ++ rest) text_of-nil ∙ append-nil text
+
+pub reports_text : (a b : Option (List ℕ)) (before now due : ℕ) (text : List ℕ) → due ≢ 5 → Adds a b text → now ≡ before → Reports a b before now due due (text ∷ [])
+reports_text a b before now due text other adds count = record {
+  which = inl refl;
+  whole = λ five. rw (text_of-one text) adds;
+  part = λ five. absurd (other five);
+  fault = λ five. absurd (other five);
+  count = λ five. count;
+}
+
+pub reports_text_part : (a b : Option (List ℕ)) (before now due : ℕ) (text : List ℕ) → AddsPart a b text → Rose before now → Reports a b before now 5 due (text ∷ [])
+reports_text_part a b before now due text part rose = record {
+  which = inr refl;
+  whole = λ five. absurd (five refl);
+  part = λ five. rw (text_of-one text) part;
+  fault = λ five. rose;
+  count = λ five. absurd (five refl);
+}

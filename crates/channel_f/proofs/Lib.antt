@@ -1,2 +1,4 @@
-pub mod SinkLaws
+mod KeyWords
 pub mod Games
+mod Outcomes
+mod Completeness

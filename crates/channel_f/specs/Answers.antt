@@ -1,44 +1,38 @@
--- What the program answers: its lines and its status, and what a call of its top function says of both.
-use Rattle.std.specs.Prelude.{◌≡◌, ◌≢◌, ℕ, nat_lt, if◌then◌else◌, ◌⊎◌, List, [], ◌∷◌, ◌++◌, length, codes, decimal, Option, Some, None, option_map}
+-- What the program answers: its lines and its status.
+use Rattle.std.specs.Prelude.{ℕ, nat_lt, if◌then◌else◌, List, [], ◌∷◌, length, Option, Some, None, option_map}
 use Rattle.f8_spec.specs.ChipState.{ChipView, ChipState}
-use Rattle.f8_spec.specs.declared.chips.ChipKind.{ChipKind}
-use Rattle.f8_spec.specs.declared.chips.ChipKind.TheVariants.{Psu, Smi}
 use Rattle.console_spec.specs.Run.{Stop, Done, Unserved, Reserved, Unbuilt, Ending, played, referred}
-use Rattle.console_spec.specs.RunText.{run_lines, ending_lines, text_of}
+use Rattle.console_spec.specs.RunText.{run_lines, ending_lines}
 use Rattle.memory_map.specs.MapOf.{views_of}
 use Rattle.rack_run.specs.Seating.{kinds_of, fitted_views}
 use Rattle.rack_run.specs.Sockets.{shortage_of}
 use Rattle.rack_run.specs.declared.sockets.Shortage.{Shortage}
-use Rattle.rack_words.specs.CommandLine.{Game, Command, Play, Ref, asked_for}
-use Rattle.outside.specs.Counts.{Rose}
-use Rattle.outside.specs.SinkRules.{Adds, AddsPart}
+use Rattle.report.specs.RefusalLines.{words_line, rack_line, sockets_line}
+use Rattle.f8_asm.specs.Image.{Picture}
+use Rattle.f8_asm.specs.Listing.{listing}
+use Rattle.asm_lines.specs.ImageLines.{image_lines}
+use Rattle.command_line.specs.CommandLine.{Command, Play, Ref, Asm, Dis}
+use Rattle.loader.specs.declared.purposes.Purpose.{Purpose}
+use Rattle.loader.specs.declared.refusals.Refusal.{Refusal}
+use Rattle.loader.specs.Games.{Game, game_of, image_by, bytes_by}
+use Rattle.loader.specs.Work.{Work, gives, ◌>>=◌}
+use Rattle.channel_f.specs.Refusals.{refusal_line, missing_line}
 
 -- the lines that are due, and the status
 pub record Answer : Type 0 where
   pub status : ℕ
   pub lines : List (List ℕ)
 
--- ---- refusals
+-- ---- racks
 
-unfoldable pub words_line : List ℕ
-words_line = codes "error words\n"
-
--- the rack has more chips than 16
-unfoldable pub rack_line : ℕ → List ℕ
-rack_line count = codes "error rack " ++ decimal count ++ codes "\n"
-
-abbrev pub kind_text : ChipKind → List ℕ
-kind_text Psu = codes "3851"
-kind_text Smi = codes "3853"
-
--- the rack has too few sockets of a kind
-unfoldable pub sockets_line : Shortage → List ℕ
-sockets_line s = codes "error sockets " ++ kind_text s.kind ++ codes " need " ++ decimal s.need ++ codes " have " ++ decimal s.have ++ codes "\n"
+-- the line of a kind that lacks sockets
+abbrev pub shortage_line : Shortage → List ℕ
+shortage_line s = sockets_line s.kind s.need s.have
 
 -- the line of why a game is not begun on a rack, if it is not
 unfoldable pub refusal : Game → List ChipState → Option (List ℕ)
 refusal game rack =
-    if nat_lt 16 (length rack) then Some (rack_line (length rack)) else option_map sockets_line (shortage_of game.chips (kinds_of rack))
+    if nat_lt 16 (length rack) then Some (rack_line (length rack)) else option_map shortage_line (shortage_of game.chips (kinds_of rack))
 
 -- ---- runs
 
@@ -68,41 +62,35 @@ abbrev pub unless_refused : Option (List ℕ) → Answer → Answer
 unless_refused (Some line) due = record { status = 2; lines = line ∷ [] }
 unless_refused None due = due
 
--- Words that ask for nothing are refused, with the status 1. A game that the rack has no place for is refused with 2.
-abbrev pub answer_to : List ChipState → Option Command → Answer
-answer_to rack None = record { status = 1; lines = words_line ∷ [] }
-answer_to rack (Some (Play game)) = unless_refused (refusal game rack) (run_answer run_lines (play_ending game rack))
-answer_to rack (Some (Ref game)) = run_answer ending_lines (ref_ending game)
+-- a game that the rack has no place for is refused
+abbrev pub play_answer : List ChipState → Game → Answer
+play_answer rack game = unless_refused (refusal game rack) (run_answer run_lines (play_ending game rack))
 
--- what is due for some words
-abbrev pub answer : List ChipState → List (List ℕ) → Answer
-answer rack words = answer_to rack (asked_for words)
+abbrev pub ref_answer : Game → Answer
+ref_answer game = run_answer ending_lines (ref_ending game)
 
--- ---- what a call says
+abbrev pub asm_answer : Picture → Answer
+asm_answer picture = record { status = 0; lines = image_lines picture }
 
--- What a call that writes lines and ends with a status says: what the sink was given, old and new, and its count of faults, before and
--- after, beside the status and the lines that are due.
-pub record Reports (old new : Option (List ℕ)) (before now : ℕ) (said : ℕ) (due : ℕ) (lines : List (List ℕ)) : Type 0 where
-  -- the status is the one that is due, but 5 where the sink failed
-  pub which : (said ≡ due) ⊎ (said ≡ 5)
-  -- the sink was given all the lines and nothing else
-  pub whole : said ≢ 5 → Adds old new (text_of lines)
-  -- where the sink failed, its count rose, and it was given a first part of the lines
-  pub part : said ≡ 5 → AddsPart old new (text_of lines)
-  pub fault : said ≡ 5 → Rose before now
-  -- where it did not fail, the count stays
-  pub count : said ≢ 5 → now ≡ before
+-- the lines of the text of some bytes, in one
+abbrev pub dis_answer : List ℕ → Answer
+dis_answer bytes = record { status = 0; lines = listing bytes ∷ [] }
 
--- What a whole call says, where memory may be wanting.
-pub record Answers (old new : Option (List ℕ)) (before now : ℕ) (said : ℕ) (due : Answer) : Type 0 where
-  -- the status is the one that is due, but 5 where the sink failed, and 6 where memory was wanting
-  pub which : (said ≡ due.status) ⊎ (said ≡ 5) ⊎ (said ≡ 6)
-  -- the sink was given the lines that are due, all of them and nothing else
-  pub whole : said ≢ 5 → said ≢ 6 → Adds old new (text_of due.lines)
-  -- where the sink failed, its count rose, and it was given a first part of those lines
-  pub part : said ≡ 5 → AddsPart old new (text_of due.lines)
-  pub fault : said ≡ 5 → Rose before now
-  -- where it did not fail, the count stays
-  pub count : said ≢ 5 → now ≡ before
-  -- where memory was wanting, nothing was written
-  pub nothing : said ≡ 6 → Adds old new []
+-- words that ask for nothing
+abbrev pub words_answer : Answer
+words_answer = record { status = 1; lines = words_line ∷ [] }
+
+-- What is due, as a work over the files: each file is read before the next one is asked for, and the rack is looked at after all of them.
+abbrev pub answer_of : List ChipState → Option Command → Work Answer
+answer_of rack None = gives words_answer
+answer_of rack (Some (Play cart script)) = game_of cart script >>= λ game. gives (play_answer rack game)
+answer_of rack (Some (Ref cart script)) = game_of cart script >>= λ game. gives (ref_answer game)
+answer_of rack (Some (Asm file)) = image_by file >>= λ picture. gives (asm_answer picture)
+answer_of rack (Some (Dis file)) = bytes_by file >>= λ bytes. gives (dis_answer bytes)
+
+-- a file that is refused, and one that the store did not give
+abbrev pub refused : Refusal → Answer
+refused r = record { status = 2; lines = refusal_line r ∷ [] }
+
+abbrev pub not_had : Purpose → Answer
+not_had purpose = record { status = 4; lines = missing_line purpose ∷ [] }

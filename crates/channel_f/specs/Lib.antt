@@ -1,3 +1,7 @@
 pub mod Statuses
+pub mod Refusals
 pub mod Answers
+pub mod Reports
 pub mod RackAfter
+pub mod Commands
+pub mod Completeness

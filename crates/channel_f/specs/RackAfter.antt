@@ -1,11 +1,12 @@
 -- What becomes of the rack in a call: fitting, and then power-on and the bus steps of the run, one after another, and nothing else.
-use Rattle.std.specs.Prelude.{◌≡◌, ◌≢◌, ℕ, ◌⊎◌, List, map, Option, Some, None}
+use Rattle.std.specs.Prelude.{◌≡◌, ◌≢◌, ℕ, ◌⊎◌, List, map, Option, Some, None, Result, Ok, Err}
 use Rattle.f8_spec.specs.ChipState.{ChipView, ChipState}
 use Rattle.console_spec.specs.Run.{played_record}
 use Rattle.console_spec.specs.RunText.{verdict_line, ending_lines, text_of}
 use Rattle.f8_machine.specs.Rounds.{RackPowers, RackRuns, heard_of}
 use Rattle.rack_run.specs.Seating.{seated, fitted_views, RackFits, RackFitsInPart}
-use Rattle.rack_words.specs.CommandLine.{Game, Command, Play, Ref}
+use Rattle.loader.specs.declared.refusals.Stop.{Stop}
+use Rattle.loader.specs.Games.{Game}
 use Rattle.channel_f.specs.Answers.{game_ending, refusal}
 use Rattle.outside.specs.SinkRules.{Adds, AddsPart}
 
@@ -49,8 +50,7 @@ abbrev pub PlaysUnless : Option (List ℕ) → Option (List ℕ) → Option (Lis
 PlaysUnless (Some line) old new said game rack news = news ≡ rack
 PlaysUnless None old new said game rack news = Plays old new said game rack news
 
--- words that are refused and a game on the flat instruction set alone leave it, too
-abbrev pub RackAfter : Option (List ℕ) → Option (List ℕ) → ℕ → Option Command → List ChipState → List ChipState → Type 0
-RackAfter old new said None rack news = news ≡ rack
-RackAfter old new said (Some (Play game)) rack news = PlaysUnless (refusal game rack) old new said game rack news
-RackAfter old new said (Some (Ref game)) rack news = news ≡ rack
+-- where the files gave no game, it leaves it, too
+abbrev pub RackAfter : Option (List ℕ) → Option (List ℕ) → ℕ → Result Game Stop → List ChipState → List ChipState → Type 0
+RackAfter old new said (Ok game) rack news = PlaysUnless (refusal game rack) old new said game rack news
+RackAfter old new said (Err stop) rack news = news ≡ rack

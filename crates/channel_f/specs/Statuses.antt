@@ -1,13 +1,14 @@
 -- The exit statuses as numbers.
 use Rattle.std.specs.Prelude.{ℕ}
 use Rattle.channel_f.specs.declared.status.Status.{Status}
-use Rattle.channel_f.specs.declared.status.Status.TheVariants.{Done, Words, Input, Fault, Sink, Memory, Reserved, Unbuilt, NoWords}
+use Rattle.channel_f.specs.declared.status.Status.TheVariants.{Done, Words, Input, Fault, Store, Sink, Memory, Reserved, Unbuilt, NoWords}
 
 abbrev pub exit_code : Status → ℕ
 exit_code Done = 0
 exit_code Words = 1
 exit_code Input = 2
 exit_code Fault = 3
+exit_code Store = 4
 exit_code Sink = 5
 exit_code Memory = 6
 exit_code Reserved = 8

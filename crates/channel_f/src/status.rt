@@ -1,14 +1,16 @@
 /// How the program ends, with its exit status.
 #[derive(Clone, Copy)]
 pub enum Status {
-    /// All instructions that were asked for are done.
+    /// All that was asked for is done.
     Done = 0,
     /// The words are none of the program's.
     Words = 1,
-    /// The rack has no place for the chips that the words describe.
+    /// A file is refused, or the rack has no place for the chips that are described.
     Input = 2,
     /// A bus step wasn't served.
     Fault = 3,
+    /// The store failed.
+    Store = 4,
     /// The sink failed.
     Sink = 5,
     /// Memory was wanting, and nothing was written.

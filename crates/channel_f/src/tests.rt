@@ -1,11 +1,207 @@
-use super::top::console;
+use super::console;
 use chip_fakes::{Listener, Patched};
 use f8_machine::Rack;
-use outside::{CallList, MemSink, SureSink};
+use outside::{CallList, FileList, MemSink, MemStore, NamedFile, SureSink, SureStore};
 use psu3851::Psu;
 use smi3853::Smi;
 use std::alloc::Global;
 use std::test::Fail;
+
+/// A file: its name and its text.
+type File = (&'static str, &'static str);
+
+/// Files, words, the status, and what is written.
+type Row = (&'static [File], &'static [&'static str], u8, &'static str);
+
+const LOOP_CART: &str =
+    "format = 1\n[[chip]]\nkind = '3851'\nbase = 0\nports = 4\nrom = '712B90FE'\n";
+
+const RAM_CART: &str = "format = 1\n\
+     [[chip]]\nkind = '3851'\nbase = 0\nports = 4\nrom = '2A28002C2A28012C1690FF'\n\
+     [[chip]]\nkind = '3853'\nram_page = 0x28\nram_pages = 1\n";
+
+const SOURCE_CART: &str =
+    "format = 1\n[[chip]]\nkind = '3851'\nbase = 0\nports = 4\nsource = 'loop.f8'\n";
+
+const NEIGHBOURS_CART: &str = "format = 1\n\
+     [[chip]]\nkind = '3851'\nbase = 0\nports = 4\nrom = '1C'\n\
+     [[chip]]\nkind = '3851'\nbase = 0x400\nports = 8\nrom = ''\n";
+
+const LOOP_RUN: &str = "stop done\n\
+     regs P=0001 P1=0000 D0=0000 D1=0000 A=01 IS=00 W=00\n\
+     s00 00 00 00 00 00 00 00 00 00 00 00 00 00 00 00 00\n\
+     s10 00 00 00 00 00 00 00 00 00 00 00 00 00 00 00 00\n\
+     s20 00 00 00 00 00 00 00 00 00 00 00 00 00 00 00 00\n\
+     s30 00 00 00 00 00 00 00 00 00 00 00 00 00 00 00 00\n\
+     total 3 instructions 36 phi\n";
+
+const LOOP_PLAY: &str = "verdict unchecked\n\
+     stop done\n\
+     regs P=0001 P1=0000 D0=0000 D1=0000 A=01 IS=00 W=00\n\
+     s00 00 00 00 00 00 00 00 00 00 00 00 00 00 00 00 00\n\
+     s10 00 00 00 00 00 00 00 00 00 00 00 00 00 00 00 00\n\
+     s20 00 00 00 00 00 00 00 00 00 00 00 00 00 00 00 00\n\
+     s30 00 00 00 00 00 00 00 00 00 00 00 00 00 00 00 00\n\
+     total 3 instructions 36 phi\n";
+
+const RAM_PLAY: &str = "verdict unchecked\n\
+     stop done\n\
+     regs P=0009 P1=0000 D0=2801 D1=2801 A=5A IS=32 W=00\n\
+     s00 5A 5A 5A 5A 5A 5A 5A 5A 5A 5A 5A 5A 5A 5A 5A 5A\n\
+     s10 5A 5A 5A 5A 5A 5A 5A 5A 5A 5A 5A 5A 5A 5A 5A 5A\n\
+     s20 5A 5A 5A 5A 5A 5A 5A 5A 5A 5A 5A 5A 5A 5A 5A 5A\n\
+     s30 5A 5A 5A 5A 5A 5A 5A 5A 5A 5A 5A 5A 5A 5A 5A 5A\n\
+     total 6 instructions 102 phi\n";
+
+const NEIGHBOURS_PLAY: &str = "verdict unchecked\n\
+     stop astray romc 00 socket 1 at 0405 reference 0000\n\
+     regs P=0000 P1=0000 D0=0000 D1=0000 A=04 IS=04 W=00\n\
+     s00 04 04 04 04 04 04 04 04 04 04 04 04 04 04 04 04\n\
+     s10 04 04 04 04 04 04 04 04 04 04 04 04 04 04 04 04\n\
+     s20 04 04 04 04 04 04 04 04 04 04 04 04 04 04 04 04\n\
+     s30 04 04 04 04 04 04 04 04 04 04 04 04 04 04 04 04\n\
+     total 0 instructions 14 phi\n";
+
+const EXCHANGE_CART: &str = "format = 1\n\
+     [[chip]]\nkind = '3851'\nbase = 0\nports = 4\nrom = '2A28002C2A00102C16'\n\
+     [[chip]]\nkind = '3853'\nram_page = 0x28\nram_pages = 1\n";
+
+const EXCHANGE_PLAY: &str = "verdict unchecked\n\
+     stop conflict romc 02 socket 0 at 0010 socket 12 at 2800\n\
+     regs P=0008 P1=0000 D0=2800 D1=0010 A=00 IS=00 W=00\n\
+     s00 00 00 00 00 00 00 00 00 00 00 00 00 00 00 00 00\n\
+     s10 00 00 00 00 00 00 00 00 00 00 00 00 00 00 00 00\n\
+     s20 00 00 00 00 00 00 00 00 00 00 00 00 00 00 00 00\n\
+     s30 00 00 00 00 00 00 00 00 00 00 00 00 00 00 00 00\n\
+     total 4 instructions 78 phi\n";
+
+const EMPTY_PLAY: &str = "verdict unchecked\n\
+     stop undriven romc 00 at 0000\n\
+     regs P=0000 P1=0000 D0=0000 D1=0000 A=00 IS=00 W=00\n\
+     s00 00 00 00 00 00 00 00 00 00 00 00 00 00 00 00 00\n\
+     s10 00 00 00 00 00 00 00 00 00 00 00 00 00 00 00 00\n\
+     s20 00 00 00 00 00 00 00 00 00 00 00 00 00 00 00 00\n\
+     s30 00 00 00 00 00 00 00 00 00 00 00 00 00 00 00 00\n\
+     total 0 instructions 0 phi\n";
+
+/// What is answered with ample memory.
+const ANSWERS: [Row; 8] = [
+    (
+        &[("cart", EXCHANGE_CART), ("script", "steps 9\n")],
+        &["play", "cart", "script"],
+        3,
+        EXCHANGE_PLAY,
+    ),
+    (
+        &[("cart", "format = 1"), ("script", "steps 1\n")],
+        &["play", "cart", "script"],
+        3,
+        EMPTY_PLAY,
+    ),
+    (
+        &[("cart", LOOP_CART), ("script", "power 00\nsteps 3\n")],
+        &["play", "cart", "script"],
+        0,
+        LOOP_PLAY,
+    ),
+    (
+        &[("cart", RAM_CART), ("script", "power 5A\nsteps 6\n")],
+        &["play", "cart", "script"],
+        0,
+        RAM_PLAY,
+    ),
+    (
+        &[("cart", NEIGHBOURS_CART), ("script", "power 04\nsteps 3\n")],
+        &["play", "cart", "script"],
+        3,
+        NEIGHBOURS_PLAY,
+    ),
+    (
+        &[
+            ("cart", SOURCE_CART),
+            ("loop.f8", " LIS 1\nLOOP: NOP\n BR LOOP\n"),
+            ("script", "steps 3\n"),
+        ],
+        &["ref", "cart", "script"],
+        0,
+        LOOP_RUN,
+    ),
+    (
+        &[("loop.f8", "LOOP: NOP\nBR LOOP\n")],
+        &["asm", "loop.f8"],
+        0,
+        "0000 2B90FE\nsym LOOP 0\n",
+    ),
+    (
+        &[("bytes", "71 2D\n20")],
+        &["dis", "--", "bytes"],
+        0,
+        "ORG $0000\nLIS 1\nDB $2D\nDB $20\n",
+    ),
+];
+
+/// What is refused, with the one line that says so.
+const REFUSALS: [Row; 11] = [
+    (&[], &["play", "a"], 1, "error words\n"),
+    (
+        &[("cart", "format = ")],
+        &["play", "cart", "script"],
+        2,
+        "error cart toml\n",
+    ),
+    (
+        &[(
+            "cart",
+            "format = 1\n[[chip]]\nkind = '3851'\nbase = 0x200\nports = 4\nrom = '71'\n",
+        )],
+        &["play", "cart", "script"],
+        2,
+        "error cart chip 0 key base cause 5\n",
+    ),
+    (
+        &[("cart", "format = 1\nsplit = 8\n")],
+        &["ref", "cart", "script"],
+        2,
+        "error cart key split cause 3\n",
+    ),
+    (
+        &[("cart", SOURCE_CART), ("loop.f8", " LI 256")],
+        &["play", "cart", "script"],
+        2,
+        "error asm source 0 line 1 column 5 cause 6\n",
+    ),
+    (
+        &[("loop.f8", " LI 256")],
+        &["asm", "loop.f8"],
+        2,
+        "error asm file line 1 column 5 cause 6\n",
+    ),
+    (
+        &[("cart", LOOP_CART), ("script", "power 0\n")],
+        &["play", "cart", "script"],
+        2,
+        "error script line 1 cause 2\n",
+    ),
+    (
+        &[("cart", LOOP_CART), ("script", "frames 1\n")],
+        &["ref", "cart", "script"],
+        2,
+        "error script unbuilt\n",
+    ),
+    (&[("bytes", "712")], &["dis", "bytes"], 2, "error hex\n"),
+    (
+        &[("cart", SOURCE_CART)],
+        &["play", "cart", "script"],
+        4,
+        "error store source 0\n",
+    ),
+    (
+        &[("cart", LOOP_CART)],
+        &["play", "cart", "script"],
+        4,
+        "error store script\n",
+    ),
+];
 
 fn words_of(alloc: Global, texts: &[&str]) -> Result<Vec<String>, Fail> {
     let mut words = Vec::new(alloc);
@@ -13,6 +209,22 @@ fn words_of(alloc: Global, texts: &[&str]) -> Result<Vec<String>, Fail> {
         words.push(text.to_string(alloc)?)?;
     }
     Ok(words)
+}
+
+fn files_of(alloc: Global, files: &[File]) -> Result<FileList, Fail> {
+    let mut list = Vec::new(alloc);
+    for (name, text) in files {
+        let bytes = Vec::from_slice(alloc, text.as_bytes())?;
+        list.push(NamedFile::new(name.to_string(alloc)?, bytes))?;
+    }
+    match FileList::from_vec(list) {
+        Some(list) => Ok(list),
+        None => Err(Fail::from("two files have one name")),
+    }
+}
+
+fn calls_of(alloc: Global, numbers: &[u64]) -> Result<CallList, Fail> {
+    Ok(CallList::from_vec(Vec::from_slice(alloc, numbers)?))
 }
 
 /// So many chips of the two kinds. No function makes boxed chips and hands them out.
@@ -29,235 +241,231 @@ macro_rules! rack_of {
     }};
 }
 
-/// Words, and the status; the lines up to the registers, the byte that is all over the scratchpad, and the last line.
-type Row = (
-    &'static [&'static str],
-    u8,
-    &'static str,
-    &'static str,
-    &'static str,
-);
-
-const ROWS: [Row; 7] = [
-    (
-        &["play", "00", "3", "psu:0000:04:712B90FE"],
-        0,
-        "verdict unchecked\nstop done\nregs P=0001 P1=0000 D0=0000 D1=0000 A=01 IS=00 W=00\n",
-        "00",
-        "total 3 instructions 36 phi\n",
-    ),
-    (
-        &[
-            "play",
-            "5a",
-            "6",
-            "psu:0000:04:2A28002C2a28012C1690FF",
-            "smi:00:00:28:01:",
-        ],
-        0,
-        "verdict unchecked\nstop done\nregs P=0009 P1=0000 D0=2801 D1=2801 A=5A IS=32 W=00\n",
-        "5A",
-        "total 6 instructions 102 phi\n",
-    ),
-    (
-        &["play", "04", "3", "psu:0000:04:1C", "psu:0400:08:"],
-        3,
-        "verdict unchecked\nstop astray romc 00 socket 1 at 0405 reference 0000\nregs P=0000 P1=0000 D0=0000 D1=0000 A=04 IS=04 W=00\n",
-        "04",
-        "total 0 instructions 14 phi\n",
-    ),
-    (
-        &[
-            "play",
-            "00",
-            "9",
-            "psu:0000:04:2A28002C2A00102C16",
-            "smi:00:00:28:01:",
-        ],
-        3,
-        "verdict unchecked\nstop conflict romc 02 socket 0 at 0010 socket 12 at 2800\nregs P=0008 P1=0000 D0=2800 D1=0010 A=00 IS=00 W=00\n",
-        "00",
-        "total 4 instructions 78 phi\n",
-    ),
-    (
-        &["play", "00", "3000", "psu:0000:04:2A00001690FE"],
-        3,
-        "verdict unchecked\nstop undriven romc 02 at 0400\nregs P=0003 P1=0000 D0=0400 D1=0000 A=FF IS=00 W=00\n",
-        "00",
-        "total 2049 instructions 24614 phi\n",
-    ),
-    (
-        &["play", "00", "1", "psu:0000:04:B4"],
-        9,
-        "verdict unchecked\nstop unbuilt B4 at 0000\nregs P=0000 P1=0000 D0=0000 D1=0000 A=00 IS=00 W=00\n",
-        "00",
-        "total 0 instructions 14 phi\n",
-    ),
-    (
-        &["ref", "00", "2", "psu:0000:04:90FD"],
-        8,
-        "stop reserved FF at FFFE\nregs P=FFFE P1=0000 D0=0000 D1=0000 A=00 IS=00 W=00\n",
-        "00",
-        "total 1 instructions 28 phi\n",
-    ),
-];
-
-/// The lines of a run, of which the scratchpad has one byte all over.
-fn text_of(alloc: Global, head: &str, byte: &str, total: &str) -> Result<String, Fail> {
-    let mut text = head.to_string(alloc)?;
-    for name in ["s00", "s10", "s20", "s30"] {
-        text.push_str(name)?;
-        for _ in 0..16 {
-            text.push_str(" ")?;
-            text.push_str(byte)?;
-        }
-        text.push_str("\n")?;
-    }
-    text.push_str(total)?;
-    Ok(text)
+/// The status, with what is written, over a store and a sink that don't fail.
+fn answered(
+    alloc: Global,
+    files: &[File],
+    words: &[&str],
+    rack: &mut Rack,
+) -> Result<(u8, SureSink), Fail> {
+    let words = words_of(alloc, words)?;
+    let mut store = SureStore::new(files_of(alloc, files)?);
+    let mut sink = SureSink::new(alloc, 4096)?;
+    let status = console(alloc, words.as_slice(), &mut store, &mut sink, rack);
+    Ok((status, sink))
 }
 
 #[test]
 fn answers_with_ample_memory(rt: HostRuntime) -> Result<(), Fail> {
     let mut rack = rack_of!(rt, 12, Psu::blank(), 4, Smi::blank());
-    for (words, status, head, byte, total) in ROWS {
-        let words = words_of(rt.alloc(), words)?;
-        let mut sink = SureSink::new(rt.alloc(), 1024)?;
-        let answer = console(rt.alloc(), words.as_slice(), &mut sink, &mut rack);
-        let text = text_of(rt.alloc(), head, byte, total)?;
-        assert_eq!(rt; answer, status, "{words:?}");
+    for (files, words, want, text) in ANSWERS {
+        let (status, sink) = answered(rt.alloc(), files, words, &mut rack)?;
+        assert_eq!(rt; status, want, "{words:?}");
         assert_eq!(rt; sink.bytes(), text.as_bytes(), "{words:?}");
     }
     Ok(())
 }
 
 #[test]
-fn refuses_words_out_of_form(rt: HostRuntime) -> Result<(), Fail> {
-    let words = words_of(rt.alloc(), &["play", "712", "3"])?;
-    let mut rack: Rack = Vec::new(rt.alloc());
+fn refuses_with_one_line(rt: HostRuntime) -> Result<(), Fail> {
+    let mut rack = rack_of!(rt, 1, Psu::blank(), 0, Smi::blank());
+    for (files, words, want, text) in REFUSALS {
+        let words = words_of(rt.alloc(), words)?;
+        let none = calls_of(rt.alloc(), &[])?;
+        let mut store = MemStore::new(files_of(rt.alloc(), files)?, none);
+        let mut sink = SureSink::new(rt.alloc(), 1024)?;
+        let status = console(
+            rt.alloc(),
+            words.as_slice(),
+            &mut store,
+            &mut sink,
+            &mut rack,
+        );
+        assert_eq!(rt; status, want, "{words:?}");
+        assert_eq!(rt; sink.bytes(), text.as_bytes(), "{words:?}");
+    }
+    Ok(())
+}
+
+/// A file of so many bytes, all blanks, with the description of a loop as `cart`.
+fn blank_file(alloc: Global, name: &str, size: usize) -> Result<FileList, Fail> {
+    let mut list = Vec::new(alloc);
+    let cart = Vec::from_slice(alloc, LOOP_CART.as_bytes())?;
+    list.push(NamedFile::new("cart".to_string(alloc)?, cart))?;
+    let bytes = vec![in alloc; b' '; size]?;
+    list.push(NamedFile::new(name.to_string(alloc)?, bytes))?;
+    match FileList::from_vec(list) {
+        Some(list) => Ok(list),
+        None => Err(Fail::from("two files have one name")),
+    }
+}
+
+#[test]
+fn refuses_files_past_their_limit(rt: HostRuntime) -> Result<(), Fail> {
+    let rows: [(&str, usize, &[&str], &str); 4] = [
+        (
+            "script",
+            65_536,
+            &["play", "cart", "script"],
+            "error script line 2 cause 6\n",
+        ),
+        (
+            "script",
+            65_537,
+            &["play", "cart", "script"],
+            "error long script\n",
+        ),
+        (
+            "long",
+            65_537,
+            &["ref", "long", "script"],
+            "error long cart\n",
+        ),
+        ("file", 262_145, &["asm", "file"], "error long file\n"),
+    ];
+    let mut rack = rack_of!(rt, 1, Psu::blank(), 0, Smi::blank());
+    for (name, size, words, text) in rows {
+        let words = words_of(rt.alloc(), words)?;
+        let mut store = SureStore::new(blank_file(rt.alloc(), name, size)?);
+        let mut sink = SureSink::new(rt.alloc(), 1024)?;
+        let status = console(
+            rt.alloc(),
+            words.as_slice(),
+            &mut store,
+            &mut sink,
+            &mut rack,
+        );
+        assert_eq!(rt; status, 2, "{words:?}");
+        assert_eq!(rt; sink.bytes(), text.as_bytes(), "{words:?}");
+    }
+    Ok(())
+}
+
+/// The store fails at the second file, and the rack is as it was: 17 chips aren't looked at.
+#[test]
+fn stops_at_a_failing_store(rt: HostRuntime) -> Result<(), Fail> {
+    let files = [("cart", LOOP_CART), ("script", "steps 3\n")];
+    let words = words_of(rt.alloc(), &["play", "cart", "script"])?;
+    let second = calls_of(rt.alloc(), &[2])?;
+    let mut store = MemStore::new(files_of(rt.alloc(), &files)?, second);
     let mut sink = SureSink::new(rt.alloc(), 1024)?;
-    assert_eq!(rt;
-        console(rt.alloc(), words.as_slice(), &mut sink, &mut rack),
-        1
+    let mut rack = rack_of!(rt, 16, Psu::blank(), 1, Smi::blank());
+    let status = console(
+        rt.alloc(),
+        words.as_slice(),
+        &mut store,
+        &mut sink,
+        &mut rack,
     );
-    assert_eq!(rt; sink.bytes(), b"error words\n".as_slice());
+    assert_eq!(rt; status, 4);
+    assert_eq!(rt; sink.bytes(), b"error store script\n".as_slice());
     Ok(())
 }
 
 /// A cartridge whose read the RAM alone answers, on chips that hear its 22 bus steps.
 #[test]
 fn plays_on_listeners(rt: HostRuntime) -> Result<(), Fail> {
-    let words = words_of(
-        rt.alloc(),
-        &[
-            "play",
-            "5A",
-            "6",
-            "psu:0000:04:2A28002C2A28012C1690FF",
-            "smi:00:00:28:01:",
-        ],
-    )?;
-    let mut sink = SureSink::new(rt.alloc(), 1024)?;
     let psu = Listener::round_psu(rt.alloc(), 100)?;
     let smi = Listener::round_smi(rt.alloc(), 100)?;
     let mut rack: Rack = Vec::new(rt.alloc());
     rack.push(Box::new(rt.alloc(), psu)?)?;
     rack.push(Box::new(rt.alloc(), smi)?)?;
-    assert_eq!(rt;
-        console(rt.alloc(), words.as_slice(), &mut sink, &mut rack),
-        0
-    );
-    let head =
-        "verdict unchecked\nstop done\nregs P=0009 P1=0000 D0=2801 D1=2801 A=5A IS=32 W=00\n";
-    let text = text_of(rt.alloc(), head, "5A", "total 6 instructions 102 phi\n")?;
-    assert_eq!(rt; sink.bytes(), text.as_bytes());
+    let files = [("cart", RAM_CART), ("script", "power 5A\nsteps 6\n")];
+    let (status, sink) = answered(rt.alloc(), &files, &["play", "cart", "script"], &mut rack)?;
+    assert_eq!(rt; status, 0);
+    assert_eq!(rt; sink.bytes(), RAM_PLAY.as_bytes());
     Ok(())
 }
 
-/// The chip holds another byte than the description has.
+/// The chip holds another byte than the description has: INC in the place of NOP, and then a reserved opcode in the place of the first.
 #[test]
 fn plays_the_bytes_of_patched_chips(rt: HostRuntime) -> Result<(), Fail> {
-    let words = words_of(rt.alloc(), &["play", "00", "3", "psu:0000:04:712B90FE"])?;
-
-    // INC in the place of NOP.
-    let mut rack: Rack = Vec::new(rt.alloc());
-    rack.push(Box::new(rt.alloc(), Patched::psu(0x0001, 0x1F))?)?;
-    let mut sink = SureSink::new(rt.alloc(), 1024)?;
-    assert_eq!(rt;
-        console(rt.alloc(), words.as_slice(), &mut sink, &mut rack),
-        0
-    );
-    let head =
-        "verdict unchecked\nstop done\nregs P=0001 P1=0000 D0=0000 D1=0000 A=02 IS=00 W=01\n";
-    let text = text_of(rt.alloc(), head, "00", "total 3 instructions 36 phi\n")?;
-    assert_eq!(rt; sink.bytes(), text.as_bytes());
-
-    // A reserved opcode in the place of the first.
-    let mut rack: Rack = Vec::new(rt.alloc());
-    rack.push(Box::new(rt.alloc(), Patched::psu(0x0000, 0x2D))?)?;
-    let mut sink = SureSink::new(rt.alloc(), 1024)?;
-    assert_eq!(rt;
-        console(rt.alloc(), words.as_slice(), &mut sink, &mut rack),
-        8
-    );
-    let head =
-        "verdict unchecked\nstop reserved 2D at 0000\nregs P=0000 P1=0000 D0=0000 D1=0000 A=00 IS=00 W=00\n";
-    let text = text_of(rt.alloc(), head, "00", "total 0 instructions 14 phi\n")?;
-    assert_eq!(rt; sink.bytes(), text.as_bytes());
-    Ok(())
-}
-
-#[test]
-fn refuses_racks_without_a_place(rt: HostRuntime) -> Result<(), Fail> {
-    let words = words_of(
-        rt.alloc(),
-        &[
-            "play",
-            "00",
-            "3",
-            "psu:0000:04:712B90FE",
-            "smi:00:00:28:01:",
-        ],
-    )?;
-    let rows = [
-        (0, 0, "error sockets 3851 need 1 have 0\n"),
-        (1, 0, "error sockets 3853 need 1 have 0\n"),
-        (16, 1, "error rack 17\n"),
+    let rows: [(u16, u8, u8, &[u8]); 2] = [
+        (
+            0x0001,
+            0x1F,
+            0,
+            b"verdict unchecked\nstop done\nregs P=0001 P1=0000 D0=0000 D1=0000 A=02 IS=00 W=01\n",
+        ),
+        (
+            0x0000,
+            0x2D,
+            8,
+            b"verdict unchecked\nstop reserved 2D at 0000\nregs P=0000 P1=0000 D0=0000 D1=0000 A=00 IS=00 W=00\n",
+        ),
     ];
-    for (psus, smis, text) in rows {
-        let mut rack = rack_of!(rt, psus, Psu::blank(), smis, Smi::blank());
-        let mut sink = SureSink::new(rt.alloc(), 1024)?;
-        assert_eq!(rt;
-            console(rt.alloc(), words.as_slice(), &mut sink, &mut rack),
-            2
-        );
-        assert_eq!(rt; sink.bytes(), text.as_bytes());
+    let files = [("cart", LOOP_CART), ("script", "steps 3\n")];
+    for (at, byte, want, head) in rows {
+        let mut rack: Rack = Vec::new(rt.alloc());
+        rack.push(Box::new(rt.alloc(), Patched::psu(at, byte))?)?;
+        let (status, sink) = answered(rt.alloc(), &files, &["play", "cart", "script"], &mut rack)?;
+        assert_eq!(rt; status, want);
+        assert!(rt; sink.bytes().starts_with(head));
     }
     Ok(())
 }
 
 #[test]
+fn refuses_racks_without_a_place(rt: HostRuntime) -> Result<(), Fail> {
+    let rows = [
+        (0, 0, "error sockets 3851 need 1 have 0\n"),
+        (1, 0, "error sockets 3853 need 1 have 0\n"),
+        (16, 1, "error rack 17\n"),
+    ];
+    let files = [("cart", RAM_CART), ("script", "steps 3\n")];
+    for (psus, smis, text) in rows {
+        let mut rack = rack_of!(rt, psus, Psu::blank(), smis, Smi::blank());
+        let (status, sink) = answered(rt.alloc(), &files, &["play", "cart", "script"], &mut rack)?;
+        assert_eq!(rt; status, 2);
+        assert_eq!(rt; sink.bytes(), text.as_bytes());
+    }
+    Ok(())
+}
+
+/// Words, the room of a sink, the calls that are to fail, and what is written.
+type SinkRow = (&'static [&'static str], u32, &'static [u64], &'static [u8]);
+
+/// The third call fails, and nothing of its line goes out; or the room ends within the second line.
+const SINK_FAULTS: [SinkRow; 4] = [
+    (
+        &["play", "cart", "script"],
+        1024,
+        &[3],
+        b"verdict unchecked\nstop done\n",
+    ),
+    (
+        &["play", "cart", "script"],
+        22,
+        &[],
+        b"verdict unchecked\nstop",
+    ),
+    (&["asm", "code"], 1024, &[2], b"0000 2B90FE\n"),
+    (&["dis", "digits"], 1024, &[3], b"ORG $0000\nLIS 1\n"),
+];
+
+#[test]
 fn stops_at_a_failing_sink(rt: HostRuntime) -> Result<(), Fail> {
-    let words = words_of(rt.alloc(), &["play", "00", "0", "psu:0000:04:"])?;
+    let files = [
+        ("cart", LOOP_CART),
+        ("script", "steps 0\n"),
+        ("code", "LOOP: NOP\nBR LOOP\n"),
+        ("digits", "712D"),
+    ];
     let mut rack = rack_of!(rt, 1, Psu::blank(), 0, Smi::blank());
-
-    // The third call fails, and nothing of its line goes out.
-    let mut failing = Vec::new(rt.alloc());
-    failing.push(3)?;
-    let mut sink = MemSink::new(rt.alloc(), 1024, CallList::from_vec(failing))?;
-    assert_eq!(rt;
-        console(rt.alloc(), words.as_slice(), &mut sink, &mut rack),
-        5
-    );
-    assert_eq!(rt; sink.bytes(), b"verdict unchecked\nstop done\n".as_slice());
-
-    // The room ends within the second line.
-    let none = CallList::from_vec(Vec::new(rt.alloc()));
-    let mut sink = MemSink::new(rt.alloc(), 22, none)?;
-    assert_eq!(rt;
-        console(rt.alloc(), words.as_slice(), &mut sink, &mut rack),
-        5
-    );
-    assert_eq!(rt; sink.bytes(), b"verdict unchecked\nstop".as_slice());
+    for (words, room, failing, text) in SINK_FAULTS {
+        let words = words_of(rt.alloc(), words)?;
+        let failing = calls_of(rt.alloc(), failing)?;
+        let mut sink = MemSink::new(rt.alloc(), room, failing)?;
+        let mut store = SureStore::new(files_of(rt.alloc(), &files)?);
+        let status = console(
+            rt.alloc(),
+            words.as_slice(),
+            &mut store,
+            &mut sink,
+            &mut rack,
+        );
+        assert_eq!(rt; status, 5, "{words:?}");
+        assert_eq!(rt; sink.bytes(), text, "{words:?}");
+    }
     Ok(())
 }

@@ -1,9 +1,0 @@
--- the bytes so far stand behind what was there
-use Rattle.std.proofs.Common.{◌≡◌, ◌++◌, ◌+◌, length, take}
-use Rattle.channel_f.proofs.line.Line.text.Given as goal
-
-abbrev pub invariant-loop-byte : goal.invariant-loop-byte
-invariant-loop-byte l = record {
-  written : l.self ≡ l.initial.self ++ take l.byte-index l.text;
-  len : length l.self ≡ length l.initial.self + l.byte-index;
-}

@@ -1,0 +1,42 @@
+-- The lines of refusals: of what is wrong with a file, and of a file that was not had.
+use Rattle.std.specs.Prelude.{ℕ, List, codes, Option, Some, None}
+use Rattle.cartridge.specs.Faults.{cause_number as cart_cause}
+use Rattle.cartridge.specs.Keys.{key_word}
+use Rattle.f8_asm.specs.Answers.{cause_number as asm_cause}
+use Rattle.pad_script.specs.Answers.{cause_number as script_cause}
+use Rattle.report.specs.declared.refusal_lines.Reader.TheVariants as reader
+use Rattle.report.specs.RefusalLines.{toml_line, cart_line, asm_line, reader_line, hex_line, long_line, store_line}
+use Rattle.loader.specs.declared.purposes.Purpose.{Purpose}
+use Rattle.loader.specs.declared.purposes.Purpose.TheVariants as purpose
+use Rattle.loader.specs.declared.refusals.Refusal.{Refusal}
+use Rattle.loader.specs.declared.refusals.Refusal.TheVariants as refusal
+
+-- what a file is for, as a word and, for a chip's source, a number behind it
+abbrev pub purpose_word : Purpose → List ℕ
+purpose_word purpose.Cart = codes "cart"
+purpose_word purpose.Script = codes "script"
+purpose_word purpose.File = codes "file"
+purpose_word (purpose.Source chip) = codes "source"
+
+abbrev pub purpose_number : Purpose → Option ℕ
+purpose_number purpose.Cart = None
+purpose_number purpose.Script = None
+purpose_number purpose.File = None
+purpose_number (purpose.Source chip) = Some chip
+
+-- frames, events and shown frames are not built yet
+unfoldable pub unbuilt_line : List ℕ
+unbuilt_line = codes "error script unbuilt\n"
+
+abbrev pub refusal_line : Refusal → List ℕ
+refusal_line refusal.Document = toml_line
+refusal_line (refusal.Cart fault) = cart_line fault.chip (key_word fault.key) (cart_cause fault.cause)
+refusal_line (refusal.Assembly source fault) = asm_line source fault.line fault.column (asm_cause fault.cause)
+refusal_line (refusal.Script fault) = reader_line reader.Script fault.line (script_cause fault.cause)
+refusal_line refusal.Unbuilt = unbuilt_line
+refusal_line refusal.Digits = hex_line
+refusal_line (refusal.Long p) = long_line (purpose_word p) (purpose_number p)
+
+-- the store did not give the file
+abbrev pub missing_line : Purpose → List ℕ
+missing_line p = store_line (purpose_word p) (purpose_number p)

@@ -1,0 +1,98 @@
+// What each command answers.
+ghost use Rattle.std.specs.Prelude.{◌≤◌, map, length};
+ghost use Rattle.loader.specs.Games.{game_of, image_by, bytes_by};
+ghost use Rattle.channel_f.specs.Answers.{ref_answer, asm_answer, dis_answer};
+ghost use Rattle.channel_f.specs.Commands.{around, Told, TellsGame};
+ghost use Rattle.channel_f.specs.Reports.{Answers};
+ghost use Rattle.channel_f.specs.Statuses.{exit_code};
+
+use super::lines_out::{put_picture, put_text};
+use super::playing::{play_game, refer_game};
+use super::refused::put_stop;
+use super::status::Status;
+use chip_face::Chip;
+use f8_asm::disassemble;
+use f8_machine::Rack;
+use f8_spec::Memory;
+use loader::{load_bytes, load_game, load_image};
+use outside::{Sink, Store};
+use std::alloc::Global;
+
+/// `play CART SCRIPT`.
+#[tactic(auto, using(crate::proofs::Outcomes::tells_game, crate::proofs::Outcomes::tells_no_game))]
+pub fn answer_play<S: Store, K: Sink>(
+    alloc: Global,
+    cart: &str,
+    script: &str,
+    store: &mut S,
+    sink: &mut K,
+    rack: &mut Rack,
+) -> Status
+    ensures { TellsGame (around (K.written sink.old) (K.faults sink.old) (S.files store.old) (S.faults store.old) (S.fetches store.old)) (around (K.written sink.new) (K.faults sink.new) (S.files store.new) (S.faults store.new) (S.fetches store.new)) (exit_code result) (map state rack.old.items) (map state rack.new.items) (game_of cart.now script.now) }
+{
+    match load_game(alloc, store, cart, script) {
+        Ok(game) => play_game(alloc, &game, sink, rack),
+        Err(stop) => put_stop(sink, stop),
+    }
+}
+
+/// `ref CART SCRIPT`.
+#[tactic(auto, using(crate::proofs::Outcomes::told_ok, crate::proofs::Outcomes::told_stop))]
+pub fn answer_ref<S: Store, K: Sink>(
+    alloc: Global,
+    cart: &str,
+    script: &str,
+    store: &mut S,
+    sink: &mut K,
+) -> Status
+    ensures { Told (around (K.written sink.old) (K.faults sink.old) (S.files store.old) (S.faults store.old) (S.fetches store.old)) (around (K.written sink.new) (K.faults sink.new) (S.files store.new) (S.faults store.new) (S.fetches store.new)) (exit_code result) (game_of cart.now script.now) ref_answer }
+{
+    match load_game(alloc, store, cart, script) {
+        Ok(game) => refer_game(alloc, &game, sink),
+        Err(stop) => put_stop(sink, stop),
+    }
+}
+
+/// `asm FILE`.
+#[tactic(auto, using(crate::proofs::Outcomes::told_ok, crate::proofs::Outcomes::told_stop))]
+pub fn answer_asm<S: Store, K: Sink>(
+    alloc: Global,
+    file: &str,
+    store: &mut S,
+    sink: &mut K,
+) -> Status
+    ensures { Told (around (K.written sink.old) (K.faults sink.old) (S.files store.old) (S.faults store.old) (S.fetches store.old)) (around (K.written sink.new) (K.faults sink.new) (S.files store.new) (S.faults store.new) (S.fetches store.new)) (exit_code result) (image_by file.now) asm_answer }
+{
+    match load_image(alloc, store, file) {
+        Ok(image) => put_picture(sink, &image),
+        Err(stop) => put_stop(sink, stop),
+    }
+}
+
+/// The text of some bytes, at most 65,536.
+#[tactic(auto, using(crate::proofs::Games::answers_of, crate::proofs::Games::answers_wanting))]
+fn list_bytes<K: Sink>(alloc: Global, bytes: &[u8], sink: &mut K) -> Status
+    requires { length bytes.now ≤ 65536 }
+    ensures { Answers (K.written sink.old) (K.written sink.new) (K.faults sink.old) (K.faults sink.new) (exit_code result) (dis_answer bytes.now) }
+{
+    match disassemble(alloc, bytes) {
+        Ok(text) => put_text(sink, &text),
+        Err(Memory) => Status::Memory,
+    }
+}
+
+/// `dis FILE`.
+#[tactic(auto, using(crate::proofs::Outcomes::told_ok, crate::proofs::Outcomes::told_stop))]
+pub fn answer_dis<S: Store, K: Sink>(
+    alloc: Global,
+    file: &str,
+    store: &mut S,
+    sink: &mut K,
+) -> Status
+    ensures { Told (around (K.written sink.old) (K.faults sink.old) (S.files store.old) (S.faults store.old) (S.fetches store.old)) (around (K.written sink.new) (K.faults sink.new) (S.files store.new) (S.faults store.new) (S.fetches store.new)) (exit_code result) (bytes_by file.now) dis_answer }
+{
+    match load_bytes(alloc, store, file) {
+        Ok(bytes) => list_bytes(alloc, bytes.as_slice(), sink),
+        Err(stop) => put_stop(sink, stop),
+    }
+}

@@ -1,0 +1,15 @@
+//! The program, but for the system (this project's own): words, files and a rack of chips in, lines and an exit status out.
+#![tactic(auto)]
+
+mod commands;
+mod lines_out;
+mod playing;
+mod refused;
+mod status;
+mod top;
+
+pub use status::Status;
+pub use top::console;
+
+#[cfg(test)]
+mod tests;

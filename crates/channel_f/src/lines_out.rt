@@ -1,0 +1,124 @@
+ghost use Rattle.std.specs.Prelude.{◌≡◌, ◌≢◌, ◌<◌, [], ◌∷◌, OnOk, OnErr};
+ghost use Rattle.console_spec.specs.RunText.{told_lines, stop_line as spelled_stop, text_of};
+ghost use Rattle.rack_run.specs.Endings.{stop_at};
+ghost use Rattle.channel_f.specs.Answers.{status_of};
+ghost use Rattle.channel_f.specs.Reports.{Reports};
+ghost use Rattle.asm_lines.specs.ImageLines.{image_lines};
+ghost use Rattle.outside.specs.SinkRules.{Adds, AddsPart, HasCause};
+ghost use Rattle.channel_f.specs.Statuses.{exit_code};
+
+use super::status::Status;
+use asm_lines::{put_image, put_listing};
+use data_bus::BusFault;
+use f8_asm::{Image, Text};
+use outside::{Sink, SinkFault};
+use rack_run::{Ending, Halt};
+use report::Line;
+
+/// Each line is one put.
+fn put_all<K: Sink>(sink: &mut K, lines: &[Line]) -> Result<(), SinkFault>
+    ensures ok { OnOk result (Adds (K.written sink.old) (K.written sink.new) (text_of lines.now)) }
+    ensures err { OnErr result (AddsPart (K.written sink.old) (K.written sink.new) (text_of lines.now)) }
+    ensures cause { HasCause (K.faults sink.old) (K.faults sink.new) result }
+{
+    for line in lines {
+        sink.put(line.as_bytes())?;
+    }
+    Ok(())
+}
+
+/// The line of a bus step that isn't served.
+fn fault_line(fault: &BusFault) -> Line
+    ensures { result ≡ spelled_stop (stop_at (Some (Halt.Fault fault.now))) }
+{
+    match fault {
+        BusFault::Conflict { romc, parties } => report::stop_conflict_line(
+            romc.number(),
+            parties.as_slice(),
+        ),
+        BusFault::Undriven { romc, at } => report::stop_undriven_line(romc.number(), *at),
+        BusFault::Astray {
+            romc,
+            socket,
+            at,
+            reference,
+        } => report::stop_astray_line(romc.number(), *socket, *at, *reference),
+    }
+}
+
+fn stop_line(halt: &Option<Halt>) -> Line
+    ensures { result ≡ spelled_stop (stop_at halt.now) }
+{
+    match halt {
+        None => report::stop_done_line(),
+        Some(Halt::Fault(fault)) => fault_line(fault),
+        Some(Halt::Reserved { at, code }) => report::stop_reserved_line(*at, *code),
+        Some(Halt::Unbuilt { at, code }) => report::stop_unbuilt_line(*at, *code),
+    }
+}
+
+/// The lines of a run from its stop line on. ISAR is below 64.
+fn lines_of(ending: &Ending) -> [Line; 7]
+    requires { ending.now.regs.isar < 64 }
+    ensures { result ≡ told_lines (stop_at ending.now.halt) ending.now.regs ending.now.count ending.now.phi }
+{
+    [
+        stop_line(&ending.halt),
+        report::regs_line(&ending.regs),
+        report::scratch_line(&ending.regs, 0),
+        report::scratch_line(&ending.regs, 1),
+        report::scratch_line(&ending.regs, 2),
+        report::scratch_line(&ending.regs, 3),
+        report::total_line(ending.count, ending.phi),
+    ]
+}
+
+fn status_at(halt: &Option<Halt>) -> Status
+    ensures { exit_code result ≡ status_of (stop_at halt.now) }
+{
+    match halt {
+        None => Status::Done,
+        Some(Halt::Fault(_)) => Status::Fault,
+        Some(Halt::Reserved { .. }) => Status::Reserved,
+        Some(Halt::Unbuilt { .. }) => Status::Unbuilt,
+    }
+}
+
+/// Writes lines, and then ends with a status.
+pub fn put_lines<K: Sink>(sink: &mut K, lines: &[Line], status: Status) -> Status
+    requires { exit_code status ≢ 5 }
+    ensures { Reports (K.written sink.old) (K.written sink.new) (K.faults sink.old) (K.faults sink.new) (exit_code result) (exit_code status) lines.now }
+{
+    match put_all(sink, lines) {
+        Ok(()) => status,
+        Err(SinkFault) => Status::Sink,
+    }
+}
+
+/// Writes the lines of a run from its stop line on, and ends with its status. ISAR is below 64.
+pub fn put_ending<K: Sink>(sink: &mut K, ending: &Ending) -> Status
+    requires { ending.now.regs.isar < 64 }
+    ensures { Reports (K.written sink.old) (K.written sink.new) (K.faults sink.old) (K.faults sink.new) (exit_code result) (status_of (stop_at ending.now.halt)) (told_lines (stop_at ending.now.halt) ending.now.regs ending.now.count ending.now.phi) }
+{
+    put_lines(sink, lines_of(ending).as_slice(), status_at(&ending.halt))
+}
+
+/// Writes the lines of an image.
+pub fn put_picture<K: Sink>(sink: &mut K, image: &Image) -> Status
+    ensures { Reports (K.written sink.old) (K.written sink.new) (K.faults sink.old) (K.faults sink.new) (exit_code result) 0 (image_lines image.now) }
+{
+    match put_image(sink, image) {
+        Ok(()) => Status::Done,
+        Err(SinkFault) => Status::Sink,
+    }
+}
+
+/// Writes the lines of a text that was disassembled.
+pub fn put_text<K: Sink>(sink: &mut K, text: &Text) -> Status
+    ensures { Reports (K.written sink.old) (K.written sink.new) (K.faults sink.old) (K.faults sink.new) (exit_code result) 0 (text.now ∷ []) }
+{
+    match put_listing(sink, text) {
+        Ok(()) => Status::Done,
+        Err(SinkFault) => Status::Sink,
+    }
+}

@@ -1,0 +1,99 @@
+// Why a command didn't get what it wants of its files, told by a line.
+ghost use Rattle.std.specs.Prelude.{◌≡◌, ◌≤◌, IsTrue, length};
+ghost use Rattle.std.specs.List.{list_all};
+ghost use Rattle.report.specs.RefusalLines.{is_printable};
+ghost use Rattle.channel_f.specs.Refusals.{purpose_word as spelled_word, purpose_number as told_number, unbuilt_line as spelled_unbuilt, refusal_line as spelled_refusal, missing_line as spelled_missing};
+ghost use Rattle.channel_f.specs.Reports.{Stops};
+ghost use Rattle.channel_f.specs.Statuses.{exit_code};
+
+use super::lines_out::put_lines;
+use super::status::Status;
+use loader::{Purpose, Refusal, Stop};
+use outside::Sink;
+use report::{Line, Reader};
+
+/// The word of what a file is for.
+fn purpose_word(purpose: Purpose) -> &'static str
+    ensures word { result.now ≡ spelled_word purpose }
+    ensures short { length result.now ≤ 16 }
+    ensures printable { IsTrue (list_all is_printable result.now) }
+{
+    match purpose {
+        Purpose::Cart => "cart",
+        Purpose::Script => "script",
+        Purpose::File => "file",
+        Purpose::Source(_) => "source",
+    }
+}
+
+/// The number behind that word.
+fn purpose_number(purpose: Purpose) -> Option<u8>
+    ensures { result ≡ told_number purpose }
+{
+    match purpose {
+        Purpose::Source(chip) => Some(chip),
+        Purpose::Cart | Purpose::Script | Purpose::File => None,
+    }
+}
+
+/// `error script unbuilt`: the script asks for what isn't built yet.
+#[tactic(auto, unfolding(crate::specs::Refusals::unbuilt_line))]
+fn unbuilt_line() -> Line
+    ensures { result ≡ spelled_unbuilt }
+{
+    let mut line = Line::new();
+    line.text(b"error script unbuilt\n");
+    line
+}
+
+/// The line of a file that is refused.
+#[tactic(auto, using(crate::proofs::KeyWords::word_short, crate::proofs::KeyWords::word_printable))]
+fn refusal_line(refusal: Refusal) -> Line
+    ensures { result ≡ spelled_refusal refusal }
+{
+    match refusal {
+        Refusal::Document => report::error_toml(),
+        Refusal::Cart(fault) => report::error_cart(
+            fault.chip,
+            fault.key.word(),
+            fault.cause.number(),
+        ),
+        Refusal::Assembly { source, fault } => report::error_asm(
+            source,
+            fault.line,
+            fault.column,
+            fault.cause.number(),
+        ),
+        Refusal::Script(fault) => report::error_reader(
+            Reader::Script,
+            fault.line,
+            fault.cause.number(),
+        ),
+        Refusal::Unbuilt => unbuilt_line(),
+        Refusal::Digits => report::error_hex(),
+        Refusal::Long(purpose) => report::error_long(
+            purpose_word(purpose),
+            purpose_number(purpose),
+        ),
+    }
+}
+
+/// The line of a file that the store didn't give.
+fn missing_line(purpose: Purpose) -> Line
+    ensures { result ≡ spelled_missing purpose }
+{
+    report::error_store(purpose_word(purpose), purpose_number(purpose))
+}
+
+/// Tells why files stopped a command. Where memory was wanting, nothing is written.
+pub fn put_stop<K: Sink>(sink: &mut K, stop: Stop) -> Status
+    ensures { Stops (K.written sink.old) (K.written sink.new) (K.faults sink.old) (K.faults sink.new) (exit_code result) stop }
+{
+    match stop {
+        Stop::Refused(refusal) => {
+            put_lines(sink, [refusal_line(refusal)].as_slice(), Status::Input)
+        }
+        Stop::Store(purpose) => put_lines(sink, [missing_line(purpose)].as_slice(), Status::Store),
+        Stop::Memory => Status::Memory,
+    }
+}

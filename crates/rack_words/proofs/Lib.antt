@@ -1,2 +1,0 @@
-pub mod Specified
-pub mod ChipLists

@@ -1,4 +1,0 @@
-pub mod Digits
-pub mod ChipWords
-pub mod CommandLine
-pub mod Games
