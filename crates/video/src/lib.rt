@@ -1,0 +1,9 @@
+//! The screen of a Channel F style console, as it is seen from the ports that write it.
+#![tactic(auto)]
+
+mod video_memory;
+
+pub use video_memory::Screen;
+
+#[cfg(test)]
+mod tests;

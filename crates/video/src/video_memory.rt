@@ -1,0 +1,132 @@
+use std::marker::Model;
+
+/// The screen of the console: video memory of 128 by 64 pixels of 2 bits, and the latches of the ports that write it. The rules are this
+/// project's own, after the Fairchild Channel F. Contracts see what is `Shown`.
+#[derive(Drop)]
+pub struct Screen {
+    /// The byte last written to port 1, which says a colour.
+    colour: u8,
+
+    /// The byte last written to port 4, which says a column.
+    column: u8,
+
+    /// The byte last written to port 5, which says a row, and a tone.
+    row: u8,
+
+    /// Bit 5 of the byte last written to port 0 is set.
+    strobe: bool,
+
+    /// A row a line, from y 0 on, and its pixels from x 0 on. Each is below 4.
+    pixels: [[u8; 128]; 64],
+}
+
+impl Model for Screen {
+    ghost use Rattle.std.specs.Prelude.{ℕ, ◌<◌};
+    ghost use Rattle.video.specs.ScreenState.{Shown, pixel_in};
+
+    ghost Value = { Shown };
+
+    ghost view = { λ s. record {
+      latches = record { colour = s.colour; column = s.column; row = s.row };
+      strobe = s.strobe;
+      rows = s.pixels;
+    } };
+
+    ghost invariant = { λ s. (x y : ℕ) → pixel_in s.pixels x y < 4 };
+}
+
+impl Screen {
+    ghost use Rattle.std.specs.Prelude.{◌≡◌, ◌<◌, List, [], ◌∷◌, ◌++◌};
+    ghost use Rattle.video.specs.Display.{Write, pixel_of, palette_in, palette_of, digits_in, row_digits, tone_by, tone_of};
+    ghost use Rattle.video.specs.ScreenState.{pixel_in, shown, drawn, after_write};
+
+    /// A screen at power-on: every pixel and every latch is 0.
+    pub fn dark() -> Screen
+        ensures { result ≡ shown [] }
+    {
+        Screen {
+            colour: 0,
+            column: 0,
+            row: 0,
+            strobe: false,
+            pixels: [[0; 128]; 64],
+        }
+    }
+
+    /// Takes a write to a port. Ports 1, 4 and 5 are latched, a rise of bit 5 of port 0 draws a pixel, and other ports change nothing.
+    pub fn port(&mut self, port: u8, byte: u8)
+        ensures next { self.new ≡ after_write (record { port = port; byte = byte }) self.old }
+        ensures display { (ws : List Write) → self.old ≡ shown ws → self.new ≡ shown (ws ++ record { port = port; byte = byte } ∷ []) }
+    {
+        match port {
+            0 => self.take_strobe(byte),
+            1 => self.colour = byte,
+            4 => self.column = byte,
+            5 => self.row = byte,
+            _ => {}
+        }
+    }
+
+    /// Takes a write to port 0.
+    #[tactic(auto, unfolding(crate::specs::ScreenState::after_write))]
+    fn take_strobe(&mut self, byte: u8)
+        ensures { self.new ≡ after_write (record { port = 0; byte = byte }) self.old }
+    {
+        let set = byte / 32 % 2 == 1;
+        if set && !self.strobe {
+            self.draw();
+        }
+        self.strobe = set;
+    }
+
+    /// Draws the pixel that the latches say. Bytes reach video memory inverted.
+    fn draw(&mut self)
+        ensures { self.new ≡ record self.old { rows = drawn self.old.latches self.old.rows } }
+    {
+        let x = usize::from((255 - self.column) % 128);
+        let y = usize::from((255 - self.row) % 64);
+        self.pixels[y][x] = (255 - self.colour) / 64;
+    }
+
+    /// The colour of a pixel, from 0 to 3. `x` is below 128 and `y` below 64.
+    pub fn pixel(&self, x: u8, y: u8) -> u8
+        requires column { x < 128 }
+        requires row { y < 64 }
+        ensures value { result ≡ pixel_in self.now.rows x y }
+        ensures colour { result < 4 }
+        ensures display { (ws : List Write) → self.now ≡ shown ws → result ≡ pixel_of ws x y }
+    {
+        self.pixels[usize::from(y)][usize::from(x)]
+    }
+
+    /// The palette of a row, from 0 to 3: bit 1 of its pixel 125, and twice bit 1 of its pixel 126. `y` is below 64.
+    pub fn palette(&self, y: u8) -> u8
+        requires { y < 64 }
+        ensures value { result ≡ palette_in (pixel_in self.now.rows) y }
+        ensures display { (ws : List Write) → self.now ≡ shown ws → result ≡ palette_of ws y }
+    {
+        u8::from(self.pixel(125, y) / 2 % 2 == 1) + 2 * u8::from(self.pixel(126, y) / 2 % 2 == 1)
+    }
+
+    /// The text of a row: the digit of its palette, a blank, and the digits of its 128 pixels from x 0 on. `y` is below 64.
+    pub fn row_text(&self, y: u8) -> [u8; 130]
+        requires { y < 64 }
+        ensures value { result ≡ digits_in (pixel_in self.now.rows) y }
+        ensures display { (ws : List Write) → self.now ≡ shown ws → result ≡ row_digits ws y }
+    {
+        let mut text = [b' '; 130];
+        text[0] = b'0' + self.palette(y);
+        for x in 0..128 {
+            text[usize::from(x) + 2] = b'0' + self.pixel(x, y);
+        }
+        text
+    }
+
+    /// The number of the tone, from 0 to 3: the high two bits of the latch of port 5.
+    pub fn tone(&self) -> u8
+        ensures value { result ≡ tone_by self.now.latches.row }
+        ensures display { (ws : List Write) → self.now ≡ shown ws → result ≡ tone_of ws }
+    {
+        self.row / 64
+    }
+}
