@@ -14,7 +14,7 @@ use Rattle.console_spec.specs.Services.{Conflict, Undriven, Astray}
 use Rattle.console_spec.specs.Run.{Done, Unserved, Reserved, power_position, position_after_reset, instruction_course, reset_course, played, run, recorded, played_record}
 use Rattle.console_spec.specs.declared.Who.TheVariants.{Cpu, Socket, Nobody}
 
-abbrev rom_page : ℕ → Page
+abbrev pub rom_page : ℕ → Page
 rom_page number = record { number = number; sort = Rom }
 
 -- a 3851 with these bytes, and FF behind them
@@ -109,6 +109,8 @@ ram_alone = 0x2A ∷ 0x28 ∷ 0x00 ∷ 0x2C ∷ 0x2A ∷ 0x28 ∷ 0x01 ∷ 0x2C 
 ram_answers : (played (psu_and_ram ram_alone) 0x5A 6).position.flat.state ≡ record {
   flow = record { p = 9; p1 = 0; d0 = 0x2801; d1 = 0x2801 };
   registers = record { accumulator = 0x5A; isar = 26; status = clear_status; scratchpad = replicate 64 0x5A };
+  keys = replicate 256 0;
+  writes = [];
   count = 6;
   phi = 102;
 }
@@ -130,6 +132,8 @@ jump_cut = refl
 jump_cut_state : (played cut_jump 0 9).position.flat.state ≡ record {
   flow = record { p = 0x03FE; p1 = 0; d0 = 0; d1 = 0 };
   registers = record { accumulator = 3; isar = 0; status = clear_status; scratchpad = replicate 64 0 };
+  keys = replicate 256 0;
+  writes = [];
   count = 1;
   phi = 36;
 }

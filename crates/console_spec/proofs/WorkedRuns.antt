@@ -8,7 +8,7 @@ use Rattle.f8_spec.specs.ChipState.{ChipView}
 use Rattle.console_spec.specs.Processor.{own_inputs, effect}
 use Rattle.console_spec.specs.FlatMemory.{first_memory}
 use Rattle.console_spec.specs.Services.{Conflict, Undriven, Astray}
-use Rattle.console_spec.specs.Run.{Done, Unserved, Reserved, Unbuilt, played, referred, run}
+use Rattle.console_spec.specs.Run.{Done, Unserved, Reserved, played, referred, run}
 use Rattle.console_spec.specs.RunText.{run_lines, text_of, verdict_line, fault_line, stop_line, regs_line, scratch_line, total_line}
 use Rattle.console_spec.proofs.WorkedRacks.{psu}
 
@@ -20,6 +20,8 @@ rom bytes = psu 0 4 bytes ∷ []
 branch_to_self : (played (rom (0x71 ∷ 0x2B ∷ 0x90 ∷ 0xFE ∷ [])) 0 3).position.flat.state ≡ record {
   flow = record { p = 1; p1 = 0; d0 = 0; d1 = 0 };
   registers = record { accumulator = 1; isar = 0; status = clear_status; scratchpad = replicate 64 0 };
+  keys = replicate 256 0;
+  writes = [];
   count = 3;
   phi = 36;
 }
@@ -34,16 +36,13 @@ branch_below_zero = refl
 branch_below_zero_state : (played (rom (0x90 ∷ 0xFD ∷ [])) 0 5).position.flat.state ≡ record {
   flow = record { p = 0; p1 = 0; d0 = 0; d1 = 0 };
   registers = record { accumulator = 0; isar = 0; status = clear_status; scratchpad = replicate 64 0 };
+  keys = replicate 256 0;
+  writes = [];
   count = 0;
   phi = 14;
 }
 unfolding played run own_inputs effect decoded first_memory
 branch_below_zero_state = refl
-
--- an opcode that is not built, and one that is met when no instruction is asked for
-not_built : (played (rom (0x26 ∷ 0x04 ∷ [])) 0 1).stop ≡ Unbuilt 0 0x26
-unfolding played run own_inputs effect decoded first_memory
-not_built = refl
 
 no_step_asked : (played (rom (0xFF ∷ [])) 0 0).stop ≡ Done
 unfolding played run own_inputs effect decoded first_memory
@@ -53,6 +52,8 @@ no_step_asked = refl
 decrement : (played (rom (0x70 ∷ 0x50 ∷ 0x30 ∷ 0x90 ∷ [])) 0 3).position.flat.state ≡ record {
   flow = record { p = 3; p1 = 0; d0 = 0; d1 = 0 };
   registers = record { accumulator = 0; isar = 0; status = clear_status; scratchpad = 0xFF ∷ replicate 63 0 };
+  keys = replicate 256 0;
+  writes = [];
   count = 3;
   phi = 28;
 }
@@ -77,6 +78,8 @@ decimal_sum_6A = refl
 flat_branch_below_zero : (referred (rom (0x90 ∷ 0xFD ∷ [])) 0 2).position.flat.state ≡ record {
   flow = record { p = 0xFFFE; p1 = 0; d0 = 0; d1 = 0 };
   registers = record { accumulator = 0; isar = 0; status = clear_status; scratchpad = replicate 64 0 };
+  keys = replicate 256 0;
+  writes = [];
   count = 1;
   phi = 28;
 }
@@ -112,10 +115,6 @@ undriven_line = refl
 astray_line : stop_line (Unserved (Astray 2 0 5 0)) ≡ codes "stop astray romc 02 socket 0 at 0005 reference 0000\n"
 unfolding stop_line fault_line digits
 astray_line = refl
-
-unbuilt_line : stop_line (Unbuilt 0 0x26) ≡ codes "stop unbuilt 26 at 0000\n"
-unfolding stop_line
-unbuilt_line = refl
 
 reserved_line : stop_line (Reserved 0xFFFE 0xFF) ≡ codes "stop reserved FF at FFFE\n"
 unfolding stop_line
