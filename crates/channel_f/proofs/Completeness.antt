@@ -2,10 +2,10 @@
 use Rattle.std.proofs.Common.{◌≡◌, ◌≢◌, ℕ, ◌+◌, ◌<◌, ◌⊎◌, inl, inr, List, length, Option, Some, None, Result, Ok, Err, sym, ◌∙◌, subst, arith}
 use Rattle.std.proofs.lemmas.Option.{slice_get_within}
 use Rattle.f8_spec.specs.ChipState.{ChipState}
-use Rattle.console_spec.specs.Run.{Stop as RunStop, Done, Unserved, Reserved, Unbuilt}
+use Rattle.console_spec.specs.Run.{Stop as RunStop, Done, Unserved, Reserved}
 use Rattle.outside.specs.Counts.{Rose}
 use Rattle.outside.specs.StoreRules.{NamedBytes}
-use Rattle.command_line.specs.CommandLine.{Command, Play, Ref, Asm, Dis}
+use Rattle.command_line.specs.CommandLine.{Command, Play, Ref, Asm, Dis, Gen}
 use Rattle.loader.specs.declared.refusals.Refusal.{Refusal}
 use Rattle.loader.specs.declared.refusals.Stop.{Stop}
 use Rattle.loader.specs.declared.refusals.Stop.TheVariants.{Refused, Store, Memory}
@@ -13,10 +13,12 @@ use Rattle.loader.specs.Games.{Game, game_of, image_by, bytes_by}
 use Rattle.loader.specs.Work.{End, Gives, Refuses, Lacks, Work, gives, ◌>>=◌}
 use Rattle.loader.specs.Works.{HasFiles, Works, outcome_as}
 use Rattle.loader.proofs.WorkLaws.{works_gives, works_then, works_stop}
-use Rattle.channel_f.specs.Answers.{Answer, refusal, status_of, unless_refused, play_answer, ref_answer, asm_answer, dis_answer, words_answer, answer_of, refused}
-use Rattle.channel_f.specs.Commands.{Around, Ends, Says}
+use Rattle.channel_f.specs.Answers.{Answer, refusal, status_of, unless_refused, game_answer, generated_game, gen_answer, play_answer, ref_answer, asm_answer, dis_answer, words_answer, answer_of, refused}
+use Rattle.channel_f.specs.Commands.{Around, AsksNone, Ends, Says}
 use Rattle.channel_f.specs.Completeness.{due, Answered, IsComplete}
 use Rattle.channel_f.specs.Reports.{Answers, Stops}
+use Rattle.channel_f.specs.declared.manner.Manner.{Manner}
+use Rattle.channel_f.specs.declared.manner.Manner.TheVariants.{Whole, Summary}
 
 -- a status that the store, the sink and memory don't have
 record IsPlain (status : ℕ) : Type 0 where
@@ -195,7 +197,6 @@ run_plain : (stop : RunStop) → IsPlain (status_of stop)
 run_plain Done = record { store = λ e. cc; sink = λ e. cc; memory = λ e. cc }
 run_plain (Unserved fault) = record { store = λ e. cc; sink = λ e. cc; memory = λ e. cc }
 run_plain (Reserved at code) = record { store = λ e. cc; sink = λ e. cc; memory = λ e. cc }
-run_plain (Unbuilt at code) = record { store = λ e. cc; sink = λ e. cc; memory = λ e. cc }
 
 zero_plain : IsPlain 0
 zero_plain = record { store = λ e. cc; sink = λ e. cc; memory = λ e. cc }
@@ -207,17 +208,23 @@ unless_plain : (line : Option (List ℕ)) (answer : Answer) → IsPlain answer.s
 unless_plain None answer plain = plain
 unless_plain (Some line) answer plain = record { store = λ e. cc; sink = λ e. cc; memory = λ e. cc }
 
-play_plain : (rack : List ChipState) (game : Game) → IsPlain (play_answer rack game).status
-play_plain rack game = unless_plain (refusal game rack) _ (run_plain _)
+game_plain : (manner : Manner) (rack : List ChipState) (game : Game) → IsPlain (game_answer manner rack game).status
+game_plain manner rack game = unless_plain (refusal game rack) _ (run_plain _)
 
 -- ---- all commands
 
+-- no file is asked for
+complete_asked : (before after : Around) (said : ℕ) (answer : Answer) → IsPlain answer.status → AsksNone before after →
+    Answers before.written after.written before.sink_faults after.sink_faults said answer → IsComplete before after said (gives answer)
+complete_asked before after said answer plain asks answers =
+    complete_ok before after said (gives answer) answer plain (rw (asks.files, asks.store_faults, asks.fetches) (works_gives before.files before.store_faults before.fetches answer)) answers
+
 pub completed : (before after : Around) (said : ℕ) (rack news : List ChipState) (command : Option Command) → Says before after said rack news command → IsComplete before after said (answer_of rack command)
-completed before after said rack news (Some (Play cart script)) says = complete_of before after said (game_of cart script) (play_answer rack) says.outcome (play_plain rack) says.works says.ends
+completed before after said rack news (Some (Play cart script traced)) says =
+    complete_of before after said (game_of cart script) (play_answer traced rack) says.outcome (game_plain (Whole traced) rack) says.works says.ends
 completed before after said rack news (Some (Ref cart script)) says =
     complete_of before after said (game_of cart script) ref_answer says.told.outcome (λ game. run_plain _) says.told.works says.told.ends
 completed before after said rack news (Some (Asm file)) says = complete_of before after said (image_by file) asm_answer says.told.outcome (λ picture. zero_plain) says.told.works says.told.ends
 completed before after said rack news (Some (Dis file)) says = complete_of before after said (bytes_by file) dis_answer says.told.outcome (λ bytes. zero_plain) says.told.works says.told.ends
-completed before after said rack news None says =
-    complete_ok before after said (gives words_answer) words_answer one_plain
-    (rw (says.files, says.store_faults, says.fetches) (works_gives before.files before.store_faults before.fetches words_answer)) says.answers
+completed before after said rack news (Some (Gen seed)) says = complete_asked before after said (gen_answer rack seed) (game_plain (Summary seed) rack (generated_game seed)) says.asks says.answers
+completed before after said rack news None says = complete_asked before after said words_answer one_plain says.asks says.answers

@@ -1,8 +1,11 @@
 -- What the program answers: its lines and its status.
-use Rattle.std.specs.Prelude.{ℕ, nat_lt, if◌then◌else◌, List, [], ◌∷◌, length, Option, Some, None, option_map}
-use Rattle.f8_spec.specs.ChipState.{ChipView, ChipState}
-use Rattle.console_spec.specs.Run.{Stop, Done, Unserved, Reserved, Unbuilt, Ending, played, referred}
-use Rattle.console_spec.specs.RunText.{run_lines, ending_lines}
+use Rattle.std.specs.Prelude.{ℕ, Bool, nat_lt, if◌then◌else◌, List, [], ◌∷◌, length, Option, Some, None, option_map}
+use Rattle.f8_spec.specs.ChipState.{ChipState}
+use Rattle.console_spec.specs.Run.{Stop, Done, Unserved, Reserved}
+use Rattle.console_spec.specs.RunText.{flat_telling_lines}
+use Rattle.console_spec.specs.Telling.{Telling, referred_by}
+use Rattle.console_spec.specs.declared.End.TheVariants.{Frames}
+use Rattle.generator.specs.GeneratedChips.{chips_of_seed}
 use Rattle.memory_map.specs.MapOf.{views_of}
 use Rattle.rack_run.specs.Seating.{kinds_of, fitted_views}
 use Rattle.rack_run.specs.Sockets.{shortage_of}
@@ -11,12 +14,15 @@ use Rattle.report.specs.RefusalLines.{words_line, rack_line, sockets_line}
 use Rattle.f8_asm.specs.Image.{Picture}
 use Rattle.f8_asm.specs.Listing.{listing}
 use Rattle.asm_lines.specs.ImageLines.{image_lines}
-use Rattle.command_line.specs.CommandLine.{Command, Play, Ref, Asm, Dis}
+use Rattle.command_line.specs.CommandLine.{Command, Play, Ref, Asm, Dis, Gen}
 use Rattle.loader.specs.declared.purposes.Purpose.{Purpose}
 use Rattle.loader.specs.declared.refusals.Refusal.{Refusal}
 use Rattle.loader.specs.Games.{Game, game_of, image_by, bytes_by}
 use Rattle.loader.specs.Work.{Work, gives, ◌>>=◌}
+use Rattle.channel_f.specs.Manners.{run_by, lines_by}
 use Rattle.channel_f.specs.Refusals.{refusal_line, missing_line}
+use Rattle.channel_f.specs.declared.manner.Manner.{Manner}
+use Rattle.channel_f.specs.declared.manner.Manner.TheVariants.{Whole, Summary}
 
 -- the lines that are due, and the status
 pub record Answer : Type 0 where
@@ -36,25 +42,18 @@ refusal game rack =
 
 -- ---- runs
 
--- 0 where all instructions are done, 3 where a bus step is not served, 8 at a reserved opcode, and 9 at one that is not built
+-- 0 where all is done, 3 where a bus step is not served, and 8 at a reserved opcode
 abbrev pub status_of : Stop → ℕ
 status_of Done = 0
 status_of (Unserved fault) = 3
 status_of (Reserved at code) = 8
-status_of (Unbuilt at code) = 9
 
-abbrev pub run_answer : (Ending → List (List ℕ)) → Ending → Answer
-run_answer lines ending = record { status = status_of ending.stop; lines = lines ending }
+-- the run of a game on the chips of a rack, fitted for it, each with its own patch in its bytes
+abbrev pub game_run : Manner → Game → List ChipState → Telling
+game_run manner game rack = run_by manner game.script (fitted_views game.chips rack)
 
--- a game on fitted chips, on the chips of a rack, each with its own patch in its bytes, and on the flat instruction set alone
-abbrev pub game_ending : Game → List ChipView → Ending
-game_ending game vs = played vs game.power game.count
-
-abbrev pub play_ending : Game → List ChipState → Ending
-play_ending game rack = game_ending game (fitted_views game.chips rack)
-
-abbrev pub ref_ending : Game → Ending
-ref_ending game = referred (views_of game.chips) game.power game.count
+abbrev pub run_answer : Manner → Telling → Answer
+run_answer manner run = record { status = status_of run.ending.stop; lines = lines_by manner run }
 
 -- ---- what is due
 
@@ -63,11 +62,25 @@ unless_refused (Some line) due = record { status = 2; lines = line ∷ [] }
 unless_refused None due = due
 
 -- a game that the rack has no place for is refused
-abbrev pub play_answer : List ChipState → Game → Answer
-play_answer rack game = unless_refused (refusal game rack) (run_answer run_lines (play_ending game rack))
+abbrev pub game_answer : Manner → List ChipState → Game → Answer
+game_answer manner rack game = unless_refused (refusal game rack) (run_answer manner (game_run manner game rack))
+
+abbrev pub play_answer : Bool → List ChipState → Game → Answer
+play_answer traced rack game = game_answer (Whole traced) rack game
+
+-- the generated cartridge runs for 60 frames, without keys and shown frames
+abbrev pub generated_game : ℕ → Game
+generated_game seed = record { script = record { power = 0; end = Frames 60; events = []; shows = [] }; chips = chips_of_seed seed }
+
+abbrev pub gen_answer : List ChipState → ℕ → Answer
+gen_answer rack seed = game_answer (Summary seed) rack (generated_game seed)
+
+-- the same chips on the flat instruction set alone
+abbrev pub ref_run : Game → Telling
+ref_run game = referred_by (views_of game.chips) game.script
 
 abbrev pub ref_answer : Game → Answer
-ref_answer game = run_answer ending_lines (ref_ending game)
+ref_answer game = record { status = status_of (ref_run game).ending.stop; lines = flat_telling_lines (ref_run game) }
 
 abbrev pub asm_answer : Picture → Answer
 asm_answer picture = record { status = 0; lines = image_lines picture }
@@ -83,10 +96,11 @@ words_answer = record { status = 1; lines = words_line ∷ [] }
 -- What is due, as a work over the files: each file is read before the next one is asked for, and the rack is looked at after all of them.
 abbrev pub answer_of : List ChipState → Option Command → Work Answer
 answer_of rack None = gives words_answer
-answer_of rack (Some (Play cart script)) = game_of cart script >>= λ game. gives (play_answer rack game)
+answer_of rack (Some (Play cart script traced)) = game_of cart script >>= λ game. gives (play_answer traced rack game)
 answer_of rack (Some (Ref cart script)) = game_of cart script >>= λ game. gives (ref_answer game)
 answer_of rack (Some (Asm file)) = image_by file >>= λ picture. gives (asm_answer picture)
 answer_of rack (Some (Dis file)) = bytes_by file >>= λ bytes. gives (dis_answer bytes)
+answer_of rack (Some (Gen seed)) = gives (gen_answer rack seed)
 
 -- a file that is refused, and one that the store did not give
 abbrev pub refused : Refusal → Answer

@@ -1,5 +1,6 @@
 pub mod Statuses
 pub mod Refusals
+pub mod Manners
 pub mod Answers
 pub mod Reports
 pub mod RackAfter

@@ -24,7 +24,7 @@ purpose_number purpose.Script = None
 purpose_number purpose.File = None
 purpose_number (purpose.Source chip) = Some chip
 
--- frames, events and shown frames are not built yet
+-- pulses are not built yet
 unfoldable pub unbuilt_line : List ℕ
 unbuilt_line = codes "error script unbuilt\n"
 

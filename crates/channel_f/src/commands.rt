@@ -1,37 +1,45 @@
 // What each command answers.
-ghost use Rattle.std.specs.Prelude.{◌≤◌, map, length};
+ghost use Rattle.std.specs.Prelude.{◌≡◌, ◌≤◌, IfOk, map, length};
 ghost use Rattle.loader.specs.Games.{game_of, image_by, bytes_by};
-ghost use Rattle.channel_f.specs.Answers.{ref_answer, asm_answer, dis_answer};
+ghost use Rattle.channel_f.specs.Answers.{refusal, generated_game, gen_answer, ref_answer, asm_answer, dis_answer};
 ghost use Rattle.channel_f.specs.Commands.{around, Told, TellsGame};
+ghost use Rattle.loader.specs.Seen.{seen_game};
+ghost use Rattle.pad_script.specs.Limits.{HasLimits};
+ghost use Rattle.channel_f.specs.RackAfter.{PlaysUnless};
 ghost use Rattle.channel_f.specs.Reports.{Answers};
 ghost use Rattle.channel_f.specs.Statuses.{exit_code};
 
 use super::lines_out::{put_picture, put_text};
+use super::manner::Manner;
 use super::playing::{play_game, refer_game};
 use super::refused::put_stop;
 use super::status::Status;
 use chip_face::Chip;
+use console_spec::End;
 use f8_asm::disassemble;
 use f8_machine::Rack;
 use f8_spec::Memory;
-use loader::{load_bytes, load_game, load_image};
+use generator::generated_chips;
+use loader::{Game, load_bytes, load_game, load_image};
 use outside::{Sink, Store};
+use pad_script::{EventList, Script, ShowList};
 use std::alloc::Global;
 
-/// `play CART SCRIPT`.
+/// `play CART SCRIPT`, with every bus step where it is traced.
 #[tactic(auto, using(crate::proofs::Outcomes::tells_game, crate::proofs::Outcomes::tells_no_game))]
 pub fn answer_play<S: Store, K: Sink>(
     alloc: Global,
     cart: &str,
     script: &str,
+    traced: bool,
     store: &mut S,
     sink: &mut K,
     rack: &mut Rack,
 ) -> Status
-    ensures { TellsGame (around (K.written sink.old) (K.faults sink.old) (S.files store.old) (S.faults store.old) (S.fetches store.old)) (around (K.written sink.new) (K.faults sink.new) (S.files store.new) (S.faults store.new) (S.fetches store.new)) (exit_code result) (map state rack.old.items) (map state rack.new.items) (game_of cart.now script.now) }
+    ensures { TellsGame (around (K.written sink.old) (K.faults sink.old) (S.files store.old) (S.faults store.old) (S.fetches store.old)) (around (K.written sink.new) (K.faults sink.new) (S.files store.new) (S.faults store.new) (S.fetches store.new)) (exit_code result) traced (map state rack.old.items) (map state rack.new.items) (game_of cart.now script.now) }
 {
     match load_game(alloc, store, cart, script) {
-        Ok(game) => play_game(alloc, &game, sink, rack),
+        Ok(game) => play_game(alloc, &game, Manner::Whole { traced }, sink, rack),
         Err(stop) => put_stop(sink, stop),
     }
 }
@@ -94,5 +102,33 @@ pub fn answer_dis<S: Store, K: Sink>(
     match load_bytes(alloc, store, file) {
         Ok(bytes) => list_bytes(alloc, bytes.as_slice(), sink),
         Err(stop) => put_stop(sink, stop),
+    }
+}
+
+/// The game of a generated cartridge: it runs for 60 frames, without keys and shown frames.
+fn generate(alloc: Global, seed: u32) -> Result<Game, Memory>
+    ensures game { IfOk result (λ game. seen_game game ≡ generated_game seed) }
+    ensures limits { IfOk result (λ game. HasLimits game.script.end) }
+{
+    let chips = generated_chips(alloc, seed)?;
+    Ok(Game {
+        chips,
+        script: Script {
+            power: 0,
+            end: End::Frames(60),
+            events: EventList::from_vec(Vec::new(alloc)),
+            shows: ShowList::from_vec(Vec::new(alloc)),
+        },
+    })
+}
+
+/// `gen N`.
+pub fn answer_gen<K: Sink>(alloc: Global, seed: u32, sink: &mut K, rack: &mut Rack) -> Status
+    ensures answers { Answers (K.written sink.old) (K.written sink.new) (K.faults sink.old) (K.faults sink.new) (exit_code result) (gen_answer (map state rack.old.items) seed) }
+    ensures rack { PlaysUnless (refusal (generated_game seed) (map state rack.old.items)) (K.written sink.old) (K.written sink.new) (exit_code result) (Manner.Summary seed) (generated_game seed) (map state rack.old.items) (map state rack.new.items) }
+{
+    match generate(alloc, seed) {
+        Ok(game) => play_game(alloc, &game, Manner::Summary { seed }, sink, rack),
+        Err(Memory) => Status::Memory,
     }
 }

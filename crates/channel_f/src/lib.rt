@@ -3,6 +3,7 @@
 
 mod commands;
 mod lines_out;
+mod manner;
 mod playing;
 mod refused;
 mod status;

@@ -2,15 +2,18 @@ ghost use Rattle.std.specs.Prelude.{◌≡◌, ◌≢◌, ◌<◌, [], ◌∷◌
 ghost use Rattle.console_spec.specs.RunText.{told_lines, stop_line as spelled_stop, text_of};
 ghost use Rattle.rack_run.specs.Endings.{stop_at};
 ghost use Rattle.channel_f.specs.Answers.{status_of};
+ghost use Rattle.channel_f.specs.Manners.{opening_lines, told_summary, told_closing};
 ghost use Rattle.channel_f.specs.Reports.{Reports};
 ghost use Rattle.asm_lines.specs.ImageLines.{image_lines};
 ghost use Rattle.outside.specs.SinkRules.{Adds, AddsPart, HasCause};
 ghost use Rattle.channel_f.specs.Statuses.{exit_code};
 
+use super::manner::Manner;
 use super::status::Status;
 use asm_lines::{put_image, put_listing};
 use data_bus::BusFault;
 use f8_asm::{Image, Text};
+use generator::{gen_line, scratch_sum, scratch_sum_line, writes_line};
 use outside::{Sink, SinkFault};
 use rack_run::{Ending, Halt};
 use report::Line;
@@ -53,7 +56,6 @@ fn stop_line(halt: &Option<Halt>) -> Line
         None => report::stop_done_line(),
         Some(Halt::Fault(fault)) => fault_line(fault),
         Some(Halt::Reserved { at, code }) => report::stop_reserved_line(*at, *code),
-        Some(Halt::Unbuilt { at, code }) => report::stop_unbuilt_line(*at, *code),
     }
 }
 
@@ -80,7 +82,6 @@ fn status_at(halt: &Option<Halt>) -> Status
         None => Status::Done,
         Some(Halt::Fault(_)) => Status::Fault,
         Some(Halt::Reserved { .. }) => Status::Reserved,
-        Some(Halt::Unbuilt { .. }) => Status::Unbuilt,
     }
 }
 
@@ -101,6 +102,45 @@ pub fn put_ending<K: Sink>(sink: &mut K, ending: &Ending) -> Status
     ensures { Reports (K.written sink.old) (K.written sink.new) (K.faults sink.old) (K.faults sink.new) (exit_code result) (status_of (stop_at ending.now.halt)) (told_lines (stop_at ending.now.halt) ending.now.regs ending.now.count ending.now.phi) }
 {
     put_lines(sink, lines_of(ending).as_slice(), status_at(&ending.halt))
+}
+
+/// The lines before a run on a rack.
+pub fn put_opening<K: Sink>(sink: &mut K, manner: Manner) -> Result<(), SinkFault>
+    ensures ok { OnOk result (Adds (K.written sink.old) (K.written sink.new) (text_of (opening_lines manner))) }
+    ensures err { OnErr result (AddsPart (K.written sink.old) (K.written sink.new) (text_of (opening_lines manner))) }
+    ensures cause { HasCause (K.faults sink.old) (K.faults sink.new) result }
+{
+    match manner {
+        Manner::Whole { .. } => put_all(sink, [report::verdict_line()].as_slice()),
+        Manner::Summary { seed } => {
+            put_all(sink, [gen_line(seed), report::verdict_line()].as_slice())
+        }
+    }
+}
+
+/// The lines that sum up a run.
+fn summary_of(ending: &Ending) -> [Line; 4]
+    ensures { result ≡ told_summary (stop_at ending.now.halt) ending.now.regs ending.now.count ending.now.phi ending.now.writes ending.now.bytes }
+{
+    [
+        stop_line(&ending.halt),
+        report::total_line(ending.count, ending.phi),
+        writes_line(ending.writes, ending.bytes),
+        scratch_sum_line(scratch_sum(&ending.regs.scratch)),
+    ]
+}
+
+/// Writes the lines behind a run on a rack, and ends with its status. ISAR is below 64.
+pub fn put_closing<K: Sink>(sink: &mut K, manner: Manner, ending: &Ending) -> Status
+    requires { ending.now.regs.isar < 64 }
+    ensures { Reports (K.written sink.old) (K.written sink.new) (K.faults sink.old) (K.faults sink.new) (exit_code result) (status_of (stop_at ending.now.halt)) (told_closing manner ending.now) }
+{
+    match manner {
+        Manner::Whole { .. } => put_ending(sink, ending),
+        Manner::Summary { .. } => {
+            put_lines(sink, summary_of(ending).as_slice(), status_at(&ending.halt))
+        }
+    }
 }
 
 /// Writes the lines of an image.

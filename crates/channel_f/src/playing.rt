@@ -1,22 +1,26 @@
 // A game on a rack, and on the flat instruction set alone.
 ghost use Rattle.std.specs.Prelude.{◌≡◌, ◌≤◌, None, map, length};
-ghost use Rattle.console_spec.specs.RunText.{run_lines};
+ghost use Rattle.f8_spec.specs.BusArbitration.{seat_of};
+ghost use Rattle.cpu3850.specs.OwnWrites.{LeaveOwnPorts};
 ghost use Rattle.data_bus.specs.Racks.{views};
 ghost use Rattle.f8_machine.specs.Refinement.{AreWhole};
 ghost use Rattle.loader.specs.Seen.{seen_game};
-ghost use Rattle.channel_f.specs.Answers.{run_answer, status_of, refusal as spelled_refusal, game_ending, play_ending, play_answer, ref_answer};
+ghost use Rattle.pad_script.specs.Limits.{HasLimits};
+ghost use Rattle.channel_f.specs.Answers.{status_of, refusal as spelled_refusal, run_answer, game_run, game_answer, ref_answer};
+ghost use Rattle.channel_f.specs.Manners.{run_by, lines_by};
 ghost use Rattle.channel_f.specs.Reports.{Answers, Reports};
 ghost use Rattle.channel_f.specs.RackAfter.{OnFitted, Plays, PlaysUnless};
 ghost use Rattle.channel_f.specs.Statuses.{exit_code};
 
-use super::lines_out::{put_ending, put_lines};
+use super::lines_out::{put_closing, put_ending, put_lines, put_opening};
+use super::manner::Manner;
 use super::status::Status;
 use chip_face::Chip;
 use f8_machine::{Chain, Rack};
 use f8_spec::Memory;
 use loader::Game;
 use outside::{Sink, SinkFault};
-use rack_run::{first_shortage, fit_all, play, refer};
+use rack_run::{ReferFault, first_shortage, fit_all, play, refer};
 use report::Line;
 use std::alloc::Global;
 
@@ -36,51 +40,69 @@ fn refusal(game: &Game, rack: &Rack) -> Option<Line>
     Some(report::error_sockets(shortage.kind, shortage.need, shortage.have))
 }
 
-/// The verdict line, and then the run, on a rack that is fitted for the game.
-fn play_fitted<K: Sink>(game: &Game, sink: &mut K, rack: &mut Rack) -> Status
+/// The opening lines, the run, and the closing lines, on a rack that is fitted for the game.
+fn play_fitted<K: Sink>(game: &Game, manner: Manner, sink: &mut K, rack: &mut Rack) -> Status
     requires few { length rack.old.items ≤ 16 }
     requires whole { AreWhole (map state rack.old.items) }
-    ensures reports { Reports (K.written sink.old) (K.written sink.new) (K.faults sink.old) (K.faults sink.new) (exit_code result) (status_of (game_ending (seen_game game.now) (views (map state rack.old.items))).stop) (run_lines (game_ending (seen_game game.now) (views (map state rack.old.items)))) }
-    ensures rack { OnFitted (K.written sink.old) (K.written sink.new) (exit_code result) (seen_game game.now) (views (map state rack.old.items)) (map state rack.old.items) (map state rack.new.items) }
+    requires ports { LeaveOwnPorts (map seat_of (views (map state rack.old.items))) }
+    requires limits { HasLimits game.now.script.end }
+    ensures reports { Reports (K.written sink.old) (K.written sink.new) (K.faults sink.old) (K.faults sink.new) (exit_code result) (status_of (run_by manner (seen_game game.now).script (views (map state rack.old.items))).ending.stop) (lines_by manner (run_by manner (seen_game game.now).script (views (map state rack.old.items)))) }
+    ensures rack { OnFitted (K.written sink.old) (K.written sink.new) (exit_code result) manner (seen_game game.now) (views (map state rack.old.items)) (map state rack.old.items) (map state rack.new.items) }
 {
-    match sink.put(report::verdict_line().as_bytes()) {
-        Ok(()) => {
-            let ending = play(rack, game.power, Chain::new(), game.count);
-            put_ending(sink, &ending)
-        }
+    let Ok(()) = put_opening(sink, manner) else {
+        return Status::Sink;
+    };
+    match play(rack, sink, Chain::new(), &game.script, manner.detail()) {
+        Ok(ending) => put_closing(sink, manner, &ending),
         Err(SinkFault) => Status::Sink,
     }
 }
 
 /// A game on a rack that has a place for it.
-fn fit_and_play<K: Sink>(alloc: Global, game: &Game, sink: &mut K, rack: &mut Rack) -> Status
+fn fit_and_play<K: Sink>(
+    alloc: Global,
+    game: &Game,
+    manner: Manner,
+    sink: &mut K,
+    rack: &mut Rack,
+) -> Status
     requires few { length rack.old.items ≤ 16 }
-    ensures answers { Answers (K.written sink.old) (K.written sink.new) (K.faults sink.old) (K.faults sink.new) (exit_code result) (run_answer run_lines (play_ending (seen_game game.now) (map state rack.old.items))) }
-    ensures rack { Plays (K.written sink.old) (K.written sink.new) (exit_code result) (seen_game game.now) (map state rack.old.items) (map state rack.new.items) }
+    requires limits { HasLimits game.now.script.end }
+    ensures answers { Answers (K.written sink.old) (K.written sink.new) (K.faults sink.old) (K.faults sink.new) (exit_code result) (run_answer manner (game_run manner (seen_game game.now) (map state rack.old.items))) }
+    ensures rack { Plays (K.written sink.old) (K.written sink.new) (exit_code result) manner (seen_game game.now) (map state rack.old.items) (map state rack.new.items) }
 {
     match fit_all(alloc, &game.chips, rack) {
-        Ok(()) => play_fitted(game, sink, rack),
+        Ok(()) => play_fitted(game, manner, sink, rack),
         Err(Memory) => Status::Memory,
     }
 }
 
 /// A game on a rack, if it has a place for it.
-pub fn play_game<K: Sink>(alloc: Global, game: &Game, sink: &mut K, rack: &mut Rack) -> Status
-    ensures answers { Answers (K.written sink.old) (K.written sink.new) (K.faults sink.old) (K.faults sink.new) (exit_code result) (play_answer (map state rack.old.items) (seen_game game.now)) }
-    ensures rack { PlaysUnless (spelled_refusal (seen_game game.now) (map state rack.old.items)) (K.written sink.old) (K.written sink.new) (exit_code result) (seen_game game.now) (map state rack.old.items) (map state rack.new.items) }
+pub fn play_game<K: Sink>(
+    alloc: Global,
+    game: &Game,
+    manner: Manner,
+    sink: &mut K,
+    rack: &mut Rack,
+) -> Status
+    requires limits { HasLimits game.now.script.end }
+    ensures answers { Answers (K.written sink.old) (K.written sink.new) (K.faults sink.old) (K.faults sink.new) (exit_code result) (game_answer manner (map state rack.old.items) (seen_game game.now)) }
+    ensures rack { PlaysUnless (spelled_refusal (seen_game game.now) (map state rack.old.items)) (K.written sink.old) (K.written sink.new) (exit_code result) manner (seen_game game.now) (map state rack.old.items) (map state rack.new.items) }
 {
     match refusal(game, rack) {
         Some(line) => put_lines(sink, [line].as_slice(), Status::Input),
-        None => fit_and_play(alloc, game, sink, rack),
+        None => fit_and_play(alloc, game, manner, sink, rack),
     }
 }
 
 /// A game on the flat instruction set alone.
 pub fn refer_game<K: Sink>(alloc: Global, game: &Game, sink: &mut K) -> Status
+    requires limits { HasLimits game.now.script.end }
     ensures { Answers (K.written sink.old) (K.written sink.new) (K.faults sink.old) (K.faults sink.new) (exit_code result) (ref_answer (seen_game game.now)) }
 {
-    match refer(alloc, &game.chips, game.power, game.count) {
+    match refer(alloc, sink, &game.chips, &game.script) {
         Ok(ending) => put_ending(sink, &ending),
-        Err(Memory) => Status::Memory,
+        Err(ReferFault::Memory) => Status::Memory,
+        Err(ReferFault::Sink) => Status::Sink,
     }
 }

@@ -17,8 +17,6 @@ pub enum Status {
     Memory = 6,
     /// A reserved opcode was met.
     Reserved = 8,
-    /// An opcode that isn't built was met.
-    Unbuilt = 9,
     /// The system didn't give the words.
     NoWords = 10,
 }

@@ -75,6 +75,37 @@ const EXCHANGE_PLAY: &str = "verdict unchecked\n\
      s30 00 00 00 00 00 00 00 00 00 00 00 00 00 00 00 00\n\
      total 4 instructions 78 phi\n";
 
+const LOOP_TRACE: &str = "verdict unchecked\n\
+     bus 1C S 00 -\n\
+     bus 08 L 00 cpu\n\
+     bus 00 S 71 0\n\
+     bus 00 S 2B 0\n\
+     bus 00 S 90 0\n\
+     bus 1C S 00 -\n\
+     bus 01 L FE 0\n\
+     bus 00 S 2B 0\n\
+     stop done\n\
+     regs P=0001 P1=0000 D0=0000 D1=0000 A=01 IS=00 W=00\n\
+     s00 00 00 00 00 00 00 00 00 00 00 00 00 00 00 00 00\n\
+     s10 00 00 00 00 00 00 00 00 00 00 00 00 00 00 00 00\n\
+     s20 00 00 00 00 00 00 00 00 00 00 00 00 00 00 00 00\n\
+     s30 00 00 00 00 00 00 00 00 00 00 00 00 00 00 00 00\n\
+     total 3 instructions 36 phi\n";
+
+/// A key byte is read and written back, and then a port is read that no chip has.
+const KEYS_CART: &str =
+    "format = 1\n[[chip]]\nkind = '3851'\nbase = 0\nports = 4\nrom = '200FB4A42602'\n";
+
+const KEYS_PLAY: &str = "verdict unchecked\n\
+     out 40 04 0F\n\
+     stop undriven romc 1B at 0002\n\
+     regs P=0004 P1=0000 D0=0000 D1=0000 A=3F IS=00 W=01\n\
+     s00 00 00 00 00 00 00 00 00 00 00 00 00 00 00 00 00\n\
+     s10 00 00 00 00 00 00 00 00 00 00 00 00 00 00 00 00\n\
+     s20 00 00 00 00 00 00 00 00 00 00 00 00 00 00 00 00\n\
+     s30 00 00 00 00 00 00 00 00 00 00 00 00 00 00 00 00\n\
+     total 3 instructions 56 phi\n";
+
 const EMPTY_PLAY: &str = "verdict unchecked\n\
      stop undriven romc 00 at 0000\n\
      regs P=0000 P1=0000 D0=0000 D1=0000 A=00 IS=00 W=00\n\
@@ -85,7 +116,22 @@ const EMPTY_PLAY: &str = "verdict unchecked\n\
      total 0 instructions 0 phi\n";
 
 /// What is answered with ample memory.
-const ANSWERS: [Row; 8] = [
+const ANSWERS: [Row; 10] = [
+    (
+        &[("cart", LOOP_CART), ("script", "steps 3\n")],
+        &["play", "cart", "--trace", "script"],
+        0,
+        LOOP_TRACE,
+    ),
+    (
+        &[
+            ("cart", KEYS_CART),
+            ("script", "at 0 keys 04 30\nsteps 4\n"),
+        ],
+        &["play", "cart", "script"],
+        3,
+        KEYS_PLAY,
+    ),
     (
         &[("cart", EXCHANGE_CART), ("script", "steps 9\n")],
         &["play", "cart", "script"],
@@ -183,7 +229,7 @@ const REFUSALS: [Row; 11] = [
         "error script line 1 cause 2\n",
     ),
     (
-        &[("cart", LOOP_CART), ("script", "frames 1\n")],
+        &[("cart", LOOP_CART), ("script", "at 0 pulse 0\nframes 1\n")],
         &["ref", "cart", "script"],
         2,
         "error script unbuilt\n",
@@ -263,6 +309,48 @@ fn answers_with_ample_memory(rt: HostRuntime) -> Result<(), Fail> {
         assert_eq!(rt; status, want, "{words:?}");
         assert_eq!(rt; sink.bytes(), text.as_bytes(), "{words:?}");
     }
+    Ok(())
+}
+
+/// Whether the run of the cartridge that is generated from a number is summed up so, on a rack of twelve 3851s.
+fn is_summed_up(alloc: Global, seed: &str, rack: &mut Rack, text: &str) -> Result<bool, Fail> {
+    let (status, sink) = answered(alloc, &[], &["gen", seed], rack)?;
+    Ok(status == 0 && sink.bytes() == text.as_bytes())
+}
+
+#[test]
+fn generates_from_0(rt: HostRuntime) -> Result<(), Fail> {
+    let mut rack = rack_of!(rt, 12, Psu::blank(), 0, Smi::blank());
+    let text = "gen 0\nverdict unchecked\nstop done\n\
+         total 352240 instructions 1789800 phi\nwrites 20661 sum 1390761\nscratch 312\n";
+    assert!(rt; is_summed_up(rt.alloc(), "0", &mut rack, text)?);
+    Ok(())
+}
+
+#[test]
+fn generates_from_1(rt: HostRuntime) -> Result<(), Fail> {
+    let mut rack = rack_of!(rt, 12, Psu::blank(), 0, Smi::blank());
+    let text = "gen 1\nverdict unchecked\nstop done\n\
+         total 352203 instructions 1789800 phi\nwrites 21121 sum 1542497\nscratch 207\n";
+    assert!(rt; is_summed_up(rt.alloc(), "1", &mut rack, text)?);
+    Ok(())
+}
+
+#[test]
+fn generates_from_2(rt: HostRuntime) -> Result<(), Fail> {
+    let mut rack = rack_of!(rt, 12, Psu::blank(), 0, Smi::blank());
+    let text = "gen 2\nverdict unchecked\nstop done\n\
+         total 348157 instructions 1789800 phi\nwrites 21874 sum 1537277\nscratch 107\n";
+    assert!(rt; is_summed_up(rt.alloc(), "2", &mut rack, text)?);
+    Ok(())
+}
+
+#[test]
+fn generates_from_the_greatest_number(rt: HostRuntime) -> Result<(), Fail> {
+    let mut rack = rack_of!(rt, 12, Psu::blank(), 0, Smi::blank());
+    let text = "gen 4294967295\nverdict unchecked\nstop done\n\
+         total 352272 instructions 1789802 phi\nwrites 20833 sum 1520005\nscratch 276\n";
+    assert!(rt; is_summed_up(rt.alloc(), "4294967295", &mut rack, text)?);
     Ok(())
 }
 
@@ -425,8 +513,16 @@ fn refuses_racks_without_a_place(rt: HostRuntime) -> Result<(), Fail> {
 /// Words, the room of a sink, the calls that are to fail, and what is written.
 type SinkRow = (&'static [&'static str], u32, &'static [u64], &'static [u8]);
 
-/// The third call fails, and nothing of its line goes out; or the room ends within the second line.
-const SINK_FAULTS: [SinkRow; 4] = [
+/// A call fails, and nothing of its line goes out, within a frame too; or the room ends within the second line.
+const SINK_FAULTS: [SinkRow; 6] = [
+    (
+        &["play", "cart", "drawn"],
+        1024,
+        &[4],
+        b"verdict unchecked\nframe 1 phi 29830 tone 0\n\
+          0 00000000000000000000000000000000000000000000000000000000000000000000000000000000000000000000000000000000000000000000000000000000\n",
+    ),
+    (&["gen", "1"], 1024, &[2], b"gen 1\n"),
     (
         &["play", "cart", "script"],
         1024,
@@ -448,10 +544,11 @@ fn stops_at_a_failing_sink(rt: HostRuntime) -> Result<(), Fail> {
     let files = [
         ("cart", LOOP_CART),
         ("script", "steps 0\n"),
+        ("drawn", "show 1\nframes 1\n"),
         ("code", "LOOP: NOP\nBR LOOP\n"),
         ("digits", "712D"),
     ];
-    let mut rack = rack_of!(rt, 1, Psu::blank(), 0, Smi::blank());
+    let mut rack = rack_of!(rt, 12, Psu::blank(), 0, Smi::blank());
     for (words, room, failing, text) in SINK_FAULTS {
         let words = words_of(rt.alloc(), words)?;
         let failing = calls_of(rt.alloc(), failing)?;

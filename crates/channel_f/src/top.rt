@@ -6,7 +6,7 @@ ghost use Rattle.channel_f.specs.Completeness.{IsComplete};
 ghost use Rattle.channel_f.specs.Reports.{Reports};
 ghost use Rattle.channel_f.specs.Statuses.{exit_code};
 
-use super::commands::{answer_asm, answer_dis, answer_play, answer_ref};
+use super::commands::{answer_asm, answer_dis, answer_gen, answer_play, answer_ref};
 use super::lines_out::put_lines;
 use super::status::Status;
 use chip_face::Chip;
@@ -16,7 +16,7 @@ use f8_spec::Memory;
 use outside::{Sink, Store};
 use std::alloc::Global;
 
-#[tactic(auto, using(crate::proofs::Outcomes::says_play, crate::proofs::Outcomes::says_ref, crate::proofs::Outcomes::says_asm, crate::proofs::Outcomes::says_dis, crate::proofs::Outcomes::says_words, crate::proofs::Outcomes::says_wanting, crate::proofs::Games::answers_of))]
+#[tactic(auto, using(crate::proofs::Outcomes::says_play, crate::proofs::Outcomes::says_ref, crate::proofs::Outcomes::says_asm, crate::proofs::Outcomes::says_dis, crate::proofs::Outcomes::says_gen, crate::proofs::Outcomes::says_words, crate::proofs::Outcomes::says_wanting, crate::proofs::Games::answers_of))]
 fn answer_words<S: Store, K: Sink>(
     alloc: Global,
     words: &[String],
@@ -27,12 +27,19 @@ fn answer_words<S: Store, K: Sink>(
     ensures { Says (around (K.written sink.old) (K.faults sink.old) (S.files store.old) (S.faults store.old) (S.fetches store.old)) (around (K.written sink.new) (K.faults sink.new) (S.files store.new) (S.faults store.new) (S.fetches store.new)) (exit_code result) (map state rack.old.items) (map state rack.new.items) (command_of (map string_bytes words.now)) }
 {
     match read_words(alloc, words) {
-        Ok(Some(Command::Play { cart, script })) => {
-            answer_play(alloc, cart, script, store, sink, rack)
-        }
+        Ok(
+            Some(
+                Command::Play {
+                    cart,
+                    script,
+                    traced,
+                },
+            ),
+        ) => answer_play(alloc, cart, script, traced, store, sink, rack),
         Ok(Some(Command::Ref { cart, script })) => answer_ref(alloc, cart, script, store, sink),
         Ok(Some(Command::Asm { file })) => answer_asm(alloc, file, store, sink),
         Ok(Some(Command::Dis { file })) => answer_dis(alloc, file, store, sink),
+        Ok(Some(Command::Gen { seed })) => answer_gen(alloc, seed, sink, rack),
         Ok(None) => put_lines(sink, [report::error_words()].as_slice(), Status::Words),
         Err(Memory) => Status::Memory,
     }
@@ -42,10 +49,12 @@ fn answer_words<S: Store, K: Sink>(
 ///
 /// The words are one of these. Names are those of files in the store.
 ///
-/// - `play CART SCRIPT`: the rack is fitted for the chips that the description describes, powered and reset, and runs as the script has it.
+/// - `play CART SCRIPT`: the rack is fitted for the chips that the description describes, powered and reset, and runs as the script has it. With
+///   `--trace` every bus step is told.
 /// - `ref CART SCRIPT`: the same bytes run on the flat instruction set alone, and the rack stays as it was.
 /// - `asm FILE`: the bytes that an assembly text makes, and its names.
 /// - `dis FILE`: the assembly text of a file of hexadecimal digits.
+/// - `gen N`: the rack is fitted for a large cartridge that is generated from the number, and runs for 60 frames. Its run is summed up.
 ///
 /// Each file is read before the next is asked for: the description, then the source of each chip that has one, then the script. The rack is
 /// looked at after all of them, and then its chips are fitted. The first refusal ends the call with its one line. Each line is one put.
@@ -61,10 +70,10 @@ fn answer_words<S: Store, K: Sink>(
 /// - 4 where the store failed, as one does that hasn't the file,
 /// - 5 where the sink failed,
 /// - 6 where memory was wanting, and then nothing was written,
-/// - 8 at a reserved opcode,
-/// - 9 at an opcode that isn't built.
+/// - 8 at a reserved opcode.
 ///
-/// Where the run of `play` began, each chip has heard its bus steps and nothing else, also where the sink failed behind the verdict.
+/// Where a run of `play` or `gen` began, each chip has heard its bus steps and has taken its key bytes, and nothing else. Where the sink failed at
+/// a line of the run, that is so up to the end of the instruction, or of the reset, whose line it was.
 #[tactic(auto, using(crate::proofs::Completeness::completed))]
 pub fn console<S: Store, K: Sink>(
     alloc: Global,

@@ -1,15 +1,43 @@
 -- Words with what they ask for, each worked out from the rules by hand and computed from the definitions.
-use Rattle.std.proofs.Common.{◌≡◌, [], ◌∷◌, Some, None, codes, refl}
-use Rattle.command_line.specs.CommandLine.{Play, Ref, Asm, Dis, command_of}
+use Rattle.std.proofs.Common.{◌≡◌, true, false, [], ◌∷◌, Some, None, codes, refl}
+use Rattle.command_line.specs.CommandLine.{Play, Ref, Asm, Dis, Gen, command_of}
 
-pub two_words : command_of (codes "play" ∷ (codes "game.toml" ∷ (codes "run.txt" ∷ []))) ≡ Some (Play (codes "game.toml") (codes "run.txt"))
+pub two_words : command_of (codes "play" ∷ (codes "game.toml" ∷ (codes "run.txt" ∷ []))) ≡ Some (Play (codes "game.toml") (codes "run.txt") false)
 two_words = refl
 
 pub hyphen_and_empty : command_of (codes "ref" ∷ (codes "-" ∷ (codes "" ∷ []))) ≡ Some (Ref (codes "-") (codes ""))
 hyphen_and_empty = refl
 
-pub plain_behind_dashes : command_of (codes "play" ∷ (codes "--" ∷ (codes "a" ∷ (codes "-b" ∷ [])))) ≡ Some (Play (codes "a") (codes "-b"))
+pub plain_behind_dashes : command_of (codes "play" ∷ (codes "--" ∷ (codes "a" ∷ (codes "-b" ∷ [])))) ≡ Some (Play (codes "a") (codes "-b") false)
 plain_behind_dashes = refl
+
+pub flag_first : command_of (codes "play" ∷ (codes "--trace" ∷ (codes "a" ∷ (codes "b" ∷ [])))) ≡ Some (Play (codes "a") (codes "b") true)
+flag_first = refl
+
+pub flag_between : command_of (codes "play" ∷ (codes "a" ∷ (codes "--trace" ∷ (codes "b" ∷ [])))) ≡ Some (Play (codes "a") (codes "b") true)
+flag_between = refl
+
+pub flag_last : command_of (codes "play" ∷ (codes "a" ∷ (codes "b" ∷ (codes "--trace" ∷ [])))) ≡ Some (Play (codes "a") (codes "b") true)
+flag_last = refl
+
+pub flag_before_dashes : command_of (codes "play" ∷ (codes "--trace" ∷ (codes "--" ∷ (codes "-a" ∷ (codes "--trace" ∷ [])))))
+    ≡ Some (Play (codes "-a") (codes "--trace") true)
+flag_before_dashes = refl
+
+pub flag_behind_dashes : command_of (codes "play" ∷ (codes "a" ∷ (codes "--" ∷ (codes "--trace" ∷ [])))) ≡ Some (Play (codes "a") (codes "--trace") false)
+flag_behind_dashes = refl
+
+pub flag_twice : command_of (codes "play" ∷ (codes "--trace" ∷ (codes "a" ∷ (codes "b" ∷ (codes "--trace" ∷ []))))) ≡ None
+flag_twice = refl
+
+pub flag_of_another : command_of (codes "ref" ∷ (codes "a" ∷ (codes "b" ∷ (codes "--trace" ∷ [])))) ≡ None
+flag_of_another = refl
+
+pub flag_with_value : command_of (codes "play" ∷ (codes "a" ∷ (codes "b" ∷ (codes "--trace=x" ∷ [])))) ≡ None
+flag_with_value = refl
+
+pub flag_cut_short : command_of (codes "play" ∷ (codes "a" ∷ (codes "b" ∷ (codes "--trac" ∷ [])))) ≡ None
+flag_cut_short = refl
 
 pub first_dashes_part : command_of (codes "asm" ∷ (codes "--" ∷ (codes "--" ∷ []))) ≡ Some (Asm (codes "--"))
 first_dashes_part = refl
@@ -23,11 +51,26 @@ one_too_few = refl
 pub one_too_many : command_of (codes "asm" ∷ (codes "a" ∷ (codes "b" ∷ []))) ≡ None
 one_too_many = refl
 
-pub dashed_word : command_of (codes "play" ∷ (codes "a" ∷ (codes "b" ∷ (codes "--trace=x" ∷ [])))) ≡ None
-dashed_word = refl
-
 pub help_refused : command_of (codes "dis" ∷ (codes "--help" ∷ [])) ≡ None
 help_refused = refl
+
+pub leading_zeros : command_of (codes "gen" ∷ (codes "0000000001" ∷ [])) ≡ Some (Gen 1)
+leading_zeros = refl
+
+pub largest_seed : command_of (codes "gen" ∷ (codes "4294967295" ∷ [])) ≡ Some (Gen 4294967295)
+largest_seed = refl
+
+pub seed_too_large : command_of (codes "gen" ∷ (codes "4294967296" ∷ [])) ≡ None
+seed_too_large = refl
+
+pub eleven_digits : command_of (codes "gen" ∷ (codes "00000000001" ∷ [])) ≡ None
+eleven_digits = refl
+
+pub signed_seed : command_of (codes "gen" ∷ (codes "+1" ∷ [])) ≡ None
+signed_seed = refl
+
+pub empty_seed : command_of (codes "gen" ∷ (codes "" ∷ [])) ≡ None
+empty_seed = refl
 
 pub no_words : command_of [] ≡ None
 no_words = refl

@@ -1,6 +1,7 @@
 pub mod WordSorts
 pub mod Reading
-pub mod OneFile
+pub mod OneWord
 pub mod TwoFiles
+pub mod PlayRun
 pub mod Parsed
 pub mod Examples

@@ -1,12 +1,20 @@
--- The words of the program and what they ask for. The first word is the command, and the plain words behind it are names of files.
-use Rattle.std.specs.Prelude.{ℕ, Bool, false, ◌==◌, if◌then◌else◌, List, [], ◌∷◌, codes, bytes_eq, Option, Some, None, option_map, option_and_then}
+-- The words of the program and what they ask for. The first word is the command. A word behind it is plain, or the flag `--trace`.
+use Rattle.std.specs.Prelude.{ℕ, Bool, true, false, ◌==◌, ◌&&◌, if◌then◌else◌, nat_le, List, [], ◌∷◌, length, map, codes, bytes_eq, Option, Some, None, option_map, option_and_then}
+use Rattle.std.specs.Str.{all_ascii_digits}
+use Rattle.std.specs.Str.Parse.{digits_value}
 
 -- what can be asked for
 pub data Command : Type 0 where
-  Play : (cart script : List ℕ) → Command
+  Play : (cart script : List ℕ) (traced : Bool) → Command
   Ref : (cart script : List ℕ) → Command
   Asm : (file : List ℕ) → Command
   Dis : (file : List ℕ) → Command
+  Gen : (seed : ℕ) → Command
+
+-- what a word behind a command is
+pub data Word : Type 0 where
+  Flag : Word
+  Plain : (text : List ℕ) → Word
 
 -- two or more bytes, of which the first is `-` (45)
 abbrev pub is_dashed : List ℕ → Bool
@@ -14,40 +22,69 @@ is_dashed [] = false
 is_dashed (first ∷ []) = false
 is_dashed (first ∷ (second ∷ rest)) = first == 45
 
--- the plain words behind a command, where none is refused: before the first `--` a dashed word is, and behind it none
-abbrev pub plain : List (List ℕ) → Option (List (List ℕ))
-plain [] = Some []
-plain (word ∷ rest) =
-    if bytes_eq word (codes "--") then Some rest
+-- the words behind a command, where none is refused: before the first `--` each dashed word but the flag is, and behind it all are plain
+abbrev pub words_of : List (List ℕ) → Option (List Word)
+words_of [] = Some []
+words_of (word ∷ rest) =
+    if bytes_eq word (codes "--") then Some (map Plain rest)
+    else (if bytes_eq word (codes "--trace") then option_map (λ words. Flag ∷ words) (words_of rest)
     else (if is_dashed word then None
-    else option_map (λ words. word ∷ words) (plain rest))
+    else option_map (λ words. Plain word ∷ words) (words_of rest)))
 
--- the one word of a list that has no other
-abbrev pub one_in : List (List ℕ) → Option (List ℕ)
-one_in (file ∷ []) = Some file
+-- one plain word and nothing else
+abbrev pub one_in : List Word → Option (List ℕ)
+one_in (Plain text ∷ []) = Some text
 one_in words = None
 
--- the two words of a list that has no other
-abbrev pub two_in : List (List ℕ) → Option (List ℕ × List ℕ)
-two_in (first ∷ (second ∷ [])) = Some (first, second)
+abbrev pub one_of : List (List ℕ) → Option (List ℕ)
+one_of words = option_and_then one_in (words_of words)
+
+-- two plain words and nothing else
+abbrev pub two_in : List Word → Option (List ℕ × List ℕ)
+two_in (Plain first ∷ (Plain second ∷ [])) = Some (first, second)
 two_in words = None
 
-abbrev pub one_of : Option (List (List ℕ)) → Option (List ℕ)
-one_of = option_and_then one_in
+abbrev pub two_of : List (List ℕ) → Option (List ℕ × List ℕ)
+two_of words = option_and_then two_in (words_of words)
 
-abbrev pub two_of : Option (List (List ℕ)) → Option (List ℕ × List ℕ)
-two_of = option_and_then two_in
+-- two files, with whether the flag stands among them, once, at any place
+pub record Run : Type 0 where
+  pub cart : List ℕ
+  pub script : List ℕ
+  pub traced : Bool
 
--- what a command's word asks for, with the plain words behind it
-abbrev pub asked_by : List ℕ → Option (List (List ℕ)) → Option Command
+abbrev pub run_in : List Word → Option Run
+run_in (Plain cart ∷ (Plain script ∷ [])) = Some (record { cart = cart; script = script; traced = false })
+run_in (Flag ∷ (Plain cart ∷ (Plain script ∷ []))) = Some (record { cart = cart; script = script; traced = true })
+run_in (Plain cart ∷ (Flag ∷ (Plain script ∷ []))) = Some (record { cart = cart; script = script; traced = true })
+run_in (Plain cart ∷ (Plain script ∷ (Flag ∷ []))) = Some (record { cart = cart; script = script; traced = true })
+run_in words = None
+
+abbrev pub run_of : List (List ℕ) → Option Run
+run_of words = option_and_then run_in (words_of words)
+
+abbrev pub played : Run → Command
+played run = Play run.cart run.script run.traced
+
+-- one to ten decimal digits, with leading zeros or without, of a number below 2 ^ 32
+abbrev pub is_seed : List ℕ → Bool
+is_seed text = nat_le 1 (length text) && (nat_le (length text) 10 && (all_ascii_digits text && nat_le (digits_value 10 text) 4294967295))
+
+-- the number that such digits write
+abbrev pub seed_of : List ℕ → Option ℕ
+seed_of text = if is_seed text then Some (digits_value 10 text) else None
+
+-- what a command's word asks for, with the words behind it
+abbrev pub asked_by : List ℕ → List (List ℕ) → Option Command
 asked_by name words =
-    if bytes_eq name (codes "play") then option_map (λ files. Play files.0 files.1) (two_of words)
+    if bytes_eq name (codes "play") then option_map played (run_of words)
     else (if bytes_eq name (codes "ref") then option_map (λ files. Ref files.0 files.1) (two_of words)
     else (if bytes_eq name (codes "asm") then option_map Asm (one_of words)
     else (if bytes_eq name (codes "dis") then option_map Dis (one_of words)
-    else None)))
+    else (if bytes_eq name (codes "gen") then option_map Gen (option_and_then seed_of (one_of words))
+    else None))))
 
 -- what the words ask for, and nothing where they are none of the program's
 abbrev pub command_of : List (List ℕ) → Option Command
 command_of [] = None
-command_of (name ∷ rest) = asked_by name (plain rest)
+command_of (name ∷ rest) = asked_by name rest

@@ -1,12 +1,16 @@
 -- The simple commands that read the words behind each command, as clap's definitions see them.
-use Rattle.std.specs.Prelude.{true, Some}
+use Rattle.std.specs.Prelude.{true, Some, codes}
 use Rattle.clap.specs.Walk.{Rule, Text}
 use Rattle.clap.specs.Simple.{App, new_app, new_rule, on_top}
-use Rattle.clap.specs.declared.builder.action.ArgAction.TheVariants.{Set}
+use Rattle.clap.specs.declared.builder.action.ArgAction.TheVariants.{Set, SetTrue}
 
 -- a positional that has to be there, once
 abbrev pub wanted : Text → Rule
 wanted id = record (new_rule id) { action = Some Set; required = true }
+
+-- the flag `--trace`, which takes no value
+abbrev pub trace : Rule
+trace = record (new_rule (codes "trace")) { long = Some (codes "trace"); action = Some SetTrue }
 
 -- a command without help and version
 abbrev pub bare : Text → App

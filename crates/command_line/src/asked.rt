@@ -8,6 +8,9 @@ pub enum Command<'a> {
 
         /// The script of the run.
         script: &'a str,
+
+        /// Whether the run shows its trace.
+        traced: bool,
     },
 
     /// The same run on the flat instruction set alone.
@@ -29,5 +32,11 @@ pub enum Command<'a> {
     Dis {
         /// The bytes.
         file: &'a str,
+    },
+
+    /// A run of the cartridge that is generated from a number.
+    Gen {
+        /// The number.
+        seed: u32,
     },
 }

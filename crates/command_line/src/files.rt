@@ -1,51 +1,34 @@
-// The plain words behind a command, by a simple command of clap's.
-ghost use Rattle.std.specs.Prelude.{◌≡◌, ◌⊎◌, IfErr, IfOk, None, false, drop, map, option_map, string_bytes};
-ghost use Rattle.clap.specs.Words.{app_of, kind_of, rule_of};
-ghost use Rattle.command_line.specs.CommandLine.{one_of, plain, two_of};
-ghost use Rattle.command_line.specs.Parsers.{bare, wanted};
+// The words behind a command that takes plain words alone, by a simple command of clap's.
+ghost use Rattle.std.specs.Prelude.{◌≡◌, ◌⊎◌, IfErr, IfOk, None, drop, map, option_map, string_bytes};
+ghost use Rattle.clap.specs.Words.{kind_of};
+ghost use Rattle.command_line.specs.CommandLine.{one_of, two_of};
 ghost use Rattle.command_line.specs.Seen.{seen_files};
 
+use super::parsers::{bare, wanted};
+use clap::Error;
 use clap::error::ErrorKind;
-use clap::{Arg, ArgAction, Command, Error};
 use std::alloc::Global;
 
-/// A command without help and version.
-fn bare<'a>(alloc: Global, name: &'a str) -> Command<'a>
-    ensures { app_of result ≡ bare name.entry.now }
-{
-    Command::new(alloc, name)
-        .disable_help_flag(true)
-        .disable_version_flag(true)
-}
-
-/// A plain word that has to be there, once.
-fn wanted<'a>(alloc: Global, id: &'a str) -> Arg<'a>
-    ensures rule { rule_of result ≡ wanted id.entry.now }
-    ensures local { result.global ≡ false }
-{
-    Arg::new(alloc, id).required(true).action(ArgAction::Set)
-}
-
-/// The one plain word behind the first word, which is the command's, and `None` where there isn't one alone or a word is refused.
-pub fn one_file<'a>(alloc: Global, words: &'a [String]) -> Result<Option<&'a str>, Error>
-    ensures file { IfOk result (λ file. option_map (λ f. f.now) file ≡ one_of (plain (drop 1 (map string_bytes words.now)))) }
-    ensures refused { IfErr result (λ error. (kind_of error ≡ ErrorKind.OutOfMemory) ⊎ (one_of (plain (drop 1 (map string_bytes words.now))) ≡ None)) }
+/// The one word behind the first, which is the command's, and `None` where there isn't one alone, or it isn't plain.
+pub fn one_word<'a>(alloc: Global, words: &'a [String]) -> Result<Option<&'a str>, Error>
+    ensures word { IfOk result (λ word. option_map (λ w. w.now) word ≡ one_of (drop 1 (map string_bytes words.now))) }
+    ensures refused { IfErr result (λ error. (kind_of error ≡ ErrorKind.OutOfMemory) ⊎ (one_of (drop 1 (map string_bytes words.now)) ≡ None)) }
 {
     let Some(name) = words.first() else {
         return Ok(None);
     };
-    let command = bare(alloc, name.as_str()).arg(wanted(alloc, "file"))?;
+    let command = bare(alloc, name.as_str()).arg(wanted(alloc, "word"))?;
     let matches = command.try_get_matches_from(words)?;
-    Ok(matches.get_str("file"))
+    Ok(matches.get_str("word"))
 }
 
-/// The two plain words behind the first word, which is the command's, and `None` where there aren't just two or a word is refused.
+/// The two words behind the first, which is the command's, and `None` where there aren't just two, or one isn't plain.
 pub fn two_files<'a>(
     alloc: Global,
     words: &'a [String],
 ) -> Result<Option<(&'a str, &'a str)>, Error>
-    ensures files { IfOk result (λ files. option_map seen_files files ≡ two_of (plain (drop 1 (map string_bytes words.now)))) }
-    ensures refused { IfErr result (λ error. (kind_of error ≡ ErrorKind.OutOfMemory) ⊎ (two_of (plain (drop 1 (map string_bytes words.now))) ≡ None)) }
+    ensures files { IfOk result (λ files. option_map seen_files files ≡ two_of (drop 1 (map string_bytes words.now))) }
+    ensures refused { IfErr result (λ error. (kind_of error ≡ ErrorKind.OutOfMemory) ⊎ (two_of (drop 1 (map string_bytes words.now)) ≡ None)) }
 {
     let Some(name) = words.first() else {
         return Ok(None);

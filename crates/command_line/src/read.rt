@@ -4,7 +4,9 @@ ghost use Rattle.command_line.specs.CommandLine.{command_of};
 ghost use Rattle.command_line.specs.Seen.{seen_command};
 
 use super::asked::Command;
-use super::files::{one_file, two_files};
+use super::files::{one_word, two_files};
+use super::play::play;
+use super::seed::seed_of;
 use clap::Error;
 use clap::error::ErrorKind;
 use f8_spec::Memory;
@@ -19,10 +21,14 @@ fn asked_for<'a>(alloc: Global, words: &'a [String]) -> Result<Option<Command<'a
         return Ok(None);
     };
     match name.as_str() {
-        "play" => Ok(two_files(alloc, words)?.map(|(cart, script)| Command::Play { cart, script })),
+        "play" => play(alloc, words),
         "ref" => Ok(two_files(alloc, words)?.map(|(cart, script)| Command::Ref { cart, script })),
-        "asm" => Ok(one_file(alloc, words)?.map(|file| Command::Asm { file })),
-        "dis" => Ok(one_file(alloc, words)?.map(|file| Command::Dis { file })),
+        "asm" => Ok(one_word(alloc, words)?.map(|file| Command::Asm { file })),
+        "dis" => Ok(one_word(alloc, words)?.map(|file| Command::Dis { file })),
+        "gen" => {
+            let seed = one_word(alloc, words)?.and_then(seed_of);
+            Ok(seed.map(|seed| Command::Gen { seed }))
+        }
         _ => Ok(None),
     }
 }

@@ -22,9 +22,16 @@ fn runs(rt: HostRuntime) -> Result<(), Fail> {
         ("play a b --", "a", "b"),
         ("play a -- --", "a", "--"),
         ("play help play", "help", "play"),
+        ("play a -- --trace", "a", "--trace"),
+        ("play -- --trace --trace", "--trace", "--trace"),
+        ("play trace -", "trace", "-"),
     ];
     for (line, cart, script) in lines {
-        let wanted = Some(Command::Play { cart, script });
+        let wanted = Some(Command::Play {
+            cart,
+            script,
+            traced: false,
+        });
         assert!(rt; asks(rt.alloc(), line, wanted)?, "{line}");
     }
     let cart = "c";
@@ -32,6 +39,72 @@ fn runs(rt: HostRuntime) -> Result<(), Fail> {
     let wanted = Some(Command::Ref { cart, script });
     assert!(rt; asks(rt.alloc(), "ref c s", wanted)?);
     assert!(rt; asks(rt.alloc(), "ref c -- s", wanted)?);
+    Ok(())
+}
+
+#[test]
+fn traced_runs(rt: HostRuntime) -> Result<(), Fail> {
+    let lines = [
+        ("play a b --trace", "a", "b"),
+        ("play a --trace b", "a", "b"),
+        ("play --trace a b", "a", "b"),
+        ("play --trace - ", "-", ""),
+        ("play --trace -- -a -b", "-a", "-b"),
+        ("play a --trace -- --trace", "a", "--trace"),
+        ("play a b --trace --", "a", "b"),
+    ];
+    for (line, cart, script) in lines {
+        let wanted = Some(Command::Play {
+            cart,
+            script,
+            traced: true,
+        });
+        assert!(rt; asks(rt.alloc(), line, wanted)?, "{line}");
+    }
+    Ok(())
+}
+
+#[test]
+fn seeds(rt: HostRuntime) -> Result<(), Fail> {
+    let lines = [
+        ("gen 0", 0),
+        ("gen 1", 1),
+        ("gen 0000000000", 0),
+        ("gen 0000000001", 1),
+        ("gen 12 --", 12),
+        ("gen -- 9", 9),
+        ("gen 4294967295", 4_294_967_295),
+    ];
+    for (line, seed) in lines {
+        let wanted = Some(Command::Gen { seed });
+        assert!(rt; asks(rt.alloc(), line, wanted)?, "{line}");
+    }
+    Ok(())
+}
+
+#[test]
+fn seeds_refused(rt: HostRuntime) -> Result<(), Fail> {
+    let lines = [
+        "gen",
+        "gen ",
+        "gen --",
+        "gen 1 2",
+        "gen 4294967296",
+        "gen 9999999999",
+        "gen 00000000001",
+        "gen 04294967295",
+        "gen +1",
+        "gen -1",
+        "gen -- -1",
+        "gen 1_0",
+        "gen 0x10",
+        "gen 1a",
+        "gen \u{661}",
+        "gen --trace 1",
+    ];
+    for line in lines {
+        assert!(rt; asks(rt.alloc(), line, None)?, "{line}");
+    }
     Ok(())
 }
 
@@ -87,9 +160,24 @@ fn words_refused(rt: HostRuntime) -> Result<(), Fail> {
         "run a b",
         "play -a b",
         "play a b -c",
-        "play a b --trace",
-        "play --trace a b",
         "play a b --trace=x",
+        "play a b --trace=",
+        "play a b --tracex",
+        "play a b --trac",
+        "play a b -trace",
+        "play a b -t",
+        "play a b --Trace",
+        "play --trace a b --trace",
+        "play --trace --trace a b",
+        "play a --trace b --trace --",
+        "play --trace",
+        "play --trace a",
+        "play a b c --trace",
+        "--trace play a b",
+        "ref a b --trace",
+        "ref --trace a b",
+        "asm --trace a",
+        "dis a --trace",
         "play --help",
         "ref -h a b",
         "asm --version",

@@ -1,5 +1,10 @@
-//! The console's board. So far it is the type of a write to a port alone.
+//! The console's board, between the processor's output ports and what a player sees: the screen that the ports draw, and the frames.
 #![tactic(auto)]
+
+mod video_board;
+
+pub use video::Screen;
+pub use video_board::Board;
 
 /// A write to an output port that is taken. `phi` is the count of clocks, in Φ, at the end of the instruction that writes, and `byte`
 /// is as the processor puts it on the data bus (Fairchild F8 User's Guide, `OUT` and `OUTS`).
@@ -9,3 +14,6 @@ pub struct PortWrite {
     pub port: u8,
     pub byte: u8,
 }
+
+#[cfg(test)]
+mod tests;

@@ -1,4 +1,8 @@
+pub mod Played
 pub mod InputLaws
 pub mod Walks
 pub mod WorkedRacks
 pub mod WorkedRuns
+mod WorkedPictures
+mod WorkedScripts
+mod WorkedDraws

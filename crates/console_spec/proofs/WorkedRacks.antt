@@ -11,10 +11,12 @@ use Rattle.f8_spec.specs.declared.chips.Page.{Page}
 use Rattle.console_spec.specs.Processor.{own_inputs, effect}
 use Rattle.console_spec.specs.FlatMemory.{first_memory}
 use Rattle.console_spec.specs.Services.{Conflict, Undriven, Astray}
-use Rattle.console_spec.specs.Run.{Done, Unserved, Reserved, power_position, position_after_reset, instruction_course, reset_course, played, run, recorded, played_record}
+use Rattle.console_spec.specs.Telling.{telling, played_by, referred_by}
+use Rattle.console_spec.proofs.Played.{played, played_record}
+use Rattle.console_spec.specs.Run.{Done, Unserved, Reserved, power_position, position_after_reset, instruction_course, reset_course}
 use Rattle.console_spec.specs.declared.Who.TheVariants.{Cpu, Socket, Nobody}
 
-abbrev rom_page : ℕ → Page
+abbrev pub rom_page : ℕ → Page
 rom_page number = record { number = number; sort = Rom }
 
 -- a 3851 with these bytes, and FF behind them
@@ -39,14 +41,14 @@ psu_and_ram bytes = psu 0 4 bytes ∷ replicate 11 (blank_view Psu) ++ ram_smi 0
 
 -- no chip at all: reset is not served
 no_chip : played [] 0 1 ≡ record { position = power_position [] 0; stop = Unserved (Undriven 0 0) }
-unfolding played run own_inputs effect decoded first_memory
+unfolding played_by telling own_inputs effect decoded first_memory
 no_chip = refl
 
 -- two chips hold the opcode's address, and their bytes agree
 two_chips_one_address :
     (played (psu 0 4 (0x2B ∷ []) ∷ psu 0 8 (0x2B ∷ []) ∷ []) 0 1).stop
     ≡ Unserved (Conflict 0 (record { socket = 0; at = 0 } ∷ record { socket = 1; at = 0 } ∷ []))
-unfolding played run own_inputs effect decoded first_memory
+unfolding played_by telling own_inputs effect decoded first_memory
 two_chips_one_address = refl
 
 -- a return to the stack registers of power-on: the chip that drives stands right, or it does not, or none drives
@@ -54,22 +56,22 @@ abbrev pop_at_once : List ChipView
 pop_at_once = psu 0 4 (0x1C ∷ []) ∷ psu 0x400 8 [] ∷ []
 
 pop_to_own_counters : (played pop_at_once 0 3).position.flat.state.flow.p ≡ 0
-unfolding played run own_inputs effect decoded first_memory
+unfolding played_by telling own_inputs effect decoded first_memory
 pop_to_own_counters = refl
 
 pop_clocks : (played pop_at_once 0 3).position.flat.state.phi ≡ 38
-unfolding played run own_inputs effect decoded first_memory
+unfolding played_by telling own_inputs effect decoded first_memory
 pop_clocks = refl
 
 pop_astray : played pop_at_once 4 3 ≡ record {
   position = position_after_reset (power_position pop_at_once 4);
   stop = Unserved (Astray 0 1 0x0405 0);
 }
-unfolding played run own_inputs effect decoded first_memory
+unfolding played_by telling own_inputs effect decoded first_memory
 pop_astray = refl
 
 pop_undriven : (played pop_at_once 0x12 3).stop ≡ Unserved (Undriven 0 0)
-unfolding played run own_inputs effect decoded first_memory
+unfolding played_by telling own_inputs effect decoded first_memory
 pop_undriven = refl
 
 -- the data counters part where a 3851 has one alone
@@ -77,15 +79,15 @@ abbrev exchange_alone : List ChipView
 exchange_alone = psu 0 4 (0x2A ∷ 0x00 ∷ 0x05 ∷ 0x2C ∷ 0x16 ∷ []) ∷ []
 
 copies_part : (played exchange_alone 0 9).stop ≡ Unserved (Astray 2 0 5 0)
-unfolding played run own_inputs effect decoded first_memory
+unfolding played_by telling own_inputs effect decoded first_memory
 copies_part = refl
 
 copies_part_counters : (played exchange_alone 0 9).position.flat.state.flow ≡ record { p = 4; p1 = 0; d0 = 0; d1 = 5 }
-unfolding played run own_inputs effect decoded first_memory
+unfolding played_by telling own_inputs effect decoded first_memory
 copies_part_counters = refl
 
 copies_part_clocks : (played exchange_alone 0 9).position.flat.state.phi ≡ 46
-unfolding played run own_inputs effect decoded first_memory
+unfolding played_by telling own_inputs effect decoded first_memory
 copies_part_clocks = refl
 
 -- ROM and RAM answer one read, each at its own data counter
@@ -94,12 +96,12 @@ rom_and_ram = 0x2A ∷ 0x28 ∷ 0x00 ∷ 0x2C ∷ 0x2A ∷ 0x00 ∷ 0x10 ∷ 0x2
 
 both_answer : (played (psu_and_ram rom_and_ram) 0 9).stop
     ≡ Unserved (Conflict 2 (record { socket = 0; at = 0x10 } ∷ record { socket = 12; at = 0x2800 } ∷ []))
-unfolding played run own_inputs effect decoded first_memory
+unfolding played_by telling own_inputs effect decoded first_memory
 both_answer = refl
 
 both_answer_counters : (played (psu_and_ram rom_and_ram) 0 9).position.flat.state.flow
     ≡ record { p = 8; p1 = 0; d0 = 0x2800; d1 = 0x10 }
-unfolding played run own_inputs effect decoded first_memory
+unfolding played_by telling own_inputs effect decoded first_memory
 both_answer_counters = refl
 
 -- only the RAM answers
@@ -109,14 +111,16 @@ ram_alone = 0x2A ∷ 0x28 ∷ 0x00 ∷ 0x2C ∷ 0x2A ∷ 0x28 ∷ 0x01 ∷ 0x2C 
 ram_answers : (played (psu_and_ram ram_alone) 0x5A 6).position.flat.state ≡ record {
   flow = record { p = 9; p1 = 0; d0 = 0x2801; d1 = 0x2801 };
   registers = record { accumulator = 0x5A; isar = 26; status = clear_status; scratchpad = replicate 64 0x5A };
+  keys = replicate 256 0;
+  writes = [];
   count = 6;
   phi = 102;
 }
-unfolding played run own_inputs effect decoded first_memory
+unfolding played_by telling own_inputs effect decoded first_memory
 ram_answers = refl
 
 ram_answers_done : (played (psu_and_ram ram_alone) 0x5A 6).stop ≡ Done
-unfolding played run own_inputs effect decoded first_memory
+unfolding played_by telling own_inputs effect decoded first_memory
 ram_answers_done = refl
 
 -- a jump whose second operand lies past the chip: the state is that before it
@@ -124,21 +128,23 @@ abbrev cut_jump : List ChipView
 cut_jump = psu 0 4 (0x29 ∷ 0x03 ∷ 0xFE ∷ replicate 1019 255 ++ 0x29 ∷ 0x08 ∷ []) ∷ []
 
 jump_cut : (played cut_jump 0 9).stop ≡ Unserved (Undriven 0x0C 0x0400)
-unfolding played run own_inputs effect decoded first_memory
+unfolding played_by telling own_inputs effect decoded first_memory
 jump_cut = refl
 
 jump_cut_state : (played cut_jump 0 9).position.flat.state ≡ record {
   flow = record { p = 0x03FE; p1 = 0; d0 = 0; d1 = 0 };
   registers = record { accumulator = 3; isar = 0; status = clear_status; scratchpad = replicate 64 0 };
+  keys = replicate 256 0;
+  writes = [];
   count = 1;
   phi = 36;
 }
-unfolding played run own_inputs effect decoded first_memory
+unfolding played_by telling own_inputs effect decoded first_memory
 jump_cut_state = refl
 
 -- a chip's own byte in place of the described one, and a reserved opcode
 reserved : (played (psu 0 4 (0x2D ∷ []) ∷ []) 0 5).stop ≡ Reserved 0 0x2D
-unfolding played run own_inputs effect decoded first_memory
+unfolding played_by telling own_inputs effect decoded first_memory
 reserved = refl
 
 -- ---- traces
@@ -168,5 +174,5 @@ reset_traced = refl
 
 -- a whole run
 ram_answers_recorded : length (played_record (psu_and_ram ram_alone) 0x5A 6) ≡ 22
-unfolding played_record recorded own_inputs effect decoded first_memory
+unfolding played_by telling own_inputs effect decoded first_memory
 ram_answers_recorded = refl

@@ -8,8 +8,10 @@ use Rattle.f8_spec.specs.ChipState.{ChipView}
 use Rattle.console_spec.specs.Processor.{own_inputs, effect}
 use Rattle.console_spec.specs.FlatMemory.{first_memory}
 use Rattle.console_spec.specs.Services.{Conflict, Undriven, Astray}
-use Rattle.console_spec.specs.Run.{Done, Unserved, Reserved, Unbuilt, played, referred, run}
-use Rattle.console_spec.specs.RunText.{run_lines, text_of, verdict_line, fault_line, stop_line, regs_line, scratch_line, total_line}
+use Rattle.console_spec.specs.Telling.{telling, played_by, referred_by}
+use Rattle.console_spec.proofs.Played.{played, played_alone, referred}
+use Rattle.console_spec.specs.Run.{Done, Unserved, Reserved}
+use Rattle.console_spec.specs.RunText.{telling_lines, text_of, verdict_line, fault_line, stop_line, regs_line, scratch_line, total_line}
 use Rattle.console_spec.proofs.WorkedRacks.{psu}
 
 -- a 3851 at 0 with these bytes, and FF behind them
@@ -20,82 +22,85 @@ rom bytes = psu 0 4 bytes ∷ []
 branch_to_self : (played (rom (0x71 ∷ 0x2B ∷ 0x90 ∷ 0xFE ∷ [])) 0 3).position.flat.state ≡ record {
   flow = record { p = 1; p1 = 0; d0 = 0; d1 = 0 };
   registers = record { accumulator = 1; isar = 0; status = clear_status; scratchpad = replicate 64 0 };
+  keys = replicate 256 0;
+  writes = [];
   count = 3;
   phi = 36;
 }
-unfolding played run own_inputs effect decoded first_memory
+unfolding played_by telling own_inputs effect decoded first_memory
 branch_to_self = refl
 
 -- a branch to FFFE, where no chip answers
 branch_below_zero : (played (rom (0x90 ∷ 0xFD ∷ [])) 0 5).stop ≡ Unserved (Undriven 0 0xFFFE)
-unfolding played run own_inputs effect decoded first_memory
+unfolding played_by telling own_inputs effect decoded first_memory
 branch_below_zero = refl
 
 branch_below_zero_state : (played (rom (0x90 ∷ 0xFD ∷ [])) 0 5).position.flat.state ≡ record {
   flow = record { p = 0; p1 = 0; d0 = 0; d1 = 0 };
   registers = record { accumulator = 0; isar = 0; status = clear_status; scratchpad = replicate 64 0 };
+  keys = replicate 256 0;
+  writes = [];
   count = 0;
   phi = 14;
 }
-unfolding played run own_inputs effect decoded first_memory
+unfolding played_by telling own_inputs effect decoded first_memory
 branch_below_zero_state = refl
 
--- an opcode that is not built, and one that is met when no instruction is asked for
-not_built : (played (rom (0x26 ∷ 0x04 ∷ [])) 0 1).stop ≡ Unbuilt 0 0x26
-unfolding played run own_inputs effect decoded first_memory
-not_built = refl
-
 no_step_asked : (played (rom (0xFF ∷ [])) 0 0).stop ≡ Done
-unfolding played run own_inputs effect decoded first_memory
+unfolding played_by telling own_inputs effect decoded first_memory
 no_step_asked = refl
 
 -- clear, to register 0, decrement: FF there, no flag, and 28 Φ
 decrement : (played (rom (0x70 ∷ 0x50 ∷ 0x30 ∷ 0x90 ∷ [])) 0 3).position.flat.state ≡ record {
   flow = record { p = 3; p1 = 0; d0 = 0; d1 = 0 };
   registers = record { accumulator = 0; isar = 0; status = clear_status; scratchpad = 0xFF ∷ replicate 63 0 };
+  keys = replicate 256 0;
+  writes = [];
   count = 3;
   phi = 28;
 }
-unfolding played run own_inputs effect decoded first_memory
+unfolding played_by telling own_inputs effect decoded first_memory
 decrement = refl
 
 -- 0 compared with 0
 compare_equal : status_byte (played (rom (0x70 ∷ 0x25 ∷ 0x00 ∷ 0x90 ∷ [])) 0 2).position.flat.state.registers.status ≡ 0x07
-unfolding played run own_inputs effect decoded first_memory
+unfolding played_by telling own_inputs effect decoded first_memory
 compare_equal = refl
 
 -- decimal sums: 67 and 01 less 66, and 6A and 05
 decimal_sum : (played (rom (0x20 ∷ 0x67 ∷ 0x50 ∷ 0x71 ∷ 0xD0 ∷ 0x90 ∷ [])) 0 4).position.flat.state.registers.accumulator ≡ 0x02
-unfolding played run own_inputs effect decoded first_memory
+unfolding played_by telling own_inputs effect decoded first_memory
 decimal_sum = refl
 
 decimal_sum_6A : (played (rom (0x20 ∷ 0x6A ∷ 0x50 ∷ 0x75 ∷ 0xD0 ∷ 0x90 ∷ [])) 0 4).position.flat.state.registers.accumulator ≡ 0x09
-unfolding played run own_inputs effect decoded first_memory
+unfolding played_by telling own_inputs effect decoded first_memory
 decimal_sum_6A = refl
 
 -- without chips the branch to FFFE is done, and meets there what nobody holds
 flat_branch_below_zero : (referred (rom (0x90 ∷ 0xFD ∷ [])) 0 2).position.flat.state ≡ record {
   flow = record { p = 0xFFFE; p1 = 0; d0 = 0; d1 = 0 };
   registers = record { accumulator = 0; isar = 0; status = clear_status; scratchpad = replicate 64 0 };
+  keys = replicate 256 0;
+  writes = [];
   count = 1;
   phi = 28;
 }
-unfolding referred run own_inputs effect decoded first_memory
+unfolding referred_by telling own_inputs effect decoded first_memory
 flat_branch_below_zero = refl
 
 flat_branch_below_zero_stop : (referred (rom (0x90 ∷ 0xFD ∷ [])) 0 2).stop ≡ Reserved 0xFFFE 0xFF
-unfolding referred run own_inputs effect decoded first_memory
+unfolding referred_by telling own_inputs effect decoded first_memory
 flat_branch_below_zero_stop = refl
 
 -- the text of the first run, whole
-text_of_branch_to_self : text_of (run_lines (played (rom (0x71 ∷ 0x2B ∷ 0x90 ∷ 0xFE ∷ [])) 0 3)) ≡
+text_of_branch_to_self : text_of (telling_lines (played_alone (rom (0x71 ∷ 0x2B ∷ 0x90 ∷ 0xFE ∷ [])) 0 3)) ≡
     codes "verdict unchecked\nstop done\nregs P=0001 P1=0000 D0=0000 D1=0000 A=01 IS=00 W=00\n"
     ++ codes "s00 00 00 00 00 00 00 00 00 00 00 00 00 00 00 00 00\n"
     ++ codes "s10 00 00 00 00 00 00 00 00 00 00 00 00 00 00 00 00\n"
     ++ codes "s20 00 00 00 00 00 00 00 00 00 00 00 00 00 00 00 00\n"
     ++ codes "s30 00 00 00 00 00 00 00 00 00 00 00 00 00 00 00 00\n"
     ++ codes "total 3 instructions 36 phi\n"
-unfolding played run own_inputs effect decoded first_memory text_of verdict_line stop_line regs_line scratch_line total_line digits
+unfolding played_by telling own_inputs effect decoded first_memory text_of verdict_line stop_line regs_line scratch_line total_line digits
 text_of_branch_to_self = refl
 
 -- a line for each reason to stop
@@ -112,10 +117,6 @@ undriven_line = refl
 astray_line : stop_line (Unserved (Astray 2 0 5 0)) ≡ codes "stop astray romc 02 socket 0 at 0005 reference 0000\n"
 unfolding stop_line fault_line digits
 astray_line = refl
-
-unbuilt_line : stop_line (Unbuilt 0 0x26) ≡ codes "stop unbuilt 26 at 0000\n"
-unfolding stop_line
-unbuilt_line = refl
 
 reserved_line : stop_line (Reserved 0xFFFE 0xFF) ≡ codes "stop reserved FF at FFFE\n"
 unfolding stop_line

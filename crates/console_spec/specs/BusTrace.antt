@@ -1,5 +1,5 @@
--- The bus steps of an instruction as a trace tells them: who drove the byte, and who took it. The steps before the one that is not served
--- are in the trace, and that one and the later ones are not.
+-- The bus steps of an instruction: who drove the byte, and who took it, up to the first step that is not served, which stands beside them as
+-- the fault.
 use Rattle.std.specs.Prelude.{ℕ, Bool, true, false, ◌==◌, if◌then◌else◌, List, [], ◌∷◌, Option, Some, None}
 use Rattle.f8_spec.specs.BusCodes.{driver_of}
 use Rattle.f8_spec.specs.MicroSteps.{Source, PortNumber, Step}

@@ -25,18 +25,18 @@ memory_after StoreData seats i c memory = stored_at seats c.d0 i.accumulator mem
 memory_after row seats i c memory = memory
 
 -- what an instruction gets, but for the opcode at its end
-abbrev pub gets : Op → FlatState → Inputs
-gets op f = own_inputs op f.memory f.state
+abbrev pub gets : Op → List Seat → FlatState → Inputs
+gets op seats f = own_inputs op f.memory seats f.state
 
 -- the flat machine after an instruction
 abbrev pub flat_after : Op → List Seat → FlatState → FlatState
 flat_after op seats f = record {
-  state = after_instruction op f.memory f.state;
-  memory = memory_after (row_of op) seats (gets op f) f.state.flow f.memory;
+  state = after_instruction op f.memory seats f.state;
+  memory = memory_after (row_of op) seats (gets op seats f) f.state.flow f.memory;
 }
 
 -- what an instruction gets, with the opcode that it fetches at its end, after its own store
 abbrev pub gets_all : Op → List Seat → FlatState → Inputs
 gets_all op seats f =
     let after = flat_after op seats f in
-    record (gets op f) { opcode = byte_at after.memory after.state.flow.p }
+    record (gets op seats f) { opcode = byte_at after.memory after.state.flow.p }

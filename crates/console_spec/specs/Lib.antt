@@ -1,4 +1,6 @@
 pub mod AddressSpace
+pub mod Writes
+pub mod Display
 pub mod Processor
 pub mod BusAccesses
 pub mod FlatMemory
@@ -7,4 +9,7 @@ pub mod Services
 pub mod BusTrace
 pub mod FlatMachine
 pub mod Run
+pub mod Scripts
+pub mod Telling
 pub mod RunText
+pub mod Generator

@@ -1,15 +1,17 @@
 -- The F8 as one flat machine (Fairchild F8 User's Guide): one program counter, one stack register and two data counters, with no
--- chips and no bus codes.
-use Rattle.std.specs.Prelude.{ℕ, ◌+◌, ◌-◌, ◌*◌, ◌/◌, ◌%◌, Bool, true, false, not, ◌&&◌, ◌||◌, ◌==◌, nat_lt, if◌then◌else◌, bit_and, bit_or, bit_xor, List, replicate, slice_index, slice_set}
+-- counters of chips and no bus codes. Of the chips it knows alone how many have a port.
+use Rattle.std.specs.Prelude.{ℕ, ◌+◌, ◌-◌, ◌*◌, ◌/◌, ◌%◌, Bool, true, false, not, ◌&&◌, ◌||◌, ◌==◌, nat_lt, if◌then◌else◌, bit_and, bit_or, bit_xor, List, [], ◌∷◌, replicate, slice_index, slice_set, Option, Some, None}
 use Rattle.f8_spec.specs.Words.{word, places_on, displaced, sum_value, decimal_value}
 use Rattle.f8_spec.specs.Flags.{Status, clear_status, status_byte, status_of, after_result, after_sum}
 use Rattle.f8_spec.specs.Instructions.{row_of, row_length, clocks_of}
 use Rattle.f8_spec.specs.MicroSteps.{Source, Opcode, Operand, SecondOperand, KeptOperand, DataByte, DataHigh, DataLow, StackHigh, StackLow, KHigh, KLow, QHigh, QLow, HHigh, HLow, Accumulator, PortNumber, PortByte, VectorHigh, VectorLow, NoByte, clocks_along, reset_steps}
 use Rattle.f8_spec.specs.declared.instructions.Op.{Op}
-use Rattle.f8_spec.specs.declared.instructions.Op.TheVariants.{LrAKu, LrAKl, LrAQu, LrAQl, LrKuA, LrKlA, LrQuA, LrQlA, LrKP, LrAIs, LrIsA, LrQDc, LrHDc, Sr1, Sl1, Sr4, Sl4, Lm, Com, Lnk, Di, Ei, LrWJ, LrJW, Inc, Li, Ni, Oi, Xi, Ai, Ci, In, Pi, Jmp, Ds, LrAR, LrRA, Lisu, Lisl, Lis, Bt, Am, Amd, Nm, Om, Xm, Cm, Br7, Bf, Ins, Outs, As, Asd, Xs, Ns}
+use Rattle.f8_spec.specs.declared.instructions.Op.TheVariants.{Out, LrAKu, LrAKl, LrAQu, LrAQl, LrKuA, LrKlA, LrQuA, LrQlA, LrKP, LrAIs, LrIsA, LrQDc, LrHDc, Sr1, Sl1, Sr4, Sl4, Lm, Com, Lnk, Di, Ei, LrWJ, LrJW, Inc, Li, Ni, Oi, Xi, Ai, Ci, In, Pi, Jmp, Ds, LrAR, LrRA, Lisu, Lisl, Lis, Bt, Am, Amd, Nm, Om, Xm, Cm, Br7, Bf, Ins, Outs, As, Asd, Xs, Ns}
 use Rattle.f8_spec.specs.declared.instructions.Row.{Row}
 use Rattle.f8_spec.specs.declared.instructions.Row.TheVariants.{StackFromK, CallK, JumpQ, DataFromQ, DataFromH, ReadData, StoreData, Return, Immediate, PortIn, Call, Jump, LoadData, Exchange, AddData, Branch, BranchIsar, ShortIn, Idle}
+use Rattle.f8_spec.specs.BusArbitration.{Seat}
 use Rattle.console_spec.specs.AddressSpace.{byte_at}
+use Rattle.console_spec.specs.Writes.{Write, chip_port_byte, port_value, takers}
 use Rattle.console_spec.specs.declared.Regs.{Regs}
 
 -- ---- the state
@@ -28,10 +30,13 @@ pub record Registers : Type 0 where
   pub status : Status
   pub scratchpad : List ℕ
 
--- the state between two instructions, with the instructions done so far and their clocks, in Φ
+-- the state between two instructions: a key byte for each of 256 ports and the writes that ports took, the last one first, with the
+-- instructions done so far and their clocks, in Φ
 pub record State : Type 0 where
   pub flow : Flow
   pub registers : Registers
+  pub keys : List ℕ
+  pub writes : List Write
   pub count : ℕ
   pub phi : ℕ
 
@@ -40,6 +45,8 @@ abbrev pub at_power : ℕ → State
 at_power fill = record {
   flow = record { p = 0; p1 = 0; d0 = 0; d1 = 0 };
   registers = record { accumulator = fill; isar = fill % 64; status = clear_status; scratchpad = replicate 64 fill };
+  keys = replicate 256 0;
+  writes = [];
   count = 0;
   phi = 0;
 }
@@ -281,9 +288,25 @@ port_field (Ins n) = n
 port_field (Outs n) = n
 port_field op = 0
 
--- What an instruction gets, but for the opcode at its end. There are no ports so far.
-unfoldable pub own_inputs : Op → List ℕ → State → Inputs
-own_inputs op rom s = record {
+-- The byte that an instruction reads at its port, and 0 where it reads none. `INS` of port 0 or 1 reads the processor's own, and `IN` never
+-- does.
+abbrev pub read_port : Op → ℕ → List Seat → State → ℕ
+read_port In operand seats s = chip_port_byte operand seats s.keys s.writes
+read_port (Ins n) operand seats s = if nat_lt n 2 then port_value n s.keys s.writes else chip_port_byte n seats s.keys s.writes
+read_port op operand seats s = 0
+
+-- The port that an instruction writes, where the write is one: exactly one chip has it, or it is the processor's own by `OUTS`.
+abbrev pub if_taken : ℕ → List Seat → Option ℕ
+if_taken port seats = if takers port seats == 1 then Some port else None
+
+abbrev pub written_port : Op → ℕ → List Seat → Option ℕ
+written_port Out operand seats = if_taken operand seats
+written_port (Outs n) operand seats = if nat_lt n 2 then Some n else if_taken n seats
+written_port op operand seats = None
+
+-- What an instruction gets, but for the opcode at its end.
+unfoldable pub own_inputs : Op → List ℕ → List Seat → State → Inputs
+own_inputs op rom seats s = record {
   taken = is_taken op s.registers;
   vectored = false;
   operand = byte_at rom (places_on s.flow.p 1);
@@ -302,21 +325,40 @@ own_inputs op rom s = record {
   h_high = scratch_byte 10 s.registers;
   h_low = scratch_byte 11 s.registers;
   port = port_field op;
-  port_byte = 0;
+  port_byte = read_port op (byte_at rom (places_on s.flow.p 1)) seats s;
   vector_high = 0;
   vector_low = 0;
 }
 
+-- the write of an instruction, with the clocks at its end
+abbrev pub write_at : ℕ → ℕ → Option ℕ → Option Write
+write_at phi byte None = None
+write_at phi byte (Some port) = Some (record { phi = phi; port = port; byte = byte })
+
+abbrev pub write_of : Op → Inputs → List Seat → ℕ → Option Write
+write_of op i seats phi = write_at phi i.accumulator (written_port op i.operand seats)
+
+abbrev pub with_write : Option Write → List Write → List Write
+with_write None ws = ws
+with_write (Some w) ws = w ∷ ws
+
 -- the state after an instruction
-abbrev pub after_instruction : Op → List ℕ → State → State
-after_instruction op rom s =
-    let i = own_inputs op rom s in
+abbrev pub after_instruction : Op → List ℕ → List Seat → State → State
+after_instruction op rom seats s =
+    let i = own_inputs op rom seats s in
+    let phi = s.phi + clocks_of op i.taken in
     record {
       flow = flow_after (row_of op) i true s.flow;
       registers = result_of op i s.registers;
+      keys = s.keys;
+      writes = with_write (write_of op i seats phi) s.writes;
       count = s.count + 1;
-      phi = s.phi + clocks_of op i.taken;
+      phi = phi;
     }
+
+-- a key byte from outside
+abbrev pub with_key : ℕ → ℕ → State → State
+with_key port byte s = record s { keys = slice_set s.keys port byte }
 
 -- the registers as a run tells them
 abbrev pub shown : State → Regs

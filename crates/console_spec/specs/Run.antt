@@ -1,8 +1,7 @@
--- The run of a program on a rack of chips: the flat machine goes on, with the copies of the chips beside it, up to the first instruction
--- that has an access which is not served.
-use Rattle.std.specs.Prelude.{ℕ, zero, suc, Bool, true, false, List, [], ◌∷◌, ◌++◌, map, Option, Some, None}
+-- The turns of a run: an instruction, power-on and reset of the flat machine, with the copies of the chips beside it. An instruction that
+-- has an access which is not served stops the run.
+use Rattle.std.specs.Prelude.{ℕ, false, List, [], ◌∷◌, map, Option, Some, None}
 use Rattle.std.specs.List.{enumerate_from}
-use Rattle.f8_spec.specs.Built.{is_built}
 use Rattle.f8_spec.specs.Instructions.{decoded, row_of}
 use Rattle.f8_spec.specs.MicroSteps.{steps_of, reset_steps}
 use Rattle.f8_spec.specs.ChipState.{ChipView}
@@ -28,12 +27,12 @@ seats_of copies = map (λ c. c.seat) copies
 
 -- why an instruction is not done: the first of its accesses that is not served
 abbrev pub instruction_fault : Op → Position → Option Fault
-instruction_fault op x = first_fault x.flat.state.flow x.copies (accesses_of op (gets op x.flat))
+instruction_fault op x = first_fault x.flat.state.flow x.copies (accesses_of op (gets op (seats_of x.copies) x.flat))
 
 abbrev pub position_after : Op → Position → Position
 position_after op x = record {
   flat = flat_after op (seats_of x.copies) x.flat;
-  copies = copies_after (row_of op) (gets op x.flat) x.copies;
+  copies = copies_after (row_of op) (gets op (seats_of x.copies) x.flat) x.copies;
 }
 
 -- its bus steps, up to the first that is not served
@@ -92,7 +91,7 @@ reset_course x = course_of (reset_gets x.flat.memory) x.flat.state.flow x.copies
 abbrev pub position_after_reset : Position → Position
 position_after_reset x = record x { flat = record x.flat { state = after_reset x.flat.state } }
 
--- ---- a run
+-- ---- a turn
 
 -- why a run stops
 pub data Stop : Type 0 where
@@ -102,8 +101,6 @@ pub data Stop : Type 0 where
   Unserved : Fault → Stop
   -- at this address stands this opcode, which no instruction has
   Reserved : ℕ → ℕ → Stop
-  -- at this address stands this opcode, whose instruction is not built
-  Unbuilt : ℕ → ℕ → Stop
 
 -- an instruction, or reset, is done and leads on, or it stops the run
 pub data Turn : Type 0 where
@@ -120,17 +117,16 @@ goes_unless None x = Goes x
 goes_unless (Some fault) x = Stops (Unserved fault)
 
 -- the next instruction by its opcode; what becomes of an instruction differs between a machine with chips and one without
-abbrev pub decided : (Op → Turn) → ℕ → ℕ → Bool → Option Op → Turn
-decided carried_out at code false op = Stops (Unbuilt at code)
-decided carried_out at code true None = Stops (Reserved at code)
-decided carried_out at code true (Some op) = carried_out op
+abbrev pub decided : (Op → Turn) → ℕ → ℕ → Option Op → Turn
+decided carried_out at code None = Stops (Reserved at code)
+decided carried_out at code (Some op) = carried_out op
 
 abbrev pub opcode_at : Position → ℕ
 opcode_at x = byte_at x.flat.memory x.flat.state.flow.p
 
 abbrev pub turn_by : (Op → Turn) → Position → Turn
 turn_by carried_out x =
-    decided carried_out x.flat.state.flow.p (opcode_at x) (is_built (opcode_at x)) (decoded (opcode_at x))
+    decided carried_out x.flat.state.flow.p (opcode_at x) (decoded (opcode_at x))
 
 -- the next instruction on the rack
 abbrev pub next : Position → Turn
@@ -140,48 +136,12 @@ next x = turn_by (λ op. goes_unless (instruction_fault op x) (position_after op
 abbrev pub flat_next : Position → Turn
 flat_next x = turn_by (λ op. Goes (position_after op x)) x
 
--- an instruction that stops the run changes nothing of it
-abbrev pub goes_on : (Position → Ending) → Position → Turn → Ending
-goes_on rest x (Goes y) = rest y
-goes_on rest x (Stops stop) = record { position = x; stop = stop }
-
--- a number of instructions from a position on: the end is tried first
-unfoldable pub run : (Position → Turn) → ℕ → Position → Ending
-run step zero x = record { position = x; stop = Done }
-run step (suc n) x = goes_on (λ y. run step n y) x (step x)
-
--- a whole run on a rack of chips that are fitted, from power-on with a power byte
-unfoldable pub played : List ChipView → ℕ → ℕ → Ending
-played vs fill n =
-    let x = power_position vs fill in
-    goes_on (λ y. run next n y) x (goes_unless (reset_fault x) (position_after_reset x))
-
--- a whole run on the flat instruction set alone
-unfoldable pub referred : List ChipView → ℕ → ℕ → Ending
-referred vs fill n = run flat_next n (position_after_reset (power_position vs fill))
-
 -- ---- its bus steps
 
 -- the bus steps of the next instruction; where its opcode stops the run there are none
-abbrev pub course_as : Position → Bool → Option Op → Course
-course_as x false found = record { steps = []; fault = None }
-course_as x true None = record { steps = []; fault = None }
-course_as x true (Some op) = instruction_course op x
+abbrev pub course_as : Position → Option Op → Course
+course_as x None = record { steps = []; fault = None }
+course_as x (Some op) = instruction_course op x
 
 abbrev pub turn_course : Position → Course
-turn_course x = course_as x (is_built (opcode_at x)) (decoded (opcode_at x))
-
-abbrev pub recorded_on : (Position → List TracedStep) → Turn → List TracedStep
-recorded_on rest (Goes y) = rest y
-recorded_on rest (Stops stop) = []
-
--- the served steps of a number of instructions
-unfoldable pub recorded : ℕ → Position → List TracedStep
-recorded zero x = []
-recorded (suc n) x = (turn_course x).steps ++ recorded_on (λ y. recorded n y) (next x)
-
--- the served steps of a whole run on a rack, those of reset counted
-unfoldable pub played_record : List ChipView → ℕ → ℕ → List TracedStep
-played_record vs fill n =
-    let x = power_position vs fill in
-    (reset_course x).steps ++ recorded_on (λ y. recorded n y) (goes_unless (reset_fault x) (position_after_reset x))
+turn_course x = course_as x (decoded (opcode_at x))

@@ -1,11 +1,18 @@
 -- The lines that a run writes, as bytes. Every line ends with a line feed.
-use Rattle.std.specs.Prelude.{ℕ, ◌+◌, ◌*◌, List, [], ◌∷◌, ◌++◌, codes, decimal, take, drop, flat_map}
+use Rattle.std.specs.Prelude.{ℕ, ◌+◌, ◌*◌, Bool, true, false, List, [], ◌∷◌, ◌++◌, codes, decimal, map, take, drop, flat_map}
+use Rattle.std.specs.List.{range_with_len}
 use Rattle.f8_spec.specs.Spelling.{hex2, hex4, octal2}
 use Rattle.f8_spec.specs.declared.bus.Party.{Party}
 use Rattle.console_spec.specs.Processor.{shown}
 use Rattle.console_spec.specs.Services.{Fault, Conflict, Undriven, Astray}
-use Rattle.console_spec.specs.Run.{Stop, Done, Unserved, Reserved, Unbuilt, Ending}
+use Rattle.console_spec.specs.Run.{Stop, Done, Unserved, Reserved, Ending}
+use Rattle.console_spec.specs.Writes.{Write}
+use Rattle.console_spec.specs.Display.{palette_of, tone_of, row_of_pixels}
+use Rattle.console_spec.specs.BusTrace.{TracedStep}
+use Rattle.console_spec.specs.Telling.{Told, Traced, TracedFault, Wrote, Shown, Telling, told_in}
 use Rattle.console_spec.specs.declared.Regs.{Regs}
+use Rattle.console_spec.specs.declared.Who.{Who}
+use Rattle.console_spec.specs.declared.Who.TheVariants.{Cpu, Socket, Nobody}
 
 -- nothing was checked beforehand
 unfoldable pub verdict_line : List ℕ
@@ -25,7 +32,6 @@ unfoldable pub stop_line : Stop → List ℕ
 stop_line Done = codes "stop done\n"
 stop_line (Unserved fault) = fault_line fault
 stop_line (Reserved at code) = codes "stop reserved " ++ hex2 code ++ codes " at " ++ hex4 at ++ codes "\n"
-stop_line (Unbuilt at code) = codes "stop unbuilt " ++ hex2 code ++ codes " at " ++ hex4 at ++ codes "\n"
 
 unfoldable pub regs_line : Regs → List ℕ
 regs_line r =
@@ -61,10 +67,51 @@ ending_lines e =
     let state = e.position.flat.state in
     told_lines e.stop (shown state) state.count state.phi
 
--- the lines of a whole run on a rack; one on the flat instruction set alone has no verdict
-abbrev pub run_lines : Ending → List (List ℕ)
-run_lines e = verdict_line ∷ ending_lines e
-
 -- lines one after another
 unfoldable pub text_of : List (List ℕ) → List ℕ
 text_of lines = flat_map (λ l. l) lines
+
+-- ---- what is told as a run goes
+
+abbrev pub length_text : Bool → List ℕ
+length_text true = codes "L"
+length_text false = codes "S"
+
+abbrev pub who_text : Who → List ℕ
+who_text Cpu = codes "cpu"
+who_text (Socket socket) = decimal socket
+who_text Nobody = codes "-"
+
+-- a bus step that is served, and one that is not
+unfoldable pub bus_line : TracedStep → List ℕ
+bus_line s =
+    codes "bus " ++ hex2 s.romc ++ codes " " ++ length_text s.long ++ codes " " ++ hex2 s.byte ++ codes " " ++ who_text s.who ++ codes "\n"
+
+unfoldable pub bus_fault_line : ℕ → Bool → List ℕ
+bus_fault_line romc long = codes "bus " ++ hex2 romc ++ codes " " ++ length_text long ++ codes " -- fault\n"
+
+unfoldable pub out_line : Write → List ℕ
+out_line w = codes "out " ++ decimal w.phi ++ codes " " ++ hex2 w.port ++ codes " " ++ hex2 w.byte ++ codes "\n"
+
+unfoldable pub frame_line : ℕ → ℕ → ℕ → List ℕ
+frame_line frame phi tone = codes "frame " ++ decimal frame ++ codes " phi " ++ decimal phi ++ codes " tone " ++ decimal tone ++ codes "\n"
+
+-- the digit of the palette, a blank, and a digit for each pixel
+unfoldable pub picture_row : ℕ → List Write → List ℕ
+picture_row y writes = (48 + palette_of y writes) ∷ 32 ∷ map (λ colour. 48 + colour) (row_of_pixels y writes) ++ codes "\n"
+
+abbrev pub frame_lines : ℕ → ℕ → List Write → List (List ℕ)
+frame_lines frame phi writes = frame_line frame phi (tone_of writes) ∷ map (λ y. picture_row y writes) (range_with_len 0 64)
+
+abbrev pub lines_of : Told → List (List ℕ)
+lines_of (Traced s) = bus_line s ∷ []
+lines_of (TracedFault romc long) = bus_fault_line romc long ∷ []
+lines_of (Wrote w) = out_line w ∷ []
+lines_of (Shown frame phi writes) = frame_lines frame phi writes
+
+-- the lines of a whole run on the flat instruction set alone, and of one on a rack, which has a verdict
+abbrev pub flat_telling_lines : Telling → List (List ℕ)
+flat_telling_lines t = flat_map lines_of (told_in t.moments) ++ ending_lines t.ending
+
+abbrev pub telling_lines : Telling → List (List ℕ)
+telling_lines t = verdict_line ∷ flat_telling_lines t

@@ -41,3 +41,30 @@ pub enum Who {
     /// Nobody: the byte is 00.
     Nobody,
 }
+
+/// What comes from outside at a frame (this project's own).
+#[derive(Clone, Copy, Debug, PartialEq, Eq)]
+pub enum Event {
+    /// The key byte of a port becomes this.
+    Keys { port: u8, byte: u8 },
+
+    /// A pulse at the external interrupt pin of a chip, 0 to 15 in the order of the description.
+    Pulse { chip: u8 },
+}
+
+/// An event and the frame at which it comes, 0 to 599.
+#[derive(Clone, Copy, Debug, PartialEq, Eq)]
+pub struct At {
+    pub frame: u32,
+    pub event: Event,
+}
+
+/// When a run ends (this project's own).
+#[derive(Clone, Copy, Debug, PartialEq, Eq)]
+pub enum End {
+    /// At this frame, 1 to 600.
+    Frames(u32),
+
+    /// After so many instructions, 0 to 1,000,000.
+    Steps(u32),
+}

@@ -8,7 +8,8 @@ use Rattle.f8_spec.specs.declared.instructions.Op.{Op}
 use Rattle.f8_spec.specs.declared.instructions.Op.TheVariants.{LrKP, LrQDc, LrHDc, Di, Ei, LrWJ, Lm, Am, Amd, Nm, Om, Xm, Cm, Li, Ni, Oi, Xi, Ai, Ci, In, Pi, Jmp, Ins, Outs, Asd}
 use Rattle.f8_spec.specs.declared.instructions.Row.TheVariants.{Idle, ShortIn, ShortOut}
 use Rattle.console_spec.specs.Processor.{Registers, effect, with_scratch, is_taken}
-use Rattle.cpu3850.specs.CpuSteps.{CpuState, planned_as, planned, last_step, pair_of, worked, taken_as, taken}
+use Rattle.cpu3850.specs.CpuPorts.{PortBytes, with_latch, read_by, put_by}
+use Rattle.cpu3850.specs.CpuSteps.{CpuState, planned_as, planned, last_step, effect_at, pair_of, worked, taken_as, taken}
 use Rattle.cpu3850.specs.Keeping.{KeptRegisters, pair_as, kept_with, kept_of, restored_registers, IsRestorable}
 use Rattle.cpu3850.proofs.PlanLaws.{is_no_last}
 
@@ -40,14 +41,19 @@ restored-pair kept (suc (suc n)) byte m =
     rw later refl
 
 -- what was kept of the registers is there
-restored-kept_with : (pair : ℕ) (m : Registers) → restored_registers (kept_with pair m) m ≡ m
-restored-kept_with pair m =
+restored-kept_with : (pair : ℕ) (latches : List ℕ) (m : Registers) → restored_registers (kept_with pair latches m) m ≡ m
+restored-kept_with pair latches m =
     rw (set-get_or, set-get_or) refl
 
 -- the same of an instruction whose results come before its last step, and change no byte of the scratchpad
 restored-either : (kept : KeptRegisters) (b : Bool) (m n : Registers) → m.scratchpad ≡ n.scratchpad → restored_registers kept (if b then m else n) ≡ restored_registers kept n
 restored-either kept true m n same = restored_registers-same kept m n same
 restored-either kept false m n same = refl
+
+-- the key bytes of either of two, where they are the same
+keys-either : (b : Bool) (p q : PortBytes) → p.keys ≡ q.keys → (if b then p else q).keys ≡ q.keys
+keys-either true p q same = same
+keys-either false p q same = refl
 
 -- the same of `INS`, whichever port it reads
 restored-in : (kept : KeptRegisters) (n index byte : ℕ) (m : Registers) (own : Bool) → restored_registers kept (worked (if own then Idle else ShortIn) (Ins n) index byte m) ≡ restored_registers kept m
@@ -91,6 +97,11 @@ restored-worked kept (Ins n) index byte m pair earlier = restored-in kept n inde
 restored-worked kept (Outs n) index byte m pair earlier = restored-out kept n index byte m (nat_lt n 2)
 restored-worked kept op index byte m pair earlier = rw earlier refl
 
+-- a step changes no key byte
+keys-put_by : (op : Op) (accumulator : ℕ) (p : PortBytes) → (put_by op accumulator p).keys ≡ p.keys
+keys-put_by (Outs n) accumulator p = keys-either (nat_lt n 2) (with_latch n accumulator p) p refl
+keys-put_by op accumulator p = refl
+
 -- the opcode held stays, and so does what is put back
 restored-taken_as : (start c : CpuState) (found : Option Op) (index byte : ℕ) → decoded c.opcode ≡ found → index + 1 < length (planned_as found c.registers) → IsRestorable start c → IsRestorable start (taken_as found index byte c)
 restored-taken_as start c None index byte held later restorable = restorable
@@ -98,11 +109,19 @@ restored-taken_as start c (Some op) index byte held later restorable =
     let earlier = is_no_last index op (is_taken op c.registers) later in
     let same_opcode : c.opcode ≡ start.opcode = ap (λ s. s.opcode) restorable in
     let same_pair : (kept_of start).pair ≡ pair_of op = ap (λ code. pair_as (decoded code)) (sym same_opcode) ∙ ap pair_as held in
-    rw earlier (ap (λ registers. record c { registers = registers }) (restored-worked (kept_of start) op index byte c.registers same_pair earlier) ∙ restorable)
+    let same_registers = restored-worked (kept_of start) op index (read_by op byte c.ports) c.registers same_pair earlier in
+    let ports : PortBytes = if index == effect_at (row_of op) then put_by op c.registers.accumulator c.ports else c.ports in
+    let same_keys : ports.keys ≡ c.ports.keys =
+    keys-either (index == effect_at (row_of op)) (put_by op c.registers.accumulator c.ports) c.ports (keys-put_by op c.registers.accumulator c.ports)
+    in
+    rw earlier
+    (ap (λ registers. record c { registers = registers; ports = record ports { latches = start.ports.latches } }) same_registers
+    ∙ ap (λ keys. record c { registers = restored_registers (kept_of start) c.registers; ports = record { latches = start.ports.latches; keys = keys } }) same_keys
+    ∙ restorable)
 
 -- a CPU is what is put back of it at once
 pub IsRestorable-start : (c : CpuState) → IsRestorable c c
-IsRestorable-start c = ap (λ registers. record c { registers = registers }) (restored-kept_with (pair_as (decoded c.opcode)) c.registers)
+IsRestorable-start c = ap (λ registers. record c { registers = registers }) (restored-kept_with (pair_as (decoded c.opcode)) c.ports.latches c.registers)
 
 -- a step that isn't the last changes nothing that isn't put back
 pub IsRestorable-taken : (start c : CpuState) (index byte : ℕ) → index + 1 < length (planned c) → IsRestorable start c → IsRestorable start (taken index byte c)

@@ -2,3 +2,4 @@ pub mod InstructionRows
 pub mod PlanLaws
 pub mod KeepingLaws
 pub mod ReachingLaws
+pub mod PortLaws

@@ -10,6 +10,7 @@ use Rattle.f8_spec.specs.declared.instructions.Op.TheVariants.{Bt, Bf, Br7}
 use Rattle.f8_spec.specs.declared.instructions.Row.{Row}
 use Rattle.f8_spec.specs.declared.instructions.Row.TheVariants.{Branch, BranchIsar}
 use Rattle.console_spec.specs.Processor.{Registers, is_taken}
+use Rattle.cpu3850.specs.CpuPorts.{read_by}
 use Rattle.cpu3850.specs.CpuSteps.{CpuState, bus_step, listed, planned_as, planned, last_step, worked, taken_as, taken}
 
 -- a list is as long with its branch taken as without
@@ -41,7 +42,7 @@ planned-taken_as : (found : Option Op) (index byte : ℕ) (c : CpuState) → dec
 planned-taken_as None index byte c held later = ap (λ found. planned_as found c.registers) held
 planned-taken_as (Some op) index byte c held later =
     let earlier = is_no_last index op (is_taken op c.registers) later in
-    rw (earlier, held) (ap (listed op) (is_taken-worked op index byte c.registers earlier))
+    rw (earlier, held) (ap (listed op) (is_taken-worked op index (read_by op byte c.ports) c.registers earlier))
 
 -- a step that isn't the last leaves the plan
 pub planned-taken : (index byte : ℕ) (c : CpuState) → index + 1 < length (planned c) → planned (taken index byte c) ≡ planned c

@@ -10,7 +10,7 @@ use Rattle.f8_spec.specs.declared.instructions.Op.TheVariants.{LrKP, LrPK, Pk, L
 use Rattle.f8_spec.specs.declared.instructions.Row.{Row}
 use Rattle.console_spec.specs.Processor.{Registers, Inputs, effect, byte_of, is_taken, port_field}
 use Rattle.cpu3850.specs.CpuSteps.{CpuState, last_step, driven_in, taken_in}
-use Rattle.cpu3850.specs.Reaching.{is_placed_by, Places, from_registers, Reaches, done}
+use Rattle.cpu3850.specs.Reaching.{is_placed_by, Places, from_cpu, Reaches, done}
 use Rattle.cpu3850.proofs.PlanLaws.{length-steps_of}
 
 -- the same, with the instruction and its row named in place of the opcode held
@@ -30,17 +30,20 @@ unfolding effect
 kept_by_jump byte m = refl
 
 -- `INS`, of a port of the CPU's own or of a chip's
-reaches_in : (n : ℕ) (i : Inputs) (c : CpuState) (taken own : Bool) → nat_lt n 2 ≡ own → ReachesBy (row_of (Ins n)) (Ins n) (from_registers (Ins n) c.registers i) 0 (steps_of (row_of (Ins n)) taken) c (done (Ins n) (from_registers (Ins n) c.registers i) c)
-reaches_in n i c taken true is_own = rw is_own (refl, (tt, refl))
-reaches_in n i c taken false is_own = rw is_own (refl, (tt, (tt, refl)))
+reaches_in : (n : ℕ) (i : Inputs) (c : CpuState) (taken own : Bool) → nat_lt n 2 ≡ own → ReachesBy (row_of (Ins n)) (Ins n) (from_cpu (Ins n) c i) 0 (steps_of (row_of (Ins n)) taken) c (done (Ins n) (from_cpu (Ins n) c i) c)
+unfolding effect
+reaches_in n i c taken true is_own = rw is_own (refl, (tt, rw is_own refl))
+reaches_in n i c taken false is_own = rw is_own (refl, (tt, (tt, rw is_own refl)))
 
 -- `OUTS`, likewise
-reaches_out : (n : ℕ) (i : Inputs) (c : CpuState) (taken own : Bool) → nat_lt n 2 ≡ own → ReachesBy (row_of (Outs n)) (Outs n) (from_registers (Outs n) c.registers i) 0 (steps_of (row_of (Outs n)) taken) c (done (Outs n) (from_registers (Outs n) c.registers i) c)
-reaches_out n i c taken true is_own = rw is_own (refl, (tt, refl))
-reaches_out n i c taken false is_own = rw is_own (refl, (refl, (tt, refl)))
+reaches_out : (n : ℕ) (i : Inputs) (c : CpuState) (taken own : Bool) → nat_lt n 2 ≡ own → ReachesBy (row_of (Outs n)) (Outs n) (from_cpu (Outs n) c i) 0 (steps_of (row_of (Outs n)) taken) c (done (Outs n) (from_cpu (Outs n) c i) c)
+unfolding effect
+reaches_out n i c taken true is_own = rw is_own (refl, (tt, rw is_own refl))
+reaches_out n i c taken false is_own = rw is_own (refl, (refl, (tt, rw is_own refl)))
 
 -- each instruction by its steps, with its branch taken or not
-reaches_by : (op : Op) (i : Inputs) (c : CpuState) (taken : Bool) → ReachesBy (row_of op) op (from_registers op c.registers i) 0 (steps_of (row_of op) taken) c (done op (from_registers op c.registers i) c)
+reaches_by : (op : Op) (i : Inputs) (c : CpuState) (taken : Bool) → ReachesBy (row_of op) op (from_cpu op c i) 0 (steps_of (row_of op) taken) c (done op (from_cpu op c i) c)
+unfolding effect
 reaches_by LrKP i c taken = (tt, (tt, (tt, refl)))
 reaches_by LrPK i c taken = (refl, (refl, (tt, refl)))
 reaches_by Pk i c taken = (refl, (refl, (tt, refl)))
@@ -95,6 +98,6 @@ reaches_held op i index (s ∷ t ∷ rest) c end held count there =
     rw held (there.0, reaches_held op i (index + 1) (t ∷ rest) _ end later (omega arith) there.1)
 
 -- along its steps an instruction brings its results, and the next opcode
-pub reaches : (op : Op) (i : Inputs) (c : CpuState) → decoded c.opcode ≡ Some op → Reaches (from_registers op c.registers i) 0 (steps_of (row_of op) (is_taken op c.registers)) c (done op (from_registers op c.registers i) c)
+pub reaches : (op : Op) (i : Inputs) (c : CpuState) → decoded c.opcode ≡ Some op → Reaches (from_cpu op c i) 0 (steps_of (row_of op) (is_taken op c.registers)) c (done op (from_cpu op c i) c)
 reaches op i c held =
-    reaches_held op (from_registers op c.registers i) 0 (steps_of (row_of op) (is_taken op c.registers)) c _ held (rw zero-add (length-steps_of (row_of op) (is_taken op c.registers))) (reaches_by op i c (is_taken op c.registers))
+    reaches_held op (from_cpu op c i) 0 (steps_of (row_of op) (is_taken op c.registers)) c _ held (rw zero-add (length-steps_of (row_of op) (is_taken op c.registers))) (reaches_by op i c (is_taken op c.registers))

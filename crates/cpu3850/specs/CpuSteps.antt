@@ -9,11 +9,13 @@ use Rattle.f8_spec.specs.declared.instructions.Op.TheVariants.{LrQDc, LrHDc}
 use Rattle.f8_spec.specs.declared.instructions.Row.{Row}
 use Rattle.f8_spec.specs.declared.instructions.Row.TheVariants.{Idle, StackToK, StackFromK, CallK, JumpQ, DataToPair, DataFromQ, DataFromH, ReadData, StoreData, Immediate, PortIn, PortOut, Call, Jump, AddData, ShortIn, ShortOut}
 use Rattle.console_spec.specs.Processor.{Registers, at_power, scratch_byte, with_scratch, effect, is_taken, port_field}
+use Rattle.cpu3850.specs.CpuPorts.{PortBytes, clear_ports, read_by, put_by}
 use Rattle.cpu3850.specs.declared.steps.Step.{Step}
 
--- the registers of the 3850, and the opcode that it holds
+-- the registers of the 3850, its own two ports, and the opcode that it holds
 pub record CpuState : Type 0 where
   pub registers : Registers
+  pub ports : PortBytes
   pub opcode : ℕ
 
 -- bytes are below 256, ISAR is below 64, and the scratchpad has 64 bytes
@@ -25,7 +27,7 @@ pub record AreInRange (m : Registers) : Type 0 where
 
 -- at power-on the opcode 00 is held
 abbrev pub powered : ℕ → CpuState
-powered fill = record { registers = (at_power fill).registers; opcode = 0x00 }
+powered fill = record { registers = (at_power fill).registers; ports = clear_ports; opcode = 0x00 }
 
 -- ---- the plan
 
@@ -109,10 +111,11 @@ worked DataToPair op index byte m = if nat_lt index 2 then with_scratch (pair_of
 worked row op index byte m =
     if index == effect_at row then effect op (if index == last_step row then 0 else byte) m else m
 
--- the last byte is the opcode that is held from then on
+-- The results come from the byte on the bus, or from a port of the CPU's own. The last byte is the opcode that is held from then on.
 abbrev pub taken_in : Row → Op → ℕ → ℕ → CpuState → CpuState
 taken_in row op index byte c = record {
-  registers = worked row op index byte c.registers;
+  registers = worked row op index (read_by op byte c.ports) c.registers;
+  ports = if index == effect_at row then put_by op c.registers.accumulator c.ports else c.ports;
   opcode = if index == last_step row then byte else c.opcode;
 }
 

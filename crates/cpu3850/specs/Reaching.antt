@@ -1,15 +1,13 @@
 -- What the steps of an instruction are to do to the CPU: where it drives the byte of a step, or nobody does, it drives that byte, and
--- along all steps it comes to the registers of the flat machine, with the next opcode held.
+-- along all steps it comes to the registers of the flat machine, with its own ports written and the next opcode held.
 use Rattle.std.specs.Prelude.{◌≡◌, ℕ, ◌+◌, Bool, true, false, List, [], ◌∷◌}
 use Rattle.f8_spec.specs.BusCodes.{driver_of}
-use Rattle.f8_spec.specs.Instructions.{row_of}
 use Rattle.f8_spec.specs.MicroSteps.{Step as MicroStep}
 use Rattle.f8_spec.specs.declared.bus.Driver.{Driver}
 use Rattle.f8_spec.specs.declared.bus.Driver.TheVariants.{Cpu, Nobody}
 use Rattle.f8_spec.specs.declared.instructions.Op.{Op}
-use Rattle.f8_spec.specs.declared.instructions.Row.{Row}
-use Rattle.f8_spec.specs.declared.instructions.Row.TheVariants.{Idle}
-use Rattle.console_spec.specs.Processor.{Registers, Inputs, byte_of, scratch_byte, is_taken, port_field, result_of}
+use Rattle.console_spec.specs.Processor.{Inputs, byte_of, scratch_byte, is_taken, port_field, result_of}
+use Rattle.cpu3850.specs.CpuPorts.{read_by, put_by}
 use Rattle.cpu3850.specs.CpuSteps.{CpuState, driven, taken}
 
 -- the byte of a step is that of the CPU, or of nobody
@@ -23,24 +21,19 @@ abbrev pub Places : Bool → ℕ → ℕ → Type 0
 Places true byte wanted = byte ≡ wanted
 Places false byte wanted = Unit {0}
 
--- the byte of the port of `INS` and `OUTS` of the ports 0 and 1, which the CPU doesn't have so far
-abbrev pub own_port_byte : Row → ℕ → ℕ
-own_port_byte Idle byte = 0
-own_port_byte row byte = byte
-
--- what an instruction gets, with all that comes from the registers before it
-abbrev pub from_registers : Op → Registers → Inputs → Inputs
-from_registers op m i = record i {
-  taken = is_taken op m;
-  accumulator = m.accumulator;
-  k_high = scratch_byte 12 m;
-  k_low = scratch_byte 13 m;
-  q_high = scratch_byte 14 m;
-  q_low = scratch_byte 15 m;
-  h_high = scratch_byte 10 m;
-  h_low = scratch_byte 11 m;
+-- what an instruction gets, with all that comes from the CPU before it: `INS` of port 0 or 1 gets the byte of the CPU's own port
+abbrev pub from_cpu : Op → CpuState → Inputs → Inputs
+from_cpu op c i = record i {
+  taken = is_taken op c.registers;
+  accumulator = c.registers.accumulator;
+  k_high = scratch_byte 12 c.registers;
+  k_low = scratch_byte 13 c.registers;
+  q_high = scratch_byte 14 c.registers;
+  q_low = scratch_byte 15 c.registers;
+  h_high = scratch_byte 10 c.registers;
+  h_low = scratch_byte 11 c.registers;
   port = port_field op;
-  port_byte = own_port_byte (row_of op) i.port_byte;
+  port_byte = read_by op i.port_byte c.ports;
 }
 
 -- Over the steps that are left, from the one at this index on, with the bytes that the instruction gets.
@@ -52,4 +45,8 @@ Reaches i index (s ∷ rest) c end =
 
 -- the CPU after an instruction
 abbrev pub done : Op → Inputs → CpuState → CpuState
-done op i c = record { registers = result_of op i c.registers; opcode = i.opcode }
+done op i c = record {
+  registers = result_of op i c.registers;
+  ports = put_by op i.accumulator c.ports;
+  opcode = i.opcode;
+}

@@ -1,18 +1,20 @@
 use super::instruction_table::InstructionTable;
 use super::kept::Kept;
+use super::own_ports::OwnPorts;
 use super::registers::RegisterFile;
 use super::steps::Steps;
 use console_spec::Regs;
 use f8_ops::{Reserved, Row};
 use std::marker::Model;
 
-/// The 3850: its registers, and the opcode that it holds. It has no program counter. Contracts see both.
+/// The 3850: its registers, its own two ports, and the opcode that it holds. It has no program counter. Contracts see all three.
 ///
 /// An instruction is its bus steps, in order: `plan` tells them as it begins, `drive` the byte that the CPU places in a step, and
 /// `take` is its part after a step that was served (Fairchild F8 User's Guide; Mostek 3850 data sheet).
 #[derive(Debug, Drop)]
 pub struct Cpu {
     registers: RegisterFile,
+    ports: OwnPorts,
     opcode: u8,
 
     /// What each opcode says of its instruction.
@@ -24,23 +26,25 @@ impl Model for Cpu {
 
     ghost Value = { CpuState };
 
-    ghost view = { λ c. record { registers = c.registers; opcode = c.opcode } };
+    ghost view = { λ c. record { registers = c.registers; ports = c.ports; opcode = c.opcode } };
 }
 
 impl Cpu {
-    ghost use Rattle.std.specs.Prelude.{◌≡◌, ◌↔◌, ◌<◌, false, length, IsErr, IsOk, IfOk, IfErr, IsSome};
+    ghost use Rattle.std.specs.Prelude.{◌≡◌, ◌↔◌, ◌<◌, false, [], length, IsErr, IsOk, IfOk, IfErr, IsSome};
     ghost use Rattle.f8_spec.specs.Instructions.{IsReserved, decoded};
     ghost use Rattle.console_spec.specs.Processor.{shown};
+    ghost use Rattle.cpu3850.specs.CpuPorts.{with_own_key};
     ghost use Rattle.cpu3850.specs.CpuSteps.{AreInRange, powered, planned, driven, taken};
     ghost use Rattle.cpu3850.specs.Keeping.{kept_of, restored};
 
-    /// The CPU at power-on: the power byte is in the accumulator, in ISAR modulo 64 and in every byte of the scratchpad, W is 0, and
-    /// the opcode 00 is held. Power-on contents are this project's own.
+    /// The CPU at power-on: the power byte is in the accumulator, in ISAR modulo 64 and in every byte of the scratchpad, W, the latches
+    /// and the key bytes are 0, and the opcode 00 is held. Power-on contents are this project's own.
     pub fn power(fill: u8) -> Cpu
         ensures { result ≡ powered fill }
     {
         Cpu {
             registers: RegisterFile::power(fill),
+            ports: OwnPorts::power(),
             opcode: 0x00,
             table: InstructionTable::new(),
         }
@@ -79,7 +83,7 @@ impl Cpu {
 
     /// What the CPU does with the byte of the step at this index of the plan. The results of an instruction come with one step, but
     /// that `LR K,P`, `LR Q,DC` and `LR H,DC` load their registers byte by byte; the byte of the last step is the opcode held from
-    /// then on.
+    /// then on. `INS` and `OUTS` of port 0 or 1 read and write a port of the CPU's own in their first step, whatever is on the bus.
     pub fn take(&mut self, index: u8, byte: u8)
         requires { index < length (planned self.old) }
         ensures { self.new ≡ taken index byte self.old }
@@ -88,6 +92,10 @@ impl Cpu {
             unreachable!()
         };
         let is_last = index == held.last_step;
+        let read = self.ports.read(held.op, byte);
+        if index == held.effect_at {
+            self.ports.put(held.op, self.registers.accumulator);
+        }
         match held.row {
             Row::StackToK | Row::DataToPair => {
                 if index < 2 {
@@ -97,13 +105,28 @@ impl Cpu {
             _ => {
                 if index == held.effect_at {
                     self.registers
-                        .execute(held.op, if is_last { 0 } else { byte });
+                        .execute(held.op, if is_last { 0 } else { read });
                 }
             }
         }
         if is_last {
             self.fetch(byte);
         }
+    }
+
+    /// The latches of the CPU's own ports: the bytes that `OUTS 0` and `OUTS 1` last put there.
+    pub fn ports(&self) -> [u8; 2]
+        ensures { result ≡ self.now.ports.latches }
+    {
+        self.ports.latches()
+    }
+
+    /// The key byte of port 0 or 1 becomes this. The port reads as its latch OR its key byte.
+    pub fn keys(&mut self, port: u8, byte: u8)
+        requires { port < 2 }
+        ensures { self.new ≡ record self.old { ports = with_own_key port byte self.old.ports } }
+    {
+        self.ports.set_key(port, byte);
     }
 
     /// The interrupt control bit: interrupts are enabled.
@@ -136,7 +159,7 @@ impl Cpu {
 
     /// The registers of the CPU beside these counters, which it doesn't have itself.
     pub fn regs(&self, p: u16, p1: u16, d0: u16, d1: u16) -> Regs
-        ensures regs { result ≡ shown (record { flow = record { p = p; p1 = p1; d0 = d0; d1 = d1 }; registers = self.now.registers; count = 0; phi = 0 }) }
+        ensures regs { result ≡ shown (record { flow = record { p = p; p1 = p1; d0 = d0; d1 = d1 }; registers = self.now.registers; keys = []; writes = []; count = 0; phi = 0 }) }
         ensures isar { result.isar < 64 }
     {
         self.registers.regs(p, p1, d0, d1)
@@ -151,7 +174,7 @@ impl Cpu {
             Some(held) => held.pair,
             None => 12,
         };
-        self.registers.kept(pair)
+        self.registers.kept(pair, self.ports.latches())
     }
 
     /// Puts back what was kept as the instruction held began, where its last step isn't served.
@@ -159,5 +182,6 @@ impl Cpu {
         ensures { self.new ≡ restored kept self.old }
     {
         self.registers.restore(kept);
+        self.ports.set_latches(kept.latches);
     }
 }

@@ -6,6 +6,7 @@ mod cpu;
 mod instruction_table;
 mod kept;
 mod laws;
+mod own_ports;
 mod registers;
 mod steps;
 
@@ -13,7 +14,7 @@ pub use console_spec::Regs;
 pub use cpu::Cpu;
 pub use f8_ops::{Op, Reserved};
 pub use kept::Kept;
-pub use laws::{instruction_law, plan_law, restore_law};
+pub use laws::{instruction_law, plan_law, port_law, restore_law};
 pub use romc_table::Romc;
 pub use steps::{Step, Steps, list};
 

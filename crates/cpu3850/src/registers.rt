@@ -47,7 +47,7 @@ impl Model for RegisterFile {
 }
 
 impl RegisterFile {
-    ghost use Rattle.std.specs.Prelude.{◌≡◌, ◌+◌, ◌*◌, ◌/◌, ◌%◌, ◌-◌, ◌<◌, false, bit_and, bit_xor};
+    ghost use Rattle.std.specs.Prelude.{◌≡◌, ◌+◌, ◌*◌, ◌/◌, ◌%◌, ◌-◌, ◌<◌, false, [], bit_and, bit_xor};
     ghost use Rattle.f8_spec.specs.Flags.{status_byte};
     ghost use Rattle.f8_spec.specs.Instructions.{InRange};
     ghost use Rattle.f8_words.specs.Sums.{sum_of};
@@ -278,7 +278,7 @@ impl RegisterFile {
     }
 
     pub(crate) fn regs(&self, p: u16, p1: u16, d0: u16, d1: u16) -> Regs
-        ensures regs { result ≡ shown (record { flow = record { p = p; p1 = p1; d0 = d0; d1 = d1 }; registers = self.now; count = 0; phi = 0 }) }
+        ensures regs { result ≡ shown (record { flow = record { p = p; p1 = p1; d0 = d0; d1 = d1 }; registers = self.now; keys = []; writes = []; count = 0; phi = 0 }) }
         ensures isar { result.isar < 64 }
     {
         Regs {
@@ -313,9 +313,9 @@ impl RegisterFile {
         }
     }
 
-    pub(crate) fn kept(&self, pair: u8) -> Kept
+    pub(crate) fn kept(&self, pair: u8, latches: [u8; 2]) -> Kept
         requires { pair < 63 }
-        ensures kept { result ≡ kept_with pair self.now }
+        ensures kept { result ≡ kept_with pair latches self.now }
         ensures ranges { AreInRange self.now }
     {
         Kept {
@@ -325,6 +325,7 @@ impl RegisterFile {
             pair,
             high: self.scratch(pair),
             low: self.scratch(pair + 1),
+            latches,
         }
     }
 

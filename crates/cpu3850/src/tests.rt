@@ -199,3 +199,47 @@ fn interrupts_and_reserved_opcodes(rt: HostRuntime) -> Result<(), Fail> {
     }
     Ok(())
 }
+
+// key bytes F0 and 30: `INS 0` after a sum with carry, `OUTS 1` of 0F, `INS 1`, and then ports of chips; each with A, W and the latches
+#[test]
+fn own_ports(rt: HostRuntime) -> Result<(), Fail> {
+    let programs: [(&[u8], u8, u8, [u8; 2]); 9] = [
+        (&[0x00, 0x20], 0xF0, 0x00, [0x00, 0x00]),
+        (&[0x0F, 0xB1], 0x0F, 0x00, [0x00, 0x00]),
+        (&[0x00, 0xA1], 0x0F, 0x00, [0x00, 0x0F]),
+        (&[0x00, 0xB0], 0x3F, 0x01, [0x00, 0x0F]),
+        (&[0x00, 0x26], 0x3F, 0x01, [0x3F, 0x0F]),
+        (&[0x00, 0x5A, 0x27], 0x5A, 0x01, [0x3F, 0x0F]),
+        (&[0x00, 0x5A, 0xA4], 0x5A, 0x01, [0x3F, 0x0F]),
+        (&[0x04, 0x00, 0xB4], 0x00, 0x05, [0x3F, 0x0F]),
+        (&[0x04, 0x00, 0x2B], 0x00, 0x05, [0x3F, 0x0F]),
+    ];
+    let mut cpu = Cpu::power(0x0F);
+    assert_eq!(rt; cpu.ports(), [0x00, 0x00]);
+    cpu.keys(0, 0xF0);
+    cpu.keys(1, 0x30);
+    cpu.fetch(0x24);
+    instruction(&rt, &mut cpu, &[0xF1, 0xA0])?;
+    assert_eq!(rt; cpu.regs(0, 0, 0, 0).w, 0x07);
+    for (bytes, accumulator, status, latches) in programs {
+        let code = cpu.opcode();
+        instruction(&rt, &mut cpu, bytes)?;
+        let regs = cpu.regs(0, 0, 0, 0);
+        assert_eq!(rt; (regs.a, regs.w), (accumulator, status), "of {code}");
+        assert_eq!(rt; cpu.ports(), latches, "of {code}");
+    }
+    Ok(())
+}
+
+// `OUTS 0` whose fetch isn't served leaves the latch
+#[test]
+fn latch_before_an_unserved_fetch(rt: HostRuntime) -> Result<(), Fail> {
+    let mut cpu = Cpu::power(0x5A);
+    cpu.fetch(0xB0);
+    let kept = cpu.kept();
+    step(&rt, &mut cpu, 0, 0x00)?;
+    assert_eq!(rt; cpu.ports(), [0x5A, 0x00]);
+    cpu.restore(kept);
+    assert_eq!(rt; cpu.ports(), [0x00, 0x00]);
+    Ok(())
+}

@@ -1,7 +1,6 @@
 -- The table of instructions, as it is filled.
-use Rattle.std.proofs.Common.{◌≡◌, ◌≢◌, Bool, false, ℕ, ◌+◌, ◌<◌, List, length, None, arith, get_or-set_other, get_or-set_same, below_more}
+use Rattle.std.proofs.Common.{◌≢◌, ℕ, ◌+◌, ◌<◌, List, length, None, arith, get_or-set_other, get_or-set_same, below_more}
 use Rattle.std.specs.Prelude.{slice_index_or, slice_set, Option}
-use Rattle.f8_spec.specs.Built.{is_built}
 use Rattle.f8_isa.specs.InstructionRows.{IsRow}
 use Rattle.f8_isa.specs.declared.instruction_table.Instruction.{Instruction}
 
@@ -11,14 +10,5 @@ pub one_row_more : (rows : List (Option Instruction)) (count : ℕ) (row : Optio
     (code : ℕ) → code < count + 1 → IsRow code (slice_index_or (slice_set rows count row) code None)
 one_row_more rows count row inside below here =
     below_more (λ (code : ℕ). IsRow code (slice_index_or (slice_set rows count row) code None)) count
-    (λ code earlier. let other : code ≢ count = omega arith in rw get_or-set_other (below code earlier))
-    (rw get_or-set_same here)
-
--- one opcode more is told right
-pub one_told_more : (built : List Bool) (count : ℕ) (told : Bool) → count < length built →
-    ((code : ℕ) → code < count → slice_index_or built code false ≡ is_built code) → told ≡ is_built count →
-    (code : ℕ) → code < count + 1 → slice_index_or (slice_set built count told) code false ≡ is_built code
-one_told_more built count told inside below here =
-    below_more (λ (code : ℕ). slice_index_or (slice_set built count told) code false ≡ is_built code) count
     (λ code earlier. let other : code ≢ count = omega arith in rw get_or-set_other (below code earlier))
     (rw get_or-set_same here)

@@ -1,3 +1,4 @@
 pub mod InstructionRows
 pub mod Results
 pub mod Standing
+pub mod WriteTold

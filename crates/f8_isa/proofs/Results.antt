@@ -1,13 +1,16 @@
 -- What an instruction does to the registers.
-use Rattle.std.proofs.Common.{◌≡◌, ◌≢◌, ℕ, ◌+◌, Bool, true, false, List, refl}
-use Rattle.std.specs.Prelude.{nat_lt, if◌then◌else◌}
+use Rattle.std.proofs.Common.{◌≡◌, ◌≢◌, ℕ, ◌+◌, Bool, true, false, refl}
+use Rattle.std.specs.Prelude.{nat_lt, if◌then◌else◌, None}
 use Rattle.f8_spec.specs.Instructions.{row_of}
 use Rattle.f8_spec.specs.declared.instructions.Op.{Op}
 use Rattle.f8_spec.specs.declared.instructions.Op.TheVariants.{LrKP, LrPK, Pk, LrP0Q, LrQDc, LrDcQ, LrDcH, LrHDc, Lm, St, Di, Ei, Pop, LrWJ, Li, Ni, Oi, Xi, Ai, Ci, In, Out, Pi, Jmp, Dci, Xdc, Ds, Bt, Am, Amd, Nm, Om, Xm, Cm, Adc, Br7, Bf, Asd, Ins, Outs}
 use Rattle.f8_spec.specs.declared.instructions.Row.{Row}
 use Rattle.f8_spec.specs.declared.instructions.Row.TheVariants.{Plain, Idle, ShortIn, ShortOut}
 use Rattle.f8_spec.specs.Words.{places_on}
-use Rattle.console_spec.specs.Processor.{Registers, Inputs, State, used_byte, effect, result_of, is_taken, own_inputs, after_instruction}
+use Rattle.console_spec.specs.AddressSpace.{byte_at}
+use Rattle.console_spec.specs.Processor.{Registers, Inputs, used_byte, effect, result_of, is_taken}
+use Rattle.f8_isa.specs.Ports.{PortState, port_taking}
+use Rattle.f8_isa.specs.IsaState.{IsaState, kept_inputs, kept_write, isa_after}
 
 -- but for the three that copy a counter to a pair, an instruction works with the one byte that it uses
 pub result_of_effect : (op : Op) (i : Inputs) (m : Registers) → op ≢ LrKP → op ≢ LrQDc → op ≢ LrHDc →
@@ -80,11 +83,30 @@ plain_untaken (Bf t) m plain = cc
 plain_untaken Br7 m plain = cc
 plain_untaken op m plain = refl
 
-pub after_plain : (op : Op) (memory : List ℕ) (s : State) → row_of op ≡ Plain →
-    after_instruction op memory s ≡ record {
-      flow = record s.flow { p = places_on s.flow.p 1 };
-      registers = effect op 0 s.registers;
-      count = s.count + 1;
-      phi = s.phi + 4;
+-- they write no port
+plain_unwritten : (op : Op) (operand : ℕ) (p : PortState) → row_of op ≡ Plain → port_taking op operand p ≡ None
+plain_unwritten Out operand p plain = cc
+plain_unwritten (Outs n) operand p plain = absurd (outs_not_plain n plain)
+plain_unwritten op operand p plain = refl
+
+pub plain_write : (op : Op) (isa : IsaState) (phi : ℕ) → row_of op ≡ Plain → kept_write op isa phi ≡ None
+plain_write op isa phi plain = rw (plain_unwritten op (byte_at isa.memory (places_on isa.flow.p 1)) isa.ports plain) refl
+
+pub after_plain : (op : Op) (isa : IsaState) → row_of op ≡ Plain →
+    isa_after op isa ≡ record {
+      flow = record isa.flow { p = places_on isa.flow.p 1 };
+      registers = effect op 0 isa.registers;
+      phi = isa.phi + 4;
+      memory = isa.memory;
+      ram_pages = isa.ram_pages;
+      ports = isa.ports;
     }
-after_plain op memory s plain = rw (plain, plain_result op (own_inputs op memory s) s.registers plain) refl
+after_plain op isa plain =
+    rw (
+      plain,
+      plain_result op (kept_inputs op isa) isa.registers plain,
+      plain_unwritten op (byte_at isa.memory (places_on isa.flow.p 1)) isa.ports plain,
+    )
+    refl
+
+pub ruleset plain_laws = (after_plain, plain_write)

@@ -1,6 +1,5 @@
 -- The table of instructions by opcode.
-use Rattle.std.specs.Prelude.{◌≡◌, ℕ, ◌<◌, Bool, true, false, List, length, slice_index_or, Option, Some, None}
-use Rattle.f8_spec.specs.Built.{is_built}
+use Rattle.std.specs.Prelude.{◌≡◌, ℕ, ◌<◌, true, false, List, length, slice_index_or, Option, Some, None}
 use Rattle.f8_spec.specs.Instructions.{InRange, decoded, row_of, clocks_of}
 use Rattle.f8_isa.specs.declared.instruction_table.Instruction.{Instruction}
 
@@ -19,8 +18,3 @@ IsRow code (Some i) = (decoded code ≡ Some i.op) × IsInstruction i
 pub record IsTable (rows : List (Option Instruction)) : Type 0 where
   pub size : length rows ≡ 256
   pub row : (code : ℕ) → code < 256 → IsRow code (slice_index_or rows code None)
-
--- the opcodes that are reserved, or those of instructions that are built
-pub record IsBuiltTable (built : List Bool) : Type 0 where
-  pub size : length built ≡ 256
-  pub is : (code : ℕ) → code < 256 → slice_index_or built code false ≡ is_built code

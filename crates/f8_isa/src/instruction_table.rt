@@ -1,8 +1,7 @@
 ghost use Rattle.std.specs.Prelude.{◌≡◌};
-ghost use Rattle.f8_spec.specs.Built.{is_built};
-ghost use Rattle.f8_isa.specs.InstructionRows.{IsBuiltTable, IsTable, IsRow};
+ghost use Rattle.f8_isa.specs.InstructionRows.{IsTable, IsRow};
 
-use f8_ops::{Op, Row, decode, is_built, phi, row_of};
+use f8_ops::{Op, Row, decode, phi, row_of};
 use std::marker::Model;
 
 /// An instruction, with what its opcode alone says of it: its row, and its clocks, in Φ, where no branch is taken and where one is.
@@ -37,29 +36,23 @@ impl Instruction {
 #[derive(Drop)]
 pub struct InstructionTable {
     rows: [Option<Instruction>; 256],
-
-    /// Which opcodes are reserved, or are those of instructions that are built.
-    built: [bool; 256],
 }
 
 impl Model for InstructionTable {
     ghost use Rattle.std.specs.Prelude.{List, Option};
     ghost use Rattle.f8_isa.specs.declared.instruction_table.Instruction.{Instruction};
-    ghost use Rattle.f8_isa.specs.InstructionRows.{IsTable, IsBuiltTable};
+    ghost use Rattle.f8_isa.specs.InstructionRows.{IsTable};
 
     ghost Value = { List (Option Instruction) };
 
     ghost view = { λ t. t.rows };
 
-    ghost invariant = { λ t. IsTable t.rows × IsBuiltTable t.built };
+    ghost invariant = { λ t. IsTable t.rows };
 }
 
 impl InstructionTable {
     pub fn new() -> InstructionTable {
-        InstructionTable {
-            rows: rows(),
-            built: built_opcodes(),
-        }
+        InstructionTable { rows: rows() }
     }
 
     /// The instruction of an opcode, and none of a reserved one.
@@ -68,14 +61,6 @@ impl InstructionTable {
         ensures { IsRow code result }
     {
         self.rows[code as usize]
-    }
-
-    /// The opcode is reserved, or that of an instruction that is built.
-    #[inline]
-    pub fn is_built(&self, code: u8) -> bool
-        ensures { result ≡ is_built code }
-    {
-        self.built[code as usize]
     }
 }
 
@@ -97,14 +82,4 @@ fn rows() -> [Option<Instruction>; 256]
         rows[code] = row(code as u8);
     }
     rows
-}
-
-fn built_opcodes() -> [bool; 256]
-    ensures { IsBuiltTable result }
-{
-    let mut built = [false; 256];
-    for code in 0..256 {
-        built[code] = is_built(code as u8);
-    }
-    built
 }

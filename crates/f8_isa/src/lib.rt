@@ -1,10 +1,11 @@
-//! The F8 instruction set over one flat memory and one set of counters, without a chip (Fairchild F8 User's Guide).
+//! The F8 instruction set over one flat memory, one set of counters and one set of ports, without a chip (Fairchild F8 User's Guide).
 #![tactic(auto)]
 
 mod counters;
 mod flat_memory;
 mod instruction_table;
 mod machine;
+mod ports;
 mod register_file;
 
 pub use console_board::PortWrite;

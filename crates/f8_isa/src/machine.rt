@@ -1,6 +1,7 @@
 use super::counters::Flow;
 use super::flat_memory::FlatMemory;
 use super::instruction_table::{Instruction, InstructionTable};
+use super::ports::Ports;
 use super::register_file::{H, K, Q, RegisterFile};
 use chip_face::ChipList;
 use console_board::PortWrite;
@@ -15,20 +16,24 @@ use std::marker::Model;
 /// The clocks of reset, in Φ.
 const RESET_PHI: u64 = 14;
 
-/// What an instruction did beyond registers and memory: the write to a port, if there was one, and whether an interrupt was taken at its end.
-/// So far there is neither.
+/// The processor has the ports below this one by `INS` and `OUTS`.
+const OWN_PORTS: u8 = 2;
+
+/// What an instruction did beyond registers and memory: its write, where a port took one, with the clocks at the instruction's end, and
+/// whether an interrupt was taken at its end. So far there is no interrupt.
 #[derive(Clone, Copy, Debug, PartialEq, Eq)]
 pub struct Done {
     pub wrote: Option<PortWrite>,
     pub vectored: bool,
 }
 
-/// The F8 instruction set over one flat memory and one set of counters (Fairchild F8 User's Guide). It does a whole instruction at once,
-/// with no chip and no bus step.
+/// The F8 instruction set over one flat memory, one set of counters and one set of ports (Fairchild F8 User's Guide). It does a whole
+/// instruction at once, with no chip and no bus step.
 #[derive(Drop)]
 pub struct Isa {
     instructions: InstructionTable,
     memory: FlatMemory,
+    ports: Ports,
     flow: Flow,
     registers: RegisterFile,
 
@@ -42,22 +47,22 @@ impl Model for Isa {
 
     ghost Value = { IsaState };
 
-    ghost view = { λ m. record { flow = flow_of m.flow; registers = m.registers; phi = m.phi; memory = m.memory.bytes; ram_pages = m.memory.ram_pages } };
+    ghost view = { λ m. record { flow = flow_of m.flow; registers = m.registers; phi = m.phi; memory = m.memory.bytes; ram_pages = m.memory.ram_pages; ports = m.ports } };
 }
 
 impl Isa {
-    ghost use Rattle.std.specs.Prelude.{◌≡◌, ℕ, ◌+◌, ◌^◌, ◌<◌, ◌≤◌, IsTrue, true, false, None, IfOk, IfErr, OnErr, OnOk};
-    ghost use Rattle.f8_spec.specs.Built.{is_built};
+    ghost use Rattle.std.specs.Prelude.{◌≡◌, ◌+◌, ◌^◌, ◌<◌, ◌≤◌, true, false, None, [], IfOk, IfErr, OnErr};
     ghost use Rattle.f8_spec.specs.Instructions.{InRange, row_of};
     ghost use Rattle.f8_spec.specs.Words.{word, places_on, displaced};
     ghost use Rattle.f8_spec.specs.declared.instructions.Op.{Op};
     ghost use Rattle.console_spec.specs.AddressSpace.{byte_at};
-    ghost use Rattle.console_spec.specs.Processor.{own_inputs, used_byte, result_of, is_taken, flow_after, after_instruction, shown};
+    ghost use Rattle.console_spec.specs.Processor.{used_byte, result_of, is_taken, flow_after, shown};
     ghost use Rattle.console_spec.specs.Run.{Reserved as StopReserved, power_position, position_after_reset};
     ghost use Rattle.memory_map.specs.MapOf.{IsMapOf, views_of};
     ghost use Rattle.f8_isa.specs.Counters.{flow_of};
     ghost use Rattle.f8_isa.specs.InstructionRows.{IsInstruction};
-    ghost use Rattle.f8_isa.specs.IsaState.{state_of, memory_by, GoesTo, StopsBy, StandsAt};
+    ghost use Rattle.f8_isa.specs.Ports.{told, value_read, with_key_byte};
+    ghost use Rattle.f8_isa.specs.IsaState.{state_of, kept_inputs, kept_write, isa_after, phi_after, GoesTo, StopsBy, StandsAt, InReach, TakesKey};
 
     /// A program on some chips, after power-on with a byte and reset, or want of memory. The map is that of the chips; what it tells is
     /// copied.
@@ -67,33 +72,25 @@ impl Isa {
     {
         let _chips = chips;
         let memory = FlatMemory::new(alloc, map, fill)?;
+        let ports = Ports::new(map);
         Ok(Isa {
             instructions: InstructionTable::new(),
             memory,
+            ports,
             flow: Flow::default(),
             registers: RegisterFile::at_power(fill),
             phi: RESET_PHI,
         })
     }
 
-    /// The next opcode is reserved, or what it does is built, so that `step` may be called. So far that is all but the instructions
-    /// of ports.
-    #[inline]
-    pub fn is_ready(&self) -> bool
-        ensures { result ≡ is_built (byte_at self.now.memory self.now.flow.p) }
-    {
-        self.instructions.is_built(self.memory.byte(self.flow.p))
-    }
-
-    /// The next instruction, or [`Reserved`] with the opcode, exactly where no instruction has it; then nothing changes. The opcode has
-    /// to be built or reserved, which `is_ready` tells.
+    /// The next instruction, or [`Reserved`] with the opcode, exactly where no instruction has it; then nothing changes.
     #[inline]
     pub fn step(&mut self) -> Result<Done, Reserved>
-        requires ready { IsTrue (is_built (byte_at self.old.memory self.old.flow.p)) }
-        requires phi { self.old.phi < 2 ^ 62 }
-        ensures goes { OnOk result (GoesTo self.old self.new) }
-        ensures done { IfOk result (λ done. done ≡ record { wrote = None; vectored = false }) }
+        requires { self.old.phi < 2 ^ 62 }
+        ensures goes { IfOk result (λ done. GoesTo self.old self.new done.wrote) }
+        ensures uninterrupted { IfOk result (λ done. done.vectored ≡ false) }
         ensures clocks { self.new.phi ≤ self.old.phi + 26 }
+        ensures onward { self.old.phi ≤ self.new.phi }
         ensures stops { IfErr result (λ error. StopsBy self.old (StopReserved self.old.flow.p error.code)) }
         ensures same { OnErr result (self.new ≡ self.old) }
     {
@@ -101,61 +98,69 @@ impl Isa {
         let Some(instruction) = self.instructions.instruction(code) else {
             return Err(Reserved { code });
         };
-        self.carry_out(instruction);
+        let wrote = self.carry_out(instruction);
         Ok(Done {
-            wrote: None,
+            wrote,
             vectored: false,
         })
     }
 
-    /// A whole instruction.
-    #[tactic(auto, unfolding(console_spec::specs::Processor::own_inputs))]
+    /// Sets the key byte of a port. It is read there together with what was last written to the port.
+    pub fn keys(&mut self, port: u8, byte: u8)
+        ensures stands { TakesKey port byte self.old self.new }
+        ensures kept { self.new ≡ record self.old { ports = with_key_byte port byte self.old.ports } }
+    {
+        self.ports.set_key(port, byte);
+    }
+
+    /// A whole instruction, with its write.
     #[inline]
-    fn carry_out(&mut self, instruction: Instruction)
+    fn carry_out(&mut self, instruction: Instruction) -> Option<PortWrite>
         requires right { IsInstruction instruction }
         requires phi { self.old.phi < 2 ^ 62 }
-        ensures state { (count : ℕ) → state_of self.new (count + 1) ≡ after_instruction instruction.op self.old.memory (state_of self.old count) }
+        ensures state { self.new ≡ isa_after instruction.op self.old }
+        ensures wrote { told result ≡ kept_write instruction.op self.old (phi_after instruction.op self.old) }
         ensures clocks { self.new.phi ≤ self.old.phi + 26 }
-        ensures memory { self.new.memory ≡ memory_by (row_of instruction.op) self.old.ram_pages self.old.flow.d0 self.old.registers.accumulator self.old.memory }
-        ensures ram { self.new.ram_pages ≡ self.old.ram_pages }
-        ensures address { row_of instruction.op ≡ Row.StoreData → self.old.flow.d0 < 65536 }
+        ensures onward { self.old.phi ≤ self.new.phi }
+        ensures ranges { InReach instruction.op self.old }
     {
         if instruction.row == Row::Plain {
             self.carry_out_plain(instruction);
+            None
         } else {
-            self.carry_out_other(instruction);
+            self.carry_out_other(instruction)
         }
     }
 
     /// A whole instruction of the plainest row, which most belong to.
-    #[tactic(auto, using(crate::proofs::Results::after_plain))]
+    #[tactic(auto, using(crate::proofs::Results::plain_laws))]
     #[inline]
     fn carry_out_plain(&mut self, instruction: Instruction)
         requires right { IsInstruction instruction }
         requires plain { instruction.row ≡ Row.Plain }
         requires phi { self.old.phi < 2 ^ 62 }
-        ensures state { (count : ℕ) → state_of self.new (count + 1) ≡ after_instruction instruction.op self.old.memory (state_of self.old count) }
+        ensures state { self.new ≡ isa_after instruction.op self.old }
+        ensures wrote { kept_write instruction.op self.old (phi_after instruction.op self.old) ≡ None }
         ensures clocks { self.new.phi ≤ self.old.phi + 26 }
-        ensures memory { self.new.memory ≡ self.old.memory }
-        ensures ram { self.new.ram_pages ≡ self.old.ram_pages }
-        ensures address { row_of instruction.op ≡ Row.StoreData → self.old.flow.d0 < 65536 }
+        ensures onward { self.old.phi ≤ self.new.phi }
+        ensures ranges { InReach instruction.op self.old }
     {
         self.registers.execute(instruction.op, 0);
         self.flow.p = self.ahead(1);
         self.phi += u64::from(instruction.clocks);
     }
 
-    /// A whole instruction of any row.
+    /// A whole instruction of any row, with its write.
     #[tactic(auto, unfolding(console_spec::specs::Processor::own_inputs))]
     #[inline]
-    fn carry_out_other(&mut self, instruction: Instruction)
+    fn carry_out_other(&mut self, instruction: Instruction) -> Option<PortWrite>
         requires right { IsInstruction instruction }
         requires phi { self.old.phi < 2 ^ 62 }
-        ensures state { (count : ℕ) → state_of self.new (count + 1) ≡ after_instruction instruction.op self.old.memory (state_of self.old count) }
+        ensures state { self.new ≡ isa_after instruction.op self.old }
+        ensures wrote { told result ≡ kept_write instruction.op self.old (phi_after instruction.op self.old) }
         ensures clocks { self.new.phi ≤ self.old.phi + 26 }
-        ensures memory { self.new.memory ≡ memory_by (row_of instruction.op) self.old.ram_pages self.old.flow.d0 self.old.registers.accumulator self.old.memory }
-        ensures ram { self.new.ram_pages ≡ self.old.ram_pages }
-        ensures address { row_of instruction.op ≡ Row.StoreData → self.old.flow.d0 < 65536 }
+        ensures onward { self.old.phi ≤ self.new.phi }
+        ensures ranges { InReach instruction.op self.old }
     {
         let Instruction {
             op,
@@ -164,14 +169,22 @@ impl Isa {
             clocks_taken,
         } = instruction;
         let taken = self.registers.takes_branch(op);
+        let phi = self.phi + u64::from(if taken { clocks_taken } else { clocks });
+        let (at, byte, operand) = (
+            self.data_counter(),
+            self.registers.accumulator(),
+            self.operand(),
+        );
+        let wrote = self.write(op, operand, phi);
         let flow = self.flow_after(row, taken);
-        let (at, byte) = (self.data_counter(), self.registers.accumulator());
         self.work(op, row);
         if row == Row::StoreData {
             self.memory.store(at, byte);
         }
+        self.ports.take(wrote);
         self.flow = flow;
-        self.phi += u64::from(if taken { clocks_taken } else { clocks });
+        self.phi = phi;
+        wrote
     }
 
     #[inline]
@@ -182,34 +195,76 @@ impl Isa {
         self.flow.d0
     }
 
+    /// The byte behind the opcode.
+    #[inline]
+    fn operand(&self) -> u8
+        ensures is { result ≡ byte_at self.now.memory (places_on self.now.flow.p 1) }
+        ensures range { result < 256 }
+    {
+        self.memory.byte(self.ahead(1))
+    }
+
+    /// The write of an instruction, if a port takes it, with the clocks at the instruction's end.
+    #[inline]
+    fn write(&self, op: Op, operand: u8, phi: u64) -> Option<PortWrite>
+        requires { operand ≡ byte_at self.now.memory (places_on self.now.flow.p 1) }
+        ensures { told result ≡ kept_write op self.now phi }
+    {
+        let port = match op {
+            Op::Out => self.ports.if_writable(operand)?,
+            Op::Outs { n } if n < OWN_PORTS => n,
+            Op::Outs { n } => self.ports.if_writable(n)?,
+            _ => return None,
+        };
+        Some(PortWrite {
+            phi,
+            port,
+            byte: self.registers.accumulator(),
+        })
+    }
+
+    /// The byte that an instruction reads at its port, and 00 where it reads none.
+    #[inline]
+    fn read(&self, op: Op) -> u8
+        ensures { result ≡ value_read op (byte_at self.now.memory (places_on self.now.flow.p 1)) self.now.ports }
+    {
+        match op {
+            Op::In => self.ports.chip_byte(self.operand()),
+            Op::Ins { n } if n < OWN_PORTS => self.ports.own_byte(n),
+            Op::Ins { n } => self.ports.chip_byte(n),
+            _ => 0,
+        }
+    }
+
     /// What an instruction does to the registers.
     #[tactic(auto, using(crate::proofs::Results::result_of_effect), unfolding(console_spec::specs::Processor::own_inputs))]
     #[inline]
     fn work(&mut self, op: Op, row: Row)
         requires row { row ≡ row_of op }
         requires in_range { InRange op }
-        ensures { self.new ≡ record self.old { registers = result_of op (own_inputs op self.old.memory (state_of self.old 0)) self.old.registers } }
+        ensures { self.new ≡ record self.old { registers = result_of op (kept_inputs op self.old) self.old.registers } }
     {
         match op {
             Op::LrKP => self.registers.set_pair(K, self.flow.p1),
             Op::LrQDc => self.registers.set_pair(Q, self.flow.d0),
             Op::LrHDc => self.registers.set_pair(H, self.flow.d0),
             _ => {
-                let byte = self.used_byte(row);
+                let byte = self.used_byte(op, row);
                 self.registers.execute(op, byte);
             }
         }
     }
 
-    /// The one byte that an instruction of a row works with, and 00 where it needs none.
+    /// The one byte that an instruction works with, and 00 where it needs none.
     #[tactic(auto, unfolding(console_spec::specs::Processor::own_inputs))]
     #[inline]
-    fn used_byte(&self, row: Row) -> u8
-        ensures { (op : Op) → result ≡ used_byte row (own_inputs op self.now.memory (state_of self.now 0)) }
+    fn used_byte(&self, op: Op, row: Row) -> u8
+        ensures { result ≡ used_byte row (kept_inputs op self.now) }
     {
         match row {
-            Row::Immediate | Row::Call | Row::Jump => self.memory.byte(self.ahead(1)),
+            Row::Immediate | Row::Call | Row::Jump => self.operand(),
             Row::ReadData => self.memory.byte(self.flow.d0),
+            Row::PortIn | Row::ShortIn | Row::Idle => self.read(op),
             _ => 0,
         }
     }
@@ -218,7 +273,7 @@ impl Isa {
     #[tactic(auto, unfolding(console_spec::specs::Processor::own_inputs))]
     #[inline]
     fn flow_after(&self, row: Row, taken: bool) -> Flow
-        ensures { (op : Op) → is_taken op self.now.registers ≡ taken → flow_of result ≡ flow_after row (own_inputs op self.now.memory (state_of self.now 0)) true self.now.flow }
+        ensures { (op : Op) → is_taken op self.now.registers ≡ taken → flow_of result ≡ flow_after row (kept_inputs op self.now) true self.now.flow }
     {
         let flow = self.flow;
         let after_one = flow.with_next(self.ahead(1));
@@ -285,7 +340,7 @@ impl Isa {
     /// The registers between two instructions.
     #[inline]
     pub fn regs(&self) -> Regs
-        ensures regs { result ≡ shown (state_of self.now 0) }
+        ensures regs { result ≡ shown (state_of self.now 0 []) }
         ensures isar { result.isar < 64 }
     {
         Regs {

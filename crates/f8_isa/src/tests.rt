@@ -74,7 +74,6 @@ fn program(alloc: Global, bytes: &[u8], fill: u8) -> Result<Isa, Fail>
 }
 
 fn step(rt: &impl Abort, isa: &mut Isa) -> Result<Done, Reserved> {
-    assert!(rt; isa.is_ready());
     assert!(rt; isa.phi() < 100_000);
     isa.step()
 }
@@ -228,5 +227,75 @@ fn results(rt: HostRuntime) -> Result<(), Fail> {
         assert_eq!(rt; regs.p, next, "of {bytes:?}");
         assert_eq!(rt; isa.phi(), phi, "of {bytes:?}");
     }
+    Ok(())
+}
+
+// 5A written to ports by OUTS and OUT and read back by INS and IN, of a program on a 3851 with the ports 04 to 07 and a 3853: the write
+// told, the accumulator, and the clocks. LI 5A takes 10 Φ, OUT, IN and the long OUTS and INS 16, and those of port 0 and 1 take 8
+#[test]
+fn writes_and_reads(rt: HostRuntime) -> Result<(), Fail> {
+    let programs: [(&[u8], Option<(u64, u8)>, u8); 8] = [
+        (&[0x20, 0x5A, 0xB0, 0xA0], Some((32, 0x00)), 0x5A),
+        (&[0x20, 0x5A, 0xB4, 0xA4], Some((40, 0x04)), 0x5A),
+        (&[0x20, 0x5A, 0xB7, 0xA7], Some((40, 0x07)), 0xFF),
+        (&[0x20, 0x5A, 0xBD, 0xAD], Some((40, 0x0D)), 0xFF),
+        (&[0x20, 0x5A, 0xB8, 0xA8], None, 0xFF),
+        (
+            &[0x20, 0x5A, 0x27, 0x05, 0x26, 0x05],
+            Some((40, 0x05)),
+            0x5A,
+        ),
+        (&[0x20, 0x5A, 0x27, 0x00, 0x26, 0x00], None, 0xFF),
+        (&[0x20, 0x5A, 0x27, 0x40, 0x26, 0x40], None, 0xFF),
+    ];
+    for (bytes, wrote, accumulator) in programs {
+        assert!(rt; bytes.len() <= 1024);
+        let mut isa = program(rt.alloc(), bytes, 0x00)?;
+        let _load = step(&rt, &mut isa)?;
+        let done = step(&rt, &mut isa)?;
+        let told = match wrote {
+            Some((phi, port)) => Some(PortWrite {
+                phi,
+                port,
+                byte: 0x5A,
+            }),
+            None => None,
+        };
+        assert_eq!(rt; done.wrote, told, "of {bytes:?}");
+        assert!(rt; !done.vectored);
+        let read = step(&rt, &mut isa)?;
+        assert_eq!(rt; read.wrote, None, "of {bytes:?}");
+        assert_eq!(rt; isa.regs().a, accumulator, "of {bytes:?}");
+    }
+    Ok(())
+}
+
+// two 3851s have the port 04: a write to it is lost, and it reads as FF
+#[test]
+fn port_of_two_chips(rt: HostRuntime) -> Result<(), Fail> {
+    let alloc = rt.alloc();
+    let chips = listed(
+        alloc,
+        psu(alloc, 0x0000, &[0x20, 0x5A, 0xB4, 0xA4])?,
+        psu(alloc, 0x0400, &[])?,
+    )?;
+    let mut isa = isa_of(alloc, &chips, 0x00)?;
+    let _load = step(&rt, &mut isa)?;
+    let done = step(&rt, &mut isa)?;
+    assert_eq!(rt; done.wrote, None);
+    let _read = step(&rt, &mut isa)?;
+    assert_eq!(rt; isa.regs().a, 0xFF);
+    Ok(())
+}
+
+// 50 in the latch of port 1, and 0F by its keys
+#[test]
+fn keys(rt: HostRuntime) -> Result<(), Fail> {
+    let mut isa = program(rt.alloc(), &[0x20, 0x50, 0xB1, 0xA1], 0x00)?;
+    isa.keys(0x01, 0x0F);
+    for _ in 0..3 {
+        let _done = step(&rt, &mut isa)?;
+    }
+    assert_eq!(rt; isa.regs().a, 0x5F);
     Ok(())
 }

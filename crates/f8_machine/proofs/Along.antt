@@ -24,6 +24,9 @@ use Rattle.console_spec.proofs.Walks.{moved_along}
 use Rattle.cpu3850.specs.Reaching.{is_placed_by, Places}
 use Rattle.probe.specs.ProbeState.{ProbeState}
 use Rattle.f8_machine.specs.FlatViews.{HoldsFlat}
+use Rattle.f8_machine.specs.PortViews.{HoldsPorts}
+use Rattle.console_spec.specs.Writes.{Write}
+use Rattle.f8_machine.proofs.PortValues.{PortValues, writes_along}
 use Rattle.f8_machine.specs.Traces.{told_who}
 use Rattle.f8_machine.proofs.Places.{places_along, named_place}
 use Rattle.f8_machine.proofs.Values.{Values, ValueIs, memory_along}
@@ -37,7 +40,7 @@ use Rattle.f8_machine.proofs.Copies.{seats_same, all_filled}
 -- the trace of each step tells who drives by the code
 abbrev pub Quiet : List Step → Type 0
 Quiet [] = Unit {0}
-Quiet (s ∷ later) = ((socket : Option ℕ) → who_of s socket ≡ told_who s.romc socket) × Quiet later
+Quiet (s ∷ later) = ((socket : Option ℕ) → who_of s socket ≡ told_who s.romc s.long socket) × Quiet later
 
 -- steps before others in a course
 abbrev pub with_steps : List TracedStep → Course → Course
@@ -48,25 +51,31 @@ pub record Aim : Type 0 where
   pub fault : Option Fault
   pub course : Course
   pub memory : List ℕ
+  pub writes : List Write
+  pub phi : ℕ
   pub flow : Bool → Flow → Flow
 
 pub record Along (i : Inputs) (x : Position) (aim : Aim) (rest : List Step) (probe : ProbeState) (vs : List ChipView) (so_far : List TracedStep) : Type 0 where
-  -- the counters after the steps so far, as a function of a set; the memory after them; and the accesses that are left
+  -- the counters after the steps so far, as a function of a set; the memory and the writes after them; and the accesses that are left
   pub now : Bool → Flow → Count
   pub memory : List ℕ
+  pub writes : List Write
   pub accesses : List Access
   pub places : (second : Bool) (c : Flow) → places_along second i rest (now second c) probe.last ≡ map (named_place second c) accesses
   pub moves : (second : Bool) (c : Flow) → moved_along second i rest (now second c) ≡ fetched (aim.flow second c)
   pub reference : probe.count ≡ now true x.flat.state.flow
   pub copies : AreCopies now probe.last x.copies vs
   pub flat : HoldsFlat memory vs
+  pub ports : HoldsPorts x.flat.state.keys writes vs
   pub whole : length memory ≡ 65536
   pub values : Values (seats_of x.copies) i rest probe.count probe.last memory
+  pub port_values : PortValues (seats_of x.copies) x.flat.state.keys aim.phi i rest probe.last writes
   pub quiet : Quiet rest
   pub small : AreAt x.flat.state.flow accesses
   pub fault : first_fault x.flat.state.flow x.copies accesses ≡ aim.fault
   pub course : with_steps so_far (course_of i x.flat.state.flow x.copies rest accesses) ≡ aim.course
   pub later : memory_along (seats_of x.copies) i rest probe.count probe.last memory ≡ aim.memory
+  pub writes_later : writes_along (seats_of x.copies) aim.phi i rest probe.last writes ≡ aim.writes
 
 -- ---- the access of a step
 
@@ -169,18 +178,19 @@ read_rule false false romc d five port driver read = rw (five, port, driver) rea
 
 pub byte_is : (d : Driver) (romc placed value reference : ℕ) (socket : Option ℕ) (vs : List ChipView) (memory : List ℕ) →
     driver_of romc ≡ d → Places (is_placed_by d) placed value → ValueIs d romc memory reference value → HoldsFlat memory vs →
-    (is_access (rule_of romc) ≡ true → reference < 65536) →
+    (rule_of romc ≡ Read → reference < 65536) →
+    (driver_of romc ≡ Port → bus_byte romc None placed (enumerate_from 0 vs) ≡ value) →
     view_verdict romc None reference (enumerate_from 0 vs) ≡ Served socket →
     bus_byte romc None placed (enumerate_from 0 vs) ≡ value
-byte_is Memory romc placed value reference socket vs memory driver places is flat small served =
+byte_is Memory romc placed value reference socket vs memory driver places is flat small port served =
     let rule : rule_of romc ≡ Read = read_rule (romc == 0x05) (romc == 0x1A) romc Memory refl refl driver refl in
-    served_read romc placed reference socket vs memory rule (small (ap is_access rule)) flat served
+    served_read romc placed reference socket vs memory rule (small rule) flat served
     ∙ ap (λ (d : Driver). read_value d romc memory reference) driver ∙ sym is
-byte_is CounterByte romc placed value reference socket vs memory driver places is flat small served =
+byte_is CounterByte romc placed value reference socket vs memory driver places is flat small port served =
     let rule : rule_of romc ≡ Read = read_rule (romc == 0x05) (romc == 0x1A) romc CounterByte refl refl driver refl in
-    served_read romc placed reference socket vs memory rule (small (ap is_access rule)) flat served
+    served_read romc placed reference socket vs memory rule (small rule) flat served
     ∙ ap (λ (d : Driver). read_value d romc memory reference) driver ∙ sym is
-byte_is VectorDriver romc placed value reference socket vs memory driver places is flat small served = absurd is
-byte_is Port romc placed value reference socket vs memory driver places is flat small served = absurd is
-byte_is Cpu romc placed value reference socket vs memory driver places is flat small served = rw driver places
-byte_is Nobody romc placed value reference socket vs memory driver places is flat small served = rw driver (sym is)
+byte_is VectorDriver romc placed value reference socket vs memory driver places is flat small port served = absurd is
+byte_is Port romc placed value reference socket vs memory driver places is flat small port served = port driver
+byte_is Cpu romc placed value reference socket vs memory driver places is flat small port served = rw driver places
+byte_is Nobody romc placed value reference socket vs memory driver places is flat small port served = rw driver (sym is)

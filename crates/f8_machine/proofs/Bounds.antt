@@ -4,8 +4,8 @@ use Rattle.std.specs.Prelude.{if◌then◌else◌}
 use Rattle.std.specs.Int.{w8, cast_signed}
 use Rattle.f8_spec.specs.Words.{word, places_on, wrapped, displaced}
 use Rattle.f8_spec.specs.declared.instructions.Op.{Op}
-use Rattle.f8_spec.specs.Built.{is_built_row}
-use Rattle.f8_spec.specs.BusArbitration.{Seat}
+use Rattle.f8_spec.specs.BusArbitration.{Seat, rule_of}
+use Rattle.f8_spec.specs.declared.bus.BusRule.TheVariants.{Read}
 use Rattle.f8_spec.specs.declared.instructions.Row.{Row}
 use Rattle.f8_spec.specs.declared.instructions.Row.TheVariants.{StackToK, StackFromK, CallK, JumpQ, DataToPair, DataFromQ, DataFromH, ReadData, StoreData, Return, Immediate, PortIn, PortOut, Call, Jump, LoadData, Exchange, AddData, Branch, BranchIsar, ShortIn, ShortOut}
 use Rattle.console_spec.specs.AddressSpace.{byte_at}
@@ -78,28 +78,28 @@ flow_small Branch i second c b s = record { p = branch_small i.taken c.p i.opera
 flow_small BranchIsar i second c b s = record { p = branch_small i.taken c.p i.operand; p1 = s.p1; d0 = s.d0; d1 = s.d1 }
 flow_small row i second c b s = record { p = omega arith; p1 = s.p1; d0 = s.d0; d1 = s.d1 }
 
--- the places of accesses are addresses
+-- the places of reads are addresses
 abbrev pub AreAt : Flow → List Access → Type 0
 AreAt c [] = Unit {0}
-AreAt c (a ∷ later) = (a.place true c < 65536) × AreAt c later
+AreAt c (a ∷ later) = (rule_of a.romc ≡ Read → a.place true c < 65536) × AreAt c later
 
-before_small : (row : Row) (i : Inputs) (c : Flow) (later : List Access) → is_built_row row ≡ true → AreAddresses c → AreAt c later → AreAt c (accesses_before_fetch row i ++ later)
-before_small StackToK i c later built s l = (s.p1, (s.p1, l))
-before_small DataToPair i c later built s l = (s.d0, (s.d0, l))
-before_small ReadData i c later built s l = (s.d0, l)
-before_small StoreData i c later built s l = (s.d0, l)
-before_small Immediate i c later built s l = (omega arith, l)
-before_small PortIn i c later built s l = cc
-before_small PortOut i c later built s l = cc
-before_small Call i c later built s l = (omega arith, (omega arith, l))
-before_small Jump i c later built s l = (omega arith, (omega arith, l))
-before_small LoadData i c later built s l = (omega arith, (omega arith, (omega arith, (omega arith, l))))
-before_small Branch i c later built s l = (omega arith, l)
-before_small BranchIsar i c later built s l = (omega arith, l)
-before_small ShortIn i c later built s l = cc
-before_small ShortOut i c later built s l = cc
-before_small row i c later built s l = l
+before_small : (row : Row) (i : Inputs) (c : Flow) (later : List Access) → AreAddresses c → AreAt c later → AreAt c (accesses_before_fetch row i ++ later)
+before_small StackToK i c later s l = (λ read. s.p1, (λ read. s.p1, l))
+before_small DataToPair i c later s l = (λ read. s.d0, (λ read. s.d0, l))
+before_small ReadData i c later s l = (λ read. s.d0, l)
+before_small StoreData i c later s l = (λ read. s.d0, l)
+before_small Immediate i c later s l = (λ read. omega arith, l)
+before_small PortIn i c later s l = (λ read. omega arith, (λ read. cc, l))
+before_small PortOut i c later s l = (λ read. omega arith, (λ read. cc, l))
+before_small Call i c later s l = (λ read. omega arith, (λ read. omega arith, l))
+before_small Jump i c later s l = (λ read. omega arith, (λ read. omega arith, l))
+before_small LoadData i c later s l = (λ read. omega arith, (λ read. omega arith, (λ read. omega arith, (λ read. omega arith, l))))
+before_small Branch i c later s l = (λ read. omega arith, l)
+before_small BranchIsar i c later s l = (λ read. omega arith, l)
+before_small ShortIn i c later s l = (λ read. cc, l)
+before_small ShortOut i c later s l = (λ read. cc, l)
+before_small row i c later s l = l
 
-pub places_small : (row : Row) (i : Inputs) (c : Flow) → is_built_row row ≡ true → GetsBytes i → AreAddresses c →
+pub places_small : (row : Row) (i : Inputs) (c : Flow) → GetsBytes i → AreAddresses c →
     AreAt c (accesses_before_fetch row i ++ last_access row i ∷ [])
-places_small row i c built b s = before_small row i c (last_access row i ∷ []) built s ((flow_small row i true c b s).p, tt)
+places_small row i c b s = before_small row i c (last_access row i ∷ []) s (λ read. (flow_small row i true c b s).p, tt)

@@ -32,6 +32,14 @@ all_filled now last (c ∷ cs) [] are k v here = absurd are
 all_filled now last (c ∷ cs) (w ∷ vs) are zero v here = let same : w ≡ v = cc in subst IsFilled same are.0.filled
 all_filled now last (c ∷ cs) (w ∷ vs) are (suc k) v here = all_filled now last cs vs are.1 k v here
 
+pub all_heard : (now : Bool → Flow → Count) (last : ℕ) (cs : List Copy) (vs : List ChipView) → AreCopies now last cs vs →
+    (k : ℕ) (v : ChipView) → slice_get vs k ≡ Some v → v.last ≡ last
+all_heard now last [] [] are k v here = cc
+all_heard now last [] (w ∷ vs) are k v here = absurd are
+all_heard now last (c ∷ cs) [] are k v here = absurd are
+all_heard now last (c ∷ cs) (w ∷ vs) are zero v here = let same : w ≡ v = cc in ap (λ (x : ChipView). x.last) (sym same) ∙ are.0.heard
+all_heard now last (c ∷ cs) (w ∷ vs) are (suc k) v here = all_heard now last cs vs are.1 k v here
+
 -- a chip's own place in a step is the place of the access on its copy
 placed_same : (now : Bool → Flow → Count) (last romc : ℕ) (a : Access) →
     ((second : Bool) (c : Flow) → place_in romc (now second c) last ≡ a.place second c) →

@@ -24,7 +24,7 @@ use Rattle.f8_machine.specs.declared.mode.Halt.TheVariants.{Fault as FaultHalt}
 use Rattle.f8_machine.proofs.Instructions.{unfetched-fetched}
 
 at_power : (m : MachineState) (states : List ChipState) (x : Position) → IsPowered m states x → IsAtPower m.probe states x
-at_power m states x p = record { reference = p.stands.reference; copies = p.stands.copies; flat = p.stands.flat; whole = p.stands.memory.whole }
+at_power m states x p = record { reference = p.stands.reference; copies = p.stands.copies; flat = p.stands.flat; ports = p.stands.ports; whole = p.stands.memory.whole }
 
 -- a set of counters that is at 0
 at_zero : (c : Flow) → c.p ≡ 0 → record c { p = 0 } ≡ c
@@ -39,7 +39,7 @@ copies_at_zero last (c ∷ cs) (v ∷ vs) zero are =
 
 reset_done_of : (m : MachineState) (states news : List ChipState) (x : Position) (opcode : ℕ) (probe : ProbeState) (cpu : CpuState) (flow : Flow) (steps : List Heard) → IsPowered m states x →
     IsFetched opcode probe news steps x → cpu ≡ record m.cpu { opcode = opcode } → flow ≡ unfetched probe.count →
-    IsDone (record m { probe = probe; cpu = cpu; flow = flow; phi = m.phi + 14; mode = Running }) news (goes_unless (reset_fault x) (position_after_reset x)) (reset_course x) steps
+    IsDone (record m { probe = probe; cpu = cpu; flow = flow; phi = m.phi + 14; mode = Running }) news (goes_unless (reset_fault x) (position_after_reset x)) (reset_course x) x.flat.state.writes None steps
 reset_done_of m states news x opcode probe cpu flow steps p is holds moved =
     let c = x.flat.state.flow in
     let zero : record c { p = 0 } ≡ c = at_zero c p.at_zero in
@@ -50,17 +50,22 @@ reset_done_of m states news x opcode probe cpu flow steps p is holds moved =
       represents = record {
         stands = record {
           registers = ap (λ (k : CpuState). k.registers) holds ∙ p.stands.registers;
+          own = ap (λ (k : CpuState). k.ports) holds ∙ p.stands.own;
           flow = moved ∙ ap unfetched reference ∙ unfetched-fetched c p.stands.addresses;
           phi = ap (λ (n : ℕ). n + 14) p.stands.phi;
           reference = reference;
           copies = copies_at_zero probe.last x.copies (views news) p.copies_at_zero is.copies;
           flat = is.flat;
+          ports = is.ports;
+          keys = p.stands.keys;
+          free = p.stands.free;
           memory = p.stands.memory;
           addresses = p.stands.addresses;
         };
         opcode = ap (λ (k : CpuState). k.opcode) holds ∙ is.opcode_is ∙ ap (byte_at x.flat.memory) (sym p.at_zero);
         running = refl;
       };
+      written = refl;
       trace = is.trace ∙ ap (λ (k : Course). record { steps = k.steps; fault = None }) (sym is.trace);
       recorded = is.recorded ∙ ap (λ (k : Course). map heard_of k.steps) (sym is.trace);
     }
@@ -68,7 +73,7 @@ reset_done_of m states news x opcode probe cpu flow steps p is holds moved =
 -- reset that is done
 pub reset_done : (m k : MachineState) → k ≡ m → (states news : List ChipState) (x : Position) (opcode : ℕ) (probe : ProbeState) (cpu : CpuState) (flow : Flow) (steps : List Heard) → IsPowered m states x →
     (IsAtPower k.probe states x → IsFetched opcode probe news steps x) → cpu ≡ record k.cpu { opcode = opcode } → flow ≡ unfetched probe.count →
-    IsDone (record k { probe = probe; cpu = cpu; flow = flow; phi = k.phi + 14; mode = Running }) news (goes_unless (reset_fault x) (position_after_reset x)) (reset_course x) steps
+    IsDone (record k { probe = probe; cpu = cpu; flow = flow; phi = k.phi + 14; mode = Running }) news (goes_unless (reset_fault x) (position_after_reset x)) (reset_course x) x.flat.state.writes None steps
 reset_done m k same states news x opcode probe cpu flow steps p is holds moved =
     let there : IsPowered k states x = subst (λ (y : MachineState). IsPowered y states x) (sym same) p in
     reset_done_of k states news x opcode probe cpu flow steps there (is (at_power k states x there)) holds moved

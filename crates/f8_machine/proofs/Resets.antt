@@ -34,7 +34,7 @@ module _ (x : Position) where
   reset_first probe states at = record {
     so_far = [];
     told_so_far = refl;
-    along = reset-starts x probe (views states) at.reference at.copies at.flat at.whole;
+    along = reset-starts x probe (views states) at.reference at.copies at.flat at.ports at.whole;
   }
 
   -- a step before the fetch
@@ -57,6 +57,7 @@ module _ (x : Position) where
         reference = ended.reference;
         copies = copies_same ended.now (λ second c. fetched (record c { p = 0 })) probe_now.last x.copies (views states_now) ended.moves ended.copies;
         flat = ended.flat;
+        ports = ended.ports;
         served = ended.fault;
         so_far = bus.so_far;
         recorded = bus.told_so_far;

@@ -1,7 +1,6 @@
 -- How an instruction and reset begin and end on the bus.
 use Rattle.std.proofs.Common.{◌≡◌, Bool, true, false, List, [], ◌∷◌, ◌++◌, append-nil, length, map, refl, ap, ◌∙◌, sym, subst, arith}
 use Rattle.std.specs.Prelude.{None}
-use Rattle.f8_spec.specs.Built.{is_built_row}
 use Rattle.f8_spec.specs.BusCodes.{Count}
 use Rattle.f8_spec.specs.ChipState.{ChipView}
 use Rattle.f8_spec.specs.Instructions.{row_of}
@@ -9,7 +8,7 @@ use Rattle.f8_spec.specs.MicroSteps.{steps_of, reset_steps}
 use Rattle.f8_spec.specs.declared.instructions.Op.{Op}
 use Rattle.f8_spec.specs.declared.instructions.Row.{Row}
 use Rattle.f8_spec.specs.declared.instructions.Row.TheVariants.{StackToK, StackFromK, CallK, JumpQ, DataToPair, DataFromQ, DataFromH, ReadData, StoreData, Return, Immediate, PortIn, PortOut, Call, Jump, LoadData, Exchange, AddData, Branch, BranchIsar, ShortIn, ShortOut, Idle}
-use Rattle.console_spec.specs.Processor.{Flow, Inputs, flow_after}
+use Rattle.console_spec.specs.Processor.{Flow, Inputs, flow_after, write_at, with_write}
 use Rattle.console_spec.specs.FlatMachine.{gets, gets_all, flat_after}
 use Rattle.console_spec.specs.BusAccesses.{Access, accesses_before_fetch, last_access}
 use Rattle.console_spec.specs.Services.{first_fault}
@@ -20,6 +19,8 @@ use Rattle.console_spec.specs.CounterCopies.{fetched, unreset}
 use Rattle.console_spec.proofs.Walks.{follows}
 use Rattle.probe.specs.ProbeState.{ProbeState}
 use Rattle.f8_machine.specs.FlatViews.{HoldsFlat}
+use Rattle.f8_machine.specs.PortViews.{HoldsPorts}
+use Rattle.f8_machine.proofs.PortValues.{bus_port, writes_go, port_values_of, from_port}
 use Rattle.f8_machine.proofs.Places.{places_follow, named_place}
 use Rattle.f8_machine.proofs.Values.{Values, memory_along, memory_goes, memory_after-with_opcode, values_of, from_flat}
 use Rattle.f8_machine.specs.Refinement.{AreAddresses}
@@ -37,31 +38,31 @@ quiet_branch_isar : (taken : Bool) → Quiet (steps_of BranchIsar taken)
 quiet_branch_isar true = ((λ k. refl), ((λ k. refl), tt))
 quiet_branch_isar false = ((λ k. refl), ((λ k. refl), tt))
 
-quiet_of : (row : Row) (taken : Bool) → is_built_row row ≡ true → Quiet (steps_of row taken)
-quiet_of StackToK taken built = ((λ k. refl), ((λ k. refl), ((λ k. refl), tt)))
-quiet_of StackFromK taken built = ((λ k. refl), ((λ k. refl), ((λ k. refl), tt)))
-quiet_of CallK taken built = ((λ k. refl), ((λ k. refl), ((λ k. refl), tt)))
-quiet_of JumpQ taken built = ((λ k. refl), ((λ k. refl), ((λ k. refl), tt)))
-quiet_of DataToPair taken built = ((λ k. refl), ((λ k. refl), ((λ k. refl), tt)))
-quiet_of DataFromQ taken built = ((λ k. refl), ((λ k. refl), ((λ k. refl), tt)))
-quiet_of DataFromH taken built = ((λ k. refl), ((λ k. refl), ((λ k. refl), tt)))
-quiet_of ReadData taken built = ((λ k. refl), ((λ k. refl), tt))
-quiet_of StoreData taken built = ((λ k. refl), ((λ k. refl), tt))
-quiet_of Return taken built = ((λ k. refl), ((λ k. refl), tt))
-quiet_of Immediate taken built = ((λ k. refl), ((λ k. refl), tt))
-quiet_of PortIn taken built = cc
-quiet_of PortOut taken built = cc
-quiet_of Call taken built = ((λ k. refl), ((λ k. refl), ((λ k. refl), ((λ k. refl), ((λ k. refl), tt)))))
-quiet_of Jump taken built = ((λ k. refl), ((λ k. refl), ((λ k. refl), ((λ k. refl), tt))))
-quiet_of LoadData taken built = ((λ k. refl), ((λ k. refl), ((λ k. refl), ((λ k. refl), ((λ k. refl), tt)))))
-quiet_of Exchange taken built = ((λ k. refl), ((λ k. refl), tt))
-quiet_of AddData taken built = ((λ k. refl), ((λ k. refl), tt))
-quiet_of Branch taken built = quiet_branch taken
-quiet_of BranchIsar taken built = quiet_branch_isar taken
-quiet_of ShortIn taken built = cc
-quiet_of ShortOut taken built = cc
-quiet_of Idle taken built = ((λ k. refl), ((λ k. refl), tt))
-quiet_of row taken built = ((λ k. refl), tt)
+quiet_of : (row : Row) (taken : Bool) → Quiet (steps_of row taken)
+quiet_of StackToK taken = ((λ k. refl), ((λ k. refl), ((λ k. refl), tt)))
+quiet_of StackFromK taken = ((λ k. refl), ((λ k. refl), ((λ k. refl), tt)))
+quiet_of CallK taken = ((λ k. refl), ((λ k. refl), ((λ k. refl), tt)))
+quiet_of JumpQ taken = ((λ k. refl), ((λ k. refl), ((λ k. refl), tt)))
+quiet_of DataToPair taken = ((λ k. refl), ((λ k. refl), ((λ k. refl), tt)))
+quiet_of DataFromQ taken = ((λ k. refl), ((λ k. refl), ((λ k. refl), tt)))
+quiet_of DataFromH taken = ((λ k. refl), ((λ k. refl), ((λ k. refl), tt)))
+quiet_of ReadData taken = ((λ k. refl), ((λ k. refl), tt))
+quiet_of StoreData taken = ((λ k. refl), ((λ k. refl), tt))
+quiet_of Return taken = ((λ k. refl), ((λ k. refl), tt))
+quiet_of Immediate taken = ((λ k. refl), ((λ k. refl), tt))
+quiet_of PortIn taken = ((λ k. refl), ((λ k. refl), ((λ k. refl), tt)))
+quiet_of PortOut taken = ((λ k. refl), ((λ k. refl), ((λ k. refl), tt)))
+quiet_of Call taken = ((λ k. refl), ((λ k. refl), ((λ k. refl), ((λ k. refl), ((λ k. refl), tt)))))
+quiet_of Jump taken = ((λ k. refl), ((λ k. refl), ((λ k. refl), ((λ k. refl), tt))))
+quiet_of LoadData taken = ((λ k. refl), ((λ k. refl), ((λ k. refl), ((λ k. refl), ((λ k. refl), tt)))))
+quiet_of Exchange taken = ((λ k. refl), ((λ k. refl), tt))
+quiet_of AddData taken = ((λ k. refl), ((λ k. refl), tt))
+quiet_of Branch taken = quiet_branch taken
+quiet_of BranchIsar taken = quiet_branch_isar taken
+quiet_of ShortIn taken = ((λ k. refl), ((λ k. refl), ((λ k. refl), tt)))
+quiet_of ShortOut taken = ((λ k. refl), ((λ k. refl), ((λ k. refl), tt)))
+quiet_of Idle taken = ((λ k. refl), ((λ k. refl), tt))
+quiet_of row taken = ((λ k. refl), tt)
 
 -- where an instruction leads to
 abbrev pub instruction_aim : Op → Position → Aim
@@ -69,15 +70,17 @@ instruction_aim op x = record {
   fault = instruction_fault op x;
   course = instruction_course op x;
   memory = (flat_after op (seats_of x.copies) x.flat).memory;
+  writes = with_write (write_at (flat_after op (seats_of x.copies) x.flat).state.phi (gets_all op (seats_of x.copies) x.flat).accumulator (bus_port (row_of op) (gets_all op (seats_of x.copies) x.flat) (seats_of x.copies))) x.flat.state.writes;
+  phi = (flat_after op (seats_of x.copies) x.flat).state.phi;
   flow = flow_after (row_of op) (gets_all op (seats_of x.copies) x.flat);
 }
 
-pub along-starts : (op : Op) (x : Position) (probe : ProbeState) (vs : List ChipView) → is_built_row (row_of op) ≡ true →
+pub along-starts : (op : Op) (x : Position) (probe : ProbeState) (vs : List ChipView) →
     GetsBytes (gets_all op (seats_of x.copies) x.flat) → AreAddresses x.flat.state.flow →
     probe.count ≡ fetched x.flat.state.flow → AreCopies (λ second c. fetched c) probe.last x.copies vs →
-    HoldsFlat x.flat.memory vs → length x.flat.memory ≡ 65536 →
+    HoldsFlat x.flat.memory vs → HoldsPorts x.flat.state.keys x.flat.state.writes vs → length x.flat.memory ≡ 65536 →
     Along (gets_all op (seats_of x.copies) x.flat) x (instruction_aim op x) (steps_of (row_of op) (gets_all op (seats_of x.copies) x.flat).taken) probe vs []
-along-starts op x probe vs built bytes addresses reference copies flat whole =
+along-starts op x probe vs bytes addresses reference copies flat ports whole =
     let seats = seats_of x.copies in
     let i = gets_all op seats x.flat in
     let row = row_of op in
@@ -85,47 +88,55 @@ along-starts op x probe vs built bytes addresses reference copies flat whole =
     record {
       now = λ second d. fetched d;
       memory = x.flat.memory;
+      writes = x.flat.state.writes;
       accesses = accesses_before_fetch row i ++ last_access row i ∷ [];
       places = λ second d. places_follow row i bytes.low second d probe.last;
       moves = λ second d. follows row i bytes.low second d;
       reference = reference;
       copies = copies;
       flat = flat;
+      ports = ports;
       whole = whole;
       values = subst (λ (k : Count). Values seats i (steps_of row i.taken) k probe.last x.flat.memory) (sym reference)
-          (values_of seats row i bytes.low c probe.last x.flat.memory built (from_flat op seats x.flat));
-      quiet = quiet_of row i.taken built;
-      small = places_small row i c built bytes addresses;
-      fault = ap (first_fault c x.copies) (accesses-with_opcode row i.opcode (gets op x.flat));
+          (values_of seats row i bytes.low c probe.last x.flat.memory (from_flat op seats x.flat));
+      port_values = port_values_of seats x.flat.state.keys (flat_after op seats x.flat).state.phi (row_of op) i probe.last x.flat.state.writes (from_port op seats x.flat);
+      writes_later = writes_go seats (flat_after op seats x.flat).state.phi (row_of op) i probe.last x.flat.state.writes;
+      quiet = quiet_of row i.taken;
+      small = places_small row i c bytes addresses;
+      fault = ap (first_fault c x.copies) (accesses-with_opcode row i.opcode (gets op (seats_of x.copies) x.flat));
       course = refl;
       later = ap (λ (k : Count). memory_along seats i (steps_of row i.taken) k probe.last x.flat.memory) reference
           ∙ memory_goes seats row i c probe.last x.flat.memory
-          ∙ memory_after-with_opcode seats row i.opcode (gets op x.flat) c x.flat.memory;
+          ∙ memory_after-with_opcode seats row i.opcode (gets op (seats_of x.copies) x.flat) c x.flat.memory;
     }
 
 -- ---- reset
 
 -- where reset leads to
 abbrev pub reset_aim : Position → Aim
-reset_aim x = record { fault = reset_fault x; course = reset_course x; memory = x.flat.memory; flow = λ second c. record c { p = 0 } }
+reset_aim x = record { fault = reset_fault x; course = reset_course x; memory = x.flat.memory; writes = x.flat.state.writes; phi = 0; flow = λ second c. record c { p = 0 } }
 
 pub reset-starts : (x : Position) (probe : ProbeState) (vs : List ChipView) →
     probe.count ≡ unreset x.flat.state.flow → AreCopies (λ second c. unreset c) probe.last x.copies vs →
-    HoldsFlat x.flat.memory vs → length x.flat.memory ≡ 65536 →
+    HoldsFlat x.flat.memory vs → HoldsPorts x.flat.state.keys x.flat.state.writes vs → length x.flat.memory ≡ 65536 →
     Along (reset_gets x.flat.memory) x (reset_aim x) reset_steps probe vs []
-reset-starts x probe vs reference copies flat whole = record {
+reset-starts x probe vs reference copies flat ports whole = record {
   now = λ second c. unreset c;
   memory = x.flat.memory;
+  writes = x.flat.state.writes;
   accesses = reset_access ∷ [];
   places = λ second c. refl;
   moves = λ second c. refl;
   reference = reference;
   copies = copies;
   flat = flat;
+  ports = ports;
   whole = whole;
   values = (tt, (tt, (refl, tt)));
+  port_values = (tt, (tt, (tt, tt)));
+  writes_later = refl;
   quiet = ((λ k. refl), ((λ k. refl), ((λ k. refl), tt)));
-  small = (omega arith, tt);
+  small = (λ read. omega arith, tt);
   fault = refl;
   course = refl;
   later = refl;
@@ -140,6 +151,7 @@ pub record Ended (x : Position) (aim : Aim) (probe : ProbeState) (vs : List Chip
   pub reference : probe.count ≡ fetched (aim.flow true x.flat.state.flow)
   pub copies : AreCopies now probe.last x.copies vs
   pub flat : HoldsFlat aim.memory vs
+  pub ports : HoldsPorts x.flat.state.keys aim.writes vs
   pub fault : aim.fault ≡ None
   pub course : aim.course ≡ record { steps = so_far; fault = None }
 
@@ -150,6 +162,7 @@ ended_by i x aim probe vs so_far left [] none = record {
   reference = left.reference ∙ left.moves true x.flat.state.flow;
   copies = left.copies;
   flat = subst (λ memory. HoldsFlat memory vs) left.later left.flat;
+  ports = subst (λ writes. HoldsPorts x.flat.state.keys writes vs) left.writes_later left.ports;
   fault = sym left.fault ∙ ap (λ (l : List Access). first_fault x.flat.state.flow x.copies l) none;
   course = sym left.course ∙ ap (λ (l : List TracedStep). record { steps = l; fault = None }) (append-nil so_far);
 }

@@ -17,7 +17,13 @@ use Rattle.probe.specs.ProbeState.{ProbeState, probe_after}
 use Rattle.f8_machine.proofs.Places.{places_along, with_place, named_place}
 use Rattle.f8_machine.proofs.Bounds.{AreAt}
 use Rattle.f8_machine.proofs.Slots.{plain_step}
-use Rattle.f8_machine.proofs.Copies.{verdict_same, copies_more}
+use Rattle.f8_machine.proofs.Copies.{verdict_same, copies_more, seats_same, all_heard}
+use Rattle.f8_machine.proofs.PortValues.{PortIs, writes_by}
+use Rattle.f8_machine.proofs.PortReads.{served_port}
+use Rattle.f8_machine.proofs.PortSteps.{ports_more}
+use Rattle.f8_spec.specs.declared.bus.Driver.{Driver}
+use Rattle.f8_spec.specs.declared.bus.Driver.TheVariants.{Port}
+use Rattle.console_spec.specs.Writes.{chip_port_byte}
 use Rattle.f8_machine.proofs.Along.{Aim, Along, AtAccess, at_access, with_steps, with_steps-step, with_steps-stop, fault_stops, no_fault, no_access, course_idle, course_access, flat_more, long_more, byte_is}
 
 -- the bus rule on a step
@@ -92,13 +98,25 @@ module _ (i : Inputs) (x : Position) (aim : Aim) (s : Step) (later : List Step) 
 
   -- ---- a step that is served
 
+  -- the byte of a port
+  port_byte : (left : Along i x aim (s ∷ later) probe vs so_far) → (placed : ℕ) (socket : Option ℕ) → driver_of s.romc ≡ Port →
+      step_verdict s probe vs ≡ Served socket → bus_byte s.romc None placed (enumerate_from 0 vs) ≡ byte_of i s.source
+  port_byte left placed socket by_port served =
+      let is : PortIs Port (seats_of x.copies) x.flat.state.keys left.writes probe.last (byte_of i s.source) =
+      subst (λ (d : Driver). PortIs d (seats_of x.copies) x.flat.state.keys left.writes probe.last (byte_of i s.source)) by_port left.port_values.0 in
+      served_port probe.last vs (all_heard left.now probe.last x.copies vs left.copies) s.romc placed (place_in s.romc probe.count probe.last) socket x.flat.state.keys left.writes by_port left.ports served
+      ∙ ap (λ seats. chip_port_byte probe.last seats x.flat.state.keys left.writes) (seats_same left.now probe.last x.copies vs left.copies)
+      ∙ sym is
+
   pub along-byte : Along i x aim (s ∷ later) probe vs so_far → (placed : ℕ) (socket : Option ℕ) → Places (is_placed_by (driver_of s.romc)) placed (byte_of i s.source) →
       step_verdict s probe vs ≡ Served socket → bus_byte s.romc None placed (enumerate_from 0 vs) ≡ byte_of i s.source
   along-byte left placed socket places served =
       byte_is (driver_of s.romc) s.romc placed (byte_of i s.source) (place_in s.romc probe.count probe.last) socket vs left.memory refl places left.values.0 left.flat
-      (λ e. let at = accessed left e in
+      (λ reads. let e : is_access (rule_of s.romc) ≡ true = ap is_access reads in
+      let at = accessed left e in
       let small = subst (λ (l : List Access). AreAt x.flat.state.flow l) at.are left.small in
-      subst (λ (n : ℕ). n < 65536) (sym (same_place left e)) small.0)
+      subst (λ (n : ℕ). n < 65536) (sym (same_place left e)) (small.0 (ap rule_of at.code ∙ reads)))
+      (λ by_port. port_byte left placed socket by_port served)
       served
 
   -- what an access, or a step that is none, leaves of the accesses
@@ -148,6 +166,10 @@ module _ (i : Inputs) (x : Position) (aim : Aim) (s : Step) (later : List Step) 
         moves = left.moves;
         reference = ap (moved_by s.romc (byte_of i s.source) true) left.reference;
         copies = copies_more left.now probe.last s.romc (byte_of i s.source) clocks x.copies vs left.copies;
+        writes = writes_by s.romc (seats_of x.copies) aim.phi probe.last (byte_of i s.source) left.writes;
+        ports = ports_more s.romc (byte_of i s.source) clocks aim.phi (place_in s.romc probe.count probe.last) left.now probe.last socket x.copies vs x.flat.state.keys left.writes left.copies left.ports served;
+        port_values = left.port_values.1;
+        writes_later = left.writes_later;
         flat = flat_more (s.romc == 0x05) i s clocks socket left.now probe x.copies vs left.memory refl left.copies left.whole left.flat served;
         whole = long_more (s.romc == 0x05) (seats_of x.copies) (place_in s.romc probe.count probe.last) (byte_of i s.source) left.memory left.whole;
         values = left.values.1;

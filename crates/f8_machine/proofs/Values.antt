@@ -2,7 +2,6 @@
 use Rattle.std.proofs.Common.{◌≡◌, ℕ, ◌/◌, ◌%◌, Bool, true, false, List, [], ◌∷◌, ◌++◌, refl, ap, ◌∙◌, sym}
 use Rattle.std.specs.Prelude.{◌==◌, if◌then◌else◌}
 use Rattle.f8_spec.specs.Words.{places_on}
-use Rattle.f8_spec.specs.Built.{is_built_row}
 use Rattle.f8_spec.specs.BusCodes.{Count, driver_of, moved_by}
 use Rattle.f8_spec.specs.BusArbitration.{Seat, place_in}
 use Rattle.f8_spec.specs.ChipState.{counter_byte}
@@ -66,12 +65,12 @@ memory_goes seats row i c last memory =
 
 -- ---- the bytes along the steps
 
--- what the byte of a step has to be, by who drives it; the vector and the ports come later
+-- what the byte of a step has to be, by who drives it; the ports stand apart, and the vector comes later
 abbrev pub ValueIs : Driver → ℕ → List ℕ → ℕ → ℕ → Type 0
 ValueIs Memory romc memory at value = value ≡ byte_at memory at
 ValueIs CounterByte romc memory at value = value ≡ counter_byte romc at
 ValueIs Vector romc memory at value = ⊥
-ValueIs Port romc memory at value = ⊥
+ValueIs Port romc memory at value = Unit {0}
 ValueIs Cpu romc memory at value = Unit {0}
 ValueIs Nobody romc memory at value = value ≡ 0
 
@@ -110,40 +109,40 @@ branch_isar_values : (seats : List Seat) (i : Inputs) (taken : Bool) (c : Flow) 
 branch_isar_values seats i true c last memory e f = rw e (f.operand, tt)
 branch_isar_values seats i false c last memory e f = rw e (f.operand, tt)
 
-values_before : (seats : List Seat) (row : Row) (i : Inputs) (c : Flow) (last : ℕ) (memory : List ℕ) → is_built_row row ≡ true →
+values_before : (seats : List Seat) (row : Row) (i : Inputs) (c : Flow) (last : ℕ) (memory : List ℕ) →
     FromFlat row seats i memory c → Values seats i (steps_before_fetch row i.taken) (fetched c) last memory
-values_before seats StackToK i c last memory built f = (f.stack_high, (f.stack_low, tt))
-values_before seats StackFromK i c last memory built f = (tt, (tt, tt))
-values_before seats CallK i c last memory built f = (tt, (tt, tt))
-values_before seats JumpQ i c last memory built f = (tt, (tt, tt))
-values_before seats DataToPair i c last memory built f = (f.data_high, (f.data_low, tt))
-values_before seats DataFromQ i c last memory built f = (tt, (tt, tt))
-values_before seats DataFromH i c last memory built f = (tt, (tt, tt))
-values_before seats ReadData i c last memory built f = (f.data_byte, tt)
-values_before seats StoreData i c last memory built f = (tt, tt)
-values_before seats Return i c last memory built f = (refl, tt)
-values_before seats Immediate i c last memory built f = (f.operand, tt)
-values_before seats PortIn i c last memory built f = cc
-values_before seats PortOut i c last memory built f = cc
-values_before seats Call i c last memory built f = (f.operand, (refl, (rw places_on-places_on f.second, (tt, tt))))
-values_before seats Jump i c last memory built f = (f.operand, (rw places_on-places_on f.second, (tt, tt)))
-values_before seats LoadData i c last memory built f =
+values_before seats StackToK i c last memory f = (f.stack_high, (f.stack_low, tt))
+values_before seats StackFromK i c last memory f = (tt, (tt, tt))
+values_before seats CallK i c last memory f = (tt, (tt, tt))
+values_before seats JumpQ i c last memory f = (tt, (tt, tt))
+values_before seats DataToPair i c last memory f = (f.data_high, (f.data_low, tt))
+values_before seats DataFromQ i c last memory f = (tt, (tt, tt))
+values_before seats DataFromH i c last memory f = (tt, (tt, tt))
+values_before seats ReadData i c last memory f = (f.data_byte, tt)
+values_before seats StoreData i c last memory f = (tt, tt)
+values_before seats Return i c last memory f = (refl, tt)
+values_before seats Immediate i c last memory f = (f.operand, tt)
+values_before seats PortIn i c last memory f = (f.operand, (tt, tt))
+values_before seats PortOut i c last memory f = (f.operand, (tt, tt))
+values_before seats Call i c last memory f = (f.operand, (refl, (rw places_on-places_on f.second, (tt, tt))))
+values_before seats Jump i c last memory f = (f.operand, (rw places_on-places_on f.second, (tt, tt)))
+values_before seats LoadData i c last memory f =
     (f.operand, (f.operand, (rw places_on-places_on f.second, (rw places_on-places_on f.second, tt))))
-values_before seats Exchange i c last memory built f = (refl, tt)
-values_before seats AddData i c last memory built f = (tt, tt)
-values_before seats Branch i c last memory built f = branch_values seats i i.taken c last memory refl f
-values_before seats BranchIsar i c last memory built f = branch_isar_values seats i i.taken c last memory refl f
-values_before seats Idle i c last memory built f = (tt, tt)
-values_before seats ShortIn i c last memory built f = cc
-values_before seats ShortOut i c last memory built f = cc
-values_before seats row i c last memory built f = tt
+values_before seats Exchange i c last memory f = (refl, tt)
+values_before seats AddData i c last memory f = (tt, tt)
+values_before seats Branch i c last memory f = branch_values seats i i.taken c last memory refl f
+values_before seats BranchIsar i c last memory f = branch_isar_values seats i i.taken c last memory refl f
+values_before seats Idle i c last memory f = (tt, tt)
+values_before seats ShortIn i c last memory f = (tt, (tt, tt))
+values_before seats ShortOut i c last memory f = (tt, (tt, tt))
+values_before seats row i c last memory f = tt
 
 -- all steps of an instruction
 pub values_of : (seats : List Seat) (row : Row) (i : Inputs) → HasBytes i → (c : Flow) (last : ℕ) (memory : List ℕ) →
-    is_built_row row ≡ true → FromFlat row seats i memory c → Values seats i (steps_of row i.taken) (fetched c) last memory
-values_of seats row i b c last memory built f =
+    FromFlat row seats i memory c → Values seats i (steps_of row i.taken) (fetched c) last memory
+values_of seats row i b c last memory f =
     Values-append seats i (steps_before_fetch row i.taken) (last_fetch row ∷ []) (fetched c) last memory
-    (values_before seats row i c last memory built f)
+    (values_before seats row i c last memory f)
     (rw (rests row i b true c, memory_before seats row i c last memory) (f.opcode, tt))
 
 -- ---- the flat machine's own inputs
@@ -170,5 +169,5 @@ from_flat op seats f = record {
   data_low = refl;
   stack_high = refl;
   stack_low = refl;
-  opcode = own_opcode (row_of op) seats (gets op f) f.state.flow f.memory _ refl;
+  opcode = own_opcode (row_of op) seats (gets op seats f) f.state.flow f.memory _ refl;
 }

@@ -23,7 +23,7 @@ told step byte socket = record {
   romc = step.romc;
   long = step.long;
   byte = byte;
-  who = told_who step.romc socket;
+  who = told_who step.romc step.long socket;
   taker = taker_by (rule_of step.romc) socket;
 }
 

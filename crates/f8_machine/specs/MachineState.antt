@@ -9,9 +9,9 @@ use Rattle.f8_machine.specs.declared.heard.Heard.{Heard}
 use Rattle.f8_machine.specs.declared.mode.Mode.{Mode}
 use Rattle.f8_machine.specs.declared.mode.Mode.TheVariants.{Powered, Running, Stopped}
 use Rattle.f8_machine.specs.declared.mode.Halt.{Halt}
-use Rattle.f8_machine.specs.declared.mode.Halt.TheVariants.{Fault as FaultHalt, Reserved as ReservedHalt, Unbuilt as UnbuiltHalt}
+use Rattle.f8_machine.specs.declared.mode.Halt.TheVariants.{Fault as FaultHalt, Reserved as ReservedHalt}
 use Rattle.f8_machine.specs.declared.outcome.Outcome.{Outcome}
-use Rattle.f8_machine.specs.declared.outcome.Outcome.TheVariants.{Done, Fault, Reserved, Unbuilt}
+use Rattle.f8_machine.specs.declared.outcome.Outcome.TheVariants.{Done, Fault, Reserved}
 
 abbrev pub flow_of : KeptFlow → Flow
 flow_of kept = record { p = kept.p; p1 = kept.p1; d0 = kept.d0; d1 = kept.d1 }
@@ -34,14 +34,12 @@ pub record MachineState : Type 0 where
 abbrev pub halted : Halt → Outcome
 halted (FaultHalt fault long) = Fault fault long []
 halted (ReservedHalt at code) = Reserved at code
-halted (UnbuiltHalt at code) = Unbuilt at code
 
 -- the served steps of an outcome
 abbrev pub steps_in : Outcome → List Heard
 steps_in (Done wrote steps) = steps
 steps_in (Fault fault long steps) = steps
 steps_in (Reserved at code) = []
-steps_in (Unbuilt at code) = []
 
 -- reset has been
 abbrev pub IsReset : Mode → Type 0

@@ -1,15 +1,20 @@
 -- A machine with its rack stands for the flat machine with copies of its counters, one in each chip. Nothing says that the copies agree.
-use Rattle.std.specs.Prelude.{◌≡◌, ℕ, ◌<◌, Bool, List, [], ◌∷◌, length, map, slice_get, Some, None}
+use Rattle.std.specs.Prelude.{◌≡◌, ℕ, ◌<◌, Bool, List, [], ◌∷◌, length, map, slice_get, Option, Some, None, option_map}
 use Rattle.f8_spec.specs.BusCodes.{Count}
 use Rattle.f8_spec.specs.ChipState.{ChipState, IsWhole}
 use Rattle.console_spec.specs.AddressSpace.{byte_at}
-use Rattle.console_spec.specs.Processor.{Flow}
+use Rattle.console_spec.specs.Processor.{Flow, with_write}
+use Rattle.console_spec.specs.Writes.{Write}
+use Rattle.console_board.specs.declared.PortWrite.{PortWrite}
 use Rattle.console_spec.specs.CounterCopies.{Copy, fetched, unreset}
 use Rattle.console_spec.specs.BusTrace.{Course}
-use Rattle.console_spec.specs.Run.{Position, Stop, Unserved as UnservedStop, Reserved as ReservedStop, Unbuilt as UnbuiltStop, Turn, Goes, Stops, goes_unless, next, opcode_at, turn_course, reset_fault, reset_course, position_after_reset}
+use Rattle.console_spec.specs.Run.{Position, Stop, Unserved as UnservedStop, Reserved as ReservedStop, Turn, Goes, Stops, goes_unless, next, opcode_at, seats_of, turn_course, reset_fault, reset_course, position_after_reset}
 use Rattle.data_bus.specs.Racks.{views}
 use Rattle.data_bus.specs.declared.fault.BusFault.{BusFault}
+use Rattle.cpu3850.specs.OwnWrites.{own_ports, LeaveOwnPorts}
 use Rattle.f8_machine.specs.FlatViews.{HoldsFlat}
+use Rattle.f8_machine.specs.PortViews.{HoldsPorts}
+use Rattle.f8_machine.specs.PortWrites.{write_as}
 use Rattle.f8_machine.specs.ChipCopies.{AreCopies}
 use Rattle.f8_machine.specs.Faults.{fault_of}
 use Rattle.f8_machine.specs.Rounds.{heard_of}
@@ -17,9 +22,9 @@ use Rattle.f8_machine.specs.MachineState.{MachineState}
 use Rattle.f8_machine.specs.declared.heard.Heard.{Heard}
 use Rattle.f8_machine.specs.declared.mode.Mode.TheVariants.{Powered, Running, Stopped}
 use Rattle.f8_machine.specs.declared.mode.Halt.{Halt}
-use Rattle.f8_machine.specs.declared.mode.Halt.TheVariants.{Fault as FaultHalt, Reserved as ReservedHalt, Unbuilt as UnbuiltHalt}
+use Rattle.f8_machine.specs.declared.mode.Halt.TheVariants.{Fault as FaultHalt, Reserved as ReservedHalt}
 use Rattle.f8_machine.specs.declared.outcome.Outcome.{Outcome}
-use Rattle.f8_machine.specs.declared.outcome.Outcome.TheVariants.{Done, Fault as FaultOutcome, Reserved, Unbuilt}
+use Rattle.f8_machine.specs.declared.outcome.Outcome.TheVariants.{Done, Fault as FaultOutcome, Reserved}
 
 -- the counters are addresses
 pub record AreAddresses (c : Flow) : Type 0 where
@@ -34,14 +39,19 @@ pub record IsMemory (memory : List ℕ) : Type 0 where
   pub bytes : (at : ℕ) → byte_at memory at < 256
 
 -- What a machine and its rack have of a position, before reset and after it: between instructions the counters of the probe and of each
--- chip are those of the flat machine and of the copies.
+-- chip are those of the flat machine and of the copies. The ports of the processor's own are the flat machine's ports 0 and 1, which no
+-- chip has.
 pub record Stands (now : Flow → Count) (m : MachineState) (states : List ChipState) (x : Position) : Type 0 where
   pub registers : m.cpu.registers ≡ x.flat.state.registers
+  pub own : m.cpu.ports ≡ own_ports x.flat.state
   pub flow : m.flow ≡ x.flat.state.flow
   pub phi : m.phi ≡ x.flat.state.phi
   pub reference : m.probe.count ≡ now x.flat.state.flow
   pub copies : AreCopies (λ second c. now c) m.probe.last x.copies (views states)
   pub flat : HoldsFlat x.flat.memory (views states)
+  pub ports : HoldsPorts x.flat.state.keys x.flat.state.writes (views states)
+  pub keys : length x.flat.state.keys ≡ 256
+  pub free : LeaveOwnPorts (seats_of x.copies)
   pub memory : IsMemory x.flat.memory
   pub addresses : AreAddresses x.flat.state.flow
 
@@ -65,11 +75,13 @@ pub record IsPowered (m : MachineState) (states : List ChipState) (x : Position)
 
 -- ---- an instruction
 
--- done: the machine stands for the next position, and the steps are those of the definitions
-pub record IsDone (m : MachineState) (states : List ChipState) (turn : Turn) (course : Course) (steps : List Heard) : Type 0 where
+-- done: the machine stands for the next position, the write told is the one that the flat machine has more, with the clocks at the end,
+-- and the steps are those of the definitions
+pub record IsDone (m : MachineState) (states : List ChipState) (turn : Turn) (course : Course) (writes : List Write) (wrote : Option PortWrite) (steps : List Heard) : Type 0 where
   pub after : Position
   pub turns : turn ≡ Goes after
   pub represents : Represents m states after
+  pub written : after.flat.state.writes ≡ with_write (option_map write_as wrote) writes
   pub trace : course ≡ record { steps = course.steps; fault = None }
   pub recorded : steps ≡ map heard_of course.steps
 
@@ -87,19 +99,17 @@ pub record IsHalted (before after : MachineState) (turn : Turn) (stop : Stop) (h
 
 -- what an instruction answers, where the machine and its rack stand for a position
 abbrev pub Refines : Outcome → MachineState → MachineState → List ChipState → Position → Type 0
-Refines (Done wrote steps) before after states x = (wrote ≡ None) × IsDone after states (next x) (turn_course x) steps
+Refines (Done wrote steps) before after states x = IsDone after states (next x) (turn_course x) x.flat.state.writes wrote steps
 Refines (FaultOutcome fault long steps) before after states x = IsFaulted before after (next x) (turn_course x) fault long steps
 Refines (Reserved at code) before after states x = IsHalted before after (next x) (ReservedStop at code) (ReservedHalt at code)
-Refines (Unbuilt at code) before after states x = IsHalted before after (next x) (UnbuiltStop at code) (UnbuiltHalt at code)
 
 -- what reset answers, on a machine that is powered
 abbrev pub ResetRefines : Outcome → MachineState → MachineState → List ChipState → Position → Type 0
 ResetRefines (Done wrote steps) before after states x =
-    (wrote ≡ None) × IsDone after states (goes_unless (reset_fault x) (position_after_reset x)) (reset_course x) steps
+    IsDone after states (goes_unless (reset_fault x) (position_after_reset x)) (reset_course x) x.flat.state.writes wrote steps
 ResetRefines (FaultOutcome fault long steps) before after states x =
     IsFaulted before after (goes_unless (reset_fault x) (position_after_reset x)) (reset_course x) fault long steps
 ResetRefines (Reserved at code) before after states x = ⊥
-ResetRefines (Unbuilt at code) before after states x = ⊥
 
 -- every chip has 256 bytes for each of its pages
 abbrev pub AreWhole : List ChipState → Type 0

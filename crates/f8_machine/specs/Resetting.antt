@@ -9,6 +9,7 @@ use Rattle.probe.specs.ProbeState.{ProbeState}
 use Rattle.data_bus.specs.Racks.{views}
 use Rattle.data_bus.specs.declared.fault.BusFault.{BusFault}
 use Rattle.f8_machine.specs.FlatViews.{HoldsFlat}
+use Rattle.f8_machine.specs.PortViews.{HoldsPorts}
 use Rattle.f8_machine.specs.ChipCopies.{AreCopies}
 use Rattle.f8_machine.specs.Faults.{fault_of}
 use Rattle.f8_machine.specs.Rounds.{heard_of}
@@ -19,6 +20,7 @@ pub record IsAtPower (probe : ProbeState) (states : List ChipState) (x : Positio
   pub reference : probe.count ≡ unreset x.flat.state.flow
   pub copies : AreCopies (λ second c. unreset c) probe.last x.copies (views states)
   pub flat : HoldsFlat x.flat.memory (views states)
+  pub ports : HoldsPorts x.flat.state.keys x.flat.state.writes (views states)
   pub whole : length x.flat.memory ≡ 65536
 
 -- the opcode at 0 was fetched, and every counter set goes on from there
@@ -27,6 +29,7 @@ pub record IsFetched (opcode : ℕ) (probe : ProbeState) (states : List ChipStat
   pub reference : probe.count ≡ fetched (record x.flat.state.flow { p = 0 })
   pub copies : AreCopies (λ second c. fetched (record c { p = 0 })) probe.last x.copies (views states)
   pub flat : HoldsFlat x.flat.memory (views states)
+  pub ports : HoldsPorts x.flat.state.keys x.flat.state.writes (views states)
   pub served : reset_fault x ≡ None
   pub so_far : List TracedStep
   pub recorded : steps ≡ map heard_of so_far

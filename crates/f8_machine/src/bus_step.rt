@@ -36,7 +36,7 @@ pub(crate) fn bus_step(
         romc: step.romc,
         long: step.long,
         byte: served.byte,
-        who: who(step.romc, served.socket),
+        who: who(step.romc, step.long, served.socket),
         taker: taker(step.romc, served.socket),
     });
     Ok(served.byte)

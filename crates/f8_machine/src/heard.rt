@@ -20,12 +20,13 @@ pub struct Heard {
     pub taker: Option<u8>,
 }
 
-/// Who drives the byte of a step that is served by the chip in a socket. So far no instruction names a port in the code 1C.
-pub(crate) fn who(romc: Romc, socket: Option<u8>) -> Who
-    ensures { result ≡ told_who romc socket }
+/// Who drives the byte of a step that is served by the chip in a socket. In the code 1C the CPU drives the number of a port where the
+/// step is a long one, and else nobody drives.
+pub(crate) fn who(romc: Romc, long: bool, socket: Option<u8>) -> Who
+    ensures { result ≡ told_who romc long socket }
 {
     if romc.number() == 0x1C {
-        return Who::Nobody;
+        return if long { Who::Cpu } else { Who::Nobody };
     }
     match driver_of(romc) {
         Driver::Memory | Driver::CounterByte | Driver::Vector | Driver::Port => match socket {

@@ -7,12 +7,14 @@ mod carry;
 mod chain;
 mod flow;
 mod heard;
+mod keys;
 mod machine;
 mod mode;
 mod outcome;
 mod power;
 mod record;
 mod reset;
+mod wrote;
 
 pub use chain::Chain;
 pub use console_board::PortWrite;

@@ -1,16 +1,18 @@
 use super::carry::{Unserved, carry_out};
 use super::chain::Chain;
 use super::flow::Flow;
+use super::keys::key_all;
 use super::mode::{Halt, Mode};
 use super::outcome::Outcome;
 use super::power::power_all;
 use super::record::Record;
 use super::reset::{RESET_PHI, fetch_first};
+use super::wrote::done_write;
 use chip_face::{Chip, Counters};
 use console_spec::Regs;
 use cpu3850::{Cpu, Steps};
 use data_bus::Rack;
-use f8_ops::{Reserved, is_built};
+use f8_ops::Reserved;
 use probe::Probe;
 use std::marker::Model;
 
@@ -43,9 +45,10 @@ impl Model for Machine {
 }
 
 impl Machine {
-    ghost use Rattle.std.specs.Prelude.{◌≡◌, ◌≤◌, ◌<◌, ◌+◌, ◌^◌, true, length, map, IsSome};
-    ghost use Rattle.f8_spec.specs.Built.{is_built};
+    ghost use Rattle.std.specs.Prelude.{◌≡◌, ◌≤◌, ◌<◌, ◌+◌, ◌^◌, [], length, map, IsSome};
     ghost use Rattle.f8_spec.specs.Instructions.{decoded};
+    ghost use Rattle.f8_spec.specs.BusArbitration.{seat_of};
+    ghost use Rattle.cpu3850.specs.OwnWrites.{LeaveOwnPorts};
     ghost use Rattle.console_spec.specs.Processor.{shown};
     ghost use Rattle.console_spec.specs.Run.{Position, power_position};
     ghost use Rattle.cpu3850.specs.CpuSteps.{planned};
@@ -54,6 +57,9 @@ impl Machine {
     ghost use Rattle.f8_machine.specs.MachineState.{IsReset, halted, steps_in, powered_machine, probe_after_steps};
     ghost use Rattle.f8_machine.specs.Refinement.{AreWhole, Represents, IsPowered, Refines, ResetRefines};
     ghost use Rattle.f8_machine.specs.Rounds.{RackPowers, RackRuns};
+    ghost use Rattle.f8_machine.specs.Keying.{RackKeyed, keyed_machine};
+    ghost use Rattle.console_spec.specs.declared.Event.TheVariants.{Keys};
+    ghost use Rattle.console_spec.specs.Telling.{with_event};
 
     /// Power-on of the machine and of every chip of the rack, of which there are at most 16. The power byte is in the accumulator, in
     /// ISAR modulo 64, in the scratchpad and in all RAM, and the counters of the chip in a socket stand at the power byte in both
@@ -63,7 +69,7 @@ impl Machine {
         requires few { length rack.old.items ≤ 16 }
         ensures machine { result ≡ powered_machine fill chain }
         ensures powered { RackPowers fill (map state rack.old.items) (map state rack.new.items) }
-        ensures pair { AreWhole (map state rack.old.items) → IsPowered result (map state rack.new.items) (power_position (views (map state rack.old.items)) fill) }
+        ensures pair { AreWhole (map state rack.old.items) → LeaveOwnPorts (map seat_of (views (map state rack.old.items))) → IsPowered result (map state rack.new.items) (power_position (views (map state rack.old.items)) fill) }
         ensures chips { length rack.new.items ≡ length rack.old.items }
     {
         power_all(rack, fill);
@@ -108,7 +114,7 @@ impl Machine {
 
     /// The next instruction, on a machine that was reset. Where a bus step of it isn't served, the registers and the clocks are those
     /// before it, while the probe and the chips have heard its served steps; and from then on each call answers the same, with no step,
-    /// and changes nothing. So it does at an opcode that is reserved or isn't built.
+    /// and changes nothing. So it does at an opcode that is reserved.
     pub fn instr(&mut self, rack: &mut Rack) -> Outcome
         requires few { length rack.old.items ≤ 16 }
         requires mode { IsReset self.old.mode }
@@ -119,6 +125,7 @@ impl Machine {
         ensures ran { RackRuns (steps_in result) (map state rack.old.items) (map state rack.new.items) }
         ensures reference { self.new.probe ≡ probe_after_steps (steps_in result) self.old.probe }
         ensures clocks { self.new.phi ≤ self.old.phi + 26 }
+        ensures onward { self.old.phi ≤ self.new.phi }
         ensures mode { IsReset self.new.mode }
         ensures chips { length rack.new.items ≡ length rack.old.items }
     {
@@ -137,20 +144,10 @@ impl Machine {
         ensures ran { RackRuns (steps_in result) (map state rack.old.items) (map state rack.new.items) }
         ensures reference { self.new.probe ≡ probe_after_steps (steps_in result) self.old.probe }
         ensures clocks { self.new.phi ≤ self.old.phi + 26 }
+        ensures onward { self.old.phi ≤ self.new.phi }
         ensures mode { IsReset self.new.mode }
         ensures chips { length rack.new.items ≡ length rack.old.items }
     {
-        let code = self.cpu.opcode();
-        if !is_built(code) {
-            self.mode = Mode::Stopped(Halt::Unbuilt {
-                at: self.flow.p,
-                code,
-            });
-            return Outcome::Unbuilt {
-                at: self.flow.p,
-                code,
-            };
-        }
         match self.cpu.plan() {
             Ok(plan) => self.carry_plan(rack, plan),
             Err(Reserved { code }) => {
@@ -166,21 +163,22 @@ impl Machine {
         }
     }
 
-    /// The steps of the instruction that is held, which is built. Where one isn't served, what they changed is put back.
+    /// The steps of the instruction that is held. Where one isn't served, what they changed of the processor is put back.
     fn carry_plan(&mut self, rack: &mut Rack, plan: Steps) -> Outcome
         requires few { length rack.old.items ≤ 16 }
         requires plan { plan ≡ planned self.old.cpu }
         requires instruction { IsSome (decoded self.old.cpu.opcode) }
-        requires built { is_built self.old.cpu.opcode ≡ true }
         requires mode { IsReset self.old.mode }
         requires phi { self.old.phi < 2 ^ 62 }
         ensures refines { (x : Position) → Represents self.old (map state rack.old.items) x → Refines result self.old self.new (map state rack.new.items) x }
         ensures ran { RackRuns (steps_in result) (map state rack.old.items) (map state rack.new.items) }
         ensures reference { self.new.probe ≡ probe_after_steps (steps_in result) self.old.probe }
         ensures clocks { self.new.phi ≤ self.old.phi + 26 }
+        ensures onward { self.old.phi ≤ self.new.phi }
         ensures mode { IsReset self.new.mode }
         ensures chips { length rack.new.items ≡ length rack.old.items }
     {
+        let code = self.cpu.opcode();
         let kept = self.cpu.kept();
         let mut steps = Record::new();
         let carried = carry_out(
@@ -194,7 +192,8 @@ impl Machine {
             Ok(()) => {
                 self.flow = Flow::of(self.probe.counters());
                 self.phi += u64::from(plan.clocks());
-                Outcome::Done { wrote: None, steps }
+                let wrote = done_write(code, self.phi, self.cpu.ports(), steps.as_slice());
+                Outcome::Done { wrote, steps }
             }
             Err(unserved) => {
                 self.cpu.restore(kept);
@@ -205,10 +204,27 @@ impl Machine {
         }
     }
 
+    /// A key byte from outside: at port 0 or 1 it is the processor's own, and at any other port it comes to every chip. The port then reads
+    /// as its latch OR this byte. On a port that is no chip's data port nothing changes.
+    pub fn keys(&mut self, rack: &mut Rack, port: u8, byte: u8)
+        requires few { length rack.old.items ≤ 16 }
+        ensures machine { self.new ≡ keyed_machine port byte self.old }
+        ensures keyed { RackKeyed port byte (map state rack.old.items) (map state rack.new.items) }
+        ensures powered { (x : Position) → IsPowered self.old (map state rack.old.items) x → IsPowered self.new (map state rack.new.items) (with_event (Keys port byte) x) }
+        ensures running { (x : Position) → Represents self.old (map state rack.old.items) x → Represents self.new (map state rack.new.items) (with_event (Keys port byte) x) }
+        ensures chips { length rack.new.items ≡ length rack.old.items }
+    {
+        if port < 2 {
+            self.cpu.keys(port, byte);
+        } else {
+            key_all(rack, port, byte);
+        }
+    }
+
     /// The registers, after the last instruction that was done: the address of the one that comes next, the stack register, the data
     /// counters, the accumulator, ISAR, the status word and the scratchpad.
     pub fn regs(&self) -> Regs
-        ensures regs { result ≡ shown (record { flow = self.now.flow; registers = self.now.cpu.registers; count = 0; phi = 0 }) }
+        ensures regs { result ≡ shown (record { flow = self.now.flow; registers = self.now.cpu.registers; keys = []; writes = []; count = 0; phi = 0 }) }
         ensures isar { result.isar < 64 }
     {
         self.cpu

@@ -20,7 +20,6 @@ pub(crate) enum Mode {
 pub(crate) enum Halt {
     Fault { fault: BusFault, long: bool },
     Reserved { at: u16, code: u8 },
-    Unbuilt { at: u16, code: u8 },
 }
 
 impl Halt {
@@ -37,10 +36,6 @@ impl Halt {
                 steps: Record::new(),
             },
             Halt::Reserved { at, code } => Outcome::Reserved {
-                at: *at,
-                code: *code,
-            },
-            Halt::Unbuilt { at, code } => Outcome::Unbuilt {
                 at: *at,
                 code: *code,
             },

@@ -5,7 +5,7 @@ use data_bus::BusFault;
 /// What becomes of an instruction or of reset, with the bus steps that were served.
 #[derive(Debug, Drop)]
 pub enum Outcome {
-    /// It is done; and the port write that was taken, of which there is none so far.
+    /// It is done; and the port write that one chip or the processor itself took, with the clocks at the instruction's end.
     Done {
         wrote: Option<PortWrite>,
         steps: Record,
@@ -18,11 +18,6 @@ pub enum Outcome {
     },
     /// At this address stands an opcode that no instruction has.
     Reserved {
-        at: u16,
-        code: u8,
-    },
-    /// At this address stands an opcode whose instruction isn't built.
-    Unbuilt {
         at: u16,
         code: u8,
     },

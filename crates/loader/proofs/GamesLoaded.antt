@@ -7,11 +7,11 @@ use Rattle.cartridge.specs.declared.finish.Unfilled.{Unfilled}
 use Rattle.cartridge.specs.Carts.{finished, wants_image, cart_of, cart_without}
 use Rattle.cartridge.specs.Filling.{Planned}
 use Rattle.std.specs.Prelude.{position, None}
-use Rattle.loader.specs.declared.drives.Drive.{Drive}
+use Rattle.console_spec.specs.Scripts.{Script as RunScript}
 use Rattle.loader.specs.declared.purposes.Purpose.TheVariants.{Cart as CartFile}
 use Rattle.loader.specs.declared.refusals.Stop.{Stop}
 use Rattle.loader.specs.Readings.{description_of}
-use Rattle.loader.specs.Games.{filled_at, filled_up_to, planned_chips, chips_of, drive_by, game_of}
+use Rattle.loader.specs.Games.{filled_at, filled_up_to, planned_chips, chips_of, script_by, game_of}
 use Rattle.loader.specs.Work.{gives, reads, ask, ◌>>=◌}
 use Rattle.loader.specs.Works.{Works}
 use Rattle.loader.proofs.WorkLaws.{works_gives, works_read, works_then, works_stop}
@@ -84,18 +84,18 @@ chips_loaded a b c fa fb fc na nb nc cart bytes plan outcome first read second =
     works_then a b c fa fb fc na nb nc (ask CartFile cart 65536) bytes (λ bytes. reads (description_of bytes) >>= planned_chips) outcome first
     (works_then b b c fb fb fc nb nb nc (reads (description_of bytes)) plan planned_chips outcome (works_read b fb nb (description_of bytes) plan read) second)
 
-pub game_loaded : (a b c : Option (List NamedBytes)) (fa fb fc na nb nc : ℕ) (cart script : List ℕ) (chips : List ChipSpec) (drive : Drive) →
-    Works a b fa fb na nb (chips_of cart) (Ok chips) → Works b c fb fc nb nc (drive_by script) (Ok drive) →
-    Works a c fa fc na nc (game_of cart script) (Ok (record { power = drive.power; count = drive.count; chips = chips }))
+pub game_loaded : (a b c : Option (List NamedBytes)) (fa fb fc na nb nc : ℕ) (cart script : List ℕ) (chips : List ChipSpec) (run : RunScript) →
+    Works a b fa fb na nb (chips_of cart) (Ok chips) → Works b c fb fc nb nc (script_by script) (Ok run) →
+    Works a c fa fc na nc (game_of cart script) (Ok (record { script = run; chips = chips }))
 unfolding game_of
-game_loaded a b c fa fb fc na nb nc cart script chips drive first second =
-    works_then a b c fa fb fc na nb nc (chips_of cart) chips (λ chips. drive_by script >>= λ drive. gives (record { power = drive.power; count = drive.count; chips = chips })) _ first
-    (works_then b c c fb fc fc nb nc nc (drive_by script) drive (λ drive. gives (record { power = drive.power; count = drive.count; chips = chips })) _ second
-    (works_gives c fc nc (record { power = drive.power; count = drive.count; chips = chips })))
+game_loaded a b c fa fb fc na nb nc cart script chips run first second =
+    works_then a b c fa fb fc na nb nc (chips_of cart) chips (λ chips. script_by script >>= λ run. gives (record { script = run; chips = chips })) _ first
+    (works_then b c c fb fc fc nb nc nc (script_by script) run (λ run. gives (record { script = run; chips = chips })) _ second
+    (works_gives c fc nc (record { script = run; chips = chips })))
 
 pub game_stops : (a b c : Option (List NamedBytes)) (fa fb fc na nb nc : ℕ) (cart script : List ℕ) (chips : List ChipSpec) (stop : Stop) →
-    Works a b fa fb na nb (chips_of cart) (Ok chips) → Works b c fb fc nb nc (drive_by script) (Err stop) → Works a c fa fc na nc (game_of cart script) (Err stop)
+    Works a b fa fb na nb (chips_of cart) (Ok chips) → Works b c fb fc nb nc (script_by script) (Err stop) → Works a c fa fc na nc (game_of cart script) (Err stop)
 unfolding game_of
 game_stops a b c fa fb fc na nb nc cart script chips stop first second =
-    works_then a b c fa fb fc na nb nc (chips_of cart) chips (λ chips. drive_by script >>= λ drive. gives (record { power = drive.power; count = drive.count; chips = chips })) (Err stop) first
-    (works_stop b c fb fc nb nc (drive_by script) (λ drive. gives (record { power = drive.power; count = drive.count; chips = chips })) stop second)
+    works_then a b c fa fb fc na nb nc (chips_of cart) chips (λ chips. script_by script >>= λ run. gives (record { script = run; chips = chips })) (Err stop) first
+    (works_stop b c fb fc nb nc (script_by script) (λ run. gives (record { script = run; chips = chips })) stop second)

@@ -6,9 +6,9 @@ use Rattle.cartridge.specs.ChipTables.{DescribedSource}
 use Rattle.cartridge.specs.Filling.{Planned, source_at, filled_plan}
 use Rattle.f8_asm.specs.declared.answers.Room.{Room}
 use Rattle.f8_asm.specs.Image.{Picture, everywhere}
-use Rattle.loader.specs.declared.drives.Drive.{Drive}
+use Rattle.console_spec.specs.Scripts.{Script as RunScript}
 use Rattle.loader.specs.declared.purposes.Purpose.TheVariants.{Cart, Script, File, Source}
-use Rattle.loader.specs.Readings.{description_of, assembled, drive_in, bytes_in}
+use Rattle.loader.specs.Readings.{description_of, assembled, script_in, bytes_in}
 use Rattle.loader.specs.Work.{Work, gives, reads, ask, ◌>>=◌}
 
 -- ---- the chips of a cartridge
@@ -40,19 +40,17 @@ chips_of cart = ask Cart cart 65536 >>= λ bytes. reads (description_of bytes) >
 
 -- ---- a run
 
--- what a run is given by the script with this name
-unfoldable pub drive_by : List ℕ → Work Drive
-drive_by script = ask Script script 65536 >>= λ text. reads (drive_in text)
+-- the script with this name
+unfoldable pub script_by : List ℕ → Work RunScript
+script_by script = ask Script script 65536 >>= λ text. reads (script_in text)
 
--- the chips, their power-on byte, and how many instructions are run
+-- the chips, and what the run is given
 pub record Game : Type 0 where
-  pub power : ℕ
-  pub count : ℕ
+  pub script : RunScript
   pub chips : List ChipSpec
 
 unfoldable pub game_of : List ℕ → List ℕ → Work Game
-game_of cart script =
-    chips_of cart >>= λ chips. drive_by script >>= λ drive. gives (record { power = drive.power; count = drive.count; chips = chips })
+game_of cart script = chips_of cart >>= λ chips. script_by script >>= λ run. gives (record { script = run; chips = chips })
 
 -- ---- one file
 

@@ -1,5 +1,6 @@
 -- What is read of the bytes of a file, or why it is refused.
-use Rattle.std.specs.Prelude.{◌≡◌, ℕ, ◌&&◌, ◌==◌, if◌then◌else◌, List, length, Option, Some, None, Result, Ok, Err}
+use Rattle.std.specs.Prelude.{◌≡◌, ℕ, Bool, true, false, if◌then◌else◌, List, Option, Some, None, Result, Ok, Err}
+use Rattle.std.specs.List.{list_any}
 use Rattle.std.specs.Str.{is_utf8}
 use Rattle.toml.specs.Data.{Members}
 use Rattle.toml.specs.Parse.{parse_document}
@@ -9,12 +10,13 @@ use Rattle.f8_asm.specs.declared.answers.AsmFault.{AsmFault}
 use Rattle.f8_asm.specs.declared.answers.Room.{Room}
 use Rattle.f8_asm.specs.Image.{Picture, image_of}
 use Rattle.pad_script.specs.declared.answers.ScriptFault.{ScriptFault}
-use Rattle.pad_script.specs.declared.script.End.{End}
-use Rattle.pad_script.specs.declared.script.End.TheVariants.{Frames, Steps}
-use Rattle.pad_script.specs.Reading.{Script, script_of}
+use Rattle.console_spec.specs.Scripts.{Script}
+use Rattle.console_spec.specs.declared.At.{At}
+use Rattle.console_spec.specs.declared.Event.{Event}
+use Rattle.console_spec.specs.declared.Event.TheVariants.{Keys, Pulse}
+use Rattle.pad_script.specs.Reading.{script_of}
 use Rattle.hex_file.specs.DigitText.{HexFault, bytes_of_text}
 use Rattle.hex_file.specs.DigitText as hex
-use Rattle.loader.specs.declared.drives.Drive.{Drive}
 use Rattle.loader.specs.declared.purposes.Purpose.TheVariants.{File}
 use Rattle.loader.specs.declared.refusals.Refusal.{Refusal}
 use Rattle.loader.specs.declared.refusals.Stop.{Stop}
@@ -64,20 +66,23 @@ assembled source room text = image_told source (image_of text room)
 
 -- ---- scripts
 
-abbrev pub ended_by : ℕ → End → Result Drive Refusal
-ended_by power (Steps count) = Ok (record { power = power; count = count })
-ended_by power (Frames count) = Err Unbuilt
+abbrev pub is_pulse_event : Event → Bool
+is_pulse_event (Keys port byte) = false
+is_pulse_event (Pulse chip) = true
 
--- frames, events and shown frames are not built yet
-abbrev pub drive_of : Script → Result Drive Refusal
-drive_of script = if (length script.events == 0) && (length script.shows == 0) then ended_by script.power script.end else Err Unbuilt
+abbrev pub is_pulse : At → Bool
+is_pulse at = is_pulse_event at.event
+
+-- pulses are not built yet
+abbrev pub without_pulses : Script → Result Script Refusal
+without_pulses script = if list_any is_pulse script.events then Err Unbuilt else Ok script
 
 abbrev pub script_told : Result Script ScriptFault → Result Script Refusal
 script_told (Ok script) = Ok script
 script_told (Err fault) = Err (AtScript fault)
 
-unfoldable pub drive_in : List ℕ → Result Drive Refusal
-drive_in text = script_told (script_of text) &>= drive_of
+unfoldable pub script_in : List ℕ → Result Script Refusal
+script_in text = script_told (script_of text) &>= without_pulses
 
 -- ---- digits
 

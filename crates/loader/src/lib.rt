@@ -2,7 +2,6 @@
 //! next is asked for, and the first that is missing, too long or refused ends it.
 #![tactic(auto)]
 
-mod drives;
 mod fetching;
 mod games;
 mod loading;

@@ -1,19 +1,21 @@
 // What each command wants of its files.
 ghost use Rattle.std.specs.Prelude.{◌≤◌, IfOk, length};
-ghost use Rattle.loader.specs.Games.{chips_of, drive_by, game_of, image_by, bytes_by};
+ghost use Rattle.loader.specs.Games.{chips_of, script_by, game_of, image_by, bytes_by};
+ghost use Rattle.pad_script.specs.Limits.{HasLimits};
+ghost use Rattle.pad_script.specs.Reading.{seen};
 ghost use Rattle.loader.specs.Seen.{seen_game};
 ghost use Rattle.loader.specs.Works.{Works, outcome_as};
 
-use super::drives::Drive;
 use super::fetching::fetch;
 use super::games::Game;
 use super::purposes::Purpose;
-use super::readings::{read_bytes, read_description, read_drive, read_image};
+use super::readings::{read_bytes, read_description, read_image, read_run};
 use super::refusals::Stop;
 use super::sources::{ASSEMBLY_LIMIT, load_planned};
 use chip_face::ChipList;
 use f8_asm::{Image, Room};
 use outside::Store;
+use pad_script::Script;
 use std::alloc::Global;
 
 /// The most bytes of a description and of a script.
@@ -38,17 +40,19 @@ fn load_chips<S: Store>(alloc: Global, store: &mut S, cart: &str) -> Result<Chip
     load_planned(alloc, store, plan)
 }
 
-/// What a script gives a run.
-#[tactic(auto, unfolding(crate::specs::Games::drive_by))]
-fn load_drive<S: Store>(alloc: Global, store: &mut S, script: &str) -> Result<Drive, Stop>
-    ensures { Works (S.files store.old) (S.files store.new) (S.faults store.old) (S.faults store.new) (S.fetches store.old) (S.fetches store.new) (drive_by script.now) (outcome_as (λ drive. drive) result) }
+/// A script.
+#[tactic(auto, unfolding(crate::specs::Games::script_by))]
+fn load_script<S: Store>(alloc: Global, store: &mut S, script: &str) -> Result<Script, Stop>
+    ensures works { Works (S.files store.old) (S.files store.new) (S.faults store.old) (S.faults store.new) (S.fetches store.old) (S.fetches store.new) (script_by script.now) (outcome_as seen result) }
+    ensures limits { IfOk result (λ script. HasLimits script.end) }
 {
     let text = fetch(alloc, store, Purpose::Script, script, TEXT_LIMIT)?;
-    read_drive(alloc, text.as_slice())
+    read_run(alloc, text.as_slice())
 }
 
 /// A run by the names of its description and its script: the description, then the source of each chip that has one, and then the script,
-/// each of them fetched and read before the next. A description and a script have at most 65,536 bytes each, and a source 262,144.
+/// each of them fetched and read before the next. A description and a script have at most 65,536 bytes each, and a source 262,144. The run
+/// ends at frame 600 at the latest, or after 1,000,000 instructions at most, whatever the store tells of its files.
 ///
 /// # Errors
 ///
@@ -61,15 +65,12 @@ pub fn load_game<S: Store>(
     cart: &str,
     script: &str,
 ) -> Result<Game, Stop>
-    ensures { Works (S.files store.old) (S.files store.new) (S.faults store.old) (S.faults store.new) (S.fetches store.old) (S.fetches store.new) (game_of cart.now script.now) (outcome_as seen_game result) }
+    ensures works { Works (S.files store.old) (S.files store.new) (S.faults store.old) (S.faults store.new) (S.fetches store.old) (S.fetches store.new) (game_of cart.now script.now) (outcome_as seen_game result) }
+    ensures limits { IfOk result (λ game. HasLimits game.script.end) }
 {
     let chips = load_chips(alloc, store, cart)?;
-    let drive = load_drive(alloc, store, script)?;
-    Ok(Game {
-        chips,
-        power: drive.power,
-        count: drive.count,
-    })
+    let script = load_script(alloc, store, script)?;
+    Ok(Game { chips, script })
 }
 
 /// The image of an assembly file, which may have all addresses. The file has at most 262,144 bytes.

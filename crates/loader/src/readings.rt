@@ -1,18 +1,19 @@
 // What is read of the bytes of a file.
 ghost use Rattle.std.specs.Prelude.{◌≡◌, ◌≤◌, IfOk, length};
+ghost use Rattle.std.specs.List.{list_any};
 ghost use Rattle.toml.specs.View.{table_view};
 ghost use Rattle.cartridge.specs.Filling.{IsPlan};
 ghost use Rattle.cartridge.specs.Rooms.{LiesIn};
+ghost use Rattle.pad_script.specs.Limits.{HasLimits};
 ghost use Rattle.pad_script.specs.Reading.{seen};
-ghost use Rattle.loader.specs.Readings.{Says, bytes_in, drive_of as drive_told, table_of, description_of, assembled, drive_in};
+ghost use Rattle.loader.specs.Readings.{Says, bytes_in, is_pulse, table_of, description_of, assembled, script_in};
 
-use super::drives::Drive;
 use super::purposes::Purpose;
 use super::refusals::{Refusal, Stop};
 use cartridge::{CartAnswer, Plan, read_cart};
 use f8_asm::{AsmAnswer, Image, Room, assemble};
 use hex_file::{HexAnswer, read_hex};
-use pad_script::{End, Script, ScriptAnswer, read_script};
+use pad_script::{At, Event, Script, ScriptAnswer, read_script};
 use std::alloc::Global;
 use toml::Table;
 
@@ -56,27 +57,30 @@ pub fn read_image(alloc: Global, source: Option<u8>, text: &[u8], room: Room) ->
     }
 }
 
-/// What a script gives a run. Frames, events and shown frames aren't built yet.
-fn drive_of(script: &Script) -> Result<Drive, Refusal>
-    ensures { result ≡ drive_told (seen script.now) }
+/// The event is a pulse.
+fn is_pulse(at: &At) -> bool
+    ensures { result ≡ is_pulse at.now }
 {
-    match script.end {
-        End::Steps(count) if script.events.len() == 0 && script.shows.len() == 0 => Ok(Drive {
-            power: script.power,
-            count,
-        }),
-        _ => Err(Refusal::Unbuilt),
-    }
+    matches!(at.event, Event::Pulse { .. })
 }
 
-/// What the text of a script gives a run.
-#[tactic(auto, unfolding(crate::specs::Readings::drive_in))]
-pub fn read_drive(alloc: Global, text: &[u8]) -> Result<Drive, Stop>
+/// The script has a pulse.
+fn has_pulse(script: &Script) -> bool
+    ensures { result ≡ list_any is_pulse script.now.events }
+{
+    script.events.as_slice().iter().any(|at| is_pulse(at))
+}
+
+/// The script of a text. Pulses aren't built yet.
+#[tactic(auto, unfolding(crate::specs::Readings::script_in))]
+pub fn read_run(alloc: Global, text: &[u8]) -> Result<Script, Stop>
     requires { length text.now ≤ 65536 }
-    ensures { Says (λ drive. drive) result (drive_in text.now) }
+    ensures says { Says seen result (script_in text.now) }
+    ensures limits { IfOk result (λ script. HasLimits script.end) }
 {
     match read_script(alloc, text) {
-        Ok(script) => drive_of(&script).map_err(Stop::Refused),
+        Ok(script) if has_pulse(&script) => Err(Stop::Refused(Refusal::Unbuilt)),
+        Ok(script) => Ok(script),
         Err(ScriptAnswer::Fault(fault)) => Err(Stop::Refused(Refusal::Script(fault))),
         Err(ScriptAnswer::Memory) => Err(Stop::Memory),
     }

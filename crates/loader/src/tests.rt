@@ -32,8 +32,8 @@ fn loads_a_game(rt: HostRuntime) -> Result<(), Fail> {
         panic!(rt; "no game");
     };
     assert_eq!(rt; game.chips.len(), 1);
-    assert_eq!(rt; game.power, 0x5A);
-    assert_eq!(rt; game.count, 7);
+    assert_eq!(rt; game.script.power, 0x5A);
+    assert_eq!(rt; game.script.shows.len(), 0);
     Ok(())
 }
 

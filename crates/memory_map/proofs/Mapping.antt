@@ -14,7 +14,8 @@ use Rattle.chip_face.specs.declared.specification.ChipSpec.{ChipSpec}
 use Rattle.memory_map.specs.ChipPages.{PageView, chip_page, rom_size}
 use Rattle.memory_map.specs.Holders.{OwnedPage, Empty, followed_by, holders_from, holder_of, owned_page}
 use Rattle.memory_map.specs.MapEntries.{entry_of, bytes_by, page_bytes}
-use Rattle.memory_map.specs.MapOf.{MapTable, Tells, IsMapOf, mapped_sort, mapped_owner, mapped_byte, page_sort, sort_by, owner_by, seats_of, views_of}
+use Rattle.memory_map.specs.MapOf.{MapTable, Tells, IsMapOf, mapped_sort, mapped_owner, mapped_byte, mapped_readers, mapped_takers, page_sort, sort_by, owner_by, seats_of, views_of}
+use Rattle.memory_map.specs.MapPorts.{AreReaders, AreTakers}
 use Rattle.memory_map.specs.declared.table.Entry.{Entry}
 use Rattle.memory_map.specs.declared.table.Entry.TheVariants.{Nothing}
 use Rattle.memory_map.proofs.Held.{PageTells-from_IsSpec, fitted_byte, whole-chip_page}
@@ -195,9 +196,13 @@ Mapped-more chips pages bytes count specs within before = record {
     ]
 
 -- all pages are mapped
-pub IsMapOf-all : (chips : List ChipSpec) (m : MapTable) → All IsSpec chips → Mapped chips m.pages m.bytes 256 → IsMapOf m chips
-unfolding mapped_sort mapped_owner mapped_byte
-IsMapOf-all chips m specs all = record { tells = tells }
+pub IsMapOf-all : (chips : List ChipSpec) (m : MapTable) → All IsSpec chips → Mapped chips m.pages m.bytes 256 →
+    AreReaders chips m.readers → AreTakers chips m.takers → IsMapOf m chips
+unfolding mapped_sort mapped_owner mapped_byte mapped_readers mapped_takers
+IsMapOf-all chips m specs all readers takers = record {
+  tells = tells;
+  ports = λ port below. record { readers = readers.count port below; takers = takers.count port below };
+}
   where
     tells : (at : ℕ) → at < 65536 → Tells m chips at
     tells at below =

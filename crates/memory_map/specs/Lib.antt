@@ -2,3 +2,4 @@ pub mod ChipPages
 pub mod Holders
 pub mod MapEntries
 pub mod MapOf
+pub mod MapPorts

@@ -1,10 +1,11 @@
--- What a map tells of each address, and that it is the map of some chips.
+-- What a map tells of each address and of each port, and that it is the map of some chips.
 use Rattle.std.specs.Prelude.{◌≡◌, ℕ, ◌/◌, ◌<◌, List, map, slice_index, slice_index_or, Option, Some, None}
 use Rattle.f8_spec.specs.ChipState.{ChipView}
 use Rattle.f8_spec.specs.BusArbitration.{Seat, seat_of}
 use Rattle.f8_spec.specs.declared.chips.PageSort.{PageSort}
 use Rattle.f8_spec.specs.declared.chips.PageSort.TheVariants.{Rom as RomPage, Ram as RamPage, Void as VoidPage}
 use Rattle.console_spec.specs.FlatMemory.{sort_of, owner_of, fixed_byte, fixed_byte_by}
+use Rattle.console_spec.specs.Writes.{readers, takers}
 use Rattle.console_spec.specs.declared.Sort.{Sort}
 use Rattle.console_spec.specs.declared.Sort.TheVariants.{Rom, Ram, Void, Nothing as NoChip, Shared as ManyChips}
 use Rattle.chip_face.specs.Fitting.{fitted}
@@ -12,10 +13,13 @@ use Rattle.chip_face.specs.declared.specification.ChipSpec.{ChipSpec}
 use Rattle.memory_map.specs.declared.table.Entry.{Entry}
 use Rattle.memory_map.specs.declared.table.Entry.TheVariants.{Nothing, Held, Shared}
 
--- what each of the 256 pages of addresses is, and the byte that stays at each of the 65,536 addresses, and 255 where none does
+-- what each of the 256 pages of addresses is; the byte that stays at each of the 65,536 addresses, and 255 where none does; and how many
+-- chips have each of the 256 ports as a data port, and how many have it at all
 pub record MapTable : Type 0 where
   pub pages : List Entry
   pub bytes : List ℕ
+  pub readers : List ℕ
+  pub takers : List ℕ
 
 abbrev pub page_sort : PageSort → Sort
 page_sort RomPage = Rom
@@ -46,6 +50,14 @@ mapped_owner m at = owner_by (entry_at m at)
 unfoldable pub mapped_byte : MapTable → ℕ → Option ℕ
 mapped_byte m at = fixed_byte_by (sort_by (entry_at m at)) (Some (slice_index m.bytes at))
 
+-- ---- what it tells of a port
+
+unfoldable pub mapped_readers : MapTable → ℕ → ℕ
+mapped_readers m port = slice_index m.readers port
+
+unfoldable pub mapped_takers : MapTable → ℕ → ℕ
+mapped_takers m port = slice_index m.takers port
+
 -- ---- the map of some chips
 
 -- the chips of a description, fitted
@@ -61,5 +73,11 @@ pub record Tells (m : MapTable) (chips : List ChipSpec) (at : ℕ) : Type 0 wher
   pub owner : mapped_owner m at ≡ owner_of (seats_of chips) at
   pub byte : mapped_byte m at ≡ fixed_byte (views_of chips) at
 
+-- and so is what it tells of a port
+pub record TellsPort (m : MapTable) (chips : List ChipSpec) (port : ℕ) : Type 0 where
+  pub readers : mapped_readers m port ≡ readers port (seats_of chips)
+  pub takers : mapped_takers m port ≡ takers port (seats_of chips)
+
 pub record IsMapOf (m : MapTable) (chips : List ChipSpec) : Type 0 where
   pub tells : (at : ℕ) → at < 65536 → Tells m chips at
+  pub ports : (port : ℕ) → port < 256 → TellsPort m chips port

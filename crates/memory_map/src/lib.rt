@@ -1,8 +1,10 @@
-//! What each address is to the chips of a description: whose it is, what lies there, and which byte stays there.
+//! What each address is to the chips of a description: whose it is, what lies there, and which byte stays there; and how many of the chips
+//! have each port.
 #![tactic(auto)]
 
 mod holders;
 mod pages;
+mod ports;
 mod table;
 
 pub use console_spec::Sort;

@@ -1,4 +1,5 @@
 use super::holders::Holder;
+use super::ports::{all_readers, all_takers};
 use chip_face::{ChipList, ChipSpec, PageSort};
 use console_spec::Sort;
 use f8_spec::Memory;
@@ -16,14 +17,19 @@ pub enum Entry {
     Shared,
 }
 
-/// What each address is to the chips of a description. All is worked out once, so that a question is one look-up. Contracts see the
-/// table, which the calls read by `mapped_sort`, `mapped_owner` and `mapped_byte`, and that it is the map of some chips by `IsMapOf`.
+/// What each address is to the chips of a description, and how many of them have each port. All is worked out once, so that a question is
+/// one look-up. Contracts see the table, which the calls read by `mapped_sort`, `mapped_owner`, `mapped_byte`, `mapped_readers` and
+/// `mapped_takers`, and that it is the map of some chips by `IsMapOf`.
 #[derive(Drop)]
 pub struct Map {
     pages: [Entry; 256],
 
     /// The byte that stays at each address, and 255 where none does.
     bytes: Vec<u8>,
+
+    /// How many chips have each port as a data port, and how many have it at all.
+    readers: [u8; 256],
+    takers: [u8; 256],
 }
 
 impl Model for Map {
@@ -32,7 +38,7 @@ impl Model for Map {
 
     ghost Value = { MapTable };
 
-    ghost view = { λ m. record { pages = m.pages; bytes = m.bytes.items } };
+    ghost view = { λ m. record { pages = m.pages; bytes = m.bytes.items; readers = m.readers; takers = m.takers } };
 
     ghost invariant = { λ m. length m.bytes.items ≡ 65536 };
 }
@@ -40,7 +46,7 @@ impl Model for Map {
 impl Map {
     ghost use Rattle.std.specs.Prelude.{◌≡◌, ◌≤◌, ◌/◌, ℕ, All, IfOk, length};
     ghost use Rattle.chip_face.specs.Fitting.{IsSpec};
-    ghost use Rattle.memory_map.specs.MapOf.{IsMapOf, entry_at, mapped_sort, mapped_owner, mapped_byte};
+    ghost use Rattle.memory_map.specs.MapOf.{IsMapOf, entry_at, mapped_sort, mapped_owner, mapped_byte, mapped_readers, mapped_takers};
 
     /// The map of some chips, or want of memory. What it tells is copied.
     pub fn of(alloc: Global, chips: &ChipList) -> Result<Map, Memory>
@@ -64,7 +70,12 @@ impl Map {
             holder.add_bytes(&mut bytes)?;
             pages[number] = holder.entry();
         }
-        Ok(Map { pages, bytes })
+        Ok(Map {
+            pages,
+            bytes,
+            readers: all_readers(chips),
+            takers: all_takers(chips),
+        })
     }
 
     #[inline]
@@ -117,5 +128,23 @@ impl Map {
             Entry::Held { owner, .. } => Some(owner),
             _ => None,
         }
+    }
+
+    /// How many chips have a port as a data port: of a 3851's four ports those are the first two, and a 3853 has none.
+    #[tactic(auto, unfolding(crate::specs::MapOf::mapped_readers))]
+    #[inline]
+    pub fn reads(&self, port: u8) -> u8
+        ensures { result ≡ mapped_readers self.now port }
+    {
+        self.readers[usize::from(port)]
+    }
+
+    /// How many chips have a port, whatever it is to them.
+    #[tactic(auto, unfolding(crate::specs::MapOf::mapped_takers))]
+    #[inline]
+    pub fn writes(&self, port: u8) -> u8
+        ensures { result ≡ mapped_takers self.now port }
+    {
+        self.takers[usize::from(port)]
     }
 }

@@ -78,3 +78,39 @@ fn two_chips(rt: HostRuntime) -> Result<(), Fail> {
     }
     Ok(())
 }
+
+// the two data ports of the 3851 at 04, its control and its timer, the 3853's four ports, and ports that no chip has
+#[test]
+fn ports(rt: HostRuntime) -> Result<(), Fail> {
+    let alloc = rt.alloc();
+    let chips = listed(alloc, psu(alloc)?, smi(alloc)?)?;
+    let map = Map::of(alloc, &chips)?;
+    let rows = [
+        (0x00, 0, 0),
+        (0x04, 1, 1),
+        (0x05, 1, 1),
+        (0x06, 0, 1),
+        (0x07, 0, 1),
+        (0x08, 0, 0),
+        (0x0C, 0, 1),
+        (0x0F, 0, 1),
+        (0x10, 0, 0),
+    ];
+    for (port, readers, takers) in rows {
+        assert_eq!(rt; map.reads(port), readers, "of {port}");
+        assert_eq!(rt; map.writes(port), takers, "of {port}");
+    }
+    Ok(())
+}
+
+// two 3851s have the same four ports
+#[test]
+fn ports_of_two_chips(rt: HostRuntime) -> Result<(), Fail> {
+    let alloc = rt.alloc();
+    let chips = listed(alloc, psu(alloc)?, psu(alloc)?)?;
+    let map = Map::of(alloc, &chips)?;
+    assert_eq!(rt; map.reads(0x05), 2);
+    assert_eq!(rt; map.reads(0x06), 0);
+    assert_eq!(rt; map.writes(0x06), 2);
+    Ok(())
+}

@@ -3,3 +3,4 @@ pub mod WordLaws
 pub mod NumberLaws
 pub mod LineSteps
 pub mod Told
+pub mod Limits

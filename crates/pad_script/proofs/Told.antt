@@ -4,8 +4,8 @@ use Rattle.std.specs.Prelude.{IfOk}
 use Rattle.pad_script.specs.declared.answers.ScriptAnswer.{ScriptAnswer}
 use Rattle.pad_script.specs.declared.answers.ScriptCause.{ScriptCause}
 use Rattle.pad_script.specs.declared.answers.ScriptFault.{ScriptFault}
-use Rattle.pad_script.specs.declared.script.At.{At}
-use Rattle.pad_script.specs.declared.script.End.{End}
+use Rattle.console_spec.specs.declared.At.{At}
+use Rattle.console_spec.specs.declared.End.{End}
 use Rattle.pad_script.specs.declared.script.Script.{Script as KeptScript}
 use Rattle.pad_script.specs.declared.statement.Statement.{Statement}
 use Rattle.pad_script.specs.declared.statement.Statement.TheVariants.{Power, Ends, Comes, Shows}

@@ -4,3 +4,4 @@ pub mod Numbers
 pub mod Statements
 pub mod Reading
 pub mod Telling
+pub mod Limits

@@ -5,21 +5,16 @@ use Rattle.pad_script.specs.declared.answers.ScriptCause.TheVariants.{Twice, Too
 use Rattle.pad_script.specs.declared.answers.ScriptFault.{ScriptFault}
 use Rattle.pad_script.specs.declared.answers.ScriptAnswer.{ScriptAnswer}
 use Rattle.pad_script.specs.declared.answers.ScriptAnswer.TheVariants as answer
-use Rattle.pad_script.specs.declared.script.At.{At}
-use Rattle.pad_script.specs.declared.script.End.{End}
+use Rattle.console_spec.specs.declared.At.{At}
+use Rattle.console_spec.specs.declared.End.{End}
 use Rattle.pad_script.specs.declared.script.Script.{Script as KeptScript}
 use Rattle.pad_script.specs.declared.statement.Statement.{Statement}
 use Rattle.pad_script.specs.declared.statement.Statement.TheVariants.{Power, Ends, Comes, Shows}
+pub use Rattle.console_spec.specs.Scripts.{Script}
 use Rattle.pad_script.specs.Lines.{lines}
 use Rattle.pad_script.specs.Statements.{line_of}
 
 -- a script, without where it lies in memory
-pub record Script : Type 0 where
-  pub power : ℕ
-  pub end : End
-  pub events : List At
-  pub shows : List ℕ
-
 abbrev pub seen : KeptScript → Script
 seen script = record { power = script.power; end = script.end; events = script.events; shows = script.shows }
 

@@ -3,8 +3,8 @@ use Rattle.std.specs.Prelude.{ℕ, ◌&&◌, nat_le, if◌then◌else◌, List, 
 use Rattle.std.specs.List.{list_all}
 use Rattle.pad_script.specs.declared.answers.ScriptCause.{ScriptCause}
 use Rattle.pad_script.specs.declared.answers.ScriptCause.TheVariants.{Word, Number, Range}
-use Rattle.pad_script.specs.declared.script.Event.TheVariants.{Keys, Pulse}
-use Rattle.pad_script.specs.declared.script.End.TheVariants.{Frames, Steps}
+use Rattle.console_spec.specs.declared.Event.TheVariants.{Keys, Pulse}
+use Rattle.console_spec.specs.declared.End.TheVariants.{Frames, Steps}
 use Rattle.pad_script.specs.declared.statement.Statement.{Statement}
 use Rattle.pad_script.specs.declared.statement.Statement.TheVariants.{Power, Ends, Comes, Shows}
 use Rattle.pad_script.specs.Answers.{made_of}

@@ -1,8 +1,8 @@
 -- What a script has is what the lines of its text say, in their order. This is a law over the reading, and knows nothing of how it goes.
 use Rattle.std.specs.Prelude.{◌≡◌, ℕ, List, [], ◌∷◌, ◌++◌, Option, Some, None, Result, Ok, Err}
 use Rattle.pad_script.specs.declared.answers.ScriptCause.{ScriptCause}
-use Rattle.pad_script.specs.declared.script.At.{At}
-use Rattle.pad_script.specs.declared.script.End.{End}
+use Rattle.console_spec.specs.declared.At.{At}
+use Rattle.console_spec.specs.declared.End.{End}
 use Rattle.pad_script.specs.declared.statement.Statement.{Statement}
 use Rattle.pad_script.specs.declared.statement.Statement.TheVariants.{Power, Ends, Comes, Shows}
 use Rattle.pad_script.specs.Reading.{Script}

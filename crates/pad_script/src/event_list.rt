@@ -11,7 +11,7 @@ pub struct EventList {
 
 impl Model for EventList {
     ghost use Rattle.std.specs.Prelude.{List, ◌≤◌, length};
-    ghost use Rattle.pad_script.specs.declared.script.At.{At};
+    ghost use Rattle.console_spec.specs.declared.At.{At};
 
     ghost Value = { List At };
 

@@ -1,4 +1,5 @@
 ghost use Rattle.std.specs.Prelude.{◌≤◌, ◌+◌, IfOk, length};
+ghost use Rattle.pad_script.specs.Limits.{HasLimits};
 ghost use Rattle.pad_script.specs.Lines.{lines};
 ghost use Rattle.pad_script.specs.Reading.{SaysOfText, script_of, seen};
 ghost use Rattle.pad_script.specs.Telling.{IsTold, statements};
@@ -14,12 +15,13 @@ pub const TEXT_LIMIT: usize = 16_777_216;
 
 /// The script of a text, or the text's first fault: that of the first line that has one, and of such a line's faults the first in the
 /// order Word, Number, Range, Twice, TooMany. A text without an end of the run is at fault at the line after its last. `Memory`: memory
-/// is missing; it says nothing of the text.
+/// is missing; it says nothing of the text. The run of a script ends at frame 600 at the latest, or after 1,000,000 instructions at most.
 pub fn read_script(alloc: Global, text: &[u8]) -> Result<Script, ScriptAnswer>
     requires { length text.now ≤ TEXT_LIMIT }
     ensures script { SaysOfText result (script_of text.now) }
     ensures told { IfOk result (λ script. IsTold (statements (lines text.now)) (seen script)) }
     ensures limit { IfOk result (λ script. length script.events + length script.shows ≤ 1024) }
+    ensures ends { IfOk result (λ script. HasLimits script.end) }
 {
     let mut draft = Draft::new(alloc);
     let mut rest = text;

@@ -1,190 +1,143 @@
--- How a run on a rack goes on: what a turn of a loop over its instructions needs.
-use Rattle.std.proofs.Common.{◌≡◌, ℕ, suc, ◌+◌, ◌-◌, ◌<◌, ◌≤◌, Bool, true, false, List, [], ◌∷◌, ◌++◌, append-nil, map, refl, sym, ap, ◌∙◌, subst, arith}
+-- A run on a rack, instruction by instruction.
+use Rattle.std.proofs.Common.{◌≡◌, ℕ, ◌+◌, ◌-◌, ◌<◌, ◌≤◌, true, false, List, [], ◌∷◌, ◌++◌, Option, refl, sym, ap, ◌∙◌, subst}
 use Rattle.std.proofs.Math.Nat.{sub-zero}
-use Rattle.std.specs.Prelude.{Option, Some, None}
-use Rattle.std.proofs.lemmas.List.{append_assoc, map-append}
-use Rattle.f8_spec.specs.Built.{is_built}
-use Rattle.f8_spec.specs.Instructions.{decoded}
-use Rattle.f8_spec.specs.ChipState.{ChipView, ChipState, told_step}
-use Rattle.f8_spec.specs.declared.instructions.Op.{Op}
-use Rattle.console_spec.specs.Services.{Fault}
-use Rattle.console_spec.specs.BusTrace.{TracedStep}
-use Rattle.console_spec.specs.Run.{Position, Turn, Stop, Done, Goes, Stops, Ending as FlatEnding, goes_unless, decided, next, run, goes_on, opcode_at, instruction_fault, position_after, turn_course, recorded, recorded_on}
-use Rattle.data_bus.specs.Racks.{NumberedZip}
-use Rattle.f8_machine.specs.declared.heard.Heard.{Heard}
-use Rattle.console_spec.specs.Processor.{State, Flow, Registers}
+use Rattle.std.proofs.lemmas.List.{append_assoc, append-nil}
+use Rattle.f8_spec.specs.ChipState.{ChipState}
+use Rattle.console_spec.specs.Processor.{State}
+use Rattle.console_spec.specs.Run.{Position, Turn, Goes, Stops, Done, Ending as FlatEnding}
+use Rattle.console_spec.specs.Scripts.{Script, most_instructions}
+use Rattle.console_spec.specs.Telling.{Told, Moment, Telling, Way, is_over, moment_of, telling, told_in, on_rack}
 use Rattle.f8_machine.specs.MachineState.{MachineState}
 use Rattle.f8_machine.specs.Refinement.{Represents}
-use Rattle.f8_machine.proofs.RackLaws.{rack_runs_none}
-use Rattle.rack_run.specs.Endings.{Tells, GoesOn, StopsAt, PlaysOut, told_state, stop_of, stop_at}
+use Rattle.outside.specs.SinkRules.{Adds}
+use Rattle.outside.proofs.SinkLaws.{adds_none, adds_then}
+use Rattle.rack_run.specs.Endings.{Tells, TellsEnd, stop_of}
+use Rattle.rack_run.specs.Lives.{Lives}
+use Rattle.rack_run.specs.Progressing.{ProgressState, Keeps}
+use Rattle.rack_run.specs.Texts.{is_traced, text_in}
+use Rattle.rack_run.specs.Turns.{reached, ToldBy, GoesOn, StopsAt, FailsAt, RunsOut, RunsShort, rest_on}
+use Rattle.rack_run.specs.declared.detail.Detail.{Detail}
 use Rattle.rack_run.specs.declared.ending.Ending.{Ending}
 use Rattle.rack_run.specs.declared.ending.Halt.{Halt}
-use Rattle.f8_machine.specs.Rounds.{heard_in, heard_of, after_steps, Runs, RackRuns}
+use Rattle.rack_run.proofs.LifeLaws.{lives_then}
+use Rattle.rack_run.proofs.TellingLaws.{over_at, telling-over, telling-none, telling-goes, telling-stops}
+use Rattle.rack_run.proofs.ToldTexts.{text_in-nil, text_in-append, told_in-append, told_in-one}
+use Rattle.rack_run.proofs.TurnLaws.{told_by}
 
-left_over : (n i : ℕ) → i < n → n - i ≡ suc (n - (i + 1))
-left_over n i h = omega arith
+module _ (detail : Detail) (script : Script) (start : Position) where
+  abbrev way : Way
+  way = on_rack (is_traced detail)
 
--- an instruction that is done leads on
-pub run-goes : (step : Position → Turn) (n i : ℕ) (x y : Position) → i < n → step x ≡ Goes y → run step (n - i) x ≡ run step (n - (i + 1)) y
-unfolding run
-run-goes step n i x y h goes =
-    ap (λ k. run step k x) (left_over n i h) ∙ ap (goes_on (λ z. run step (n - (i + 1)) z) x) goes
+  abbrev most : ℕ
+  most = most_instructions script.end
 
--- one that stops the run ends it
-pub run-stops : (step : Position → Turn) (n i : ℕ) (x : Position) (stop : Stop) → i < n → step x ≡ Stops stop → run step (n - i) x ≡ record { position = x; stop = stop }
-unfolding run
-run-stops step n i x stop h stops =
-    ap (λ k. run step k x) (left_over n i h) ∙ ap (goes_on (λ z. run step (n - (i + 1)) z) x) stops
+  abbrev rest : ℕ → Position → Telling
+  rest i x = telling way script (most - i) x
 
--- no instruction is left
-pub run-done : (step : Position → Turn) (n i : ℕ) (x : Position) → n ≤ i → run step (n - i) x ≡ record { position = x; stop = Done }
-unfolding run
-run-done step n i x h = let none_left : n - i ≡ 0 = omega arith in ap (λ k. run step k x) none_left
+  -- after so many instructions: a position from which the rest of them leads to the run's end, and the moments before it, which were lived through and told
+  pub record Reached (i : ℕ) (m : MachineState) (p : ProgressState) (olds nows : List ChipState) (old now : Option (List ℕ)) : Type 0 where
+    pub here : Position
+    pub represents : Represents m nows here
+    pub keeps : Keeps p here.flat.state
+    pub before : List Moment
+    pub are : (rest_on detail script start).moments ≡ before ++ (rest i here).moments
+    pub ending : (rest_on detail script start).ending ≡ (rest i here).ending
+    pub lived : Lives before olds nows
+    pub lines : Adds old now (text_in detail (told_in before))
 
--- ---- the record of what is left
+  pub reached_first : (m : MachineState) (p : ProgressState) (states : List ChipState) (told : Option (List ℕ)) → Represents m states start → Keeps p start.flat.state → Reached 0 m p states states told told
+  reached_first m p states told represents keeps = record {
+    here = start;
+    represents = represents;
+    keeps = keeps;
+    before = [];
+    are = ap (λ (k : ℕ). (telling way script k start).moments) (sym (sub-zero most));
+    ending = ap (λ (k : ℕ). (telling way script k start).ending) (sym (sub-zero most));
+    lived = refl;
+    lines = rw (text_in-nil detail) (adds_none told);
+  }
 
-pub recorded-goes : (n i : ℕ) (x y : Position) → i < n → next x ≡ Goes y → recorded (n - i) x ≡ (turn_course x).steps ++ recorded (n - (i + 1)) y
-unfolding recorded
-recorded-goes n i x y h goes =
-    ap (λ k. recorded k x) (left_over n i h) ∙ ap (λ t. (turn_course x).steps ++ recorded_on (λ z. recorded (n - (i + 1)) z) t) goes
+  -- one moment more is lived through and told
+  told_more : (before : List Moment) (m : Moment) → text_in detail (told_in (before ++ m ∷ [])) ≡ text_in detail (told_in before) ++ text_in detail m.told
+  told_more before m = ap (text_in detail) (told_in-append before (m ∷ []) ∙ ap (λ (told : List Told). told_in before ++ told) (told_in-one m)) ∙ text_in-append detail (told_in before) m.told
 
-pub recorded-stops : (n i : ℕ) (x : Position) (stop : Stop) → i < n → next x ≡ Stops stop → recorded (n - i) x ≡ (turn_course x).steps
-unfolding recorded
-recorded-stops n i x stop h stops =
-    ap (λ k. recorded k x) (left_over n i h)
-    ∙ ap (λ t. (turn_course x).steps ++ recorded_on (λ z. recorded (n - (i + 1)) z) t) stops ∙ append-nil (turn_course x).steps
+  moments_more : (before : List Moment) (m : Moment) (later : List Moment) → before ++ m ∷ later ≡ (before ++ m ∷ []) ++ later
+  moments_more before m later = sym (append_assoc before (m ∷ []) later)
 
-pub recorded-done : (n i : ℕ) (x : Position) → n ≤ i → recorded (n - i) x ≡ []
-unfolding recorded
-recorded-done n i x h = let none_left : n - i ≡ 0 = omega arith in ap (λ k. recorded k x) none_left
+  pub reached_more : (i : ℕ) (m n : MachineState) (p q : ProgressState) (olds mids news : List ChipState) (a b c : Option (List ℕ)) → i < most → (r : Reached i m p olds mids a b) →
+      is_over script r.here ≡ false → GoesOn detail script n q mids news b c r.here → Reached (i + 1) n q olds news a c
+  reached_more i m n p q olds mids news a b c more r on goes =
+      let moment = moment_of way script r.here (way.step r.here) in
+      let next = telling-goes way script most i r.here goes.there more on goes.turns in
+      record {
+        here = reached script r.here goes.there;
+        represents = goes.represents;
+        keeps = goes.keeps;
+        before = r.before ++ moment ∷ [];
+        are = r.are ∙ ap (λ (t : Telling). r.before ++ t.moments) next ∙ moments_more r.before moment (rest (i + 1) (reached script r.here goes.there)).moments;
+        ending = r.ending ∙ ap (λ (t : Telling). t.ending) next;
+        lived = lives_then r.before moment olds mids news r.lived goes.lived;
+        lines = rw (told_more r.before moment) (adds_then a b c (text_in detail (told_in r.before)) (text_in detail moment.told) r.lines goes.lines);
+      }
 
--- ---- the count of instructions
+  -- nothing is left
+  ends_here : (i : ℕ) (m : MachineState) (p : ProgressState) (olds news : List ChipState) (a b : Option (List ℕ)) (told : Ending) (r : Reached i m p olds news a b) →
+      rest i r.here ≡ over_at r.here → Tells told r.here.flat.state Done → RunsOut detail script told olds news a b start
+  ends_here i m p olds news a b told r over tells =
+      let moments : (rest_on detail script start).moments ≡ r.before = r.are ∙ ap (λ (t : Telling). r.before ++ t.moments) over ∙ append-nil r.before in
+      record {
+        tells = subst (λ (e : FlatEnding). TellsEnd told e) (sym (r.ending ∙ ap (λ (t : Telling). t.ending) over)) tells;
+        lived = subst (λ (ms : List Moment). Lives ms olds news) (sym moments) r.lived;
+        lines = subst (λ (ms : List Moment). Adds a b (text_in detail (told_in ms))) (sym moments) r.lines;
+      }
 
-goes_count : (x y : Position) (fault : Option Fault) (op : Op) → goes_unless fault (position_after op x) ≡ Goes y → y.flat.state.count ≡ x.flat.state.count + 1
-goes_count x y None op e = let same : position_after op x ≡ y = cc in ap (λ (z : Position). z.flat.state.count) (sym same)
-goes_count x y (Some fault) op e = cc
+  pub ends_over : (i : ℕ) (m : MachineState) (p : ProgressState) (olds news : List ChipState) (a b : Option (List ℕ)) (told : Ending) (r : Reached i m p olds news a b) →
+      is_over script r.here ≡ true → ((s : State) → ToldBy m s → Keeps p s → Tells told s Done) → RunsOut detail script told olds news a b start
+  ends_over i m p olds news a b told r over tells =
+      ends_here i m p olds news a b told r (telling-over way script (most - i) r.here over) (tells r.here.flat.state (told_by m news r.here r.represents) r.keeps)
 
-decided_count : (x y : Position) (at code : ℕ) (built : Bool) (found : Option Op) → decided (λ op. goes_unless (instruction_fault op x) (position_after op x)) at code built found ≡ Goes y →
-    y.flat.state.count ≡ x.flat.state.count + 1
-decided_count x y at code false None e = cc
-decided_count x y at code false (Some op) e = cc
-decided_count x y at code true None e = cc
-decided_count x y at code true (Some op) e = goes_count x y (instruction_fault op x) op e
+  pub ends_done : (i : ℕ) (m : MachineState) (p : ProgressState) (olds news : List ChipState) (a b : Option (List ℕ)) (told : Ending) (r : Reached i m p olds news a b) →
+      most ≤ i → ((s : State) → ToldBy m s → Keeps p s → Tells told s Done) → RunsOut detail script told olds news a b start
+  ends_done i m p olds news a b told r past tells =
+      ends_here i m p olds news a b told r (telling-none way script most i r.here past) (tells r.here.flat.state (told_by m news r.here r.represents) r.keeps)
 
--- an instruction that is done is counted
-pub next_count : (x y : Position) → next x ≡ Goes y → y.flat.state.count ≡ x.flat.state.count + 1
-next_count x y e = decided_count x y x.flat.state.flow.p (opcode_at x) (is_built (opcode_at x)) (decoded (opcode_at x)) e
+  -- an instruction stops the run
+  pub ends_stopped : (i : ℕ) (m n : MachineState) (p q : ProgressState) (olds mids news : List ChipState) (a b c : Option (List ℕ)) (told : Ending) (halt : Halt) → i < most →
+      (r : Reached i m p olds mids a b) → is_over script r.here ≡ false → StopsAt detail script n q mids news b c r.here halt →
+      ((s : State) → ToldBy n s → Keeps q s → Tells told s (stop_of halt)) → RunsOut detail script told olds news a c start
+  ends_stopped i m n p q olds mids news a b c told halt more r on stops tells =
+      let moment = moment_of way script r.here (way.step r.here) in
+      let last = telling-stops way script most i r.here (stop_of halt) more on stops.turns in
+      let moments : (rest_on detail script start).moments ≡ r.before ++ moment ∷ [] = r.are ∙ ap (λ (t : Telling). r.before ++ t.moments) last in
+      record {
+        tells = subst (λ (e : FlatEnding). TellsEnd told e) (sym (r.ending ∙ ap (λ (t : Telling). t.ending) last)) (tells r.here.flat.state stops.state stops.keeps);
+        lived = subst (λ (ms : List Moment). Lives ms olds news) (sym moments) (lives_then r.before moment olds mids news r.lived stops.lived);
+        lines = subst (λ (ms : List Moment). Adds a c (text_in detail (told_in ms))) (sym moments)
+            (rw (told_more r.before moment) (adds_then a b c (text_in detail (told_in r.before)) (text_in detail moment.told) r.lines stops.lines));
+      }
 
--- ---- a rack over one record and then another
+  -- the sink fails at a line of an instruction
+  some_moments : (i : ℕ) (x : Position) → i < most → is_over script x ≡ false → (later : List Moment) × ((rest i x).moments ≡ moment_of way script x (way.step x) ∷ later)
+  some_moments i x more on = by_turn (way.step x) refl
+    where
+      by_turn : (turn : Turn) → way.step x ≡ turn → (later : List Moment) × ((rest i x).moments ≡ moment_of way script x (way.step x) ∷ later)
+      by_turn (Goes y) turns = ((rest (i + 1) (reached script x y)).moments, ap (λ (t : Telling). t.moments) (telling-goes way script most i x y more on turns))
+      by_turn (Stops stop) turns = ([], ap (λ (t : Telling). t.moments) (telling-stops way script most i x stop more on turns))
 
-after_steps-append : (socket : ℕ) (first later : List Heard) (v : ChipView) → after_steps socket (first ++ later) v ≡ after_steps socket later (after_steps socket first v)
-after_steps-append socket [] later v = refl
-after_steps-append socket (h ∷ first) later v = after_steps-append socket first later _
-
-runs_then : (socket : ℕ) (first later : List Heard) (a b c : ChipState) → Runs first socket a b → Runs later socket b c → Runs (first ++ later) socket a c
-runs_then socket first later a b c one two = record {
-  view = two.view ∙ ap (after_steps socket later) one.view ∙ sym (after_steps-append socket first later a.view);
-  heard = record {
-    told = λ now is.
-        let last = two.heard.told now is in
-        let earlier = one.heard.told last.0 last.1 in (
-          earlier.0,
-          earlier.1,
-          last.2
-              ∙ ap (λ l. l ++ map (λ h. told_step (heard_in socket h)) later) earlier.2
-              ∙ append_assoc earlier.0 (map (λ h. told_step (heard_in socket h)) first) (map (λ h. told_step (heard_in socket h)) later)
-              ∙ ap (λ l. earlier.0 ++ l) (sym (map-append (λ h. told_step (heard_in socket h)) first later)),
-        );
-  };
-  patch = two.patch ∙ one.patch;
-}
-
-rack_then : (n : ℕ) (first later : List Heard) (xs ys zs : List ChipState) → NumberedZip (Runs first) n xs ys → NumberedZip (Runs later) n ys zs → NumberedZip (Runs (first ++ later)) n xs zs
-rack_then n first later [] [] [] one two = tt
-rack_then n first later [] [] (z ∷ zs) one two = absurd two
-rack_then n first later [] (y ∷ ys) zs one two = absurd one
-rack_then n first later (x ∷ xs) [] zs one two = absurd one
-rack_then n first later (x ∷ xs) (y ∷ ys) [] one two = absurd two
-rack_then n first later (x ∷ xs) (y ∷ ys) (z ∷ zs) one two =
-    (runs_then n first later x y z one.0 two.0, rack_then (n + 1) first later xs ys zs one.1 two.1)
-
--- the same by the steps of the definitions
-pub rack_runs_then : (first later : List TracedStep) (xs ys zs : List ChipState) → RackRuns (map heard_of first) xs ys → RackRuns (map heard_of later) ys zs → RackRuns (map heard_of (first ++ later)) xs zs
-rack_runs_then first later xs ys zs one two =
-    subst (λ (l : List Heard). RackRuns l xs zs) (sym (map-append heard_of first later)) (rack_then 0 (map heard_of first) (map heard_of later) xs ys zs one two)
-
--- ---- a turn of the loop
-
--- after so many instructions of a run: a position from which the rest of them leads to the run's end, and whose steps are heard
-pub record Reached (start : Position) (count done : ℕ) (m : MachineState) (olds news : List ChipState) : Type 0 where
-  pub here : Position
-  pub represents : Represents m news here
-  pub counted : here.flat.state.count ≡ done
-  pub rest : run next (count - done) here ≡ run next count start
-  pub so_far : List TracedStep
-  pub ran : RackRuns (map heard_of so_far) olds news
-  pub steps : so_far ++ recorded (count - done) here ≡ recorded count start
-
-pub reached_first : (x : Position) (count : ℕ) (m : MachineState) (states : List ChipState) → Represents m states x → x.flat.state.count ≡ 0 → Reached x count 0 m states states
-reached_first x count m states r zero = record {
-  here = x;
-  represents = r;
-  counted = zero;
-  rest = ap (λ k. run next k x) (sub-zero count);
-  so_far = [];
-  ran = rack_runs_none 0 states;
-  steps = ap (λ k. recorded k x) (sub-zero count);
-}
-
-pub reached_more : (x : Position) (count done : ℕ) (m n : MachineState) (olds mids news : List ChipState) → done < count → Reached x count done m olds mids →
-    ((y : Position) → Represents m mids y → GoesOn n mids news y) → Reached x count (done + 1) n olds news
-reached_more x count done m n olds mids news more reached goes =
-    let on = goes reached.here reached.represents in
-    record {
-      here = on.there;
-      represents = on.represents;
-      counted = next_count reached.here on.there on.turns ∙ ap (λ k. k + 1) reached.counted;
-      rest = sym (run-goes next count done reached.here on.there more on.turns) ∙ reached.rest;
-      so_far = reached.so_far ++ (turn_course reached.here).steps;
-      ran = rack_runs_then reached.so_far (turn_course reached.here).steps olds mids news reached.ran on.ran;
-      steps = append_assoc reached.so_far (turn_course reached.here).steps (recorded (count - (done + 1)) on.there)
-          ∙ ap (λ l. reached.so_far ++ l) (sym (recorded-goes count done reached.here on.there more on.turns)) ∙ reached.steps;
-    }
-
--- the end of the run, told with the state that the machine tells
-pub told_same : (told : Ending) (s t : State) (a b : Stop) → s ≡ t → a ≡ b → Tells told s a → Tells told t b
-told_same told s t a b same stop tells = subst (λ (u : State). Tells told u b) same (subst (λ (c : Stop). Tells told s c) stop tells)
-
-state_told : (m : MachineState) (states : List ChipState) (x : Position) (count : ℕ) → Represents m states x → x.flat.state.count ≡ count → told_state m count ≡ x.flat.state
-state_told m states x count r counted =
-    ap (λ (c : Flow). record { flow = c; registers = m.cpu.registers; count = count; phi = m.phi }) r.stands.flow
-    ∙ ap (λ (k : Registers). record { flow = x.flat.state.flow; registers = k; count = count; phi = m.phi }) r.stands.registers
-    ∙ ap (λ (n : ℕ). record { flow = x.flat.state.flow; registers = x.flat.state.registers; count = count; phi = n }) r.stands.phi
-    ∙ ap (λ (n : ℕ). record { flow = x.flat.state.flow; registers = x.flat.state.registers; count = n; phi = x.flat.state.phi }) (sym counted)
-
-pub plays_out_done : (told : Ending) (x : Position) (count done : ℕ) (m : MachineState) (olds news : List ChipState) → count ≤ done → Reached x count done m olds news →
-    Tells told (told_state m done) Done → PlaysOut told (run next count x) (recorded count x) olds news
-plays_out_done told x count done m olds news past reached tells =
-    let ends : run next count x ≡ record { position = reached.here; stop = Done } = sym reached.rest ∙ run-done next count done reached.here past in
-    let steps : reached.so_far ≡ recorded count x = sym (append-nil reached.so_far) ∙ ap (λ l. reached.so_far ++ l) (sym (recorded-done count done reached.here past)) ∙ reached.steps in
-    record {
-      tells = subst (λ (e : FlatEnding). Tells told e.position.flat.state e.stop) (sym ends)
-          (told_same told (told_state m done) reached.here.flat.state Done Done (state_told m news reached.here done reached.represents reached.counted) refl tells);
-      ran = subst (λ (l : List TracedStep). RackRuns (map heard_of l) olds news) steps reached.ran;
-    }
-
-pub plays_out_stopped : (told : Ending) (x : Position) (count done : ℕ) (m n : MachineState) (olds mids news : List ChipState) (halt : Halt) → done < count → Reached x count done m olds mids →
-    ((y : Position) → Represents m mids y → StopsAt m n mids news y halt) → Tells told (told_state n done) (stop_at (Some halt)) →
-    PlaysOut told (run next count x) (recorded count x) olds news
-plays_out_stopped told x count done m n olds mids news halt more reached stops tells =
-    let here = reached.here in
-    let at = stops here reached.represents in
-    let ends : run next count x ≡ record { position = here; stop = stop_of halt } = sym reached.rest ∙ run-stops next count done here (stop_of halt) more at.turns in
-    let steps : reached.so_far ++ (turn_course here).steps ≡ recorded count x =
-    ap (λ l. reached.so_far ++ l) (sym (recorded-stops count done here (stop_of halt) more at.turns)) ∙ reached.steps in
-    let kept : told_state n done ≡ told_state m done = subst (λ (k : ℕ). told_state n k ≡ told_state m k) reached.counted at.state in
-    record {
-      tells = subst (λ (e : FlatEnding). Tells told e.position.flat.state e.stop) (sym ends)
-          (told_same told (told_state n done) here.flat.state (stop_of halt) (stop_of halt) (kept ∙ state_told m mids here done reached.represents reached.counted) refl tells);
-      ran = subst (λ (l : List TracedStep). RackRuns (map heard_of l) olds news) steps (rack_runs_then reached.so_far (turn_course here).steps olds mids news reached.ran at.ran);
-    }
+  pub ends_cut : (i : ℕ) (m : MachineState) (p : ProgressState) (olds mids news : List ChipState) (a b c : Option (List ℕ)) → i < most → (r : Reached i m p olds mids a b) →
+      is_over script r.here ≡ false → FailsAt detail script mids news b c r.here → RunsShort detail script olds news a c start
+  ends_cut i m p olds mids news a b c more r on fails =
+      let left = some_moments i r.here more on in
+      record {
+        before = r.before;
+        at = moment_of way script r.here (way.step r.here);
+        behind = left.0;
+        are = r.are ∙ ap (λ (ms : List Moment). r.before ++ ms) left.1;
+        some = fails.some;
+        mids = mids;
+        lived = r.lived;
+        heard = fails.heard;
+        between = b;
+        lines = r.lines;
+        part = fails.part;
+      }

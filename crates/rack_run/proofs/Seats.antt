@@ -1,9 +1,13 @@
 -- The chips of a kind, and what sits in the sockets of a rack.
 use Rattle.std.proofs.Common.{◌≡◌, ℕ, zero, suc, ◌+◌, inl, inr, arith, true, List, [], ◌∷◌, ◌++◌, map, length, take, drop, add-one, refl, sym, ap, ◌∙◌, subst}
-use Rattle.std.specs.Prelude.{Some, slice_get}
+use Rattle.std.specs.Prelude.{Option, Some, slice_get}
 use Rattle.std.proofs.Math.Seq.{drop-nil}
-use Rattle.chip_face.specs.Fitting.{Fits, fitted}
+use Rattle.chip_face.specs.Fitting.{Fits, IsSpec, fitted}
 use Rattle.chip_face.specs.declared.specification.ChipSpec.{ChipSpec}
+use Rattle.chip_face.specs.declared.specification.ChipSpec.TheVariants.{Blank, Psu as PsuSpec, Smi as SmiSpec}
+use Rattle.cpu3850.specs.OwnWrites.{LeaveOwnPorts}
+use Rattle.f8_machine.proofs.OwnPorts.{leave_own_ports}
+use Rattle.f8_spec.specs.BusArbitration.{seat_of}
 use Rattle.data_bus.specs.Racks.{NumberedZip, views}
 use Rattle.data_bus.proofs.Racks.{ChangedBelow, whole_again}
 use Rattle.std.proofs.lemmas.List.{length-map}
@@ -11,7 +15,7 @@ use Rattle.f8_spec.specs.ChipState.{ChipView, ChipState, IsWhole}
 use Rattle.f8_spec.specs.declared.chips.ChipKind.{ChipKind}
 use Rattle.f8_spec.specs.declared.chips.ChipKind.TheVariants.{Psu, Smi}
 use Rattle.f8_machine.specs.Refinement.{AreWhole}
-use Rattle.rack_run.specs.Seating.{is_kind, seat_at, seated_from, kinds_of, before_of, psus_after, smis_after, seated, kinds_of, fitted_as, fitted_views, FitsWhole, FitsOrStays}
+use Rattle.rack_run.specs.Seating.{LeavesOwn, is_kind, seat_at, seated_from, kinds_of, before_of, psus_after, smis_after, seated, kinds_of, fitted_as, fitted_views, FitsWhole, FitsOrStays}
 
 pub kind_of_is : (kind other : ChipKind) → is_kind kind other ≡ true → other ≡ kind
 kind_of_is Psu Psu e = refl
@@ -69,11 +73,32 @@ pub all_whole : (specs : List ChipSpec) (olds news : List ChipState) → Numbere
 all_whole specs olds news all = whole_from specs 0 olds news all
 
 -- a chip that is fitted as what sits in the next socket
-pub fits_seated : (specs : List ChipSpec) (socket : ℕ) (seat : ChipSpec) (old new : ChipState) → slice_get specs socket ≡ Some seat → Fits seat old new → IsWhole new.view → FitsWhole specs socket old new
-fits_seated specs socket seat old new is fits whole = record {
+pub fits_seated : (specs : List ChipSpec) (socket : ℕ) (seat : ChipSpec) (old new : ChipState) → slice_get specs socket ≡ Some seat → Fits seat old new → IsWhole new.view → LeavesOwn new.view →
+    FitsWhole specs socket old new
+fits_seated specs socket seat old new is fits whole ports = record {
   fits = λ spec lies. let same : Some seat ≡ Some spec = sym is ∙ lies in let seats : seat ≡ spec = cc in subst (λ (c : ChipSpec). Fits c old new) seats fits;
   whole = whole;
+  ports = ports;
 }
+
+-- a chip that is fitted leaves the processor its own ports
+fitted_leaves : (patch : Option (ℕ × ℕ)) (spec : ChipSpec) → IsSpec spec → LeavesOwn (fitted patch spec)
+fitted_leaves patch (Blank kind) is first e = cc
+fitted_leaves patch (PsuSpec base rom ports vector wired) is first e = let same : ports ≡ first = cc in omega (arith, is.above_cpu, same)
+fitted_leaves patch (SmiSpec pages rom wired) is first e = let same : 12 ≡ first = cc in omega (arith, same)
+
+pub leaves_own : (spec : ChipSpec) (old new : ChipState) → IsSpec spec → Fits spec old new → LeavesOwn new.view
+leaves_own spec old new is fits first e = fitted_leaves old.patch spec is first (ap (λ (v : ChipView). v.ports) (sym fits.view) ∙ e)
+
+ports_from : (specs : List ChipSpec) (n : ℕ) (olds news : List ChipState) → NumberedZip (FitsWhole specs) n olds news → (place : ℕ) (s : ChipState) → slice_get news place ≡ Some s → LeavesOwn s.view
+ports_from specs n [] [] all place s lies = cc
+ports_from specs n [] (y ∷ news) all place s lies = absurd all
+ports_from specs n (x ∷ olds) [] all place s lies = absurd all
+ports_from specs n (x ∷ olds) (y ∷ news) all zero s lies = let same : y ≡ s = cc in subst (λ (u : ChipState). LeavesOwn u.view) same all.0.ports
+ports_from specs n (x ∷ olds) (y ∷ news) all (suc place) s lies = ports_from specs (n + 1) olds news all.1 place s lies
+
+pub all_leave : (specs : List ChipSpec) (olds news : List ChipState) → NumberedZip (FitsWhole specs) 0 olds news → LeaveOwnPorts (map seat_of (views news))
+all_leave specs olds news all = leave_own_ports news (ports_from specs 0 olds news all)
 
 -- ---- the views of a rack that is fitted
 

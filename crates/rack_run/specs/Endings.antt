@@ -1,75 +1,99 @@
 -- How a run on a rack ends, as the program tells it, and what the rack is then; and how one on the flat instruction set alone ends.
-use Rattle.std.specs.Prelude.{◌≡◌, ℕ, ◌<◌, List, map, Option, Some, None}
+use Rattle.std.specs.Prelude.{◌≡◌, ◌≢◌, ℕ, ◌≤◌, ◌<◌, List, [], ◌∷◌, ◌++◌, length, map, Option, Some, None}
+use Rattle.std.specs.List.{sum_by}
 use Rattle.f8_spec.specs.ChipState.{ChipState}
+use Rattle.console_spec.specs.Writes.{Write}
 use Rattle.console_spec.specs.Processor.{State, shown}
-use Rattle.console_spec.specs.BusTrace.{TracedStep}
-use Rattle.console_spec.specs.Run.{Position, Stop, Done, Unserved, Reserved as ReservedStop, Unbuilt as UnbuiltStop, Ending as FlatEnding, Goes, Stops, next, turn_course, played, played_record, referred}
+use Rattle.console_spec.specs.Run.{Stop, Done, Unserved, Reserved as ReservedStop, Ending as FlatEnding}
+use Rattle.console_spec.specs.Scripts.{Script}
+use Rattle.console_spec.specs.Telling.{Moment, Telling, played_by, referred_by, told_in}
 use Rattle.chip_face.specs.declared.specification.ChipSpec.{ChipSpec}
 use Rattle.memory_map.specs.MapOf.{views_of}
 use Rattle.data_bus.specs.Racks.{views}
 use Rattle.f8_machine.specs.Faults.{fault_of}
-use Rattle.f8_machine.specs.MachineState.{MachineState}
-use Rattle.f8_machine.specs.Refinement.{Represents}
 use Rattle.f8_machine.specs.Rounds.{RackPowers, RackRuns, heard_of}
+use Rattle.outside.specs.Counts.{Rose}
+use Rattle.outside.specs.SinkRules.{Adds, AddsPart}
+use Rattle.rack_run.specs.Lives.{Lives}
+use Rattle.rack_run.specs.Texts.{is_traced, text_in}
+use Rattle.rack_run.specs.declared.detail.Detail.{Detail}
+use Rattle.rack_run.specs.declared.detail.Detail.TheVariants.{Writes}
 use Rattle.rack_run.specs.declared.ending.Ending.{Ending}
 use Rattle.rack_run.specs.declared.ending.Halt.{Halt}
-use Rattle.rack_run.specs.declared.ending.Halt.TheVariants.{Fault, Reserved, Unbuilt}
+use Rattle.rack_run.specs.declared.ending.Halt.TheVariants.{Fault, Reserved}
+use Rattle.rack_run.specs.declared.flat.ReferFault.{ReferFault}
+use Rattle.rack_run.specs.declared.flat.ReferFault.TheVariants.{Memory, Sink}
 
 abbrev pub stop_of : Halt → Stop
 stop_of (Fault fault) = Unserved (fault_of fault)
 stop_of (Reserved at code) = ReservedStop at code
-stop_of (Unbuilt at code) = UnbuiltStop at code
 
 abbrev pub stop_at : Option Halt → Stop
 stop_at None = Done
 stop_at (Some halt) = stop_of halt
 
--- the flat machine's state, as a machine tells it after so many instructions
-abbrev pub told_state : MachineState → ℕ → State
-told_state m count = record { flow = m.flow; registers = m.cpu.registers; count = count; phi = m.phi }
+-- the sum of the bytes that ports took
+abbrev pub bytes_written : List Write → ℕ
+bytes_written writes = sum_by (λ w. w.byte) writes
 
--- a state and a stop are told with registers, instructions and clocks
+-- a state and a stop are told with registers, instructions, clocks and writes
 pub record Tells (told : Ending) (state : State) (stop : Stop) : Type 0 where
   pub regs : told.regs ≡ shown state
   pub isar : told.regs.isar < 64
   pub halt : stop_at told.halt ≡ stop
   pub count : told.count ≡ state.count
   pub phi : told.phi ≡ state.phi
+  pub writes : told.writes ≡ length state.writes
+  pub bytes : told.bytes ≡ bytes_written state.writes
 
 -- a run is told as it ends
 abbrev pub TellsEnd : Ending → FlatEnding → Type 0
 TellsEnd told ending = Tells told ending.position.flat.state ending.stop
 
--- ---- one instruction
+-- ---- on a rack
 
--- it is done: the machine stands for the next position, and the rack has heard its steps
-pub record GoesOn (after : MachineState) (olds news : List ChipState) (x : Position) : Type 0 where
-  pub there : Position
-  pub turns : next x ≡ Goes there
-  pub represents : Represents after news there
-  pub ran : RackRuns (map heard_of (turn_course x).steps) olds news
+abbrev pub run_on : Detail → Script → List ChipState → Telling
+run_on detail script states = played_by (views states) (is_traced detail) script
 
--- it stops the run: registers and clocks stay, and the rack has heard its served steps
-pub record StopsAt (before after : MachineState) (olds news : List ChipState) (x : Position) (halt : Halt) : Type 0 where
-  pub turns : next x ≡ Stops (stop_of halt)
-  pub state : told_state after x.flat.state.count ≡ told_state before x.flat.state.count
-  pub ran : RackRuns (map heard_of (turn_course x).steps) olds news
-
--- ---- a run
-
--- it is told as it ends, and the rack has heard its record
-pub record PlaysOut (told : Ending) (ending : FlatEnding) (steps : List TracedStep) (olds news : List ChipState) : Type 0 where
-  pub tells : TellsEnd told ending
-  pub ran : RackRuns (map heard_of steps) olds news
-
--- a whole run: every chip is powered, and hears the record of the run
-pub record Plays (told : Ending) (fill count : ℕ) (olds news : List ChipState) : Type 0 where
+-- the run to its end: every chip is powered and lives through the moments of the run, and the sink was given all that is told
+pub record Plays (detail : Detail) (script : Script) (told : Ending) (olds news : List ChipState) (old new : Option (List ℕ)) : Type 0 where
   pub powered : List ChipState
-  pub powers : RackPowers fill olds powered
-  pub plays : PlaysOut told (played (views olds) fill count) (played_record (views olds) fill count) powered news
+  pub powers : RackPowers script.power olds powered
+  pub lived : Lives (run_on detail script olds).moments powered news
+  pub tells : TellsEnd told (run_on detail script olds).ending
+  pub lines : Adds old new (text_in detail (told_in (run_on detail script olds).moments))
+
+-- The sink failed at a line of one of some moments: those before it were lived through and told, its bus steps were heard, and no event
+-- behind it came.
+pub record CutShort (detail : Detail) (ms : List Moment) (olds news : List ChipState) (old new : Option (List ℕ)) : Type 0 where
+  pub before : List Moment
+  pub at : Moment
+  pub behind : List Moment
+  pub are : ms ≡ before ++ at ∷ behind
+  pub some : text_in detail at.told ≢ []
+  pub mids : List ChipState
+  pub lived : Lives before olds mids
+  pub heard : RackRuns (map heard_of at.heard) mids news
+  pub between : Option (List ℕ)
+  pub lines : Adds old between (text_in detail (told_in before))
+  pub part : AddsPart between new (text_in detail at.told)
+
+-- the run up to there
+pub record PlaysPart (detail : Detail) (script : Script) (olds news : List ChipState) (old new : Option (List ℕ)) : Type 0 where
+  pub powered : List ChipState
+  pub powers : RackPowers script.power olds powered
+  pub cut : CutShort detail (run_on detail script olds).moments powered news old new
+  pub part : AddsPart old new (text_in detail (told_in (run_on detail script olds).moments))
 
 -- ---- without a chip
 
--- a whole run on the flat instruction set alone, whose memory is that of the description's chips, each fitted without a patch
-abbrev pub Refers : Ending → List ChipSpec → ℕ → ℕ → Type 0
-Refers told chips fill count = TellsEnd told (referred (views_of chips) fill count)
+-- A whole run on the flat instruction set alone, whose memory is that of the description's chips, each fitted without a patch: the sink was
+-- given all that is told.
+pub record Refers (script : Script) (told : Ending) (chips : List ChipSpec) (old new : Option (List ℕ)) : Type 0 where
+  pub tells : TellsEnd told (referred_by (views_of chips) script).ending
+  pub lines : Adds old new (text_in Writes (told_in (referred_by (views_of chips) script).moments))
+
+-- where it came to no end: nothing was put where memory was wanting, and a first part where the sink failed
+abbrev pub ReferFails : ReferFault → Script → List ChipSpec → (old new : Option (List ℕ)) → (before now : ℕ) → Type 0
+ReferFails Memory script chips old new before now = (new ≡ old) × (now ≡ before)
+ReferFails Sink script chips old new before now = AddsPart old new (text_in Writes (told_in (referred_by (views_of chips) script).moments)) × (before ≤ now) × Rose before now

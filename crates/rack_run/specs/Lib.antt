@@ -1,3 +1,7 @@
+pub mod Texts
+pub mod Lives
+pub mod Progressing
 pub mod Endings
+pub mod Turns
 pub mod Seating
 pub mod Sockets

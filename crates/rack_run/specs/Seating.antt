@@ -1,6 +1,6 @@
 -- Which chip of a description sits in which socket of a rack, and what fitting makes of the rack. That the k-th chip of a kind goes to the
 -- k-th socket of that kind, and that all other sockets are blank, is this project's own.
-use Rattle.std.specs.Prelude.{◌≡◌, ℕ, ◌+◌, ◌⊎◌, Bool, true, false, List, [], ◌∷◌, map, slice_get, Option, Some, None}
+use Rattle.std.specs.Prelude.{◌≡◌, ℕ, ◌≤◌, ◌+◌, ◌⊎◌, Bool, true, false, List, [], ◌∷◌, map, slice_get, Option, Some, None}
 use Rattle.std.specs.List.{filter}
 use Rattle.data_bus.specs.Racks.{NumberedZip}
 use Rattle.f8_spec.specs.ChipState.{ChipView, ChipState, IsWhole}
@@ -54,10 +54,15 @@ abbrev pub smis_after : ChipKind → ℕ → ℕ
 smis_after Psu smis = smis
 smis_after Smi smis = smis + 1
 
--- the chip in a socket is fitted as what sits there, and has 256 bytes for each of its pages
+-- the ports of a chip begin above those of the processor's own
+abbrev pub LeavesOwn : ChipView → Type 0
+LeavesOwn v = (first : ℕ) → v.ports ≡ Some first → 2 ≤ first
+
+-- The chip in a socket is fitted as what sits there, has 256 bytes for each of its pages, and leaves the processor its own ports.
 pub record FitsWhole (specs : List ChipSpec) (socket : ℕ) (old new : ChipState) : Type 0 where
   pub fits : (spec : ChipSpec) → slice_get specs socket ≡ Some spec → Fits spec old new
   pub whole : IsWhole new.view
+  pub ports : LeavesOwn new.view
 
 -- every chip is fitted as what sits in its socket
 abbrev pub RackFits : List ChipSpec → List ChipState → List ChipState → Type 0

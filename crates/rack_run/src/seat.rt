@@ -1,20 +1,24 @@
 ghost use Rattle.std.specs.Prelude.{◌≡◌, ◌≢◌, ◌≤◌, ◌<◌, ◌+◌, length, map, slice_get, IfSome, OnOk, OnErr, Some, None, All};
+ghost use Rattle.f8_spec.specs.BusArbitration.{seat_of};
 ghost use Rattle.f8_spec.specs.ChipState.{IsWhole};
+ghost use Rattle.cpu3850.specs.OwnWrites.{LeaveOwnPorts};
 ghost use Rattle.data_bus.specs.Racks.{views};
 ghost use Rattle.chip_face.specs.Fitting.{Fits, IsSpec, kind_of};
 ghost use Rattle.f8_machine.specs.Refinement.{AreWhole};
-ghost use Rattle.rack_run.specs.Seating.{is_kind, of_kind, seat_at, before_of, psus_after, smis_after, seated, fitted_views, RackFits, RackFitsInPart};
+ghost use Rattle.rack_run.specs.Seating.{LeavesOwn, is_kind, of_kind, seat_at, before_of, psus_after, smis_after, seated, fitted_views, RackFits, RackFitsInPart};
 
 use chip_face::{Chip, ChipKind, ChipList, ChipSpec, FitFault, Memory};
 use data_bus::Rack;
 use std::alloc::Global;
 
 /// Fits a chip of the specification's kind, or is in want of memory. Then the chip is as it was.
+#[tactic(auto, using(crate::proofs::Seats::leaves_own))]
 fn fit_one(alloc: Global, chip: &mut Box<dyn Chip>, spec: &ChipSpec) -> Result<(), Memory>
     requires spec { IsSpec spec.now }
     requires kind { kind_of spec.now ≡ (state chip.old).view.kind }
     ensures fits { OnOk result (Fits spec.now (state chip.old) (state chip.new)) }
     ensures whole { OnOk result (IsWhole (state chip.new).view) }
+    ensures ports { OnOk result (LeavesOwn (state chip.new).view) }
     ensures same { OnErr result (state chip.new ≡ state chip.old) }
 {
     match chip.fit(alloc, spec) {
@@ -68,6 +72,7 @@ fn fit_socket(
     requires kind { kind ≡ (state chip.old).view.kind }
     ensures fits { OnOk result (Fits (seat_at chips.now kind before) (state chip.old) (state chip.new)) }
     ensures whole { OnOk result (IsWhole (state chip.new).view) }
+    ensures ports { OnOk result (LeavesOwn (state chip.new).view) }
     ensures same { OnErr result (state chip.new ≡ state chip.old) }
 {
     match nth_of_kind(chips, kind, before) {
@@ -95,6 +100,7 @@ fn fit_next(
     requires smis { sockets.old.smis < 16 }
     ensures fits { OnOk result (Fits (seat_at chips.now (state chip.old).view.kind (before_of (state chip.old).view.kind sockets.old.psus sockets.old.smis)) (state chip.old) (state chip.new)) }
     ensures whole { OnOk result (IsWhole (state chip.new).view) }
+    ensures ports { OnOk result (LeavesOwn (state chip.new).view) }
     ensures same { OnErr result (state chip.new ≡ state chip.old) }
     ensures psus { sockets.new.psus ≡ psus_after (state chip.old).view.kind sockets.old.psus }
     ensures smis { sockets.new.smis ≡ smis_after (state chip.old).view.kind sockets.old.smis }
@@ -122,6 +128,7 @@ pub fn fit_all(alloc: Global, chips: &ChipList, rack: &mut Rack) -> Result<(), M
     ensures fitted { OnOk result (RackFits (seated chips.now (map state rack.old.items)) (map state rack.old.items) (map state rack.new.items)) }
     ensures partly { OnErr result (RackFitsInPart (seated chips.now (map state rack.old.items)) (map state rack.old.items) (map state rack.new.items)) }
     ensures whole { OnOk result (AreWhole (map state rack.new.items)) }
+    ensures ports { OnOk result (LeaveOwnPorts (map seat_of (views (map state rack.new.items)))) }
     ensures views { OnOk result (views (map state rack.new.items) ≡ fitted_views chips.now (map state rack.old.items)) }
     ensures chips { length rack.new.items ≡ length rack.old.items }
 {

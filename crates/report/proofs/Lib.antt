@@ -1,1 +1,2 @@
+pub mod PictureRows
 pub mod TextLaws

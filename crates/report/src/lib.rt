@@ -1,6 +1,6 @@
 //! The lines that the program tells a run and its refusals by (this project's own), each on a buffer of its own, so that no writer takes
 //! memory. Every line is ASCII and ends with a line feed; numbers are decimal without leading zeros, or have a fixed number of
-//! hexadecimal capitals.
+//! hexadecimal capitals. Only the text of a picture's row is told as it's passed.
 #![tactic(auto)]
 
 mod line_buffer;
@@ -8,6 +8,7 @@ mod refusal_lines;
 mod run_lines;
 #[cfg(test)]
 mod tests;
+mod told_lines;
 
 pub use line_buffer::{LINE_ROOM, Line};
 pub use refusal_lines::{
@@ -16,5 +17,6 @@ pub use refusal_lines::{
 };
 pub use run_lines::{
     regs_line, scratch_line, stop_astray_line, stop_conflict_line, stop_done_line,
-    stop_reserved_line, stop_unbuilt_line, stop_undriven_line, total_line, verdict_line,
+    stop_reserved_line, stop_undriven_line, total_line, verdict_line,
 };
+pub use told_lines::{bus_fault_line, bus_line, frame_line, out_line, row_line};

@@ -1,7 +1,7 @@
 // The lines of a run, from its verdict to its total.
 ghost use Rattle.std.specs.Prelude.{◌≡◌, ◌<◌, ◌≤◌, length};
 ghost use Rattle.console_spec.specs.RunText.{verdict_line as spelled_verdict, stop_line as spelled_stop, regs_line as spelled_regs, scratch_line as spelled_scratch, total_line as spelled_total};
-ghost use Rattle.console_spec.specs.Run.{Done, Unserved, Reserved, Unbuilt};
+ghost use Rattle.console_spec.specs.Run.{Done, Unserved, Reserved};
 ghost use Rattle.console_spec.specs.Services.{Conflict, Undriven, Astray};
 
 use super::line_buffer::Line;
@@ -87,20 +87,6 @@ pub fn stop_reserved_line(at: u16, code: u8) -> Line
 {
     let mut line = Line::new();
     line.text(b"stop reserved ");
-    line.hex2(code);
-    line.text(b" at ");
-    line.hex4(at);
-    line.text(b"\n");
-    line
-}
-
-/// `stop unbuilt`: at this address stands an opcode that isn't built.
-#[tactic(auto, unfolding(console_spec::specs::RunText::stop_line))]
-pub fn stop_unbuilt_line(at: u16, code: u8) -> Line
-    ensures { result ≡ spelled_stop (Unbuilt at code) }
-{
-    let mut line = Line::new();
-    line.text(b"stop unbuilt ");
     line.hex2(code);
     line.text(b" at ");
     line.hex4(at);

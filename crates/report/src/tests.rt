@@ -1,5 +1,5 @@
 use super::*;
-use console_spec::Regs;
+use console_spec::{Regs, Who};
 use f8_spec::{ChipKind, Party};
 use std::process::Abort;
 
@@ -106,11 +106,6 @@ fn stops_at_one_place(rt: HostRuntime) {
         &stop_reserved_line(0xFFFE, 0xFF),
         "stop reserved FF at FFFE\n",
     );
-    tells(
-        &rt,
-        &stop_unbuilt_line(0x0000, 0xB4),
-        "stop unbuilt B4 at 0000\n",
-    );
 }
 
 #[test]
@@ -138,6 +133,33 @@ fn registers(rt: HostRuntime) {
         "s10 5A 0F 5A 5A 5A 5A 5A 5A 5A 5A 5A 5A 5A 5A 5A 5A\n",
     );
     tells(&rt, &total_line(6, 102), "total 6 instructions 102 phi\n");
+}
+
+#[test]
+fn bus_steps(rt: HostRuntime) {
+    let idle = bus_line(0x1C, false, 0x00, Who::Nobody);
+    tells(&rt, &idle, "bus 1C S 00 -\n");
+    let by_cpu = bus_line(0x08, true, 0x00, Who::Cpu);
+    tells(&rt, &by_cpu, "bus 08 L 00 cpu\n");
+    let by_socket = bus_line(0x00, false, 0x71, Who::Socket(0));
+    tells(&rt, &by_socket, "bus 00 S 71 0\n");
+    tells(&rt, &bus_fault_line(0x02, true), "bus 02 L -- fault\n");
+}
+
+#[test]
+fn writes_and_frames(rt: HostRuntime) {
+    tells(&rt, &out_line(32, 0x00, 0x20), "out 32 00 20\n");
+    tells(&rt, &frame_line(1, 29_840, 0), "frame 1 phi 29840 tone 0\n");
+    let mut text = [b'0'; 130];
+    text[0] = b'1';
+    text[1] = b' ';
+    text[127] = b'3';
+    text[129] = b'3';
+    tells(
+        &rt,
+        &row_line(&text),
+        "1 00000000000000000000000000000000000000000000000000000000000000000000000000000000000000000000000000000000000000000000000000000303\n",
+    );
 }
 
 #[test]

@@ -4,7 +4,7 @@ use Rattle.std.specs.Prelude.{replicate}
 use Rattle.std.specs.List.{range_with_len}
 use Rattle.std.proofs.lemmas.List.{length-replicate, get_or-replicate, get_or_past}
 use Rattle.std.proofs.lemmas.Bool.{cases_lt}
-use Rattle.video.specs.Display.{rises_from, rises, pixel_of}
+use Rattle.console_spec.specs.Display.{pixel_of}
 use Rattle.video.specs.ScreenState.{rows_of, pixel_in}
 
 abbrev zeros : ℕ → List ℕ
@@ -30,6 +30,6 @@ map-constant v a (suc n) = ap (λ vs. v ∷ vs) (map-constant v (a + 1) n)
 zero_rows : (width height : ℕ) → replicate height (zeros width) ≡ map (λ y. map (λ x. 0) (range_with_len 0 width)) (range_with_len 0 height)
 zero_rows width height = sym (map-constant (map (λ x. 0) (range_with_len 0 width)) 0 height ∙ ap (replicate height) (map-constant 0 0 width))
 
-pub rows_of-dark : replicate 64 (zeros 128) ≡ rows_of (pixel_of [])
-unfolding rows_of pixel_of rises rises_from
+pub rows_of-dark : replicate 64 (zeros 128) ≡ rows_of (λ x y. pixel_of x y [])
+unfolding rows_of
 rows_of-dark = zero_rows 128 64

@@ -2,7 +2,7 @@
 use Rattle.std.proofs.Common.{◌≡◌, ℕ, ◌+◌, ◌<◌, suc, List, [], ◌∷◌, length, get_or, map, sym, ap, ◌∙◌, arith}
 use Rattle.std.specs.List.{range_with_len}
 use Rattle.std.proofs.lemmas.List.FromFn.{fill_by_all}
-use Rattle.video.specs.Display.{palette_in, digits_in}
+use Rattle.video.specs.ScreenState.{palette_in, digits_in}
 
 -- two bytes, and then one for each index
 headed : (text : List ℕ) (n a b : ℕ) (f : ℕ → ℕ) → length text ≡ n + 2 → get_or text 0 0 ≡ a → get_or text 1 0 ≡ b →

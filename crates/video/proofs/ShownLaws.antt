@@ -1,14 +1,17 @@
 -- What is shown after some writes, and after one more.
 use Rattle.std.proofs.Common.{◌≡◌, ◌≢◌, ℕ, ◌+◌, ◌<◌, true, false, List, [], ◌∷◌, ◌++◌, length, get_or, set, map, refl, sym, ap, ◌∙◌, arith, ⊎_elim, eq-eqb, lit<}
-use Rattle.std.specs.Prelude.{◌==◌, if◌then◌else◌}
+use Rattle.std.specs.Prelude.{Bool, ◌&&◌, ◌==◌, if◌then◌else◌, codes}
 use Rattle.std.specs.List.{range_with_len}
+use Rattle.std.proofs.lemmas.Simd.{map-map}
 use Rattle.std.proofs.lemmas.List.{length-set, get_or-set_same, get_or-set_other}
 use Rattle.std.proofs.lemmas.Bool.{cases_eq}
 use Rattle.std.proofs.lemmas.Grind.{common_steps}
 use Rattle.std.proofs.lemmas.List.FromFn.{length-map-range_with_len, get_or-map-range_with_len, fill_by_all}
-use Rattle.video.specs.Display.{Write, Latches, latch_of, latches_of, is_bit_set, colour_drawn, x_drawn, y_drawn, is_rise, is_drawn_at, pixel_of, palette_in, palette_of, digits_in, row_digits}
-use Rattle.video.specs.ScreenState.{Shown, rows_of, shown, row_in, pixel_in, drawn, after_write}
-use Rattle.video.proofs.DisplayLaws.{latch_of-push, pixel_of-push}
+use Rattle.console_spec.specs.Writes.{Write, latch_of}
+use Rattle.console_spec.specs.Display.{is_raised, is_rise, pixel_of, palette_of}
+use Rattle.console_spec.specs.RunText.{picture_row}
+use Rattle.video.specs.ScreenState.{Latches, Shown, rows_of, latches_of, shown, row_in, pixel_in, palette_in, digits_in, colour_drawn, x_drawn, y_drawn, drawn, after_write}
+use Rattle.video.proofs.DisplayLaws.{pixel_of-next}
 
 -- ---- rows made of colours
 
@@ -43,6 +46,9 @@ set-made {X} f g n i v inside here elsewhere =
     (λ differs. get_or-set_other xs i k v v differs ∙ get_or-map-range_with_len f 0 n k k v h (omega arith) ∙ sym (elsewhere k h differs))
     (cases_eq k i))
 
+abbrev is_drawn_at : ℕ → ℕ → Latches → Bool
+is_drawn_at x y l = (x_drawn l == x) && (y_drawn l == y)
+
 -- the colours with one more pixel
 abbrev with_pixel : Latches → (ℕ → ℕ → ℕ) → ℕ → ℕ → ℕ
 with_pixel l p x y = if is_drawn_at x y l then colour_drawn l else p x y
@@ -71,53 +77,65 @@ drawn-rows_of l p =
 
 -- ---- one more write
 
-rows-push : (ws : List Write) (w : Write) →
-    (if is_rise ws w then drawn (latches_of ws) (rows_of (pixel_of ws)) else rows_of (pixel_of ws)) ≡ rows_of (pixel_of (ws ++ w ∷ []))
-rows-push ws w =
-    elim (is_rise ws w) as (λ b. (if b then drawn (latches_of ws) (rows_of (pixel_of ws)) else rows_of (pixel_of ws))
-    ≡ rows_of (λ x y. if b then with_pixel (latches_of ws) (pixel_of ws) x y else pixel_of ws x y)) [
-      | true ↦ drawn-rows_of (latches_of ws) (pixel_of ws)
+abbrev pixels_of : List Write → ℕ → ℕ → ℕ
+pixels_of ws x y = pixel_of x y ws
+
+rows-next : (w : Write) (ws : List Write) →
+    (if is_rise w ws then drawn (latches_of ws) (rows_of (pixels_of ws)) else rows_of (pixels_of ws)) ≡ rows_of (pixels_of (w ∷ ws))
+rows-next w ws =
+    elim (is_rise w ws) as (λ b. (if b then drawn (latches_of ws) (rows_of (pixels_of ws)) else rows_of (pixels_of ws))
+    ≡ rows_of (λ x y. if b then with_pixel (latches_of ws) (pixels_of ws) x y else pixels_of ws x y)) [
+      | true ↦ drawn-rows_of (latches_of ws) (pixels_of ws)
       | false ↦ refl
     ]
-    ∙ rows_of-same _ (pixel_of (ws ++ w ∷ [])) (λ x y h k. sym (pixel_of-push ws w x y))
+    ∙ rows_of-same _ (pixels_of (w ∷ ws)) (λ x y h k. sym (pixel_of-next w ws x y))
 
-strobe-push : (ws : List Write) (w : Write) → (if w.port == 0 then is_bit_set 5 w.byte else is_bit_set 5 (latch_of 0 ws)) ≡ is_bit_set 5 (latch_of 0 (ws ++ w ∷ []))
-strobe-push ws w =
-    rw (latch_of-push 0 ws w)
-    (elim (w.port == 0) as (λ b. (if b then is_bit_set 5 w.byte else is_bit_set 5 (latch_of 0 ws)) ≡ is_bit_set 5 (if b then w.byte else latch_of 0 ws)) [
+strobe-next : (w : Write) (ws : List Write) → (if w.port == 0 then is_raised w.byte else is_raised (latch_of 0 ws)) ≡ is_raised (latch_of 0 (w ∷ ws))
+strobe-next w ws =
+    elim (w.port == 0) as (λ b. (if b then is_raised w.byte else is_raised (latch_of 0 ws)) ≡ is_raised (if b then w.byte else latch_of 0 ws)) [
       | true ↦ refl
       | false ↦ refl
-    ])
+    ]
 
 -- what is shown after one more write is by what was shown before
-pub after_write-shown : (ws : List Write) (w : Write) → after_write w (shown ws) ≡ shown (ws ++ w ∷ [])
+pub after_write-shown : (w : Write) (ws : List Write) → after_write w.port w.byte (shown ws) ≡ shown (w ∷ ws)
 unfolding after_write
-after_write-shown ws w =
-    let colour : latch_of 1 (ws ++ w ∷ []) ≡ (if w.port == 1 then w.byte else latch_of 1 ws) = latch_of-push 1 ws w in
-    let column : latch_of 4 (ws ++ w ∷ []) ≡ (if w.port == 4 then w.byte else latch_of 4 ws) = latch_of-push 4 ws w in
-    let row : latch_of 5 (ws ++ w ∷ []) ≡ (if w.port == 5 then w.byte else latch_of 5 ws) = latch_of-push 5 ws w in
-    let strobe : (if w.port == 0 then is_bit_set 5 w.byte else is_bit_set 5 (latch_of 0 ws)) ≡ is_bit_set 5 (latch_of 0 (ws ++ w ∷ [])) = strobe-push ws w in
-    let rows : (if is_rise ws w then drawn (latches_of ws) (rows_of (pixel_of ws)) else rows_of (pixel_of ws)) ≡ rows_of (pixel_of (ws ++ w ∷ [])) = rows-push ws w in
-    rw (colour, column, row, ← strobe, ← rows) refl
+after_write-shown w ws =
+    let strobe : (if w.port == 0 then is_raised w.byte else is_raised (latch_of 0 ws)) ≡ is_raised (latch_of 0 (w ∷ ws)) = strobe-next w ws in
+    let rows : (if is_rise w ws then drawn (latches_of ws) (rows_of (pixels_of ws)) else rows_of (pixels_of ws)) ≡ rows_of (pixels_of (w ∷ ws)) = rows-next w ws in
+    ap (λ b. record { latches = latches_of (w ∷ ws); strobe = b; rows = (after_write w.port w.byte (shown ws)).rows }) strobe
+    ∙ ap (λ r. record { latches = latches_of (w ∷ ws); strobe = is_raised (latch_of 0 (w ∷ ws)); rows = r }) rows
 
-pub goes_on : (now after : Shown) (w : Write) (ws : List Write) → after ≡ after_write w now → now ≡ shown ws → after ≡ shown (ws ++ w ∷ [])
-goes_on now after w ws next before = next ∙ ap (after_write w) before ∙ after_write-shown ws w
+pub goes_on : (now after : Shown) (w : Write) (ws : List Write) → after ≡ after_write w.port w.byte now → now ≡ shown ws → after ≡ shown (w ∷ ws)
+goes_on now after w ws next before = next ∙ ap (after_write w.port w.byte) before ∙ after_write-shown w ws
 
 -- ---- what is told of it
 
-pub shown_pixel : (s : Shown) (ws : List Write) (x y : ℕ) → s ≡ shown ws → x < 128 → y < 64 → pixel_in s.rows x y ≡ pixel_of ws x y
-shown_pixel s ws x y e inside below = ap (λ t. pixel_in t.rows x y) e ∙ pixel_in-rows_of (pixel_of ws) x y inside below
+pub shown_pixel : (s : Shown) (ws : List Write) (x y : ℕ) → s ≡ shown ws → x < 128 → y < 64 → pixel_in s.rows x y ≡ pixel_of x y ws
+shown_pixel s ws x y e inside below = ap (λ t. pixel_in t.rows x y) e ∙ pixel_in-rows_of (pixels_of ws) x y inside below
 
-pub shown_palette : (s : Shown) (ws : List Write) (y : ℕ) → s ≡ shown ws → y < 64 → palette_in (pixel_in s.rows) y ≡ palette_of ws y
+pub shown_palette : (s : Shown) (ws : List Write) (y : ℕ) → s ≡ shown ws → y < 64 → palette_in (pixel_in s.rows) y ≡ palette_of y ws
 shown_palette s ws y e below =
-    let first : pixel_in s.rows 125 y ≡ pixel_of ws 125 y = shown_pixel s ws 125 y e (lit< tt) below in
-    let second : pixel_in s.rows 126 y ≡ pixel_of ws 126 y = shown_pixel s ws 126 y e (lit< tt) below in
+    let first : pixel_in s.rows 125 y ≡ pixel_of 125 y ws = shown_pixel s ws 125 y e (lit< tt) below in
+    let second : pixel_in s.rows 126 y ≡ pixel_of 126 y ws = shown_pixel s ws 126 y e (lit< tt) below in
     rw (first, second) refl
 
-pub shown_digits : (s : Shown) (ws : List Write) (y : ℕ) → s ≡ shown ws → y < 64 → digits_in (pixel_in s.rows) y ≡ row_digits ws y
+digits_in-row : (ws : List Write) (y : ℕ) → digits_in (pixels_of ws) y ++ codes "\n" ≡ picture_row y ws
+unfolding digits_in picture_row
+digits_in-row ws y =
+    ap (λ ds. ((48 + palette_of y ws) ∷ 32 ∷ ds) ++ codes "\n") (sym (map-map (λ colour. 48 + colour) (λ x. pixel_of x y ws) (range_with_len 0 128)))
+
+digits_in-same : (p q : ℕ → ℕ → ℕ) (y : ℕ) → ((x : ℕ) → x < 128 → p x y ≡ q x y) → digits_in p y ≡ digits_in q y
 unfolding digits_in
-shown_digits s ws y e below =
-    let palette : palette_in (pixel_in s.rows) y ≡ palette_of ws y = shown_palette s ws y e below in
-    let pixels : map (λ x. 48 + pixel_in s.rows x y) (range_with_len 0 128) ≡ map (λ x. 48 + pixel_of ws x y) (range_with_len 0 128) =
-    map-same (λ x. 48 + pixel_in s.rows x y) (λ x. 48 + pixel_of ws x y) 128 0 (λ x h. ap (λ p. 48 + p) (shown_pixel s ws x y e h below)) in
+digits_in-same p q y same =
+    let first : p 125 y ≡ q 125 y = same 125 (lit< tt) in
+    let second : p 126 y ≡ q 126 y = same 126 (lit< tt) in
+    let pixels : map (λ x. 48 + p x y) (range_with_len 0 128) ≡ map (λ x. 48 + q x y) (range_with_len 0 128) =
+    map-same (λ x. 48 + p x y) (λ x. 48 + q x y) 128 0 (λ x h. ap (λ k. 48 + k) (same x h)) in
     cc
+
+-- a row's text with a line feed is its line
+pub shown_digits : (s : Shown) (ws : List Write) (y : ℕ) (text : List ℕ) →
+    s ≡ shown ws → y < 64 → text ≡ digits_in (pixel_in s.rows) y → text ++ codes "\n" ≡ picture_row y ws
+shown_digits s ws y text e below told =
+    ap (λ t. t ++ codes "\n") (told ∙ digits_in-same (pixel_in s.rows) (pixels_of ws) y (λ x h. shown_pixel s ws x y e h below)) ∙ digits_in-row ws y

@@ -1,2 +1,1 @@
-pub mod Display
 pub mod ScreenState

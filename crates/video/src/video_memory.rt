@@ -36,9 +36,11 @@ impl Model for Screen {
 }
 
 impl Screen {
-    ghost use Rattle.std.specs.Prelude.{◌≡◌, ◌<◌, List, [], ◌∷◌, ◌++◌};
-    ghost use Rattle.video.specs.Display.{Write, pixel_of, palette_in, palette_of, digits_in, row_digits, tone_by, tone_of};
-    ghost use Rattle.video.specs.ScreenState.{pixel_in, shown, drawn, after_write};
+    ghost use Rattle.std.specs.Prelude.{◌≡◌, ℕ, ◌/◌, ◌<◌, List, [], ◌∷◌, ◌++◌, codes};
+    ghost use Rattle.console_spec.specs.Writes.{Write};
+    ghost use Rattle.console_spec.specs.Display.{pixel_of, palette_of, tone_of};
+    ghost use Rattle.console_spec.specs.RunText.{picture_row};
+    ghost use Rattle.video.specs.ScreenState.{pixel_in, palette_in, digits_in, shown, drawn, after_write};
 
     /// A screen at power-on: every pixel and every latch is 0.
     pub fn dark() -> Screen
@@ -55,8 +57,8 @@ impl Screen {
 
     /// Takes a write to a port. Ports 1, 4 and 5 are latched, a rise of bit 5 of port 0 draws a pixel, and other ports change nothing.
     pub fn port(&mut self, port: u8, byte: u8)
-        ensures next { self.new ≡ after_write (record { port = port; byte = byte }) self.old }
-        ensures display { (ws : List Write) → self.old ≡ shown ws → self.new ≡ shown (ws ++ record { port = port; byte = byte } ∷ []) }
+        ensures next { self.new ≡ after_write port byte self.old }
+        ensures display { (phi : ℕ) (ws : List Write) → self.old ≡ shown ws → self.new ≡ shown (record { phi = phi; port = port; byte = byte } ∷ ws) }
     {
         match port {
             0 => self.take_strobe(byte),
@@ -70,7 +72,7 @@ impl Screen {
     /// Takes a write to port 0.
     #[tactic(auto, unfolding(crate::specs::ScreenState::after_write))]
     fn take_strobe(&mut self, byte: u8)
-        ensures { self.new ≡ after_write (record { port = 0; byte = byte }) self.old }
+        ensures { self.new ≡ after_write 0 byte self.old }
     {
         let set = byte / 32 % 2 == 1;
         if set && !self.strobe {
@@ -94,25 +96,26 @@ impl Screen {
         requires row { y < 64 }
         ensures value { result ≡ pixel_in self.now.rows x y }
         ensures colour { result < 4 }
-        ensures display { (ws : List Write) → self.now ≡ shown ws → result ≡ pixel_of ws x y }
+        ensures display { (ws : List Write) → self.now ≡ shown ws → result ≡ pixel_of x y ws }
     {
         self.pixels[usize::from(y)][usize::from(x)]
     }
 
-    /// The palette of a row, from 0 to 3: bit 1 of its pixel 125, and twice bit 1 of its pixel 126. `y` is below 64.
+    /// The palette of a row, from 0 to 3: the high bit of its pixel 125, and twice that of its pixel 126. `y` is below 64.
     pub fn palette(&self, y: u8) -> u8
         requires { y < 64 }
         ensures value { result ≡ palette_in (pixel_in self.now.rows) y }
-        ensures display { (ws : List Write) → self.now ≡ shown ws → result ≡ palette_of ws y }
+        ensures number { result < 4 }
+        ensures display { (ws : List Write) → self.now ≡ shown ws → result ≡ palette_of y ws }
     {
-        u8::from(self.pixel(125, y) / 2 % 2 == 1) + 2 * u8::from(self.pixel(126, y) / 2 % 2 == 1)
+        self.pixel(125, y) / 2 + 2 * (self.pixel(126, y) / 2)
     }
 
     /// The text of a row: the digit of its palette, a blank, and the digits of its 128 pixels from x 0 on. `y` is below 64.
     pub fn row_text(&self, y: u8) -> [u8; 130]
         requires { y < 64 }
         ensures value { result ≡ digits_in (pixel_in self.now.rows) y }
-        ensures display { (ws : List Write) → self.now ≡ shown ws → result ≡ row_digits ws y }
+        ensures display { (ws : List Write) → self.now ≡ shown ws → result ++ codes "\n" ≡ picture_row y ws }
     {
         let mut text = [b' '; 130];
         text[0] = b'0' + self.palette(y);
@@ -124,7 +127,8 @@ impl Screen {
 
     /// The number of the tone, from 0 to 3: the high two bits of the latch of port 5.
     pub fn tone(&self) -> u8
-        ensures value { result ≡ tone_by self.now.latches.row }
+        ensures value { result ≡ self.now.latches.row / 64 }
+        ensures number { result < 4 }
         ensures display { (ws : List Write) → self.now ≡ shown ws → result ≡ tone_of ws }
     {
         self.row / 64

@@ -8,10 +8,10 @@ returns-in-Ok-clause-answers g c =
 
 pub returns-in-Ok-clause-rack : goal.returns-in-Ok-clause-rack
 returns-in-Ok-clause-rack g c =
-    plays_fitted _ _ _ _ _ _ _ c.in-Ok.ensures.fitted c.in-Ok.ensures.views (no_memory_from _ _ (status_not_memory _) c.play_fitted.ensures.reports.which) c.play_fitted.ensures.rack
+    plays_fitted _ _ _ _ _ _ _ _ c.in-Ok.ensures.fitted c.in-Ok.ensures.views (no_memory_from _ _ (status_not_memory _) c.play_fitted.ensures.reports.which) c.play_fitted.ensures.rack
 
 pub returns-in-Err-clause-answers : goal.returns-in-Err-clause-answers
 returns-in-Err-clause-answers g c = answers_wanting _ _ _
 
 pub returns-in-Err-clause-rack : goal.returns-in-Err-clause-rack
-returns-in-Err-clause-rack g c = plays_wanting _ _ _ _ _ c.in-Err.ensures.partly
+returns-in-Err-clause-rack g c = plays_wanting _ _ _ _ _ _ c.in-Err.ensures.partly

@@ -10,7 +10,7 @@ use Rattle.clap.specs.Values.{kind_of}
 use Rattle.clap.specs.declared.error.kind.ErrorKind.TheVariants.{OutOfMemory}
 use Rattle.clap.proofs.TakesLemmas.{passed_up}
 use Rattle.clap.proofs.WalkLemmas.{first_value-rows}
-use Rattle.command_line.specs.CommandLine.{plain, two_of}
+use Rattle.command_line.specs.CommandLine.{two_of}
 use Rattle.command_line.specs.Seen.{seen_files}
 use Rattle.command_line.proofs.TwoFiles.{both_files, both_given, files_app, two_files_free, two_files_read, two_files_simple}
 use Rattle.command_line.proofs.Parsed.{given_is, refused_is, words_utf8}
@@ -38,9 +38,9 @@ returns-in_err-matches-clause-refused c =
     let app_is : app_of c.in_ok-command.command ≡ files_app name = c.in_ok-command.ensures.shape c.wanted-2.ensures.local
     ∙ ap₂ with_rule (c.in_ok-arg.ensures.shape c.wanted.ensures.local ∙ ap₂ with_rule c.bare.ensures c.wanted.ensures.rule) c.wanted-2.ensures.rule in
     let kinds = subst (λ a. HasKind (fault_of a words) c.in_err-matches.field-0.0) app_is (c.in_err-matches.ensures.kinds (ap is_simple_and_free app_is ∙ two_files_free name)) in
-    passed_up c.from_residual-in_err-matches.result c.in_err-matches.field-0.0 (λ e. (kind_of e ≡ OutOfMemory) ⊎ (two_of (plain (drop 1 words)) ≡ None))
+    passed_up c.from_residual-in_err-matches.result c.in_err-matches.field-0.0 (λ e. (kind_of e ≡ OutOfMemory) ⊎ (two_of (drop 1 words) ≡ None))
     c.from_residual-in_err-matches.ensures.1
-    (refused_is both_files both_given (fault_of (files_app name) words) (matches_of (files_app name) words) (two_of (plain (drop 1 words))) (two_files_read name words (words_utf8 c.args.words.now)) c.in_err-matches.field-0.0 kinds)
+    (refused_is both_files both_given (fault_of (files_app name) words) (matches_of (files_app name) words) (two_of (drop 1 words)) (two_files_read name words (words_utf8 c.args.words.now)) c.in_err-matches.field-0.0 kinds)
 
 pub returns-clause-files : goal.returns-clause-files
 returns-clause-files c =
@@ -52,6 +52,6 @@ returns-clause-files c =
     let rows = (c.in_ok-matches.ensures.matches (ap is_simple app_is ∙ two_files_simple name)).0 ∙ ap (λ a. matches_of a words) app_is in
     let cart = c.get_str.ensures ∙ first_value-rows (found_of c.in_ok-matches.matches) _ in
     let script = c.get_str-2.ensures ∙ first_value-rows (found_of c.in_ok-matches.matches) _ in
-    let both = given_is both_files both_given (fault_of (files_app name) words) (matches_of (files_app name) words) (two_of (plain (drop 1 words))) (two_files_read name words (words_utf8 c.args.words.now)) none in
+    let both = given_is both_files both_given (fault_of (files_app name) words) (matches_of (files_app name) words) (two_of (drop 1 words)) (two_files_read name words (words_utf8 c.args.words.now)) none in
     ap (option_map seen_files) c.zip.ensures
-    ∙ zip_is c.get_str.result c.get_str-2.result (two_of (plain (drop 1 words))) _ _ (both ∙ ap Some (ap both_files (sym rows))) cart script
+    ∙ zip_is c.get_str.result c.get_str-2.result (two_of (drop 1 words)) _ _ (both ∙ ap Some (ap both_files (sym rows))) cart script

@@ -98,7 +98,7 @@ loop-index-preserved g c =
 pub returns-clause-done : goal.returns-clause-done
 returns-clause-done g c = λ op x holds.
     let past : length c.args.plan.now ≤ c.loop-index.index = search rules in
-    remaining_ends c.args.cpu.now c.loop-index.cpu c.loop-index.probe _ c.loop-index.steps op x c.args.plan.now c.loop-index.index past (c.loop-index.invariant.left op x holds)
+    remaining_ends c.args.cpu.now c.loop-index.cpu c.loop-index.probe _ c.loop-index.steps op x c.args.plan.now c.loop-index.index past (c.loop-index.invariant.left op x holds) holds.free
 
 pub returns-clause-ran : goal.returns-clause-ran
 returns-clause-ran g c = c.loop-index.invariant.ran

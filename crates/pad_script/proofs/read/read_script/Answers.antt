@@ -4,6 +4,7 @@ use Rattle.std.proofs.lemmas.List.{nil_from_length}
 use Rattle.std.proofs.lemmas.Result.{err_from_is_err_and}
 use Rattle.pad_script.specs.Lines.{lines}
 use Rattle.pad_script.specs.Reading.{finished, script_of}
+use Rattle.pad_script.proofs.Limits.{limited_answer}
 use Rattle.pad_script.proofs.LineSteps.{read_to_end, read_more, read_stops}
 use Rattle.pad_script.proofs.Told.{told_answer}
 use Rattle.pad_script.proofs.read.read_script.Goals as goal
@@ -27,7 +28,7 @@ returns-clause-script c =
     rw whole c.finish.ensures.script
 
 pub returns-clause-told : goal.returns-clause-told
-returns-clause-told c =
-    let none : c.loop-rest.rest.now ≡ [] = nil_from_length c.loop-rest.rest.now (grind (arith, nat_tests)) in
-    let whole : script_of c.args.text.now ≡ finished c.loop-rest.number c.loop-rest.draft = sym c.loop-rest.invariant.is ∙ rw none (read_to_end c.loop-rest.number c.loop-rest.draft) in
-    told_answer c.args.text.now c.finish.result (rw whole c.finish.ensures.script)
+returns-clause-told c = told_answer c.args.text.now c.finish.result (returns-clause-script c)
+
+pub returns-clause-ends : goal.returns-clause-ends
+returns-clause-ends c = limited_answer c.args.text.now c.finish.result (returns-clause-script c)

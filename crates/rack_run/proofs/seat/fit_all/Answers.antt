@@ -1,7 +1,7 @@
 -- Each chip is fitted by its socket, and the chips behind it are as they were.
 use Rattle.std.proofs.Common.{◌≡◌, ◌∙◌, ◌+◌, ◌<◌, ◌≤◌, inr, length, refl, ap, vec_len, arith, add-one}
 use Rattle.data_bus.proofs.Racks.{changed-none, changed-more, changed-written, unchanged_at}
-use Rattle.rack_run.proofs.Seats.{counted_here, counted_more, kinds_from, all_whole, fits_seated, views_fitted, partly_written, widened}
+use Rattle.rack_run.proofs.Seats.{counted_here, counted_more, kinds_from, all_whole, all_leave, fits_seated, views_fitted, partly_written, widened}
 use Rattle.std.proofs.Math.ListN.{set, length-set}
 use Rattle.std.proofs.lemmas.Result.{err_from_is_err_and}
 use Rattle.rack_run.specs.Seating.{FitsOrStays}
@@ -32,7 +32,7 @@ loop-chip-preserved g c =
           (counted_more c.as_slice-chips.result.now _ _ c.loop-chip.chip-index c.loop-chip.sockets.psus c.loop-chip.sockets.smis _ _ kinds c.loop-chip.invariant.counted);
       changed = changed-more (λ b. (goal.Chip-dyn g (b.vtable, b.value)).state b.value) _ c.deref_mut-chip-items.result.now c.loop-chip.chip-items c.loop-chip.chip-index c.chip-item.result
           c.fit_next.new.chip c.loop-chip-test.true c.loop-chip.auto.chip-items c.loop-chip.invariant.changed
-          (fits_seated _ c.loop-chip.chip-index _ _ _ seat c.in_ok-fit_next.ensures.fits c.in_ok-fit_next.ensures.whole);
+          (fits_seated _ c.loop-chip.chip-index _ _ _ seat c.in_ok-fit_next.ensures.fits c.in_ok-fit_next.ensures.whole c.in_ok-fit_next.ensures.ports);
     }
 
 pub returns-clause-fitted : goal.returns-clause-fitted
@@ -52,6 +52,15 @@ returns-clause-whole g c =
     let fitted = changed-written (λ b. (goal.Chip-dyn g (b.vtable, b.value)).state b.value) _ c.args.rack.now.items c.loop-chip.chip-items _ c.loop-chip.chip-index count long past
     (rw c.deref_mut-chip-items.ensures.value at c.loop-chip.invariant.changed) in
     all_whole _ _ _ fitted
+
+pub returns-clause-ports : goal.returns-clause-ports
+returns-clause-ports g c =
+    let long : length c.loop-chip.chip-items ≡ length c.args.rack.now.items = rw c.deref_mut-chip-items.ensures.value at c.loop-chip.auto.chip-items in
+    let count : length c.args.rack.now.items ≡ vec_len c.args.rack.now = rw c.deref_mut-chip-items.ensures.value at c.deref_mut-chip-items.ensures.len in
+    let past : length c.args.rack.now.items ≤ c.loop-chip.chip-index = rw c.deref_mut-chip-items.ensures.value at c.loop-chip-test.false in
+    let fitted = changed-written (λ b. (goal.Chip-dyn g (b.vtable, b.value)).state b.value) _ c.args.rack.now.items c.loop-chip.chip-items _ c.loop-chip.chip-index count long past
+    (rw c.deref_mut-chip-items.ensures.value at c.loop-chip.invariant.changed) in
+    all_leave _ _ _ fitted
 
 pub returns-clause-views : goal.returns-clause-views
 returns-clause-views g c =

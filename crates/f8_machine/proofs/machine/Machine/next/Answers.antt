@@ -2,8 +2,5 @@
 use Rattle.f8_machine.proofs.RackLaws.{rack_runs_none}
 use Rattle.f8_machine.proofs.machine.Machine.next.Goals as goal
 
-pub returns-then-not-is_built-clause-ran : goal.returns-then-not-is_built-clause-ran
-returns-then-not-is_built-clause-ran g c = rack_runs_none 0 _
-
 pub returns-in-Err-clause-ran : goal.returns-in-Err-clause-ran
 returns-in-Err-clause-ran g c = rack_runs_none 0 _

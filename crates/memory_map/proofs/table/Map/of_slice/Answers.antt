@@ -11,5 +11,11 @@ loop-number-preserved c =
 pub returns : goal.returns
 returns c =
     let end : c.loop-number.number ≡ 256 = omega arith in
-    IsMapOf-all c.args.chips.now (record { pages = c.loop-number.pages; bytes = c.loop-number.bytes.items }) c.requires.specified
-    (rw end at c.loop-number.invariant)
+    IsMapOf-all c.args.chips.now
+    (record {
+      pages = c.loop-number.pages;
+      bytes = c.loop-number.bytes.items;
+      readers = c.all_readers.result;
+      takers = c.all_takers.result;
+    })
+    c.requires.specified (rw end at c.loop-number.invariant) c.all_readers.ensures c.all_takers.ensures

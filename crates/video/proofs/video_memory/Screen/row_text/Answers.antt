@@ -28,4 +28,4 @@ returns-clause-value c =
     (λ k h. let below : k < c.loop-x.x = omega arith in c.loop-x.invariant.3 k below)
 
 pub returns-clause-display : goal.returns-clause-display
-returns-clause-display c = λ ws e. returns-clause-value c ∙ shown_digits c.args.self.now ws c.args.y e c.requires
+returns-clause-display c = λ ws e. shown_digits c.args.self.now ws c.args.y _ e c.requires (returns-clause-value c)

@@ -1,6 +1,5 @@
 use Rattle.std.proofs.Common.{◌≡◌, ◌+◌, ◌<◌, ℕ, length, get_or}
-use Rattle.video.specs.Display.{palette_in}
-use Rattle.video.specs.ScreenState.{pixel_in}
+use Rattle.video.specs.ScreenState.{pixel_in, palette_in}
 use Rattle.video.proofs.video_memory.Screen.row_text.Given as goal
 
 -- the length stays, the palette and the blank stand, and the digits of the pixels so far

@@ -1,0 +1,56 @@
+-- How a run on a rack is told: whole, as `play` does, with every bus step or without, or by a summary, as `gen` does.
+use Rattle.std.specs.Prelude.{ℕ, Bool, true, false, sum, List, [], ◌∷◌, length}
+use Rattle.f8_spec.specs.ChipState.{ChipView}
+use Rattle.console_spec.specs.Processor.{shown}
+use Rattle.console_spec.specs.Run.{Stop, Ending}
+use Rattle.console_spec.specs.RunText.{verdict_line, stop_line, total_line, told_lines, ending_lines, telling_lines}
+use Rattle.console_spec.specs.Scripts.{Script}
+use Rattle.console_spec.specs.Telling.{Telling, played_by}
+use Rattle.console_spec.specs.declared.Regs.{Regs}
+use Rattle.generator.specs.SummaryLines.{gen_line, writes_line, scratch_sum_line}
+use Rattle.rack_run.specs.Endings.{bytes_written, stop_at}
+use Rattle.rack_run.specs.Texts.{is_traced}
+use Rattle.rack_run.specs.declared.detail.Detail.{Detail}
+use Rattle.rack_run.specs.declared.detail.Detail.TheVariants.{Nothing, Writes, Steps}
+use Rattle.rack_run.specs.declared.ending.Ending.{Ending as ToldEnding}
+use Rattle.channel_f.specs.declared.manner.Manner.{Manner}
+use Rattle.channel_f.specs.declared.manner.Manner.TheVariants.{Whole, Summary}
+
+-- what is told of it on the way
+abbrev pub detail_of : Manner → Detail
+detail_of (Whole true) = Steps
+detail_of (Whole false) = Writes
+detail_of (Summary seed) = Nothing
+
+abbrev pub run_by : Manner → Script → List ChipView → Telling
+run_by manner script vs = played_by vs (is_traced (detail_of manner)) script
+
+-- before it begins
+abbrev pub opening_lines : Manner → List (List ℕ)
+opening_lines (Whole traced) = verdict_line ∷ []
+opening_lines (Summary seed) = gen_line seed ∷ verdict_line ∷ []
+
+-- what stops it, the instructions and their clocks, the writes that ports took with the sum of their bytes, and the sum of the scratchpad
+abbrev pub told_summary : Stop → Regs → (count phi writes bytes : ℕ) → List (List ℕ)
+told_summary stop regs count phi writes bytes =
+    stop_line stop ∷ total_line count phi ∷ writes_line writes bytes ∷ scratch_sum_line (sum regs.scratch) ∷ []
+
+abbrev pub summary_lines : Ending → List (List ℕ)
+summary_lines e =
+    let state = e.position.flat.state in
+    told_summary e.stop (shown state) state.count state.phi (length state.writes) (bytes_written state.writes)
+
+-- behind it
+abbrev pub closing_lines : Manner → Ending → List (List ℕ)
+closing_lines (Whole traced) e = ending_lines e
+closing_lines (Summary seed) e = summary_lines e
+
+-- all its lines
+abbrev pub lines_by : Manner → Telling → List (List ℕ)
+lines_by (Whole traced) t = telling_lines t
+lines_by (Summary seed) t = gen_line seed ∷ verdict_line ∷ summary_lines t.ending
+
+-- the same from an ending as a run tells it
+abbrev pub told_closing : Manner → ToldEnding → List (List ℕ)
+told_closing (Whole traced) told = told_lines (stop_at told.halt) told.regs told.count told.phi
+told_closing (Summary seed) told = told_summary (stop_at told.halt) told.regs told.count told.phi told.writes told.bytes

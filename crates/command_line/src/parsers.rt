@@ -1,0 +1,34 @@
+// The parts of the commands of clap's that read the words.
+ghost use Rattle.std.specs.Prelude.{◌≡◌, false};
+ghost use Rattle.clap.specs.Words.{app_of, rule_of};
+ghost use Rattle.command_line.specs.Parsers.{bare, trace, wanted};
+
+use clap::{Arg, ArgAction, Command};
+use std::alloc::Global;
+
+/// A command without help and version.
+pub fn bare<'a>(alloc: Global, name: &'a str) -> Command<'a>
+    ensures { app_of result ≡ bare name.entry.now }
+{
+    Command::new(alloc, name)
+        .disable_help_flag(true)
+        .disable_version_flag(true)
+}
+
+/// A plain word that has to be there, once.
+pub fn wanted<'a>(alloc: Global, id: &'a str) -> Arg<'a>
+    ensures rule { rule_of result ≡ wanted id.entry.now }
+    ensures local { result.global ≡ false }
+{
+    Arg::new(alloc, id).required(true).action(ArgAction::Set)
+}
+
+/// The flag `--trace`, once or not at all, with no value.
+pub fn trace(alloc: Global) -> Arg<'static>
+    ensures rule { rule_of result ≡ trace }
+    ensures local { result.global ≡ false }
+{
+    Arg::new(alloc, "trace")
+        .long("trace")
+        .action(ArgAction::SetTrue)
+}

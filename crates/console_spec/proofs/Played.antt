@@ -1,0 +1,24 @@
+-- Runs by a number of instructions alone, without keys and shown frames.
+use Rattle.std.proofs.Common.{ℕ, false, List, []}
+use Rattle.std.specs.Prelude.{flat_map}
+use Rattle.f8_spec.specs.ChipState.{ChipView}
+use Rattle.console_spec.specs.BusTrace.{TracedStep}
+use Rattle.console_spec.specs.Run.{Ending}
+use Rattle.console_spec.specs.Scripts.{Script}
+use Rattle.console_spec.specs.Telling.{Telling, played_by, referred_by}
+use Rattle.console_spec.specs.declared.End.TheVariants.{Steps}
+
+abbrev pub steps_alone : ℕ → ℕ → Script
+steps_alone fill n = record { power = fill; end = Steps n; events = []; shows = [] }
+
+abbrev pub played_alone : List ChipView → ℕ → ℕ → Telling
+played_alone vs fill n = played_by vs false (steps_alone fill n)
+
+abbrev pub played : List ChipView → ℕ → ℕ → Ending
+played vs fill n = (played_alone vs fill n).ending
+
+abbrev pub referred : List ChipView → ℕ → ℕ → Ending
+referred vs fill n = (referred_by vs (steps_alone fill n)).ending
+
+abbrev pub played_record : List ChipView → ℕ → ℕ → List TracedStep
+played_record vs fill n = flat_map (λ m. m.heard) (played_alone vs fill n).moments

@@ -1,0 +1,117 @@
+ghost use Rattle.std.specs.Prelude.{◌≡◌};
+ghost use Rattle.f8_isa.specs.KeptPorts.{AreReadable, AreWritable};
+
+use console_board::PortWrite;
+use memory_map::Map;
+use std::marker::Model;
+
+/// What is read at a port that no chip, or not just one, has as a data port.
+const NO_BYTE: u8 = 0xFF;
+
+/// A latch and a key byte for each of 256 ports, and which of the ports are those of exactly one chip: to read, and to write. Contracts see
+/// the four lists.
+#[derive(Drop)]
+pub struct Ports {
+    latches: [u8; 256],
+    keys: [u8; 256],
+    readable: [bool; 256],
+    writable: [bool; 256],
+}
+
+impl Model for Ports {
+    ghost use Rattle.f8_isa.specs.Ports.{PortState};
+
+    ghost Value = { PortState };
+
+    ghost view = { λ p. record { latches = p.latches; keys = p.keys; readable = p.readable; writable = p.writable } };
+}
+
+impl Ports {
+    ghost use Rattle.std.specs.Prelude.{◌≡◌};
+    ghost use Rattle.f8_isa.specs.Ports.{kept_value, chip_value, if_writable, told, ports_after, with_key_byte};
+    ghost use Rattle.f8_isa.specs.KeptPorts.{AreFirstPorts};
+
+    /// The ports at power-on, with each latch and each key byte 0.
+    pub fn new(map: &Map) -> Ports
+        ensures { AreFirstPorts map.now result }
+    {
+        Ports {
+            latches: [0; 256],
+            keys: [0; 256],
+            readable: readable_ports(map),
+            writable: writable_ports(map),
+        }
+    }
+
+    /// The byte at one of the processor's own ports: its latch or its key byte.
+    #[inline]
+    pub fn own_byte(&self, port: u8) -> u8
+        ensures { result ≡ kept_value self.now port }
+    {
+        self.latches[usize::from(port)] | self.keys[usize::from(port)]
+    }
+
+    /// The byte that the chips give at a port.
+    #[inline]
+    pub fn chip_byte(&self, port: u8) -> u8
+        ensures { result ≡ chip_value self.now port }
+    {
+        if self.readable[usize::from(port)] {
+            self.own_byte(port)
+        } else {
+            NO_BYTE
+        }
+    }
+
+    /// The port, where exactly one chip takes a write to it.
+    #[inline]
+    pub fn if_writable(&self, port: u8) -> Option<u8>
+        ensures { result ≡ if_writable self.now port }
+    {
+        if self.writable[usize::from(port)] {
+            Some(port)
+        } else {
+            None
+        }
+    }
+
+    /// Keeps the byte of a write that was taken.
+    #[inline]
+    pub fn take(&mut self, wrote: Option<PortWrite>)
+        ensures { self.new ≡ ports_after (told wrote) self.old }
+    {
+        if let Some(write) = wrote {
+            self.latches[usize::from(write.port)] = write.byte;
+        }
+    }
+
+    /// Sets the key byte of a port.
+    #[inline]
+    pub fn set_key(&mut self, port: u8, byte: u8)
+        ensures { self.new ≡ with_key_byte port byte self.old }
+    {
+        self.keys[usize::from(port)] = byte;
+    }
+}
+
+/// Which ports are data ports of exactly one chip.
+fn readable_ports(map: &Map) -> [bool; 256]
+    ensures { AreReadable map.now result }
+{
+    let mut readable = [false; 256];
+    for port in 0..256 {
+        readable[port] = map.reads(port as u8) == 1;
+    }
+    readable
+}
+
+/// Which ports exactly one chip has.
+fn writable_ports(map: &Map) -> [bool; 256]
+    ensures { AreWritable map.now result }
+{
+    let mut writable = [false; 256];
+    for port in 0..256 {
+        writable[port] = map.writes(port as u8) == 1;
+    }
+    writable
+}

@@ -1,0 +1,64 @@
+-- At the end of an instruction the writes are the flat machine's: those of the steps, and that to a port of the processor's own.
+use Rattle.std.proofs.Common.{◌≡◌, ℕ, zero, suc, Bool, true, false, List, ◌∷◌, map, refl, sym, ap, ◌∙◌, subst, arith, eqb-true}
+use Rattle.std.specs.Prelude.{◌==◌, nat_lt, if◌then◌else◌, Some}
+use Rattle.std.proofs.lemmas.Bool.{ltb-true}
+use Rattle.f8_spec.specs.BusArbitration.{Seat, seat_of, seat_has_port}
+use Rattle.f8_spec.specs.ChipState.{ChipView, data_port, port_role}
+use Rattle.f8_spec.specs.Instructions.{row_of}
+use Rattle.f8_spec.specs.declared.instructions.Op.{Op}
+use Rattle.f8_spec.specs.declared.instructions.Op.TheVariants.{Ins, Outs}
+use Rattle.f8_spec.specs.declared.instructions.Row.TheVariants.{Idle, ShortIn, ShortOut}
+use Rattle.console_spec.specs.FlatMachine.{FlatState, gets_all}
+use Rattle.console_spec.specs.Processor.{Inputs, if_taken, write_at, write_of, with_write, port_field, own_inputs}
+use Rattle.console_spec.specs.Writes.{Write, latch_of, takers}
+use Rattle.cpu3850.specs.OwnWrites.{LeaveOwnPorts}
+use Rattle.f8_machine.specs.PortViews.{HoldsPorts}
+use Rattle.f8_machine.proofs.PortSteps.{counts_one, has_port}
+use Rattle.f8_machine.proofs.PortValues.{bus_port}
+
+-- the number of its port
+pub port_gets : (op : Op) (seats : List Seat) (f : FlatState) → (gets_all op seats f).port ≡ port_field op
+unfolding own_inputs
+port_gets op seats f = refl
+
+-- no chip has the processor's own ports
+pub free_of : (n : ℕ) (seats : List Seat) → LeaveOwnPorts seats → nat_lt n 2 ≡ true → takers n seats ≡ 0
+free_of zero seats free small = free.port_0
+free_of (suc zero) seats free small = free.port_1
+free_of (suc (suc n)) seats free small = absurd (omega (arith, ltb-true (suc (suc n)) 2 small))
+
+latch_other : (phi byte n port : ℕ) (writes : List Write) (b : Bool) → (n == port) ≡ b → (b ≡ true → ⊥) → latch_of port (record { phi = phi; port = n; byte = byte } ∷ writes) ≡ latch_of port writes
+latch_other phi byte n port writes true is other = absurd (other refl)
+latch_other phi byte n port writes false is other = rw is refl
+
+own_write : (n phi byte : ℕ) (keys : List ℕ) (writes : List Write) (vs : List ChipView) → takers n (map seat_of vs) ≡ 0 → HoldsPorts keys writes vs →
+    HoldsPorts keys (record { phi = phi; port = n; byte = byte } ∷ writes) vs
+own_write n phi byte keys writes vs none holds place v port latch lies found once =
+    let is = holds place v port latch lies found once in
+    let apart : (n == port) ≡ true → ⊥ = λ same. let has : seat_has_port (seat_of v) n ≡ true = has_port (port_role v n) latch (ap (data_port v) (eqb-true n port same) ∙ found) in
+    let some = counts_one (λ s. seat_has_port s n) vs place v lies has in omega (arith, some, none) in
+    record {
+      latches = is.latches;
+      key_bytes = is.key_bytes;
+      written = is.written ∙ sym (latch_other phi byte n port writes (n == port) refl apart);
+      key = is.key;
+    }
+
+ins_none : (b : Bool) (i : Inputs) (seats : List Seat) (phi : ℕ) (keys : List ℕ) (writes : List Write) (vs : List ChipView) →
+    HoldsPorts keys (with_write (write_at phi i.accumulator (bus_port (if b then Idle else ShortIn) i seats)) writes) vs → HoldsPorts keys writes vs
+ins_none true i seats phi keys writes vs holds = holds
+ins_none false i seats phi keys writes vs holds = holds
+
+outs_write : (b : Bool) (n : ℕ) (i : Inputs) (seats : List Seat) (phi : ℕ) (keys : List ℕ) (writes : List Write) (vs : List ChipView) → nat_lt n 2 ≡ b → i.port ≡ n → LeaveOwnPorts (map seat_of vs) →
+    HoldsPorts keys (with_write (write_at phi i.accumulator (bus_port (if b then Idle else ShortOut) i seats)) writes) vs →
+    HoldsPorts keys (with_write (write_at phi i.accumulator (if b then Some n else if_taken n seats)) writes) vs
+outs_write true n i seats phi keys writes vs own port free holds = own_write n phi i.accumulator keys writes vs (free_of n (map seat_of vs) free own) holds
+outs_write false n i seats phi keys writes vs own port free holds =
+    subst (λ (p : ℕ). HoldsPorts keys (with_write (write_at phi i.accumulator (if_taken p seats)) writes) vs) port holds
+
+pub flat_writes : (op : Op) (i : Inputs) (seats : List Seat) (phi : ℕ) (keys : List ℕ) (writes : List Write) (vs : List ChipView) → i.port ≡ port_field op → LeaveOwnPorts (map seat_of vs) →
+    HoldsPorts keys (with_write (write_at phi i.accumulator (bus_port (row_of op) i seats)) writes) vs →
+    HoldsPorts keys (with_write (write_of op i seats phi) writes) vs
+flat_writes (Ins n) i seats phi keys writes vs port free holds = ins_none (nat_lt n 2) i seats phi keys writes vs holds
+flat_writes (Outs n) i seats phi keys writes vs port free holds = outs_write (nat_lt n 2) n i seats phi keys writes vs refl port free holds
+flat_writes op i seats phi keys writes vs port free holds = holds

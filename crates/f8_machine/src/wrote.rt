@@ -1,0 +1,38 @@
+ghost use Rattle.std.specs.Prelude.{◌≡◌, ◌≤◌, length, option_map};
+ghost use Rattle.f8_spec.specs.Instructions.{decoded};
+ghost use Rattle.f8_machine.specs.PortWrites.{write_as, chip_write, done_write};
+
+use super::heard::Heard;
+use console_board::PortWrite;
+use f8_ops::{Op, decode};
+
+/// The code in which a chip takes the byte of a port.
+const PUT: u8 = 0x1A;
+
+/// The write that a chip took, in the steps of an instruction that is done: the step before it has named the port.
+fn chip_write(phi: u64, steps: &[Heard]) -> Option<PortWrite>
+    ensures { option_map write_as result ≡ chip_write phi steps.now }
+{
+    match steps {
+        [named, put, ..] if put.romc.number() == PUT => put.taker.map(|_| PortWrite {
+            phi,
+            port: named.byte,
+            byte: put.byte,
+        }),
+        _ => None,
+    }
+}
+
+/// The write of an instruction that is done, by its opcode, the clocks at its end, the processor's own latches then, and its steps.
+pub(crate) fn done_write(code: u8, phi: u64, latches: [u8; 2], steps: &[Heard]) -> Option<PortWrite>
+    ensures { option_map write_as result ≡ done_write (decoded code) phi latches steps.now }
+{
+    match decode(code) {
+        Ok(Op::Outs { n }) if n < 2 => Some(PortWrite {
+            phi,
+            port: n,
+            byte: latches[usize::from(n)],
+        }),
+        _ => chip_write(phi, steps),
+    }
+}

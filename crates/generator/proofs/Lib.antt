@@ -1,0 +1,2 @@
+pub mod ChipLaws
+pub mod DrawLaws

@@ -1,0 +1,7 @@
+-- 64 bytes have a sum that fits.
+use Rattle.std.proofs.Common.{rules}
+use Rattle.std.proofs.iter.runs.Sources.{sums}
+use Rattle.generator.proofs.scratchpad.scratch_sum.Goals as goal
+
+pub sum-requires-clause-fits : goal.sum-requires-clause-fits
+sum-requires-clause-fits c = search (rules, sums)

@@ -1,0 +1,2 @@
+pub mod GeneratedChips
+pub mod SummaryLines

@@ -1,0 +1,72 @@
+use super::*;
+use chip_face::ChipSpec;
+use report::Line;
+use std::process::Abort;
+use std::test::Fail;
+
+/// Twelve 3851s stand one behind the other, and each has the next four ports.
+#[test]
+fn chips_in_a_row(rt: HostRuntime) -> Result<(), Fail> {
+    let chips = generated_chips(rt.alloc(), 1)?;
+    assert_eq!(rt; chips.len(), 12);
+    for (number, chip) in chips.as_slice().iter().enumerate() {
+        let ChipSpec::Psu {
+            base,
+            rom,
+            ports,
+            vector,
+            wired,
+        } = chip
+        else {
+            return Err("a chip is no 3851".into());
+        };
+        assert_eq!(rt; usize::from(*base) / 1_024, number);
+        assert_eq!(rt; usize::from(*base) % 1_024, 0);
+        assert_eq!(rt; rom.len(), 1_024);
+        assert_eq!(rt; usize::from(*ports) / 4, number + 1);
+        assert_eq!(rt; usize::from(*ports) % 4, 0);
+        assert_eq!(rt; *vector, 0);
+        assert!(rt; !*wired);
+    }
+    Ok(())
+}
+
+/// The bytes at a chip's ROM from a place on are these.
+fn holds(rt: &impl Abort, chip: Option<&ChipSpec>, place: usize, bytes: &[u8]) {
+    let rom = match chip {
+        Some(ChipSpec::Psu { rom, .. }) => rom.as_slice(),
+        _ => &[],
+    };
+    assert!(rt; place <= rom.len() && bytes.len() <= rom.len() - place);
+    assert_eq!(rt; &rom[place..place + bytes.len()], bytes);
+}
+
+/// The seed 1 draws 3C, 5E and 81 first, and a jump to address 0 ends its bytes.
+#[test]
+fn bytes_of_seed_one(rt: HostRuntime) -> Result<(), Fail> {
+    let chips = generated_chips(rt.alloc(), 1)?;
+    holds(&rt, chips.as_slice().first(), 0, &[0xE3, 0x33, 0x13]);
+    holds(&rt, chips.as_slice().last(), 1_021, &[0x29, 0x00, 0x00]);
+    Ok(())
+}
+
+fn tells(rt: &impl Abort, line: &Line, text: &str) {
+    assert_eq!(rt; line.as_bytes(), text.as_bytes());
+}
+
+#[test]
+fn summary_lines(rt: HostRuntime) {
+    tells(&rt, &gen_line(0), "gen 0\n");
+    tells(&rt, &gen_line(4_294_967_295), "gen 4294967295\n");
+    tells(&rt, &writes_line(3, 765), "writes 3 sum 765\n");
+    tells(&rt, &scratch_sum_line(16_320), "scratch 16320\n");
+}
+
+#[test]
+fn sum_of_a_scratchpad(rt: HostRuntime) {
+    assert_eq!(rt; scratch_sum(&[0xFF; 64]), 16_320);
+    let mut scratch = [0; 64];
+    scratch[0] = 2;
+    scratch[63] = 3;
+    assert_eq!(rt; scratch_sum(&scratch), 5);
+}

@@ -1,0 +1,12 @@
+-- The lines of the steps so far are put.
+use Rattle.std.proofs.Common.{map, drop}
+use Rattle.console_spec.specs.Telling.{Traced}
+use Rattle.rack_run.specs.Texts.{text_told, step_of}
+use Rattle.rack_run.proofs.PutLaws.{PutSoFar}
+use Rattle.rack_run.proofs.telling.put_steps.Given as goal
+
+abbrev pub invariant-loop-step : goal.invariant-loop-step
+invariant-loop-step g l = record {
+  so_far : PutSoFar (g.K.Sink.written l.fn.sink) (g.K.Sink.written l.sink) (g.K.Sink.faults l.fn.sink) (g.K.Sink.faults l.sink)
+      (text_told (map (λ h. Traced (step_of h)) l.steps)) (text_told (map (λ h. Traced (step_of h)) (drop l.step-index l.steps)));
+}

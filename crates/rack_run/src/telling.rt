@@ -1,0 +1,172 @@
+// What is told of a run on its way. Each line is one put.
+ghost use Rattle.std.specs.Prelude.{◌≡◌, ◌≤◌, ◌<◌, ◌+◌, ◌^◌, ◌++◌, List, map, option_map, IfOk};
+ghost use Rattle.console_spec.specs.Processor.{with_write};
+ghost use Rattle.console_spec.specs.Run.{Position, Goes};
+ghost use Rattle.console_spec.specs.RunText.{frame_lines, text_of};
+ghost use Rattle.console_spec.specs.Telling.{Traced, told_turn};
+ghost use Rattle.console_spec.specs.Writes.{Write};
+ghost use Rattle.video.specs.ScreenState.{shown};
+ghost use Rattle.f8_machine.specs.PortWrites.{write_as};
+ghost use Rattle.outside.specs.SinkRules.{HasCause};
+ghost use Rattle.pad_script.specs.Reading.{seen};
+ghost use Rattle.rack_run.specs.Progressing.{Keeps, frame_at, progress_with};
+ghost use Rattle.rack_run.specs.Texts.{Puts, rows_told, text_told, text_in, step_of, served_told, unserved_told, write_told, frame_told};
+
+use super::detail::Detail;
+use super::progress::Progress;
+use console_board::{PortWrite, Screen};
+use f8_machine::Heard;
+use outside::{Sink, SinkFault};
+use pad_script::Script;
+use report::{bus_fault_line, bus_line, frame_line, out_line, row_line};
+
+/// The rows of a picture.
+const ROWS: u8 = 64;
+
+fn put_steps<K: Sink>(sink: &mut K, steps: &[Heard]) -> Result<(), SinkFault>
+    ensures { Puts result (K.written sink.old) (K.written sink.new) (K.faults sink.old) (K.faults sink.new) (text_told (map (λ h. Traced (step_of h)) steps.now)) }
+{
+    for step in steps {
+        let line = bus_line(step.romc.number(), step.long, step.byte, step.who);
+        sink.put(line.as_bytes())?;
+    }
+    Ok(())
+}
+
+/// The served steps of reset or an instruction, where they are told.
+pub(crate) fn tell_steps<K: Sink>(
+    sink: &mut K,
+    detail: Detail,
+    steps: &[Heard],
+) -> Result<(), SinkFault>
+    ensures { Puts result (K.written sink.old) (K.written sink.new) (K.faults sink.old) (K.faults sink.new) (text_in detail (served_told detail steps.now)) }
+{
+    if !detail.is_traced() {
+        return Ok(());
+    }
+    put_steps(sink, steps)
+}
+
+/// The step that isn't served, where steps are told.
+pub(crate) fn tell_fault<K: Sink>(
+    sink: &mut K,
+    detail: Detail,
+    romc: u8,
+    long: bool,
+) -> Result<(), SinkFault>
+    ensures { Puts result (K.written sink.old) (K.written sink.new) (K.faults sink.old) (K.faults sink.new) (text_in detail (unserved_told detail romc long)) }
+{
+    if !detail.is_traced() {
+        return Ok(());
+    }
+    sink.put(bus_fault_line(romc, long).as_bytes())
+}
+
+/// A write that was taken.
+fn tell_write<K: Sink>(
+    sink: &mut K,
+    detail: Detail,
+    wrote: Option<PortWrite>,
+) -> Result<(), SinkFault>
+    ensures { Puts result (K.written sink.old) (K.written sink.new) (K.faults sink.old) (K.faults sink.new) (text_in detail (write_told wrote)) }
+{
+    let Some(write) = wrote else {
+        return Ok(());
+    };
+    if !detail.is_told() {
+        return Ok(());
+    }
+    sink.put(out_line(write.phi, write.port, write.byte).as_bytes())
+}
+
+fn put_rows<K: Sink>(sink: &mut K, screen: &Screen) -> Result<(), SinkFault>
+    ensures puts { (ws : List Write) → screen.now ≡ shown ws → Puts result (K.written sink.old) (K.written sink.new) (K.faults sink.old) (K.faults sink.new) (text_of (rows_told ws)) }
+    ensures cause { HasCause (K.faults sink.old) (K.faults sink.new) result }
+{
+    for y in 0..ROWS {
+        sink.put(row_line(&screen.row_text(y)).as_bytes())?;
+    }
+    Ok(())
+}
+
+/// A frame, with the clocks at its end.
+fn put_frame<K: Sink>(sink: &mut K, screen: &Screen, frame: u32, phi: u64) -> Result<(), SinkFault>
+    ensures puts { (ws : List Write) → screen.now ≡ shown ws → Puts result (K.written sink.old) (K.written sink.new) (K.faults sink.old) (K.faults sink.new) (text_of (frame_lines frame phi ws)) }
+    ensures cause { HasCause (K.faults sink.old) (K.faults sink.new) result }
+{
+    sink.put(frame_line(frame, phi, screen.tone()).as_bytes())?;
+    put_rows(sink, screen)
+}
+
+/// A frame that falls, with the clocks at its end, where it is shown.
+fn tell_frame<K: Sink>(
+    sink: &mut K,
+    detail: Detail,
+    shows: &[u32],
+    screen: &Screen,
+    fallen: Option<u32>,
+    phi: u64,
+) -> Result<(), SinkFault>
+    ensures puts { (ws : List Write) → screen.now ≡ shown ws → Puts result (K.written sink.old) (K.written sink.new) (K.faults sink.old) (K.faults sink.new) (text_in detail (frame_told shows.now fallen phi ws)) }
+    ensures cause { HasCause (K.faults sink.old) (K.faults sink.new) result }
+{
+    let Some(frame) = fallen else {
+        return Ok(());
+    };
+    if !detail.is_told() {
+        return Ok(());
+    }
+    if !shows.contains(&frame) {
+        return Ok(());
+    }
+    put_frame(sink, screen, frame, phi)
+}
+
+/// What is told at the end of an instruction that is done: its write, and the frame that falls there.
+fn tell_turn<K: Sink>(
+    sink: &mut K,
+    detail: Detail,
+    shows: &[u32],
+    screen: &Screen,
+    wrote: Option<PortWrite>,
+    fallen: Option<u32>,
+    phi: u64,
+) -> Result<(), SinkFault>
+    ensures puts { (ws : List Write) → screen.now ≡ shown ws → Puts result (K.written sink.old) (K.written sink.new) (K.faults sink.old) (K.faults sink.new) (text_in detail (write_told wrote ++ frame_told shows.now fallen phi ws)) }
+    ensures cause { HasCause (K.faults sink.old) (K.faults sink.new) result }
+{
+    tell_write(sink, detail, wrote)?;
+    tell_frame(sink, detail, shows, screen, fallen, phi)
+}
+
+/// The end of an instruction that is done, told: its write, with the clocks then, and the frame that falls there, which is given.
+pub(crate) fn tell_end<K: Sink>(
+    sink: &mut K,
+    progress: &mut Progress,
+    script: &Script,
+    detail: Detail,
+    wrote: Option<PortWrite>,
+    phi: u64,
+) -> Result<Option<u32>, SinkFault>
+    requires onward { progress.old.phi ≤ phi }
+    requires near { phi ≤ progress.old.phi + 26 }
+    requires bounded { phi < 2 ^ 46 }
+    requires few { progress.old.count + 1 < 2 ^ 32 }
+    ensures puts { (x y : Position) → Keeps progress.old x.flat.state → y.flat.state.phi ≡ phi → y.flat.state.writes ≡ with_write (option_map write_as wrote) x.flat.state.writes
+        → Puts result (K.written sink.old) (K.written sink.new) (K.faults sink.old) (K.faults sink.new) (text_in detail (told_turn (seen script.now) x (Goes y))) }
+    ensures fallen { IfOk result (λ frame. frame ≡ frame_at progress.old phi) }
+    ensures after { progress.new ≡ progress_with wrote phi progress.old }
+    ensures count { HasCause (K.faults sink.old) (K.faults sink.new) result }
+{
+    let fallen = progress.step(wrote, phi);
+    tell_turn(
+        sink,
+        detail,
+        script.shows.as_slice(),
+        progress.screen(),
+        wrote,
+        fallen,
+        phi,
+    )?;
+    Ok(fallen)
+}
