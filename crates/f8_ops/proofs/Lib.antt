@@ -1,4 +1,3 @@
-pub mod BuiltCodes
 pub mod ValuesBelow
 pub mod OpcodeTable
 pub mod CodeTable

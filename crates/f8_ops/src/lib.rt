@@ -1,12 +1,10 @@
 //! The instruction table: opcodes, lengths, clocks and names (Fairchild F8 User's Guide).
 #![tactic(auto)]
 
-mod built;
 mod mnemonics;
 mod opcodes;
 mod table;
 
-pub use built::is_built;
 pub use f8_spec::{Op, Row};
 pub use mnemonics::name;
 pub use opcodes::{Reserved, decode, encode};

@@ -17,22 +17,6 @@ fn opcodes_both_ways(rt: HostRuntime) {
     assert_eq!(rt; encode(Op::Ns { r: 14 }), 0xFE);
 }
 
-// a reserved opcode counts as built
-#[test]
-fn built_opcodes(rt: HostRuntime) {
-    for (code, built) in [
-        (0x2B, true),
-        (0x16, true),
-        (0x28, true),
-        (0x26, false),
-        (0xA4, false),
-        (0xB1, false),
-        (0xFF, true),
-    ] {
-        assert_eq!(rt; is_built(code), built, "at {code}");
-    }
-}
-
 #[test]
 fn clocks_and_lengths(rt: HostRuntime) {
     for (op, taken, clocks, bytes) in [

@@ -7,5 +7,4 @@ pub mod ShiftTimer
 pub mod ChipState
 pub mod BusArbitration
 pub mod OrderLaw
-pub mod Built
 pub mod Spelling
