@@ -3,7 +3,7 @@ use std::marker::Model;
 use video::Screen;
 
 /// The clocks of a frame, in Φ. The number is this project's own, after the Fairchild Channel F.
-const FRAME_CLOCKS: u64 = 29_830;
+pub const FRAME_CLOCKS: u64 = 29_830;
 
 /// The screen that the ports draw, and the count of frames. Contracts see a `BoardState`.
 #[derive(Drop)]
@@ -31,7 +31,7 @@ impl Model for Board {
 }
 
 impl Board {
-    ghost use Rattle.std.specs.Prelude.{◌≡◌, ◌==◌, ◌+◌, ◌^◌, ◌<◌, ◌≤◌, if◌then◌else◌, List, [], ◌∷◌};
+    ghost use Rattle.std.specs.Prelude.{ℕ, ◌≡◌, ◌↔◌, ◌==◌, ◌+◌, ◌*◌, ◌^◌, ◌<◌, ◌≤◌, if◌then◌else◌, List, [], ◌∷◌};
     ghost use Rattle.console_spec.specs.Scripts.{frame_clocks, frames_by};
     ghost use Rattle.console_spec.specs.Writes.{Write};
     ghost use Rattle.video.specs.ScreenState.{shown, after_write};
@@ -73,6 +73,7 @@ impl Board {
         requires near { phi ≤ self.old.phi + frame_clocks }
         requires bounded { phi < 2 ^ 46 }
         ensures frame { result ≡ (if frames_by phi == frames_by self.old.phi then None else Some (frames_by phi)) }
+        ensures first { (frame : ℕ) → (result ≡ Some frame) ↔ ((self.old.phi < frame * frame_clocks) × (frame * frame_clocks ≤ phi)) }
         ensures clocks { self.new ≡ record self.old { phi = phi } }
     {
         self.phi = phi;

@@ -6,15 +6,12 @@ use super::register_file::{H, K, Q, RegisterFile};
 use chip_face::ChipList;
 use console_board::PortWrite;
 use console_spec::Regs;
-use f8_ops::{Op, Reserved, Row};
+use f8_ops::{Op, RESET_PHI, Reserved, Row};
 use f8_spec::Memory;
 use f8_words::wrap_add;
 use memory_map::Map;
 use std::alloc::Global;
 use std::marker::Model;
-
-/// The clocks of reset, in Φ.
-const RESET_PHI: u64 = 14;
 
 /// The processor has the ports below this one by `INS` and `OUTS`.
 const OWN_PORTS: u8 = 2;

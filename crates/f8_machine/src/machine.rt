@@ -6,13 +6,13 @@ use super::mode::{Halt, Mode};
 use super::outcome::Outcome;
 use super::power::power_all;
 use super::record::Record;
-use super::reset::{RESET_PHI, fetch_first};
+use super::reset::fetch_first;
 use super::wrote::done_write;
 use chip_face::{Chip, Counters};
 use console_spec::Regs;
 use cpu3850::{Cpu, Steps};
 use data_bus::Rack;
-use f8_ops::Reserved;
+use f8_ops::{RESET_PHI, Reserved};
 use probe::Probe;
 use std::marker::Model;
 
@@ -93,6 +93,7 @@ impl Machine {
         ensures reference { self.new.probe ≡ probe_after_steps (steps_in result) self.old.probe }
         ensures clocks { self.new.phi ≤ self.old.phi + 14 }
         ensures mode { IsReset self.new.mode }
+        ensures chain { self.new.chain ≡ self.old.chain }
         ensures chips { length rack.new.items ≡ length rack.old.items }
     {
         let mut steps = Record::new();
@@ -127,6 +128,7 @@ impl Machine {
         ensures clocks { self.new.phi ≤ self.old.phi + 26 }
         ensures onward { self.old.phi ≤ self.new.phi }
         ensures mode { IsReset self.new.mode }
+        ensures chain { self.new.chain ≡ self.old.chain }
         ensures chips { length rack.new.items ≡ length rack.old.items }
     {
         match &self.mode {
@@ -146,6 +148,7 @@ impl Machine {
         ensures clocks { self.new.phi ≤ self.old.phi + 26 }
         ensures onward { self.old.phi ≤ self.new.phi }
         ensures mode { IsReset self.new.mode }
+        ensures chain { self.new.chain ≡ self.old.chain }
         ensures chips { length rack.new.items ≡ length rack.old.items }
     {
         match self.cpu.plan() {
@@ -176,6 +179,7 @@ impl Machine {
         ensures clocks { self.new.phi ≤ self.old.phi + 26 }
         ensures onward { self.old.phi ≤ self.new.phi }
         ensures mode { IsReset self.new.mode }
+        ensures chain { self.new.chain ≡ self.old.chain }
         ensures chips { length rack.new.items ≡ length rack.old.items }
     {
         let code = self.cpu.opcode();

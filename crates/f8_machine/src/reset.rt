@@ -13,9 +13,6 @@ use cpu3850::{Romc, Step};
 use data_bus::Rack;
 use probe::Probe;
 
-/// The clocks of reset, in Φ.
-pub(crate) const RESET_PHI: u64 = 14;
-
 /// The steps of reset: the CPU works by itself, the program counters go to 0, and the opcode there is fetched.
 const IDLE: Step = Step {
     romc: Romc::IDLE,

@@ -3,6 +3,9 @@ ghost use Rattle.f8_spec.specs.Instructions.{row_of, row_clocks, length_of, cloc
 
 use f8_spec::{Op, Row};
 
+/// The clocks of reset, in Φ: those of its three bus steps, 4, 6 and 4 (this project's own, after the Fairchild F8 User's Guide).
+pub const RESET_PHI: u64 = 14;
+
 /// The row of the instruction table that an instruction belongs to: by it go length, bus steps and clocks.
 pub fn row_of(op: Op) -> Row
     ensures { result ≡ row_of op }
