@@ -210,7 +210,7 @@ plays_wanting a b manner game rack news partly = record { wanting = λ e. partly
 -- memory was wanting before the rack was looked at
 unless_wanting : (line : Option (List ℕ)) (a : Option (List ℕ)) (manner : Manner) (game : Game) (rack : List ChipState) → PlaysUnless line a a 6 manner game rack rack
 unless_wanting (Some line) a manner game rack = refl
-unless_wanting None a manner game rack = plays_wanting a a manner game rack rack (stays_in_part (seated game.chips rack) 0 rack)
+unless_wanting None a manner game rack = plays_wanting a a manner game rack rack (stays_in_part (seated game.chips rack) rack)
 
 pub game_wanting : (a : Option (List ℕ)) (manner : Manner) (game : Game) (rack : List ChipState) → PlaysUnless (refusal game rack) a a 6 manner game rack rack
 game_wanting a manner game rack = unless_wanting (refusal game rack) a manner game rack

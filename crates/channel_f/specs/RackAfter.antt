@@ -53,7 +53,7 @@ pub record PlayedOn (old new : Option (List ℕ)) (said : ℕ) (manner : Manner)
   pub fits : RackFits (seated game.chips rack) rack fitted
   pub on : OnFitted old new said manner game (fitted_views game.chips rack) fitted news
 
--- What a call that plays a game says of the rack. Where memory was wanting, some chips may have been fitted.
+-- What a call that plays a game says of the rack. Where memory was wanting, the first chips may have been fitted, but never all of them.
 pub record Plays (old new : Option (List ℕ)) (said : ℕ) (manner : Manner) (game : Game) (rack news : List ChipState) : Type 0 where
   pub wanting : said ≡ 6 → RackFitsInPart (seated game.chips rack) rack news
   pub played : said ≢ 6 → PlayedOn old new said manner game rack news

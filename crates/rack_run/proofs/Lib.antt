@@ -13,3 +13,4 @@ pub mod RunLaws
 pub mod PlayLaws
 pub mod FlatLaws
 pub mod FlatTurns
+pub mod EndLaws

@@ -1,7 +1,8 @@
 -- The chips of a kind, and what sits in the sockets of a rack.
-use Rattle.std.proofs.Common.{◌≡◌, ℕ, zero, suc, ◌+◌, inl, inr, arith, true, List, [], ◌∷◌, ◌++◌, map, length, take, drop, add-one, refl, sym, ap, ◌∙◌, subst}
+use Rattle.std.proofs.Common.{◌≡◌, ℕ, zero, suc, ◌+◌, ◌<◌, inl, inr, arith, true, List, [], ◌∷◌, ◌++◌, map, length, get_or, take, drop, add-one, refl, sym, ap, ◌∙◌, subst}
 use Rattle.std.specs.Prelude.{Option, Some, slice_get}
-use Rattle.std.proofs.Math.Seq.{drop-nil}
+use Rattle.std.proofs.Math.ListN.{set, length-set}
+use Rattle.std.proofs.Math.Seq.{drop-nil, map-set_same}
 use Rattle.chip_face.specs.Fitting.{Fits, IsSpec, fitted}
 use Rattle.chip_face.specs.declared.specification.ChipSpec.{ChipSpec}
 use Rattle.chip_face.specs.declared.specification.ChipSpec.TheVariants.{Blank, Psu as PsuSpec, Smi as SmiSpec}
@@ -15,7 +16,7 @@ use Rattle.f8_spec.specs.ChipState.{ChipView, ChipState, IsWhole}
 use Rattle.f8_spec.specs.declared.chips.ChipKind.{ChipKind}
 use Rattle.f8_spec.specs.declared.chips.ChipKind.TheVariants.{Psu, Smi}
 use Rattle.f8_machine.specs.Refinement.{AreWhole}
-use Rattle.rack_run.specs.Seating.{LeavesOwn, is_kind, seat_at, seated_from, kinds_of, before_of, psus_after, smis_after, seated, kinds_of, fitted_as, fitted_views, FitsWhole, FitsOrStays}
+use Rattle.rack_run.specs.Seating.{LeavesOwn, is_kind, seat_at, seated_from, kinds_of, before_of, psus_after, smis_after, seated, kinds_of, fitted_as, fitted_views, FitsWhole, RackFitsInPart}
 
 pub kind_of_is : (kind other : ChipKind) → is_kind kind other ≡ true → other ≡ kind
 kind_of_is Psu Psu e = refl
@@ -126,28 +127,13 @@ views_fitted chips olds news all =
 -- ---- a rack that is fitted in part
 
 -- a rack in which nothing was fitted
-pub stays_in_part : (specs : List ChipSpec) (n : ℕ) (states : List ChipState) → NumberedZip (FitsOrStays specs) n states states
-stays_in_part specs n [] = tt
-stays_in_part specs n (s ∷ states) = (inr refl, stays_in_part specs (n + 1) states)
+pub stays_in_part : (specs : List ChipSpec) (states : List ChipState) → RackFitsInPart specs states states
+stays_in_part specs states = record { place = 0; there = inl refl; done = tt; left = refl }
 
-in_part_from : (specs : List ChipSpec) (n i : ℕ) (xs ys : List ChipState) → NumberedZip (FitsOrStays specs) n (take i xs) (take i ys) → drop i ys ≡ drop i xs → NumberedZip (FitsOrStays specs) n xs ys
-in_part_from specs n zero xs ys done left = subst (λ (l : List ChipState). NumberedZip (FitsOrStays specs) n xs l) (sym left) (stays_in_part specs n xs)
-in_part_from specs n (suc i) [] [] done left = tt
-in_part_from specs n (suc i) [] (y ∷ ys) done left = absurd done
-in_part_from specs n (suc i) (x ∷ xs) [] done left = absurd done
-in_part_from specs n (suc i) (x ∷ xs) (y ∷ ys) done left = (done.0, in_part_from specs (n + 1) i xs ys done.1 left)
-
--- a rack that is written back, whose chips were reached up to one
-pub partly_written : {X : Type 0} (V : X → ChipState) (specs : List ChipSpec) (xs ys : List X) (n i : ℕ) → length xs ≡ n → length ys ≡ length xs → ChangedBelow (FitsOrStays specs) i (map V xs) (map V ys) →
-    NumberedZip (FitsOrStays specs) 0 (map V xs) (map V (take n (ys ++ drop (length ys) xs)))
-partly_written V specs xs ys n i count long changed = rw (whole_again n xs ys count long) (in_part_from specs 0 i (map V xs) (map V ys) changed.done changed.left)
-
-widened_from : (specs : List ChipSpec) (n : ℕ) (xs ys : List ChipState) → NumberedZip (FitsWhole specs) n xs ys → NumberedZip (FitsOrStays specs) n xs ys
-widened_from specs n [] [] all = tt
-widened_from specs n [] (y ∷ ys) all = absurd all
-widened_from specs n (x ∷ xs) [] all = absurd all
-widened_from specs n (x ∷ xs) (y ∷ ys) all = (inl all.0, widened_from specs (n + 1) xs ys all.1)
-
--- chips that are fitted are fitted or as they were
-pub widened : (specs : List ChipSpec) (i : ℕ) (xs ys : List ChipState) → ChangedBelow (FitsWhole specs) i xs ys → ChangedBelow (FitsOrStays specs) i xs ys
-widened specs i xs ys changed = record { done = widened_from specs 0 (take i xs) (take i ys) changed.done; left = changed.left }
+-- a rack that is written back, whose chips were fitted up to one that was left as it was
+pub partly_written : {X : Type 0} (V : X → ChipState) (specs : List ChipSpec) (xs ys : List X) (n i : ℕ) (x y : X) → length xs ≡ n → length ys ≡ length xs → i < length xs →
+    ChangedBelow (FitsWhole specs) i (map V xs) (map V ys) → V y ≡ V (get_or ys i x) → RackFitsInPart specs (map V xs) (map V (take n (set ys i y ++ drop (length (set ys i y)) xs)))
+partly_written V specs xs ys n i x y count long within changed same =
+    let longer : length (set ys i y) ≡ length xs = length-set ys i y ∙ long in
+    let there : i < length (map V xs) = omega (arith, length-map xs V, within) in
+    rw (whole_again n xs (set ys i y) count longer, map-set_same V ys i y x same) (record { place = i; there = inr there; done = changed.done; left = changed.left })

@@ -1,6 +1,6 @@
 -- Which chip of a description sits in which socket of a rack, and what fitting makes of the rack. That the k-th chip of a kind goes to the
 -- k-th socket of that kind, and that all other sockets are blank, is this project's own.
-use Rattle.std.specs.Prelude.{◌≡◌, ℕ, ◌≤◌, ◌+◌, ◌⊎◌, Bool, true, false, List, [], ◌∷◌, map, slice_get, Option, Some, None}
+use Rattle.std.specs.Prelude.{◌≡◌, ℕ, ◌≤◌, ◌<◌, ◌+◌, ◌⊎◌, Bool, true, false, List, [], ◌∷◌, map, take, drop, slice_get, length, Option, Some, None}
 use Rattle.std.specs.List.{filter}
 use Rattle.data_bus.specs.Racks.{NumberedZip}
 use Rattle.f8_spec.specs.ChipState.{ChipView, ChipState, IsWhole}
@@ -68,12 +68,12 @@ pub record FitsWhole (specs : List ChipSpec) (socket : ℕ) (old new : ChipState
 abbrev pub RackFits : List ChipSpec → List ChipState → List ChipState → Type 0
 RackFits specs olds news = NumberedZip (FitsWhole specs) 0 olds news
 
--- some chips are fitted as what sits in their sockets, and all others are as they were
-abbrev pub FitsOrStays : List ChipSpec → ℕ → ChipState → ChipState → Type 0
-FitsOrStays specs socket old new = FitsWhole specs socket old new ⊎ (new ≡ old)
-
-abbrev pub RackFitsInPart : List ChipSpec → List ChipState → List ChipState → Type 0
-RackFitsInPart specs olds news = NumberedZip (FitsOrStays specs) 0 olds news
+-- so many chips, and not all of them, are fitted as what sits in their sockets, and all behind are as they were; or none is fitted
+pub record RackFitsInPart (specs : List ChipSpec) (olds news : List ChipState) : Type 0 where
+  pub place : ℕ
+  pub there : (place ≡ 0) ⊎ (place < length olds)
+  pub done : NumberedZip (FitsWhole specs) 0 (take place olds) (take place news)
+  pub left : drop place news ≡ drop place olds
 
 -- the chips that fitting makes of a rack, each from its own patch
 abbrev pub fitted_as : List ChipState → List ChipSpec → List ChipView

@@ -122,7 +122,7 @@ fn fit_next(
 }
 
 /// Fits a rack of at most 16 chips for a description: the k-th chip of a kind goes to the k-th socket of that kind, and all other sockets
-/// are blank. Where memory is wanting, chips may have been fitted, and all others are as they were.
+/// are blank. Where memory is wanting, so many chips are fitted, not all of them, and those behind are as they were.
 pub fn fit_all(alloc: Global, chips: &ChipList, rack: &mut Rack) -> Result<(), Memory>
     requires few { length rack.old.items ≤ 16 }
     ensures fitted { OnOk result (RackFits (seated chips.now (map state rack.old.items)) (map state rack.old.items) (map state rack.new.items)) }

@@ -1,10 +1,8 @@
 -- Each chip is fitted by its socket, and the chips behind it are as they were.
-use Rattle.std.proofs.Common.{◌≡◌, ◌∙◌, ◌+◌, ◌<◌, ◌≤◌, inr, length, refl, ap, vec_len, arith, add-one}
+use Rattle.std.proofs.Common.{◌≡◌, ◌∙◌, ◌+◌, ◌<◌, ◌≤◌, length, refl, ap, vec_len, arith, add-one}
 use Rattle.data_bus.proofs.Racks.{changed-none, changed-more, changed-written, unchanged_at}
-use Rattle.rack_run.proofs.Seats.{counted_here, counted_more, kinds_from, all_whole, all_leave, fits_seated, views_fitted, partly_written, widened}
-use Rattle.std.proofs.Math.ListN.{set, length-set}
+use Rattle.rack_run.proofs.Seats.{counted_here, counted_more, kinds_from, all_whole, all_leave, fits_seated, views_fitted, partly_written}
 use Rattle.std.proofs.lemmas.Result.{err_from_is_err_and}
-use Rattle.rack_run.specs.Seating.{FitsOrStays}
 use Rattle.rack_run.proofs.seat.fit_all.Goals as goal
 
 pub loop-chip-init : goal.loop-chip-init
@@ -77,8 +75,6 @@ returns-in_err-fit_next-clause-partly g c =
     let count : length c.args.rack.now.items ≡ vec_len c.args.rack.now = rw c.deref_mut-chip-items.ensures.value at c.deref_mut-chip-items.ensures.len in
     let long : length c.loop-chip.chip-items ≡ length c.args.rack.now.items = rw c.deref_mut-chip-items.ensures.value at c.loop-chip.auto.chip-items in
     let within : c.loop-chip.chip-index < length c.args.rack.now.items = rw c.deref_mut-chip-items.ensures.value at c.loop-chip-test.true in
-    let so_far = widened _ c.loop-chip.chip-index _ _ (rw (c.deref_mut-chip-items.ensures.value, c.as_slice-chips.ensures.chips) at c.loop-chip.invariant.changed) in
-    let reached = changed-more (λ b. (goal.Chip-dyn g (b.vtable, b.value)).state b.value) (FitsOrStays _) c.args.rack.now.items c.loop-chip.chip-items c.loop-chip.chip-index c.chip-item.result
-    c.fit_next.new.chip within long so_far (inr c.in_err-fit_next.ensures.same) in
-    let longer : length (set c.loop-chip.chip-items c.loop-chip.chip-index c.fit_next.new.chip) ≡ length c.args.rack.now.items = length-set c.loop-chip.chip-items c.loop-chip.chip-index c.fit_next.new.chip ∙ long in
-    rw p.1 (partly_written (λ b. (goal.Chip-dyn g (b.vtable, b.value)).state b.value) _ c.args.rack.now.items _ _ (c.loop-chip.chip-index + 1) count longer reached)
+    let so_far = rw (c.deref_mut-chip-items.ensures.value, c.as_slice-chips.ensures.chips) at c.loop-chip.invariant.changed in
+    rw p.1 (partly_written (λ b. (goal.Chip-dyn g (b.vtable, b.value)).state b.value) _ c.args.rack.now.items c.loop-chip.chip-items _ c.loop-chip.chip-index c.chip-item.result c.fit_next.new.chip count long within so_far
+        c.in_err-fit_next.ensures.same)
