@@ -6,3 +6,4 @@ pub mod WorkedRuns
 mod WorkedPictures
 mod WorkedScripts
 mod WorkedDraws
+mod WorkedMore

@@ -28,7 +28,7 @@ psu base ports bytes = record (blank_view Psu) {
 }
 
 -- a 3853 with one page of RAM
-abbrev ram_smi : ℕ → ChipView
+abbrev pub ram_smi : ℕ → ChipView
 ram_smi number = record (blank_view Smi) {
   pages = record { number = number; sort = Ram } ∷ [];
   bytes = replicate 256 0;
@@ -36,7 +36,7 @@ ram_smi number = record (blank_view Smi) {
 }
 
 -- twelve sockets for 3851s, of which the first is filled, and a 3853 in the first of its sockets
-abbrev psu_and_ram : List ℕ → List ChipView
+abbrev pub psu_and_ram : List ℕ → List ChipView
 psu_and_ram bytes = psu 0 4 bytes ∷ replicate 11 (blank_view Psu) ++ ram_smi 0x28 ∷ []
 
 -- no chip at all: reset is not served
@@ -52,7 +52,7 @@ unfolding played_by telling own_inputs effect decoded first_memory
 two_chips_one_address = refl
 
 -- a return to the stack registers of power-on: the chip that drives stands right, or it does not, or none drives
-abbrev pop_at_once : List ChipView
+abbrev pub pop_at_once : List ChipView
 pop_at_once = psu 0 4 (0x1C ∷ []) ∷ psu 0x400 8 [] ∷ []
 
 pop_to_own_counters : (played pop_at_once 0 3).position.flat.state.flow.p ≡ 0
@@ -75,7 +75,7 @@ unfolding played_by telling own_inputs effect decoded first_memory
 pop_undriven = refl
 
 -- the data counters part where a 3851 has one alone
-abbrev exchange_alone : List ChipView
+abbrev pub exchange_alone : List ChipView
 exchange_alone = psu 0 4 (0x2A ∷ 0x00 ∷ 0x05 ∷ 0x2C ∷ 0x16 ∷ []) ∷ []
 
 copies_part : (played exchange_alone 0 9).stop ≡ Unserved (Astray 2 0 5 0)
@@ -91,7 +91,7 @@ unfolding played_by telling own_inputs effect decoded first_memory
 copies_part_clocks = refl
 
 -- ROM and RAM answer one read, each at its own data counter
-abbrev rom_and_ram : List ℕ
+abbrev pub rom_and_ram : List ℕ
 rom_and_ram = 0x2A ∷ 0x28 ∷ 0x00 ∷ 0x2C ∷ 0x2A ∷ 0x00 ∷ 0x10 ∷ 0x2C ∷ 0x16 ∷ []
 
 both_answer : (played (psu_and_ram rom_and_ram) 0 9).stop
@@ -124,7 +124,7 @@ unfolding played_by telling own_inputs effect decoded first_memory
 ram_answers_done = refl
 
 -- a jump whose second operand lies past the chip: the state is that before it
-abbrev cut_jump : List ChipView
+abbrev pub cut_jump : List ChipView
 cut_jump = psu 0 4 (0x29 ∷ 0x03 ∷ 0xFE ∷ replicate 1019 255 ++ 0x29 ∷ 0x08 ∷ []) ∷ []
 
 jump_cut : (played cut_jump 0 9).stop ≡ Unserved (Undriven 0x0C 0x0400)

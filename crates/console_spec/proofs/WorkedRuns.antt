@@ -15,7 +15,7 @@ use Rattle.console_spec.specs.RunText.{telling_lines, text_of, verdict_line, fau
 use Rattle.console_spec.proofs.WorkedRacks.{psu}
 
 -- a 3851 at 0 with these bytes, and FF behind them
-abbrev rom : List ℕ → List ChipView
+abbrev pub rom : List ℕ → List ChipView
 rom bytes = psu 0 4 bytes ∷ []
 
 -- LIS 1, NOP, and a branch to the NOP
