@@ -5,8 +5,8 @@ use Rattle.f8_spec.specs.Instructions.{decoded, row_of, row_clocks, clocks_of}
 use Rattle.f8_spec.specs.ChipState.{ChipView}
 use Rattle.f8_spec.specs.declared.instructions.Op.{Op}
 use Rattle.f8_spec.specs.declared.instructions.Row.{Row}
-use Rattle.console_spec.specs.Processor.{State}
-use Rattle.console_spec.specs.Run.{Position, Turn, Stop, Goes, Stops, Done, Unserved, Reserved, Ending, next, flat_next, turn_by, decided, goes_unless, instruction_fault, position_after, opcode_at, power_position, position_after_reset, reset_fault}
+use Rattle.console_spec.specs.Processor.{State, own_inputs}
+use Rattle.console_spec.specs.Run.{Position, Turn, Stop, Goes, Stops, Done, Unserved, Reserved, Ending, next, flat_next, turn_by, decided, goes_unless, instruction_fault, position_after, opcode_at, power_position, position_after_reset, reset_fault, seats_of}
 use Rattle.console_spec.specs.Scripts.{Script, frame_clocks, events_at, most_instructions}
 use Rattle.console_spec.specs.Services.{Fault}
 use Rattle.console_spec.specs.Telling.{Way, Telling, is_over_at, is_over, with_event, with_events, events_behind, moment_of, telling, telling_on, telling_behind, on_rack, on_flat, begun, played_by, referred_by}
@@ -25,23 +25,29 @@ some_clocks : (row : Row) (taken : Bool) → 1 ≤ row_clocks row taken
 some_clocks row taken = grind arith
 
 counts_after : (op : Op) (x : Position) → Counts x (position_after op x)
-counts_after op x = record { one = refl; clocks = omega (arith, some_clocks (row_of op) _) }
+counts_after op x = record { one = refl; clocks = omega (arith, some_clocks (row_of op) (own_inputs op x.flat.memory (seats_of x.copies) x.flat.state).taken) }
 
 -- a turn that leads on counts, and one that stops the run isn't told as the end of its instructions
 abbrev IsFair : Position → Turn → Type 0
 IsFair x (Goes y) = Counts x y
 IsFair x (Stops stop) = stop ≢ Done
 
+unserved_not_done : (fault : Fault) → Unserved fault ≢ Done
+unserved_not_done fault same = cc
+
+reserved_not_done : (at code : ℕ) → Reserved at code ≢ Done
+reserved_not_done at code same = cc
+
 goes_fairly : (op : Op) (x : Position) (fault : Option Fault) → IsFair x (goes_unless fault (position_after op x))
 goes_fairly op x None = counts_after op x
-goes_fairly op x (Some fault) = λ same. elim same [ ]
+goes_fairly op x (Some fault) = unserved_not_done fault
 
 rack_decides : (x : Position) (op : Option Op) → IsFair x (decided (λ op. goes_unless (instruction_fault op x) (position_after op x)) x.flat.state.flow.p (opcode_at x) op)
-rack_decides x None = λ same. elim same [ ]
+rack_decides x None = reserved_not_done x.flat.state.flow.p (opcode_at x)
 rack_decides x (Some op) = goes_fairly op x (instruction_fault op x)
 
 flat_decides : (x : Position) (op : Option Op) → IsFair x (decided (λ op. Goes (position_after op x)) x.flat.state.flow.p (opcode_at x) op)
-flat_decides x None = λ same. elim same [ ]
+flat_decides x None = reserved_not_done x.flat.state.flow.p (opcode_at x)
 flat_decides x (Some op) = counts_after op x
 
 rack_fairly : (x : Position) → IsFair x (next x)
@@ -111,7 +117,7 @@ starts_reset vs script = starts script.end (position_after_reset (begun vs scrip
 behind_reset : (script : Script) (x : Position) (rest : Position → Telling) → EndsAsAsked script (rest (position_after_reset x)).ending → (fault : Option Fault) →
     EndsAsAsked script (telling_behind x rest (goes_unless fault (position_after_reset x))).ending
 behind_reset script x rest ends None = ends
-behind_reset script x rest ends (Some fault) = λ done. elim done [ ]
+behind_reset script x rest ends (Some fault) = λ done. absurd (unserved_not_done fault done)
 
 pub end_law : EndLaw
 unfolding played_by referred_by
