@@ -1,5 +1,5 @@
 -- Pages that are filled one after another.
-use Rattle.std.proofs.Common.{◌≡◌, ℕ, ◌+◌, ◌*◌, ◌<◌, ◌≤◌, Bool, true, false, List, [], ◌∷◌, ◌++◌, length, get_or, take, drop, refl, sym, ◌∙◌, arith, append_assoc, length-append, length-drop}
+use Rattle.std.proofs.Common.{◌≡◌, ℕ, ◌+◌, ◌*◌, ◌<◌, ◌≤◌, Bool, true, false, List, ◌∷◌, ◌++◌, length, get_or, take, drop, refl, sym, ◌∙◌, arith, append_assoc, length-append, length-drop}
 use Rattle.std.specs.Prelude.{if◌then◌else◌, count_by, replicate}
 use Rattle.std.proofs.lemmas.List.{drop_more, take_all, length-take, length-take-le, length-replicate, drop-drop}
 use Rattle.std.proofs.lemmas.List.Sums.{sum_by-cons}
@@ -57,9 +57,6 @@ pub record Filling (pages : List Page) (rom bytes rest : List ℕ) (i : ℕ) : T
   pub left : length rest ≡ 256 * rom_count (drop i pages)
   pub size : length bytes ≡ i * 256
 
-pub Filling-none : (pages : List Page) (rom : List ℕ) → length rom ≡ 256 * rom_count pages → Filling pages rom [] rom 0
-Filling-none pages rom size = record { made = refl; left = size; size = refl }
-
 -- the ROM has the bytes of the next page
 pub Filling-enough : (pages : List Page) (rom bytes rest : List ℕ) (i : ℕ) (d : Page) → i < length pages → Filling pages rom bytes rest i →
     rom_need (get_or pages i d).sort ≤ length rest
@@ -91,9 +88,6 @@ Filling-more pages rom bytes rest i own d within size before = rw size (record {
 pub record Filled (fill : ℕ) (pages : List Page) (first now : List ℕ) (i : ℕ) : Type 0 where
   pub made : take (i * 256) now ++ filled_bytes fill (drop i pages) (drop (i * 256) now) ≡ filled_bytes fill pages first
   pub size : length now ≡ length pages * 256
-
-pub Filled-none : (fill : ℕ) (pages : List Page) (first : List ℕ) → length first ≡ length pages * 256 → Filled fill pages first first 0
-Filled-none fill pages first size = record { made = refl; size = size }
 
 length-own : (ram : Bool) (fill : ℕ) (page : List ℕ) → 256 ≤ length page → length (if ram then replicate 256 fill else take 256 page) ≡ 256
 length-own true fill page whole = length-replicate {A = ℕ} 256 fill
