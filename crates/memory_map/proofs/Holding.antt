@@ -11,9 +11,6 @@ use Rattle.memory_map.specs.Holders.{OwnedPage, Few, Empty, One, Several, follow
 pub record Counted (number : ℕ) (chips : List ChipSpec) (so_far : Few OwnedPage) (i : ℕ) : Type 0 where
   pub is : followed_by so_far (holders_from number i (drop i chips)) ≡ holder_of number chips
 
-pub Counted-none : (number : ℕ) (chips : List ChipSpec) → Counted number chips Empty 0
-Counted-none number chips = record { is = refl }
-
 followed_by-followed_by : (s : Few OwnedPage) (x : OwnedPage) (xs : List OwnedPage) → followed_by (followed_by s (x ∷ [])) xs ≡ followed_by s (x ∷ xs)
 followed_by-followed_by Empty x xs = refl
 followed_by-followed_by (One y) x xs = refl

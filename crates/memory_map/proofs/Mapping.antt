@@ -1,6 +1,6 @@
 -- What the chips that hold a page say of an address in it, and a map that is made page by page.
 use Rattle.std.proofs.Common.{◌≡◌, ℕ, suc, ◌+◌, ◌*◌, ◌/◌, ◌%◌, ◌<◌, List, [], ◌∷◌, ◌++◌, length, map, refl, sym, ap, ◌∙◌, arith, length-append, get_or-set_other, get_or-set_same, inl, inr, ◌-◌}
-use Rattle.std.specs.Prelude.{All, filter_map, is_some, if◌then◌else◌, replicate, slice_index, slice_index_or, slice_set, Option, Some, None, option_map}
+use Rattle.std.specs.Prelude.{All, filter_map, is_some, if◌then◌else◌, slice_index, slice_index_or, slice_set, Option, Some, None, option_map}
 use Rattle.std.specs.List.{enumerate_from, cons_option}
 use Rattle.std.proofs.lemmas.List.{get_or-replicate, length-replicate, get_or_append_left, get_or-append_right, length-set}
 use Rattle.std.proofs.lemmas.Bool.{cases_lt, cases_eq}
@@ -153,14 +153,6 @@ pub record Mapped (chips : List ChipSpec) (pages : List Entry) (bytes : List ℕ
   pub bytes_size : length bytes ≡ count * 256
   pub entries : (number : ℕ) → number < count → slice_index_or pages number Nothing ≡ entry_of (holder_of number chips)
   pub stays : (at : ℕ) → at < count * 256 → slice_index bytes at ≡ slice_index (page_bytes (holder_of (at / 256) chips)) (at % 256)
-
-pub Mapped-none : (chips : List ChipSpec) → Mapped chips (replicate 256 Nothing) [] 0
-Mapped-none chips = record {
-  pages_size = length-replicate {A = Entry} 256 Nothing;
-  bytes_size = refl;
-  entries = λ number below. absurd (omega arith);
-  stays = λ at below. absurd (omega arith);
-}
 
 pub Mapped-more : (chips : List ChipSpec) (pages : List Entry) (bytes : List ℕ) (count : ℕ) → All IsSpec chips → count < 256 → Mapped chips pages bytes count →
     Mapped chips (slice_set pages count (entry_of (holder_of count chips))) (bytes ++ page_bytes (holder_of count chips)) (count + 1)
