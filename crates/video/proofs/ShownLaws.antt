@@ -10,7 +10,7 @@ use Rattle.std.proofs.lemmas.List.FromFn.{length-map-range_with_len, get_or-map-
 use Rattle.console_spec.specs.Writes.{Write, latch_of}
 use Rattle.console_spec.specs.Display.{is_raised, is_rise, pixel_of, palette_of}
 use Rattle.console_spec.specs.RunText.{picture_row}
-use Rattle.video.specs.ScreenState.{Latches, Shown, rows_of, latches_of, shown, row_in, pixel_in, palette_in, digits_in, colour_drawn, x_drawn, y_drawn, drawn, after_write}
+use Rattle.video.specs.ScreenState.{Latches, Shown, rows_of, latches_of, shown, row_in, pixel_in, digits_in, colour_drawn, x_drawn, y_drawn, drawn, after_write}
 use Rattle.video.proofs.DisplayLaws.{pixel_of-next}
 
 -- ---- rows made of colours
@@ -113,12 +113,6 @@ goes_on now after w ws next before = next ∙ ap (after_write w.port w.byte) bef
 
 pub shown_pixel : (s : Shown) (ws : List Write) (x y : ℕ) → s ≡ shown ws → x < 128 → y < 64 → pixel_in s.rows x y ≡ pixel_of x y ws
 shown_pixel s ws x y e inside below = ap (λ t. pixel_in t.rows x y) e ∙ pixel_in-rows_of (pixels_of ws) x y inside below
-
-pub shown_palette : (s : Shown) (ws : List Write) (y : ℕ) → s ≡ shown ws → y < 64 → palette_in (pixel_in s.rows) y ≡ palette_of y ws
-shown_palette s ws y e below =
-    let first : pixel_in s.rows 125 y ≡ pixel_of 125 y ws = shown_pixel s ws 125 y e (lit< tt) below in
-    let second : pixel_in s.rows 126 y ≡ pixel_of 126 y ws = shown_pixel s ws 126 y e (lit< tt) below in
-    rw (first, second) refl
 
 digits_in-row : (ws : List Write) (y : ℕ) → digits_in (pixels_of ws) y ++ codes "\n" ≡ picture_row y ws
 unfolding digits_in picture_row
