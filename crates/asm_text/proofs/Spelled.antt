@@ -1,13 +1,10 @@
 -- Names and numbers as a listing writes them are read again, whatever follows that doesn't go on with them.
-use Rattle.std.proofs.Common.{◌≡◌, ℕ, ◌+◌, ◌*◌, ◌/◌, ◌%◌, ◌^◌, ◌<◌, ◌≤◌, Bool, true, List, [], ◌∷◌, ◌++◌, length, take, refl, ◌∙◌, ap, arith, zero-add, lit<, Some, None}
-use Rattle.std.specs.List.{list_all, prefix_len, fold}
+use Rattle.std.proofs.Common.{◌≡◌, ℕ, ◌+◌, ◌/◌, ◌%◌, ◌^◌, ◌<◌, ◌≤◌, Bool, true, List, [], ◌∷◌, ◌++◌, length, take, refl, ◌∙◌, ap, arith, lit<, Some, None}
+use Rattle.std.specs.List.{list_all, prefix_len}
 use Rattle.std.specs.Char.{digit_value, is_digit}
-use Rattle.std.specs.Fmt.{decimal}
-use Rattle.std.specs.Str.Parse.{AllDigits, digits_value_after}
 use Rattle.std.proofs.Math.Seq.{take-append_seam}
 use Rattle.std.proofs.lemmas.Bool.Decides.{nat_tests}
 use Rattle.std.proofs.lemmas.Grind.{common_steps}
-use Rattle.std.proofs.lemmas.Fmt.{decimal_is_IsNumeral}
 use Rattle.asm_text.specs.Bytes.{is_name_byte, is_name, value, narrow, stops}
 use Rattle.asm_text.specs.Lexemes.{name_of, name_lexeme, number_of, number_lexeme}
 use Rattle.asm_text.specs.Spelling.{hex_digit, hex2, hex4}
@@ -111,20 +108,3 @@ unfolding hex2 hex4
 hex4_read w rest small stop =
     let all : list_all (λ c. is_digit c 16) (hex4 w) ≡ true = rw (hex_digit_is (w / 256 / 16) (omega arith), hex_digit_is (w / 256 % 16) (omega arith), hex_digit_is (w % 256 / 16) (omega arith), hex_digit_is (w % 256 % 16) (omega arith)) refl in
     number_read 16 1 w (hex4 w) rest (lit< tt) all (hex4_value w small) (omega arith) stop
-
--- std's number of digits is the value here
-value_after : (base n : ℕ) (digits : List ℕ) → fold (λ sum digit. sum * base + digit_value digit) n digits ≡ digits_value_after base n digits
-value_after base n [] = refl
-value_after base n (d ∷ ds) = value_after base (n * base + digit_value d) ds
-
--- std's digits pass the test
-all_digits : (base : ℕ) (digits : List ℕ) → AllDigits base digits → list_all (λ b. is_digit b base) digits ≡ true
-all_digits base [] all = refl
-all_digits base (d ∷ ds) all = grind (arith, nat_tests, all_digits base ds all.1)
-
--- a decimal number is read again
-pub decimal_read : (n : ℕ) (rest : List ℕ) → n < 2 ^ 32 → stops (λ b. is_digit b 10) rest ≡ true → number_lexeme 10 0 (decimal n ++ rest) ≡ Lexed (kind.Number n) (length (decimal n))
-unfolding value
-decimal_read n rest small stop =
-    let numeral = decimal_is_IsNumeral n (omega arith) in
-    number_read 10 0 n (decimal n) rest numeral.0.0 (all_digits 10 (decimal n) numeral.0.1) (value_after 10 0 (decimal n) ∙ numeral.1) small stop ∙ ap (Lexed (kind.Number n)) (zero-add (length (decimal n)))
