@@ -4,7 +4,7 @@ use Rattle.asm_text.specs.declared.answers.Token.{Token}
 use Rattle.f8_asm.specs.declared.values.Operator.{Operator}
 use Rattle.f8_asm.specs.declared.faults.LineFault.{LineFault}
 use Rattle.f8_asm.specs.Answers.{◌>>=◌}
-use Rattle.f8_asm.specs.Grammar.{Actions, Read, operator_at, chain, level}
+use Rattle.f8_asm.specs.Grammar.{Actions, Read, operator_at, chain}
 
 -- what is still read makes the whole
 pub record ChainOn {A : Type 0} (acts : Actions A) (strength : ℕ) (g : List Token → Read A) (left : A) (rest : List Token) (whole : Read A) : Type 0 where
@@ -59,14 +59,3 @@ module _ {A : Type 0} (acts : Actions A) (strength : ℕ) (g : List Token → Re
       ends : (n : ℕ) → chain acts strength g n left [] ≡ whole → whole ≡ Ok (left, [])
       ends zero e = sym e
       ends (suc n) e = sym e
-
-module _ {A : Type 0} (acts : Actions A) (f : List Token → Read A) where
-  -- the first operand is read
-  pub level_starts : (k strength : ℕ) (ts rest : List Token) (left : A) → strength ≡ suc k → Ok (left, rest) ≡ level acts f k ts → ChainOn acts strength (level acts f k) left rest (level acts f strength ts)
-  unfolding level
-  level_starts k strength ts rest left is read = rw is (record { most = length rest; room = omega arith; is = rw (← read, level) refl })
-
-  -- the first operand can't be read
-  pub level_fails : (k strength : ℕ) (ts : List Token) (fault : LineFault) → strength ≡ suc k → Err fault ≡ level acts f k ts → level acts f strength ts ≡ Err fault
-  unfolding level
-  level_fails k strength ts fault is failed = rw is (rw (← failed, level) refl)

@@ -56,13 +56,6 @@ module _ (acts : Actions Outcome) where
   unfolding items
   goes_at n ts behind rest o some read more = rw (← read) (before_some n o behind some ∙ rw (← more) refl)
 
-  pub items_start : (ts : List Token) → ItemsOn acts [] ts (items acts (length ts) ts)
-  items_start ts = record { most = length ts; room = omega arith; is = first (items acts (length ts) ts) }
-    where
-      first : (r : Result (List Operand) LineFault) → after [] r ≡ r
-      first (Ok os) = refl
-      first (Err fault) = refl
-
   module _ {found : List Operand} {rest : List Token} {whole : Result (List Operand) LineFault} (on : ItemsOn acts found rest whole) where
     pub on_no_operand : (fault : LineFault) → Err fault ≡ operand_at acts rest → whole ≡ Err fault
     on_no_operand fault failed = sym on.is ∙ ap (after found) (fails_at on.most rest fault on.room failed)

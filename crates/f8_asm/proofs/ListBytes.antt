@@ -23,13 +23,6 @@ after_more front item (Err fault) = refl
 pub record BytesOn (size : ItemSize) (front : List ℕ) (rest : List Operand) (whole : Result (List ℕ) LineFault) : Type 0 where
   pub is : after front (list_bytes size rest) ≡ whole
 
-pub bytes_start : (size : ItemSize) (os : List Operand) → BytesOn size [] os (list_bytes size os)
-bytes_start size os = record { is = first (list_bytes size os) }
-  where
-    first : (r : Result (List ℕ) LineFault) → after [] r ≡ r
-    first (Ok bs) = refl
-    first (Err fault) = refl
-
 module _ {size : ItemSize} {front : List ℕ} {whole : Result (List ℕ) LineFault} where
   pub bytes_end : BytesOn size front [] whole → whole ≡ Ok front
   unfolding list_bytes

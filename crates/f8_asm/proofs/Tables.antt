@@ -1,7 +1,7 @@
 -- The byte of each address. The list is long, so it's never written out.
-use Rattle.std.proofs.Common.{◌≡◌, ℕ, zero, suc, ◌+◌, ◌<◌, ◌≤◌, List, [], ◌∷◌, ◌++◌, length, get_or, set, drop, replicate, Option, Some, None, refl, sym, ◌∙◌, ap, arith, add-one, append_assoc, append-nil}
+use Rattle.std.proofs.Common.{◌≡◌, ℕ, zero, suc, ◌+◌, ◌<◌, List, [], ◌∷◌, ◌++◌, length, get_or, set, drop, replicate, Option, Some, None, refl, sym, ◌∙◌, ap, arith, add-one}
 use Rattle.std.proofs.Math.Seq.{drop-cons}
-use Rattle.std.proofs.lemmas.List.{length-replicate, drop_all}
+use Rattle.std.proofs.lemmas.List.{length-replicate}
 use Rattle.f8_asm.specs.PassThree.{no_bytes, written}
 use Rattle.f8_asm.specs.Image.{ascending}
 
@@ -32,16 +32,3 @@ written_more table at k bytes whole on within =
 -- the bytes so far, then those of the addresses from here on
 pub record AscendingOn (front : List (ℕ × ℕ)) (at : ℕ) (rest : List (Option ℕ)) (whole : List (ℕ × ℕ)) : Type 0 where
   pub is : front ++ ascending at rest ≡ whole
-
--- what is left of a table begins with its next slot
-next_slot : (table : List (Option ℕ)) (at : ℕ) (slot : Option ℕ) → at < length table → get_or table at None ≡ slot → drop at table ≡ slot ∷ drop (at + 1) table
-next_slot table at slot within is = rw (add-one at, ← is, drop-cons table at None) refl
-
-pub byte_here : (front : List (ℕ × ℕ)) (at : ℕ) (table : List (Option ℕ)) (b : ℕ) (whole : List (ℕ × ℕ)) → AscendingOn front at (drop at table) whole → at < length table → get_or table at None ≡ Some b → AscendingOn (front ++ (at, b) ∷ []) (at + 1) (drop (at + 1) table) whole
-byte_here front at table b whole on within is = record { is = append_assoc front ((at, b) ∷ []) (ascending (at + 1) (drop (at + 1) table)) ∙ rw (next_slot table at (Some b) within is) at on.is }
-
-pub no_byte_here : (front : List (ℕ × ℕ)) (at : ℕ) (table : List (Option ℕ)) (whole : List (ℕ × ℕ)) → AscendingOn front at (drop at table) whole → at < length table → get_or table at None ≡ None → AscendingOn front (at + 1) (drop (at + 1) table) whole
-no_byte_here front at table whole on within is = record { is = rw (next_slot table at None within is) at on.is }
-
-pub no_address_left : (front : List (ℕ × ℕ)) (at : ℕ) (table : List (Option ℕ)) (whole : List (ℕ × ℕ)) → AscendingOn front at (drop at table) whole → length table ≤ at → front ≡ whole
-no_address_left front at table whole on past = sym (append-nil front) ∙ rw (drop_all at table past) at on.is
