@@ -8,7 +8,7 @@ use Rattle.f8_spec.specs.declared.instructions.Row.{Row}
 use Rattle.f8_spec.specs.declared.instructions.Row.TheVariants.{Plain, Idle, ShortIn, ShortOut}
 use Rattle.f8_spec.specs.Words.{places_on}
 use Rattle.console_spec.specs.AddressSpace.{byte_at}
-use Rattle.console_spec.specs.Processor.{Registers, Inputs, used_byte, effect, result_of, is_taken}
+use Rattle.console_spec.specs.Processor.{Registers, Inputs, used_byte, effect, result_of}
 use Rattle.f8_isa.specs.Ports.{PortState, port_taking}
 use Rattle.f8_isa.specs.IsaState.{IsaState, kept_inputs, kept_write, isa_after}
 
@@ -75,13 +75,6 @@ plain_result (Asd r) i m plain = cc
 plain_result (Ins n) i m plain = absurd (ins_not_plain n plain)
 plain_result (Outs n) i m plain = absurd (outs_not_plain n plain)
 plain_result op i m plain = refl
-
--- and are no branches
-plain_untaken : (op : Op) (m : Registers) → row_of op ≡ Plain → is_taken op m ≡ false
-plain_untaken (Bt t) m plain = cc
-plain_untaken (Bf t) m plain = cc
-plain_untaken Br7 m plain = cc
-plain_untaken op m plain = refl
 
 -- they write no port
 plain_unwritten : (op : Op) (operand : ℕ) (p : PortState) → row_of op ≡ Plain → port_taking op operand p ≡ None

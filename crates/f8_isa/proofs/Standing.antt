@@ -15,16 +15,16 @@ use Rattle.f8_spec.specs.declared.instructions.Row.{Row}
 use Rattle.f8_spec.specs.declared.instructions.Row.TheVariants.{StoreData, PortIn, PortOut}
 use Rattle.console_spec.specs.AddressSpace.{byte_at}
 use Rattle.console_spec.specs.Writes.{Write, latch_of, port_value, chip_port_byte}
-use Rattle.console_spec.specs.Processor.{Flow, Inputs, State, at_power, own_inputs, after_instruction, read_port, if_taken, written_port, with_write, with_key}
+use Rattle.console_spec.specs.Processor.{Flow, Inputs, State, at_power, own_inputs, after_instruction, read_port, if_taken, written_port, with_write}
 use Rattle.console_spec.specs.FlatMemory.{first_byte, first_memory, is_ram_sort}
 use Rattle.console_spec.specs.FlatMachine.{FlatState, memory_after}
 use Rattle.console_spec.specs.CounterCopies.{Copy, copies_after, reset_copy}
-use Rattle.console_spec.specs.Run.{Reserved, seats_of, position_after, position_after_reset, power_position}
+use Rattle.console_spec.specs.Run.{seats_of, position_after, position_after_reset, power_position}
 use Rattle.console_board.specs.declared.PortWrite.{PortWrite}
 use Rattle.chip_face.specs.declared.specification.ChipSpec.{ChipSpec}
 use Rattle.memory_map.specs.MapOf.{MapTable, IsMapOf, views_of, seats_of as seats_of_chips}
-use Rattle.f8_isa.specs.Ports.{PortState, AreLatches, KnowsPorts, kept_value, chip_value, value_read, if_writable, port_taking, ports_after, told, with_key_byte}
-use Rattle.f8_isa.specs.IsaState.{IsaState, KnowsRam, StandsAt, LeadsTo, GoesTo, StopsBy, TakesKey, InReach, state_of, flat_of, memory_by, kept_write, phi_after, isa_after}
+use Rattle.f8_isa.specs.Ports.{PortState, AreLatches, KnowsPorts, kept_value, chip_value, value_read, if_writable, port_taking, ports_after, told}
+use Rattle.f8_isa.specs.IsaState.{IsaState, KnowsRam, StandsAt, LeadsTo, GoesTo, InReach, state_of, flat_of, memory_by, kept_write, phi_after, isa_after}
 use Rattle.f8_isa.specs.KeptMemory.{KeptMemory, IsFirstMemory}
 use Rattle.f8_isa.specs.KeptPorts.{AreFirstPorts}
 
@@ -211,16 +211,3 @@ goes_to op before after wrote found state tells range reach = λ count x stands.
     rw state (
     subst (λ (f : FlatState). LeadsTo (record { flat = f; copies = x.copies }) (isa_after op before) (count + 1) wrote) (sym stands.flat)
     (leads_to op before wrote count x.flat.state.writes x.copies found tells range reach stands.ram stands.ports stands.latches))
-
-pub stops_by : (isa : IsaState) → decoded (byte_at isa.memory isa.flow.p) ≡ None → StopsBy isa (Reserved isa.flow.p (byte_at isa.memory isa.flow.p))
-stops_by isa none = λ count x stands. rw (stands.flat, none) refl
-
--- ---- a key byte
-
-pub takes_key : (port byte : ℕ) (isa : IsaState) → TakesKey port byte isa (record isa { ports = with_key_byte port byte isa.ports })
-takes_key port byte isa = λ count x stands. record {
-  flat = ap (λ (f : FlatState). record f { state = with_key port byte f.state }) stands.flat;
-  ram = stands.ram;
-  ports = record { readable = stands.ports.readable; writable = stands.ports.writable };
-  latches = stands.latches;
-}
