@@ -191,13 +191,6 @@ seats_from fill n (v ∷ vs) = ap (λ ss. seat_of v ∷ ss) (seats_from fill (n 
 pub seats-powered_views : (fill : ℕ) (vs : List ChipView) → map seat_of (powered_views fill vs) ≡ map seat_of vs
 seats-powered_views fill vs = seats_from fill 0 vs
 
--- they have 256 bytes a page
-pub filled-powered_views : (fill : ℕ) (vs : List ChipView) → ((k : ℕ) (v : ChipView) → slice_get vs k ≡ Some v → IsFilled v) →
-    (k : ℕ) (w : ChipView) → slice_get (powered_views fill vs) k ≡ Some w → IsFilled w
-filled-powered_views fill vs filled k w lies =
-    let chip : Comes (powered fill (power_start fill k)) (slice_get vs k) w = powered_comes fill vs k w lies in
-    subst IsFilled (sym chip.gives) (length-filled_bytes fill chip.from.pages chip.from.bytes (filled k chip.from chip.is))
-
 -- they hold the first memory
 pub first_flat : (fill : ℕ) (vs : List ChipView) → ((k : ℕ) (v : ChipView) → slice_get vs k ≡ Some v → IsFilled v) →
     HoldsFlat (first_memory vs fill) (powered_views fill vs)

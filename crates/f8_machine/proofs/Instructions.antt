@@ -1,5 +1,5 @@
 -- An instruction of a machine, from the position that it stands for to the next one.
-use Rattle.std.proofs.Common.{◌≡◌, ℕ, ◌+◌, ◌%◌, ◌<◌, ◌≤◌, Bool, true, false, List, [], ◌∷◌, map, length, Option, Some, None, refl, sym, ap, ◌∙◌, subst, arith}
+use Rattle.std.proofs.Common.{◌≡◌, ℕ, ◌+◌, ◌%◌, ◌<◌, Bool, true, false, List, [], ◌∷◌, map, length, Option, Some, None, refl, sym, ap, ◌∙◌, subst, arith}
 use Rattle.std.specs.Prelude.{IsSome, sum_by, option_map, if◌then◌else◌, slice_index, slice_set}
 use Rattle.f8_spec.specs.BusArbitration.{Seat}
 use Rattle.f8_spec.specs.ChipState.{ChipState}
@@ -25,7 +25,7 @@ use Rattle.console_spec.specs.CounterCopies.{Copy, fetched, copies_after}
 use Rattle.console_spec.specs.FlatMachine.{FlatState, memory_after, gets, gets_all}
 use Rattle.console_spec.specs.Services.{Fault}
 use Rattle.console_spec.specs.BusTrace.{Course}
-use Rattle.console_spec.specs.Run.{Position, Reserved, Stops, goes_unless, decided, next, opcode_at, seats_of, instruction_fault, position_after, course_as, turn_course}
+use Rattle.console_spec.specs.Run.{Position, goes_unless, decided, next, opcode_at, seats_of, instruction_fault, position_after, course_as, turn_course}
 use Rattle.console_spec.proofs.InputLaws.{result_of-with_opcode, flow_after-with_opcode}
 use Rattle.cpu3850.specs.declared.steps.Step.{Step}
 use Rattle.cpu3850.specs.CpuSteps.{CpuState, AreInRange, bus_step, planned_as, planned}
@@ -62,9 +62,6 @@ course_with x code found opcode held =
     ap (λ (k : ℕ). course_as x (decoded k)) (sym opcode)
     ∙ ap (λ (o : Option Op). course_as x o) held
 
-pub turn_reserved : (x : Position) (p code : ℕ) → p ≡ x.flat.state.flow.p → code ≡ opcode_at x → decoded code ≡ None → next x ≡ Stops (Reserved p code)
-turn_reserved x p code place opcode none = turn_with x code None opcode none ∙ ap (λ (n : ℕ). Stops (Reserved n code)) (sym place)
-
 -- ---- clocks, counters and memory
 
 clocks_listed : (row : Row) (branched : Bool) → sum_by (λ (step : Step). step_clocks step.long) (map bus_step (steps_of row branched)) ≡ row_clocks row branched
@@ -78,21 +75,6 @@ pub clocks_planned : (cpu : CpuState) (op : Op) → decoded cpu.opcode ≡ Some 
     sum_by (λ (step : Step). step_clocks step.long) (planned cpu) ≡ row_clocks (row_of op) (is_taken op cpu.registers)
 clocks_planned cpu op held =
     ap (λ (found : Option Op). sum_by (λ (step : Step). step_clocks step.long) (planned_as found cpu.registers)) held ∙ clocks_listed (row_of op) (is_taken op cpu.registers)
-
--- no instruction takes more than 26 Φ
-row_clocks_small : (row : Row) (branched : Bool) → row_clocks row branched ≤ 26
-row_clocks_small Branch true = omega arith
-row_clocks_small Branch false = omega arith
-row_clocks_small BranchIsar true = omega arith
-row_clocks_small BranchIsar false = omega arith
-row_clocks_small row branched = omega arith
-
-clocks_small_as : (found : Option Op) (m : Registers) → sum_by (λ (step : Step). step_clocks step.long) (planned_as found m) ≤ 26
-clocks_small_as None m = omega arith
-clocks_small_as (Some op) m = rw (clocks_listed (row_of op) (is_taken op m)) (row_clocks_small (row_of op) (is_taken op m))
-
-pub clocks_small : (cpu : CpuState) → sum_by (λ (step : Step). step_clocks step.long) (planned cpu) ≤ 26
-clocks_small cpu = clocks_small_as (decoded cpu.opcode) cpu.registers
 
 own_taken : (op : Op) (seats : List Seat) (f : FlatState) → (gets op seats f).taken ≡ is_taken op f.state.registers
 unfolding own_inputs

@@ -10,7 +10,6 @@ use Rattle.f8_spec.specs.declared.chips.ChipKind.TheVariants.{Psu, Smi}
 use Rattle.f8_spec.specs.declared.chips.Page.{Page}
 use Rattle.data_bus.specs.Racks.{NumberedZip, SettlesStep, Stays, RackSettles, RackStays, clocks_of, views}
 use Rattle.f8_spec.specs.ChipState.{IsFilled}
-use Rattle.f8_machine.proofs.Kept.{Comes, comes}
 
 -- the step as a chip hears it whose interrupt is not acknowledged
 abbrev pub plain_step : ℕ → ℕ → ℕ → HeardStep
@@ -84,17 +83,9 @@ counters_move Smi romc byte c = refl
 pub seat_of-after : (romc byte clocks : ℕ) (v : ChipView) → seat_of (after_step 0 (plain_step romc byte clocks) v) ≡ seat_of v
 seat_of-after romc byte clocks v = (effect_leaves romc byte v).seat
 
--- the kind
-pub kind-after : (romc byte clocks : ℕ) (v : ChipView) → (after_step 0 (plain_step romc byte clocks) v).kind ≡ v.kind
-kind-after romc byte clocks v = ap (λ (s : Seat). s.kind) (seat_of-after romc byte clocks v)
-
 -- the pages
 pub pages-after : (romc byte clocks : ℕ) (v : ChipView) → (after_step 0 (plain_step romc byte clocks) v).pages ≡ v.pages
 pages-after romc byte clocks v = ap (λ (s : Seat). s.pages) (seat_of-after romc byte clocks v)
-
--- the byte is the last one
-pub last-after : (romc byte clocks : ℕ) (v : ChipView) → (after_step 0 (plain_step romc byte clocks) v).last ≡ byte
-last-after romc byte clocks v = refl
 
 -- the counters move by the code
 pub counters-after : (romc byte clocks : ℕ) (v : ChipView) →
@@ -161,14 +152,6 @@ comes_after romc byte clocks vs place v w lies lies_after =
     let step : ChipView → ChipView = after_step 0 (plain_step romc byte clocks) in
     let both : Some (step v) ≡ Some w = ap (option_map step) (sym lies) ∙ sym (slice_get-map step vs place) ∙ lies_after in
     cc
-
--- chips with 256 bytes a page have them after a step
-pub filled-all : (romc byte clocks : ℕ) (vs : List ChipView) → ((k : ℕ) (v : ChipView) → slice_get vs k ≡ Some v → IsFilled v) →
-    (k : ℕ) (w : ChipView) → slice_get (map (after_step 0 (plain_step romc byte clocks)) vs) k ≡ Some w → IsFilled w
-filled-all romc byte clocks vs filled k w lies =
-    let step : ChipView → ChipView = after_step 0 (plain_step romc byte clocks) in
-    let old : Comes step (slice_get vs k) w = comes step (slice_get vs k) w (sym (slice_get-map step vs k) ∙ lies) in
-    subst IsFilled (sym old.gives) (filled-after romc byte clocks old.from (filled k old.from old.is))
 
 -- the views from a socket on
 settled_from : (romc : ℕ) (long : Bool) (byte n : ℕ) (olds news : List ChipState) → NumberedZip (SettlesStep romc long None byte) n olds news →
