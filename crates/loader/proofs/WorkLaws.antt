@@ -13,8 +13,7 @@ use Rattle.loader.specs.declared.refusals.Refusal.TheVariants.{Long}
 use Rattle.loader.specs.declared.refusals.Stop.{Stop}
 use Rattle.loader.specs.declared.refusals.Stop.TheVariants.{Refused, Store, Memory}
 use Rattle.loader.specs.Work.{Ask, End, Gives, Refuses, Lacks, Course, Work, gives, reads, found, ask, continued, ◌>>=◌}
-use Rattle.loader.specs.Works.{more, FailsAt, Follows, StoreFails, HasFiles, outcome_as, Works}
-use Rattle.loader.specs.Readings.{Says}
+use Rattle.loader.specs.Works.{more, FailsAt, Follows, StoreFails, HasFiles, Works}
 
 -- ---- counts
 
@@ -35,15 +34,6 @@ works_gives told faults fetches x = record {
 pub works_read : {A : Type 0} (told : Option (List NamedBytes)) (faults fetches : ℕ) (read : Result A Refusal) (x : A) → read ≡ Ok x → Works told told faults faults fetches fetches (reads read) (Ok x)
 works_read told faults fetches read x e = rw e (works_gives told faults fetches x)
 
-pub works_refused : {A : Type 0} (told : Option (List NamedBytes)) (faults fetches : ℕ) (read : Result A Refusal) (refusal : Refusal) → read ≡ Err refusal →
-    Works told told faults faults fetches fetches (reads read) (Err (Refused refusal))
-works_refused told faults fetches read refusal e = rw e (record {
-  same = λ files e. e;
-  follows = λ files e. (refl, refl);
-  telling = λ files e has. e;
-  fails = refl;
-})
-
 pub works_memory : {A : Type 0} (told : Option (List NamedBytes)) (faults fetches : ℕ) (work : Work A) → Works told told faults faults fetches fetches work (Err Memory)
 works_memory told faults fetches work = record {
   same = λ files e. e;
@@ -51,14 +41,6 @@ works_memory told faults fetches work = record {
   telling = λ files e has. e;
   fails = refl;
 }
-
--- what is read is as it is said
-pub works_said : {A B : Type 0} (told : Option (List NamedBytes)) (faults fetches : ℕ) (seen : A → B) (result : Result A Stop) (read : Result B Refusal) → Says seen result read →
-    Works told told faults faults fetches fetches (reads read) (outcome_as seen result)
-works_said told faults fetches seen (Ok x) read says = works_read told faults fetches read (seen x) says
-works_said told faults fetches seen (Err (Refused refusal)) read says = works_refused told faults fetches read refusal says
-works_said told faults fetches seen (Err (Store purpose)) read says = absurd says
-works_said told faults fetches seen (Err Memory) read says = works_memory told faults fetches (reads read)
 
 -- ---- one file
 
@@ -219,14 +201,4 @@ works_stop a b faults_a faults_b fetches_a fetches_b work f stop first = record 
   follows = λ files e. stops_first fetches_a fetches_b (work files).asks (work files).end (λ x. f x files) stop (first.follows files e);
   telling = λ files e has. first.telling files e (has_first (work files).asks (work files).end (λ x. f x files) has);
   fails = first.fails;
-}
-
--- works that go the same way over all files
-pub works_same : {A : Type 0} (a b : Option (List NamedBytes)) (faults_a faults_b fetches_a fetches_b : ℕ) (work other : Work A) (outcome : Result A Stop) → ((files : List NamedBytes) → work files ≡ other files) →
-    Works a b faults_a faults_b fetches_a fetches_b work outcome → Works a b faults_a faults_b fetches_a fetches_b other outcome
-works_same {A = A} a b faults_a faults_b fetches_a fetches_b work other outcome same works = record {
-  same = works.same;
-  follows = λ files e. subst (λ (course : Course A). Follows fetches_a fetches_b course outcome) (same files) (works.follows files e);
-  telling = λ files e has. works.telling files e (subst (λ (course : Course A). HasFiles course.end) (sym (same files)) has);
-  fails = works.fails;
 }
