@@ -1,6 +1,6 @@
 -- Events, one after another.
 use Rattle.std.proofs.Common.{◌≡◌, ℕ, ◌+◌, ◌<◌, ◌≤◌, Bool, true, false, List, [], ◌∷◌, ◌++◌, take, length, get_or, refl, sym, ap, ◌∙◌, subst}
-use Rattle.std.specs.Prelude.{◌==◌, if◌then◌else◌, Option, Some, None}
+use Rattle.std.specs.Prelude.{◌==◌, if◌then◌else◌, Option, Some}
 use Rattle.std.proofs.lemmas.List.{take_more, take_all}
 use Rattle.f8_spec.specs.ChipState.{ChipState}
 use Rattle.console_spec.specs.Run.{Position, Goes, position_after_reset}
@@ -67,14 +67,6 @@ pub behind_some : (script : Script) (p : ProgressState) (x y : Position) (fallen
     ends_at script.end p ≡ false → events_behind script x (Goes y) ≡ events_at frame script.events
 behind_some script p x y fallen frame is same keeps on =
     ap (λ (f : Option ℕ). events_fallen script f y) (sym same ∙ is) ∙ ap (λ (b : Bool). if b then [] else events_at frame script.events) (sym (over_is script.end p y.flat.state keeps) ∙ on)
-
-pub behind_over : (script : Script) (p : ProgressState) (x y : Position) (fallen : Option ℕ) (frame : ℕ) → fallen ≡ Some frame → fallen ≡ fallen_at x.flat.state y.flat.state → Keeps p y.flat.state →
-    ends_at script.end p ≡ true → events_behind script x (Goes y) ≡ []
-behind_over script p x y fallen frame is same keeps over =
-    ap (λ (f : Option ℕ). events_fallen script f y) (sym same ∙ is) ∙ ap (λ (b : Bool). if b then [] else events_at frame script.events) (sym (over_is script.end p y.flat.state keeps) ∙ over)
-
-pub behind_none : (script : Script) (x y : Position) (fallen : Option ℕ) → fallen ≡ None → fallen ≡ fallen_at x.flat.state y.flat.state → events_behind script x (Goes y) ≡ []
-behind_none script x y fallen is same = ap (λ (f : Option ℕ). events_fallen script f y) (sym same ∙ is)
 
 -- a key byte doesn't hang on reset
 event_reset : (e : Event) (x : Position) → with_event e (position_after_reset x) ≡ position_after_reset (with_event e x)

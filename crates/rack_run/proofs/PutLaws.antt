@@ -6,11 +6,11 @@ use Rattle.console_spec.specs.BusTrace.{TracedStep}
 use Rattle.console_spec.specs.RunText.{bus_line, bus_fault_line, out_line, frame_line, picture_row}
 use Rattle.console_spec.specs.Writes.{Write}
 use Rattle.outside.specs.Counts.{Rose}
-use Rattle.outside.proofs.SinkLaws.{Taken, taken_none, taken_more, taken_all, taken_part, adds_none, adds_then, adds_part_behind, adds_part_first}
+use Rattle.outside.proofs.SinkLaws.{Taken, taken_more, taken_all, taken_part, adds_none, adds_then, adds_part_behind, adds_part_first}
 use Rattle.console_spec.specs.Telling.{Told}
 use Rattle.rack_run.specs.Texts.{is_told, is_traced, text_told, text_in, Puts}
 use Rattle.rack_run.specs.declared.detail.Detail.{Detail}
-use Rattle.rack_run.proofs.ToldTexts.{told_if, untold_if, text_in-nil, traced_told, some_first, some_behind}
+use Rattle.rack_run.proofs.ToldTexts.{told_if, text_in-nil, traced_told, some_first, some_behind}
 
 -- nothing is put
 pub puts_none : {T : Type 0} {E : Type 0} (v : T) (a : Option (List ℕ)) (n : ℕ) → Puts {T = T} {E = E} (Ok v) a a n n []
@@ -82,9 +82,6 @@ pub record PutSoFar (a b : Option (List ℕ)) (n m : ℕ) (all rest : List ℕ) 
   pub taken : Taken a b all rest
   pub same : m ≡ n
 
-pub so_far_none : (a : Option (List ℕ)) (n : ℕ) (all : List ℕ) → PutSoFar a a n n all all
-so_far_none a n all = record { taken = taken_none a all; same = refl }
-
 pub so_far_more : {T : Type 0} {E : Type 0} (v : T) (a b c : Option (List ℕ)) (n m k : ℕ) (all rest line : List ℕ) (left : List ℕ) → PutSoFar a b n m all rest → rest ≡ line ++ left → Adds b c line →
     HasCause {T = T} {E = E} m k (Ok v) → PutSoFar a c n k all left
 so_far_more v a b c n m k all rest line left so_far is adds cause = record {
@@ -125,10 +122,6 @@ puts_untraced v a n detail told off = rw off (rw (text_in-nil detail) (puts_none
 pub puts_traced : {T : Type 0} {E : Type 0} (r : Result T E) (a b : Option (List ℕ)) (n m : ℕ) (detail : Detail) (told : List Told) → is_traced detail ≡ true → Puts r a b n m (text_told told) →
     Puts r a b n m (text_in detail (if is_traced detail then told else []))
 puts_traced r a b n m detail told on puts = rw on (rw (told_if (is_told detail) (traced_told detail on) (text_told told)) puts)
-
--- writes and frames where they are not told
-pub puts_untold : {T : Type 0} {E : Type 0} (v : T) (a : Option (List ℕ)) (n : ℕ) (detail : Detail) (told : List Told) → is_told detail ≡ false → Puts {T = T} {E = E} (Ok v) a a n n (text_in detail told)
-puts_untold v a n detail told off = rw (untold_if (is_told detail) off (text_told told)) (puts_none v a n)
 
 pub puts_told : {T : Type 0} {E : Type 0} (r : Result T E) (a b : Option (List ℕ)) (n m : ℕ) (detail : Detail) (told : List Told) → is_told detail ≡ true → Puts r a b n m (text_told told) →
     Puts r a b n m (text_in detail told)

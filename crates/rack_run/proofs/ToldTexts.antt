@@ -31,10 +31,6 @@ pub told_if : (b : Bool) → b ≡ true → (text : List ℕ) → (if b then tex
 told_if true is text = refl
 told_if false is text = cc
 
-pub untold_if : (b : Bool) → b ≡ false → (text : List ℕ) → (if b then text else []) ≡ []
-untold_if true is text = cc
-untold_if false is text = refl
-
 text_if-nil : (b : Bool) → (if b then text_told [] else []) ≡ []
 text_if-nil true = text_told-nil
 text_if-nil false = refl
