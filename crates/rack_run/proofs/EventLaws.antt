@@ -23,7 +23,8 @@ append_if false e es fs = refl
 pub events-append : (frame : ℕ) (xs ys : List At) → events_at frame (xs ++ ys) ≡ events_at frame xs ++ events_at frame ys
 events-append frame [] ys = refl
 events-append frame (a ∷ xs) ys =
-    ap (λ (es : List Event). if a.frame == frame then a.event ∷ es else es) (events-append frame xs ys) ∙ append_if (a.frame == frame) a.event (events_at frame xs) (events_at frame ys)
+    ap (λ (es : List Event). if a.frame == frame then a.event ∷ es else es) (events-append frame xs ys)
+    ∙ append_if (a.frame == frame) a.event (events_at frame xs) (events_at frame ys)
 
 pub with-append : (es fs : List Event) (x : Position) → with_events (es ++ fs) x ≡ with_events fs (with_events es x)
 with-append [] fs x = refl
@@ -34,28 +35,39 @@ come_then [] fs olds mids news same later = subst (λ (states : List ChipState).
 come_then (e ∷ es) fs olds mids news came later = (came.0, came.1, come_then es fs came.0 mids news came.2 later)
 
 -- the events up to the next of a list
-pub events_more : (frame : ℕ) (all : List At) (i : ℕ) (d : At) → i < length all → events_at frame (take (i + 1) all) ≡ events_at frame (take i all) ++ events_at frame (get_or all i d ∷ [])
+pub events_more : (frame : ℕ) (all : List At) (i : ℕ) (d : At) → i < length all →
+    events_at frame (take (i + 1) all) ≡ events_at frame (take i all) ++ events_at frame (get_or all i d ∷ [])
 events_more frame all i d within = ap (events_at frame) (take_more all i d within) ∙ events-append frame (take i all) (get_or all i d ∷ [])
 
 pub with_more : (frame : ℕ) (all : List At) (i : ℕ) (d : At) (x : Position) → i < length all →
-    with_events (events_at frame (take (i + 1) all)) x ≡ with_events (events_at frame (get_or all i d ∷ [])) (with_events (events_at frame (take i all)) x)
-with_more frame all i d x within = ap (λ (es : List Event). with_events es x) (events_more frame all i d within) ∙ with-append (events_at frame (take i all)) (events_at frame (get_or all i d ∷ [])) x
+    with_events (events_at frame (take (i + 1) all)) x
+    ≡ with_events (events_at frame (get_or all i d ∷ [])) (with_events (events_at frame (take i all)) x)
+with_more frame all i d x within =
+    ap (λ (es : List Event). with_events es x) (events_more frame all i d within)
+    ∙ with-append (events_at frame (take i all)) (events_at frame (get_or all i d ∷ [])) x
 
-pub come_next : (frame : ℕ) (all : List At) (i : ℕ) (d : At) (olds mids news : List ChipState) → i < length all → Come (events_at frame (take i all)) olds mids →
+pub come_next : (frame : ℕ) (all : List At) (i : ℕ) (d : At) (olds mids news : List ChipState) → i < length all →
+    Come (events_at frame (take i all)) olds mids →
     Come (events_at frame (get_or all i d ∷ [])) mids news → Come (events_at frame (take (i + 1) all)) olds news
 come_next frame all i d olds mids news within came next =
-    rw (events_more frame all i d within) (come_then (events_at frame (take i all)) (events_at frame (get_or all i d ∷ [])) olds mids news came next)
+    rw (events_more frame all i d within)
+    (come_then (events_at frame (take i all)) (events_at frame (get_or all i d ∷ [])) olds mids news came next)
 
-pub powered_next : (frame : ℕ) (all : List At) (i : ℕ) (d : At) (m : MachineState) (states : List ChipState) (x : Position) → i < length all →
-    IsPowered m states (with_events (events_at frame (get_or all i d ∷ [])) (with_events (events_at frame (take i all)) x)) → IsPowered m states (with_events (events_at frame (take (i + 1) all)) x)
+pub powered_next : (frame : ℕ) (all : List At) (i : ℕ) (d : At) (m : MachineState) (states : List ChipState) (x : Position) →
+    i < length all →
+    IsPowered m states (with_events (events_at frame (get_or all i d ∷ [])) (with_events (events_at frame (take i all)) x)) →
+    IsPowered m states (with_events (events_at frame (take (i + 1) all)) x)
 powered_next frame all i d m states x within holds = rw (with_more frame all i d x within) holds
 
-pub running_next : (frame : ℕ) (all : List At) (i : ℕ) (d : At) (m : MachineState) (states : List ChipState) (x : Position) → i < length all →
-    Represents m states (with_events (events_at frame (get_or all i d ∷ [])) (with_events (events_at frame (take i all)) x)) → Represents m states (with_events (events_at frame (take (i + 1) all)) x)
+pub running_next : (frame : ℕ) (all : List At) (i : ℕ) (d : At) (m : MachineState) (states : List ChipState) (x : Position) →
+    i < length all →
+    Represents m states (with_events (events_at frame (get_or all i d ∷ [])) (with_events (events_at frame (take i all)) x)) →
+    Represents m states (with_events (events_at frame (take (i + 1) all)) x)
 running_next frame all i d m states x within holds = rw (with_more frame all i d x within) holds
 
 pub stands_next : (frame : ℕ) (all : List At) (i : ℕ) (d : At) (isa : IsaState) (count : ℕ) (x : Position) → i < length all →
-    StandsAt isa count (with_events (events_at frame (get_or all i d ∷ [])) (with_events (events_at frame (take i all)) x)) → StandsAt isa count (with_events (events_at frame (take (i + 1) all)) x)
+    StandsAt isa count (with_events (events_at frame (get_or all i d ∷ [])) (with_events (events_at frame (take i all)) x)) →
+    StandsAt isa count (with_events (events_at frame (take (i + 1) all)) x)
 stands_next frame all i d isa count x within holds = rw (with_more frame all i d x within) holds
 
 pub events_all : (frame : ℕ) (all : List At) (i : ℕ) → length all ≤ i → events_at frame (take i all) ≡ events_at frame all
@@ -63,10 +75,12 @@ events_all frame all i past = ap (events_at frame) (take_all i all past)
 
 -- ---- the events behind an instruction
 
-pub behind_some : (script : Script) (p : ProgressState) (x y : Position) (fallen : Option ℕ) (frame : ℕ) → fallen ≡ Some frame → fallen ≡ fallen_at x.flat.state y.flat.state → Keeps p y.flat.state →
+pub behind_some : (script : Script) (p : ProgressState) (x y : Position) (fallen : Option ℕ) (frame : ℕ) → fallen ≡ Some frame →
+    fallen ≡ fallen_at x.flat.state y.flat.state → Keeps p y.flat.state →
     ends_at script.end p ≡ false → events_behind script x (Goes y) ≡ events_at frame script.events
 behind_some script p x y fallen frame is same keeps on =
-    ap (λ (f : Option ℕ). events_fallen script f y) (sym same ∙ is) ∙ ap (λ (b : Bool). if b then [] else events_at frame script.events) (sym (over_is script.end p y.flat.state keeps) ∙ on)
+    ap (λ (f : Option ℕ). events_fallen script f y) (sym same ∙ is)
+    ∙ ap (λ (b : Bool). if b then [] else events_at frame script.events) (sym (over_is script.end p y.flat.state keeps) ∙ on)
 
 -- a key byte doesn't hang on reset
 event_reset : (e : Event) (x : Position) → with_event e (position_after_reset x) ≡ position_after_reset (with_event e x)

@@ -34,7 +34,8 @@ pub count_there : (isa : IsaState) (count : ℕ) (y : Position) → StandsAt isa
 count_there isa count y stands = ap (λ (f : FlatState). f.state.count) stands.flat
 
 -- what is kept goes along with the state after it
-pub keeps_there : (wrote : Option PortWrite) (p q : ProgressState) (phi : ℕ) (s t : State) → Keeps p s → t.writes ≡ with_write (option_map write_as wrote) s.writes →
+pub keeps_there : (wrote : Option PortWrite) (p q : ProgressState) (phi : ℕ) (s t : State) → Keeps p s →
+    t.writes ≡ with_write (option_map write_as wrote) s.writes →
     t.count ≡ p.count + 1 → phi ≡ t.phi → q ≡ progress_with wrote phi p → Keeps q t
 keeps_there wrote p q phi s t keeps writes count same is =
     subst (λ (r : ProgressState). Keeps r t) (sym (is ∙ ap (λ (n : ℕ). progress_with wrote n p) same))
@@ -44,13 +45,15 @@ keeps_there wrote p q phi s t keeps writes count same is =
 
 -- the events of frame 0 may come behind reset
 pub stands_begun : (isa : IsaState) (vs : List ChipView) (script : Script) (events : List At) → events ≡ script.events →
-    StandsAt isa 0 (with_events (events_at 0 events) (position_after_reset (power_position vs script.power))) → StandsAt isa 0 (start_of vs script)
+    StandsAt isa 0 (with_events (events_at 0 events) (position_after_reset (power_position vs script.power))) →
+    StandsAt isa 0 (start_of vs script)
 stands_begun isa vs script events same stands =
     subst (λ (y : Position). StandsAt isa 0 y)
     (ap (λ (es : List At). with_events (events_at 0 es) (position_after_reset (power_position vs script.power))) same
     ∙ events_reset (events_at 0 script.events) (power_position vs script.power)) stands
 
-pub keeps_begun : (isa : IsaState) (vs : List ChipView) (script : Script) (p : ProgressState) (phi : ℕ) → StandsAt isa 0 (start_of vs script) →
+pub keeps_begun : (isa : IsaState) (vs : List ChipView) (script : Script) (p : ProgressState) (phi : ℕ) →
+    StandsAt isa 0 (start_of vs script) →
     phi ≡ isa.phi → p ≡ new_progress phi → Keeps p (start_of vs script).flat.state
 keeps_begun isa vs script p phi stands same is =
     let quiet = events_quiet (events_at 0 script.events) (power_position vs script.power) in
@@ -68,4 +71,5 @@ module _ (vs : List ChipView) (script : Script) (a b : Option (List ℕ)) where
 
   pub short_plays : (result : Result Ending SinkFault) → OnErr result (FlatShort script a b (start_of vs script)) →
       OnErr result (AddsPart a b (text_in Writes (told_in (referred_by vs script).moments)))
-  short_plays result short = subst (λ (t : Telling). OnErr result (AddsPart a b (text_in Writes (told_in t.moments)))) (sym (referred_is vs script)) short
+  short_plays result short =
+      subst (λ (t : Telling). OnErr result (AddsPart a b (text_in Writes (told_in t.moments)))) (sym (referred_is vs script)) short

@@ -48,14 +48,18 @@ reset_leads (Some fault) x y e = cc
 
 -- ---- a run that is cut short put a first part of its lines
 
-pub cut_part : (detail : Detail) (ms : List Moment) (olds news : List ChipState) (a b : Option (List ℕ)) → CutShort detail ms olds news a b → AddsPart a b (text_in detail (told_in ms))
+pub cut_part : (detail : Detail) (ms : List Moment) (olds news : List ChipState) (a b : Option (List ℕ)) → CutShort detail ms olds news a b →
+    AddsPart a b (text_in detail (told_in ms))
 cut_part detail ms olds news a b cut =
-    let whole : text_in detail (told_in ms) ≡ text_in detail (told_in cut.before) ++ (text_in detail cut.at.told ++ text_in detail (told_in cut.behind)) =
+    let whole : text_in detail (told_in ms)
+    ≡ text_in detail (told_in cut.before) ++ (text_in detail cut.at.told ++ text_in detail (told_in cut.behind)) =
     ap (λ (l : List Moment). text_in detail (told_in l)) cut.are
     ∙ ap (text_in detail) (told_in-append cut.before (cut.at ∷ cut.behind))
     ∙ text_in-append detail (told_in cut.before) (cut.at.told ++ told_in cut.behind)
     ∙ ap (λ (text : List ℕ). text_in detail (told_in cut.before) ++ text) (text_in-append detail cut.at.told (told_in cut.behind)) in
-    rw whole (adds_part_behind a cut.between b (text_in detail (told_in cut.before)) (text_in detail cut.at.told ++ text_in detail (told_in cut.behind)) cut.lines
+    rw whole
+    (adds_part_behind a cut.between b (text_in detail (told_in cut.before))
+    (text_in detail cut.at.told ++ text_in detail (told_in cut.behind)) cut.lines
     (adds_part_first cut.between b (text_in detail cut.at.told) (text_in detail (told_in cut.behind)) cut.part))
 
 module _ (detail : Detail) (script : Script) (olds powered : List ChipState) (powers : RackPowers script.power olds powered) where
@@ -71,7 +75,8 @@ module _ (detail : Detail) (script : Script) (olds powered : List ChipState) (po
   abbrev reset : Moment
   reset = reset_moment (is_traced detail) x
 
-  whole : (t : Turn) → turn ≡ t → run_on detail script olds ≡ record { moments = power_moment script ∷ reset ∷ (later t).moments; ending = (later t).ending }
+  whole : (t : Turn) → turn ≡ t →
+      run_on detail script olds ≡ record { moments = power_moment script ∷ reset ∷ (later t).moments; ending = (later t).ending }
   unfolding played_by
   whole t turns = ap (λ (u : Turn). record { moments = power_moment script ∷ reset ∷ (later u).moments; ending = (later u).ending }) turns
 
@@ -88,8 +93,10 @@ module _ (detail : Detail) (script : Script) (olds powered : List ChipState) (po
   pub after_count : (y : Position) → turn ≡ Goes y → y.flat.state.count ≡ 0
   after_count y turns = sym (ap (λ (z : Position). z.flat.state.count) (reset_leads (reset_fault x) x y turns)) ∙ quiet_count
 
-  module _ (mids reset_states : List ChipState) (came : Come (events_at 0 script.events) powered mids) (hs : List Heard) (heard : hs ≡ map heard_of (reset_course x).steps)
-      (ran : RackRuns hs mids reset_states) (told : List Told) (is : told ≡ told_steps (is_traced detail) (reset_course x)) (a b : Option (List ℕ)) where
+  module _ (mids reset_states : List ChipState) (came : Come (events_at 0 script.events) powered mids) (hs : List Heard)
+      (heard : hs ≡ map heard_of (reset_course x).steps)
+      (ran : RackRuns hs mids reset_states) (told : List Told) (is : told ≡ told_steps (is_traced detail) (reset_course x))
+      (a b : Option (List ℕ)) where
     first_lived : LivesMoment (power_moment script) powered mids
     first_lived = record { between = powered; heard = rack_runs_none 0 powered; came = came }
 
@@ -100,8 +107,10 @@ module _ (detail : Detail) (script : Script) (olds powered : List ChipState) (po
     reset_lived = record { between = reset_states; heard = ran_reset; came = refl }
 
     -- what is told before the first instruction
-    told_first : (ms : List Moment) → text_in detail (told_in (power_moment script ∷ reset ∷ ms)) ≡ text_in detail told ++ text_in detail (told_in ms)
-    told_first ms = text_in-append detail reset.told (told_in ms) ∙ ap (λ (l : List Told). text_in detail l ++ text_in detail (told_in ms)) (sym is)
+    told_first : (ms : List Moment) →
+        text_in detail (told_in (power_moment script ∷ reset ∷ ms)) ≡ text_in detail told ++ text_in detail (told_in ms)
+    told_first ms =
+        text_in-append detail reset.told (told_in ms) ∙ ap (λ (l : List Told). text_in detail l ++ text_in detail (told_in ms)) (sym is)
 
     -- the sink fails at a line of reset
     pub plays_cut : text_in detail told ≢ [] → AddsPart a b (text_in detail told) → PlaysPart detail script olds reset_states a b
@@ -119,22 +128,31 @@ module _ (detail : Detail) (script : Script) (olds powered : List ChipState) (po
           lines = rw (text_in-nil detail) (adds_none a);
           part = subst (λ (l : List Told). AddsPart a b (text_in detail l)) is part;
         } in
-        record { powered = powered; powers = powers; cut = cut; part = cut_part detail (run_on detail script olds).moments powered reset_states a b cut }
+        record {
+          powered = powered;
+          powers = powers;
+          cut = cut;
+          part = cut_part detail (run_on detail script olds).moments powered reset_states a b cut;
+        }
 
     -- reset isn't served
-    pub plays_not : (ending : Ending) (stop : Stop) → turn ≡ Stops stop → Tells ending x.flat.state stop → Adds a b (text_in detail told) → Plays detail script ending olds reset_states a b
+    pub plays_not : (ending : Ending) (stop : Stop) → turn ≡ Stops stop → Tells ending x.flat.state stop → Adds a b (text_in detail told) →
+        Plays detail script ending olds reset_states a b
     plays_not ending stop turns tells adds =
         let is_whole = whole (Stops stop) turns in
         record {
           powered = powered;
           powers = powers;
-          lived = subst (λ (t : Telling). Lives t.moments powered reset_states) (sym is_whole) (mids, first_lived, (reset_states, reset_lived, refl));
+          lived =
+              subst (λ (t : Telling). Lives t.moments powered reset_states) (sym is_whole)
+              (mids, first_lived, (reset_states, reset_lived, refl));
           tells = subst (λ (t : Telling). TellsEnd ending t.ending) (sym is_whole) tells;
           lines = subst (λ (t : Telling). Adds a b (text_in detail (told_in t.moments))) (sym is_whole)
               (rw (told_first [], text_in-nil detail, append-nil (text_in detail told)) adds);
         }
 
-    module _ (y : Position) (turns : turn ≡ Goes y) (adds : Adds a b (text_in detail told)) (news : List ChipState) (c : Option (List ℕ)) where
+    module _ (y : Position) (turns : turn ≡ Goes y) (adds : Adds a b (text_in detail told)) (news : List ChipState)
+        (c : Option (List ℕ)) where
       -- the run comes to its end
       pub plays_on : (ending : Ending) → RunsOut detail script ending reset_states news b c y → Plays detail script ending olds news a c
       plays_on ending out =
@@ -142,10 +160,13 @@ module _ (detail : Detail) (script : Script) (olds powered : List ChipState) (po
           record {
             powered = powered;
             powers = powers;
-            lived = subst (λ (t : Telling). Lives t.moments powered news) (sym is_whole) (mids, first_lived, (reset_states, reset_lived, out.lived));
+            lived =
+                subst (λ (t : Telling). Lives t.moments powered news) (sym is_whole)
+                (mids, first_lived, (reset_states, reset_lived, out.lived));
             tells = subst (λ (t : Telling). TellsEnd ending t.ending) (sym is_whole) out.tells;
             lines = subst (λ (t : Telling). Adds a c (text_in detail (told_in t.moments))) (sym is_whole)
-                (rw (told_first (rest_on detail script y).moments) (adds_then a b c (text_in detail told) (text_in detail (told_in (rest_on detail script y).moments)) adds out.lines));
+                (rw (told_first (rest_on detail script y).moments)
+                (adds_then a b c (text_in detail told) (text_in detail (told_in (rest_on detail script y).moments)) adds out.lines));
           }
 
       -- the sink fails at a line of an instruction
@@ -155,30 +176,46 @@ module _ (detail : Detail) (script : Script) (olds powered : List ChipState) (po
             before = power_moment script ∷ reset ∷ short.before;
             at = short.at;
             behind = short.behind;
-            are = ap (λ (t : Telling). t.moments) (whole (Goes y) turns) ∙ ap (λ (ms : List Moment). power_moment script ∷ reset ∷ ms) short.are;
+            are =
+                ap (λ (t : Telling). t.moments) (whole (Goes y) turns)
+                ∙ ap (λ (ms : List Moment). power_moment script ∷ reset ∷ ms) short.are;
             some = short.some;
             mids = short.mids;
             lived = (mids, first_lived, (reset_states, reset_lived, short.lived));
             heard = short.heard;
             between = short.between;
-            lines = rw (told_first short.before) (adds_then a b short.between (text_in detail told) (text_in detail (told_in short.before)) adds short.lines);
+            lines =
+                rw (told_first short.before)
+                (adds_then a b short.between (text_in detail told) (text_in detail (told_in short.before)) adds short.lines);
             part = short.part;
           } in
-          record { powered = powered; powers = powers; cut = cut; part = cut_part detail (run_on detail script olds).moments powered news a c cut }
+          record {
+            powered = powered;
+            powers = powers;
+            cut = cut;
+            part = cut_part detail (run_on detail script olds).moments powered news a c cut;
+          }
 
 -- ---- what the calls answer
 
 pub told_powered : (m : MachineState) (states : List ChipState) (x : Position) → IsPowered m states x → ToldBy m x.flat.state
 told_powered m states x p = record { flow = p.stands.flow; registers = p.stands.registers; phi = p.stands.phi }
 
-module _ {E : Type 0} (detail : Detail) (script : Script) (olds powered : List ChipState) (powers : RackPowers script.power olds powered) (mids reset_states : List ChipState)
-    (came : Come (events_at 0 script.events) powered mids) (hs : List Heard) (heard : hs ≡ map heard_of (reset_course (x detail script olds powered powers)).steps) (ran : RackRuns hs mids reset_states)
-    (told : List Told) (is : told ≡ told_steps (is_traced detail) (reset_course (x detail script olds powered powers))) (a b : Option (List ℕ)) (adds : Adds a b (text_in detail told))
+module _ {E : Type 0} (detail : Detail) (script : Script) (olds powered : List ChipState) (powers : RackPowers script.power olds powered)
+    (mids reset_states : List ChipState)
+    (came : Come (events_at 0 script.events) powered mids) (hs : List Heard)
+    (heard : hs ≡ map heard_of (reset_course (x detail script olds powered powers)).steps) (ran : RackRuns hs mids reset_states)
+    (told : List Told) (is : told ≡ told_steps (is_traced detail) (reset_course (x detail script olds powered powers)))
+    (a b : Option (List ℕ)) (adds : Adds a b (text_in detail told))
     (y : Position) (turns : turn detail script olds powered powers ≡ Goes y) (news : List ChipState) (c : Option (List ℕ)) where
-  pub plays_ok : (r : Result Ending E) → IfOk r (λ ending. RunsOut detail script ending reset_states news b c y) → IfOk r (λ ending. Plays detail script ending olds news a c)
-  plays_ok (Ok ending) out = plays_on detail script olds powered powers mids reset_states came hs heard ran told is a b y turns adds news c ending out
+  pub plays_ok : (r : Result Ending E) → IfOk r (λ ending. RunsOut detail script ending reset_states news b c y) →
+      IfOk r (λ ending. Plays detail script ending olds news a c)
+  plays_ok (Ok ending) out =
+      plays_on detail script olds powered powers mids reset_states came hs heard ran told is a b y turns adds news c ending out
   plays_ok (Err e) out = tt
 
-  pub plays_err : (r : Result Ending E) → OnErr r (RunsShort detail script reset_states news b c y) → OnErr r (PlaysPart detail script olds news a c)
+  pub plays_err : (r : Result Ending E) → OnErr r (RunsShort detail script reset_states news b c y) →
+      OnErr r (PlaysPart detail script olds news a c)
   plays_err (Ok ending) short = tt
-  plays_err (Err e) short = plays_short detail script olds powered powers mids reset_states came hs heard ran told is a b y turns adds news c short
+  plays_err (Err e) short =
+      plays_short detail script olds powered powers mids reset_states came hs heard ran told is a b y turns adds news c short

@@ -24,17 +24,20 @@ screen_more : (wrote : Option PortWrite) (ws : List Write) → screen_with wrote
 screen_more None ws = refl
 screen_more (Some w) ws = after_write-shown (write_as w) ws
 
-writes_more : (wrote : Option PortWrite) (ws : List Write) → writes_with wrote (length ws) ≡ length (with_write (option_map write_as wrote) ws)
+writes_more : (wrote : Option PortWrite) (ws : List Write) →
+    writes_with wrote (length ws) ≡ length (with_write (option_map write_as wrote) ws)
 writes_more None ws = refl
 writes_more (Some w) ws = add-one (length ws)
 
-bytes_more : (wrote : Option PortWrite) (ws : List Write) → bytes_with wrote (bytes_written ws) ≡ bytes_written (with_write (option_map write_as wrote) ws)
+bytes_more : (wrote : Option PortWrite) (ws : List Write) →
+    bytes_with wrote (bytes_written ws) ≡ bytes_written (with_write (option_map write_as wrote) ws)
 bytes_more None ws = refl
 bytes_more (Some w) ws =
     let more : bytes_written (write_as w ∷ ws) ≡ w.byte + bytes_written ws = sum_by-cons (λ (v : Write). v.byte) (write_as w) ws in
     omega (arith, more)
 
-pub keeps_more : (wrote : Option PortWrite) (p : ProgressState) (s t : State) → Keeps p s → t.writes ≡ with_write (option_map write_as wrote) s.writes → t.count ≡ s.count + 1 →
+pub keeps_more : (wrote : Option PortWrite) (p : ProgressState) (s t : State) → Keeps p s →
+    t.writes ≡ with_write (option_map write_as wrote) s.writes → t.count ≡ s.count + 1 →
     Keeps (progress_with wrote t.phi p) t
 keeps_more wrote p s t keeps writes count = record {
   screen = ap (screen_with wrote) keeps.screen ∙ screen_more wrote s.writes ∙ ap shown (sym writes);
@@ -62,7 +65,8 @@ not_one_more (suc n) = eqb-suc-suc (suc n) n ∙ not_one_more n
 same_number : (n : ℕ) → nat_eq n n ≡ true
 same_number n = eq-eqb n n refl
 
-write_is : (wrote : Option PortWrite) (s t : State) → t.writes ≡ with_write (option_map write_as wrote) s.writes → told_write s t ≡ write_told wrote
+write_is : (wrote : Option PortWrite) (s t : State) → t.writes ≡ with_write (option_map write_as wrote) s.writes →
+    told_write s t ≡ write_told wrote
 write_is None s t writes = rw (writes, same_number (length s.writes)) refl
 write_is (Some w) s t writes = rw (writes, not_one_more (length s.writes)) refl
 
@@ -70,8 +74,12 @@ frame_is : (script : Script) (t : State) (frame : Option ℕ) → told_frame scr
 frame_is script t None = refl
 frame_is script t (Some frame) = refl
 
-pub told_is : (script : Script) (wrote : Option PortWrite) (x y : Position) → y.flat.state.writes ≡ with_write (option_map write_as wrote) x.flat.state.writes →
-    write_told wrote ++ frame_told script.shows (fallen x.flat.state y.flat.state) y.flat.state.phi y.flat.state.writes ≡ told_turn script x (Goes y)
+pub told_is : (script : Script) (wrote : Option PortWrite) (x y : Position) →
+    y.flat.state.writes ≡ with_write (option_map write_as wrote) x.flat.state.writes →
+    write_told wrote ++ frame_told script.shows (fallen x.flat.state y.flat.state) y.flat.state.phi y.flat.state.writes
+    ≡ told_turn script x (Goes y)
 told_is script wrote x y writes =
-    ap (λ (told : List Told). told ++ frame_told script.shows (fallen x.flat.state y.flat.state) y.flat.state.phi y.flat.state.writes) (sym (write_is wrote x.flat.state y.flat.state writes))
-    ∙ ap (λ (told : List Told). told_write x.flat.state y.flat.state ++ told) (sym (frame_is script y.flat.state (fallen x.flat.state y.flat.state)))
+    ap (λ (told : List Told). told ++ frame_told script.shows (fallen x.flat.state y.flat.state) y.flat.state.phi y.flat.state.writes)
+    (sym (write_is wrote x.flat.state y.flat.state writes))
+    ∙ ap (λ (told : List Told). told_write x.flat.state y.flat.state ++ told)
+    (sym (frame_is script y.flat.state (fallen x.flat.state y.flat.state)))

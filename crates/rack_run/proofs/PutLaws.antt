@@ -21,11 +21,14 @@ puts_none v a n = record {
   cause = record { later = omega arith; failed = tt; done = refl };
 }
 
-pub puts_same : {T : Type 0} {E : Type 0} (r : Result T E) (a b : Option (List ℕ)) (n m : ℕ) (x y : List ℕ) → x ≡ y → Puts r a b n m x → Puts r a b n m y
+pub puts_same : {T : Type 0} {E : Type 0} (r : Result T E) (a b : Option (List ℕ)) (n m : ℕ) (x y : List ℕ) → x ≡ y → Puts r a b n m x →
+    Puts r a b n m y
 puts_same r a b n m x y same puts = rw (sym same) puts
 
 -- a put after one that was whole
-pub puts_then : {S : Type 0} {T : Type 0} {E : Type 0} {F : Type 0} (v : S) (r : Result T E) (a b c : Option (List ℕ)) (k m n : ℕ) (x y : List ℕ) → Puts {T = S} {E = F} (Ok v) a b k m x → Puts r b c m n y → Puts r a c k n (x ++ y)
+pub puts_then : {S : Type 0} {T : Type 0} {E : Type 0} {F : Type 0} (v : S) (r : Result T E) (a b c : Option (List ℕ)) (k m n : ℕ)
+    (x y : List ℕ) →
+    Puts {T = S} {E = F} (Ok v) a b k m x → Puts r b c m n y → Puts r a c k n (x ++ y)
 puts_then v (Ok u) a b c k m n x y first second = record {
   ok = adds_then a b c x y first.ok second.ok;
   err = tt;
@@ -40,7 +43,8 @@ puts_then v (Err e) a b c k m n x y first second = record {
 }
 
 -- a put that fails before another
-pub puts_first : {S : Type 0} {T : Type 0} {E : Type 0} {F : Type 0} (e : E) (f : F) (a b : Option (List ℕ)) (k m : ℕ) (x y : List ℕ) → Puts {T = S} {E = E} (Err e) a b k m x → Puts {T = T} {E = F} (Err f) a b k m (x ++ y)
+pub puts_first : {S : Type 0} {T : Type 0} {E : Type 0} {F : Type 0} (e : E) (f : F) (a b : Option (List ℕ)) (k m : ℕ) (x y : List ℕ) →
+    Puts {T = S} {E = E} (Err e) a b k m x → Puts {T = T} {E = F} (Err f) a b k m (x ++ y)
 puts_first e f a b k m x y first = record {
   ok = tt;
   err = adds_part_first a b x y first.err;
@@ -49,7 +53,8 @@ puts_first e f a b k m x y first = record {
 }
 
 -- a line that is put, which is not empty
-pub puts_line : {T : Type 0} {E : Type 0} (r : Result T E) (a b : Option (List ℕ)) (n m : ℕ) (text : List ℕ) → text ≢ [] → OnOk r (Adds a b text) → OnErr r (AddsPart a b text) → HasCause n m r → Puts r a b n m text
+pub puts_line : {T : Type 0} {E : Type 0} (r : Result T E) (a b : Option (List ℕ)) (n m : ℕ) (text : List ℕ) → text ≢ [] →
+    OnOk r (Adds a b text) → OnErr r (AddsPart a b text) → HasCause n m r → Puts r a b n m text
 puts_line (Ok v) a b n m text some ok err cause = record { ok = ok; err = err; some = tt; cause = cause }
 puts_line (Err e) a b n m text some ok err cause = record { ok = ok; err = err; some = some; cause = cause }
 
@@ -82,14 +87,16 @@ pub record PutSoFar (a b : Option (List ℕ)) (n m : ℕ) (all rest : List ℕ) 
   pub taken : Taken a b all rest
   pub same : m ≡ n
 
-pub so_far_more : {T : Type 0} {E : Type 0} (v : T) (a b c : Option (List ℕ)) (n m k : ℕ) (all rest line : List ℕ) (left : List ℕ) → PutSoFar a b n m all rest → rest ≡ line ++ left → Adds b c line →
+pub so_far_more : {T : Type 0} {E : Type 0} (v : T) (a b c : Option (List ℕ)) (n m k : ℕ) (all rest line : List ℕ) (left : List ℕ) →
+    PutSoFar a b n m all rest → rest ≡ line ++ left → Adds b c line →
     HasCause {T = T} {E = E} m k (Ok v) → PutSoFar a c n k all left
 so_far_more v a b c n m k all rest line left so_far is adds cause = record {
   taken = taken_more a b c all line left (rw is at so_far.taken) adds;
   same = cause.done ∙ so_far.same;
 }
 
-pub so_far_all : {T : Type 0} {E : Type 0} (v : T) (a b : Option (List ℕ)) (n m : ℕ) (all rest : List ℕ) → PutSoFar a b n m all rest → rest ≡ [] → Puts {T = T} {E = E} (Ok v) a b n m all
+pub so_far_all : {T : Type 0} {E : Type 0} (v : T) (a b : Option (List ℕ)) (n m : ℕ) (all rest : List ℕ) → PutSoFar a b n m all rest →
+    rest ≡ [] → Puts {T = T} {E = E} (Ok v) a b n m all
 so_far_all v a b n m all rest so_far none = record {
   ok = taken_all a b all (rw none at so_far.taken);
   err = tt;
@@ -97,7 +104,8 @@ so_far_all v a b n m all rest so_far none = record {
   cause = record { later = omega (arith, so_far.same); failed = tt; done = so_far.same };
 }
 
-pub so_far_cut : {T : Type 0} {E : Type 0} {F : Type 0} (e : E) (f : F) (a b c : Option (List ℕ)) (n m k : ℕ) (all rest line left : List ℕ) → PutSoFar a b n m all rest → rest ≡ line ++ left → line ≢ [] → AddsPart b c line →
+pub so_far_cut : {T : Type 0} {E : Type 0} {F : Type 0} (e : E) (f : F) (a b c : Option (List ℕ)) (n m k : ℕ) (all rest line left : List ℕ) →
+    PutSoFar a b n m all rest → rest ≡ line ++ left → line ≢ [] → AddsPart b c line →
     HasCause {T = T} {E = E} m k (Err e) → Puts {T = T} {E = F} (Err f) a c n k all
 so_far_cut e f a b c n m k all rest line left so_far is some part cause =
     let taken : Taken a b all (line ++ left) = rw is at so_far.taken in
@@ -115,18 +123,22 @@ so_far_cut e f a b c n m k all rest line left so_far is some part cause =
 -- ---- told, or not told, as a detail has it
 
 -- steps where they are not told
-pub puts_untraced : {T : Type 0} {E : Type 0} (v : T) (a : Option (List ℕ)) (n : ℕ) (detail : Detail) (told : List Told) → is_traced detail ≡ false →
+pub puts_untraced : {T : Type 0} {E : Type 0} (v : T) (a : Option (List ℕ)) (n : ℕ) (detail : Detail) (told : List Told) →
+    is_traced detail ≡ false →
     Puts {T = T} {E = E} (Ok v) a a n n (text_in detail (if is_traced detail then told else []))
 puts_untraced v a n detail told off = rw off (rw (text_in-nil detail) (puts_none v a n))
 
-pub puts_traced : {T : Type 0} {E : Type 0} (r : Result T E) (a b : Option (List ℕ)) (n m : ℕ) (detail : Detail) (told : List Told) → is_traced detail ≡ true → Puts r a b n m (text_told told) →
+pub puts_traced : {T : Type 0} {E : Type 0} (r : Result T E) (a b : Option (List ℕ)) (n m : ℕ) (detail : Detail) (told : List Told) →
+    is_traced detail ≡ true → Puts r a b n m (text_told told) →
     Puts r a b n m (text_in detail (if is_traced detail then told else []))
 puts_traced r a b n m detail told on puts = rw on (rw (told_if (is_told detail) (traced_told detail on) (text_told told)) puts)
 
-pub puts_told : {T : Type 0} {E : Type 0} (r : Result T E) (a b : Option (List ℕ)) (n m : ℕ) (detail : Detail) (told : List Told) → is_told detail ≡ true → Puts r a b n m (text_told told) →
+pub puts_told : {T : Type 0} {E : Type 0} (r : Result T E) (a b : Option (List ℕ)) (n m : ℕ) (detail : Detail) (told : List Told) →
+    is_told detail ≡ true → Puts r a b n m (text_told told) →
     Puts r a b n m (text_in detail told)
 puts_told r a b n m detail told on puts = rw (told_if (is_told detail) on (text_told told)) puts
 
 -- nothing to tell
-pub puts_nothing : {T : Type 0} {E : Type 0} (v : T) (a : Option (List ℕ)) (n : ℕ) (detail : Detail) → Puts {T = T} {E = E} (Ok v) a a n n (text_in detail [])
+pub puts_nothing : {T : Type 0} {E : Type 0} (v : T) (a : Option (List ℕ)) (n : ℕ) (detail : Detail) →
+    Puts {T = T} {E = E} (Ok v) a a n n (text_in detail [])
 puts_nothing v a n detail = rw (text_in-nil detail) (puts_none v a n)

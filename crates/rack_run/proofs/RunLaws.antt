@@ -34,7 +34,8 @@ module _ (detail : Detail) (script : Script) (start : Position) where
   abbrev rest : ℕ → Position → Telling
   rest i x = telling way script (most - i) x
 
-  -- after so many instructions: a position from which the rest of them leads to the run's end, and the moments before it, which were lived through and told
+  -- after so many instructions: a position from which the rest of them leads to the run's end, and the moments before it, which were
+  -- lived through and told
   pub record Reached (i : ℕ) (m : MachineState) (p : ProgressState) (olds nows : List ChipState) (old now : Option (List ℕ)) : Type 0 where
     pub here : Position
     pub represents : Represents m nows here
@@ -45,7 +46,8 @@ module _ (detail : Detail) (script : Script) (start : Position) where
     pub lived : Lives before olds nows
     pub lines : Adds old now (text_in detail (told_in before))
 
-  pub reached_first : (m : MachineState) (p : ProgressState) (states : List ChipState) (told : Option (List ℕ)) → Represents m states start → Keeps p start.flat.state → Reached 0 m p states states told told
+  pub reached_first : (m : MachineState) (p : ProgressState) (states : List ChipState) (told : Option (List ℕ)) → Represents m states start →
+      Keeps p start.flat.state → Reached 0 m p states states told told
   reached_first m p states told represents keeps = record {
     here = start;
     represents = represents;
@@ -58,13 +60,17 @@ module _ (detail : Detail) (script : Script) (start : Position) where
   }
 
   -- one moment more is lived through and told
-  told_more : (before : List Moment) (m : Moment) → text_in detail (told_in (before ++ m ∷ [])) ≡ text_in detail (told_in before) ++ text_in detail m.told
-  told_more before m = ap (text_in detail) (told_in-append before (m ∷ []) ∙ ap (λ (told : List Told). told_in before ++ told) (told_in-one m)) ∙ text_in-append detail (told_in before) m.told
+  told_more : (before : List Moment) (m : Moment) →
+      text_in detail (told_in (before ++ m ∷ [])) ≡ text_in detail (told_in before) ++ text_in detail m.told
+  told_more before m =
+      ap (text_in detail) (told_in-append before (m ∷ []) ∙ ap (λ (told : List Told). told_in before ++ told) (told_in-one m))
+      ∙ text_in-append detail (told_in before) m.told
 
   moments_more : (before : List Moment) (m : Moment) (later : List Moment) → before ++ m ∷ later ≡ (before ++ m ∷ []) ++ later
   moments_more before m later = sym (append_assoc before (m ∷ []) later)
 
-  pub reached_more : (i : ℕ) (m n : MachineState) (p q : ProgressState) (olds mids news : List ChipState) (a b c : Option (List ℕ)) → i < most → (r : Reached i m p olds mids a b) →
+  pub reached_more : (i : ℕ) (m n : MachineState) (p q : ProgressState) (olds mids news : List ChipState) (a b c : Option (List ℕ)) →
+      i < most → (r : Reached i m p olds mids a b) →
       is_over script r.here ≡ false → GoesOn detail script n q mids news b c r.here → Reached (i + 1) n q olds news a c
   reached_more i m n p q olds mids news a b c more r on goes =
       let moment = moment_of way script r.here (way.step r.here) in
@@ -74,57 +80,79 @@ module _ (detail : Detail) (script : Script) (start : Position) where
         represents = goes.represents;
         keeps = goes.keeps;
         before = r.before ++ moment ∷ [];
-        are = r.are ∙ ap (λ (t : Telling). r.before ++ t.moments) next ∙ moments_more r.before moment (rest (i + 1) (reached script r.here goes.there)).moments;
+        are =
+            r.are ∙ ap (λ (t : Telling). r.before ++ t.moments) next
+            ∙ moments_more r.before moment (rest (i + 1) (reached script r.here goes.there)).moments;
         ending = r.ending ∙ ap (λ (t : Telling). t.ending) next;
         lived = lives_then r.before moment olds mids news r.lived goes.lived;
-        lines = rw (told_more r.before moment) (adds_then a b c (text_in detail (told_in r.before)) (text_in detail moment.told) r.lines goes.lines);
+        lines =
+            rw (told_more r.before moment)
+            (adds_then a b c (text_in detail (told_in r.before)) (text_in detail moment.told) r.lines goes.lines);
       }
 
   -- nothing is left
-  ends_here : (i : ℕ) (m : MachineState) (p : ProgressState) (olds news : List ChipState) (a b : Option (List ℕ)) (told : Ending) (r : Reached i m p olds news a b) →
+  ends_here : (i : ℕ) (m : MachineState) (p : ProgressState) (olds news : List ChipState) (a b : Option (List ℕ)) (told : Ending)
+      (r : Reached i m p olds news a b) →
       rest i r.here ≡ over_at r.here → Tells told r.here.flat.state Done → RunsOut detail script told olds news a b start
   ends_here i m p olds news a b told r over tells =
-      let moments : (rest_on detail script start).moments ≡ r.before = r.are ∙ ap (λ (t : Telling). r.before ++ t.moments) over ∙ append-nil r.before in
+      let moments : (rest_on detail script start).moments ≡ r.before =
+      r.are ∙ ap (λ (t : Telling). r.before ++ t.moments) over ∙ append-nil r.before in
       record {
         tells = subst (λ (e : FlatEnding). TellsEnd told e) (sym (r.ending ∙ ap (λ (t : Telling). t.ending) over)) tells;
         lived = subst (λ (ms : List Moment). Lives ms olds news) (sym moments) r.lived;
         lines = subst (λ (ms : List Moment). Adds a b (text_in detail (told_in ms))) (sym moments) r.lines;
       }
 
-  pub ends_over : (i : ℕ) (m : MachineState) (p : ProgressState) (olds news : List ChipState) (a b : Option (List ℕ)) (told : Ending) (r : Reached i m p olds news a b) →
-      is_over script r.here ≡ true → ((s : State) → ToldBy m s → Keeps p s → Tells told s Done) → RunsOut detail script told olds news a b start
+  pub ends_over : (i : ℕ) (m : MachineState) (p : ProgressState) (olds news : List ChipState) (a b : Option (List ℕ)) (told : Ending)
+      (r : Reached i m p olds news a b) →
+      is_over script r.here ≡ true → ((s : State) → ToldBy m s → Keeps p s → Tells told s Done) →
+      RunsOut detail script told olds news a b start
   ends_over i m p olds news a b told r over tells =
-      ends_here i m p olds news a b told r (telling-over way script (most - i) r.here over) (tells r.here.flat.state (told_by m news r.here r.represents) r.keeps)
+      ends_here i m p olds news a b told r (telling-over way script (most - i) r.here over)
+      (tells r.here.flat.state (told_by m news r.here r.represents) r.keeps)
 
-  pub ends_done : (i : ℕ) (m : MachineState) (p : ProgressState) (olds news : List ChipState) (a b : Option (List ℕ)) (told : Ending) (r : Reached i m p olds news a b) →
+  pub ends_done : (i : ℕ) (m : MachineState) (p : ProgressState) (olds news : List ChipState) (a b : Option (List ℕ)) (told : Ending)
+      (r : Reached i m p olds news a b) →
       most ≤ i → ((s : State) → ToldBy m s → Keeps p s → Tells told s Done) → RunsOut detail script told olds news a b start
   ends_done i m p olds news a b told r past tells =
-      ends_here i m p olds news a b told r (telling-none way script most i r.here past) (tells r.here.flat.state (told_by m news r.here r.represents) r.keeps)
+      ends_here i m p olds news a b told r (telling-none way script most i r.here past)
+      (tells r.here.flat.state (told_by m news r.here r.represents) r.keeps)
 
   -- an instruction stops the run
-  pub ends_stopped : (i : ℕ) (m n : MachineState) (p q : ProgressState) (olds mids news : List ChipState) (a b c : Option (List ℕ)) (told : Ending) (halt : Halt) → i < most →
+  pub ends_stopped : (i : ℕ) (m n : MachineState) (p q : ProgressState) (olds mids news : List ChipState) (a b c : Option (List ℕ))
+      (told : Ending) (halt : Halt) →
+      i < most →
       (r : Reached i m p olds mids a b) → is_over script r.here ≡ false → StopsAt detail script n q mids news b c r.here halt →
       ((s : State) → ToldBy n s → Keeps q s → Tells told s (stop_of halt)) → RunsOut detail script told olds news a c start
   ends_stopped i m n p q olds mids news a b c told halt more r on stops tells =
       let moment = moment_of way script r.here (way.step r.here) in
       let last = telling-stops way script most i r.here (stop_of halt) more on stops.turns in
-      let moments : (rest_on detail script start).moments ≡ r.before ++ moment ∷ [] = r.are ∙ ap (λ (t : Telling). r.before ++ t.moments) last in
+      let moments : (rest_on detail script start).moments ≡ r.before ++ moment ∷ [] =
+      r.are ∙ ap (λ (t : Telling). r.before ++ t.moments) last in
       record {
-        tells = subst (λ (e : FlatEnding). TellsEnd told e) (sym (r.ending ∙ ap (λ (t : Telling). t.ending) last)) (tells r.here.flat.state stops.state stops.keeps);
-        lived = subst (λ (ms : List Moment). Lives ms olds news) (sym moments) (lives_then r.before moment olds mids news r.lived stops.lived);
+        tells =
+            subst (λ (e : FlatEnding). TellsEnd told e) (sym (r.ending ∙ ap (λ (t : Telling). t.ending) last))
+            (tells r.here.flat.state stops.state stops.keeps);
+        lived =
+            subst (λ (ms : List Moment). Lives ms olds news) (sym moments) (lives_then r.before moment olds mids news r.lived stops.lived);
         lines = subst (λ (ms : List Moment). Adds a c (text_in detail (told_in ms))) (sym moments)
-            (rw (told_more r.before moment) (adds_then a b c (text_in detail (told_in r.before)) (text_in detail moment.told) r.lines stops.lines));
+            (rw (told_more r.before moment)
+            (adds_then a b c (text_in detail (told_in r.before)) (text_in detail moment.told) r.lines stops.lines));
       }
 
   -- the sink fails at a line of an instruction
-  some_moments : (i : ℕ) (x : Position) → i < most → is_over script x ≡ false → (later : List Moment) × ((rest i x).moments ≡ moment_of way script x (way.step x) ∷ later)
+  some_moments : (i : ℕ) (x : Position) → i < most → is_over script x ≡ false →
+      (later : List Moment) × ((rest i x).moments ≡ moment_of way script x (way.step x) ∷ later)
   some_moments i x more on = by_turn (way.step x) refl
     where
-      by_turn : (turn : Turn) → way.step x ≡ turn → (later : List Moment) × ((rest i x).moments ≡ moment_of way script x (way.step x) ∷ later)
-      by_turn (Goes y) turns = ((rest (i + 1) (reached script x y)).moments, ap (λ (t : Telling). t.moments) (telling-goes way script most i x y more on turns))
+      by_turn : (turn : Turn) → way.step x ≡ turn →
+          (later : List Moment) × ((rest i x).moments ≡ moment_of way script x (way.step x) ∷ later)
+      by_turn (Goes y) turns =
+          ((rest (i + 1) (reached script x y)).moments, ap (λ (t : Telling). t.moments) (telling-goes way script most i x y more on turns))
       by_turn (Stops stop) turns = ([], ap (λ (t : Telling). t.moments) (telling-stops way script most i x stop more on turns))
 
-  pub ends_cut : (i : ℕ) (m : MachineState) (p : ProgressState) (olds mids news : List ChipState) (a b c : Option (List ℕ)) → i < most → (r : Reached i m p olds mids a b) →
+  pub ends_cut : (i : ℕ) (m : MachineState) (p : ProgressState) (olds mids news : List ChipState) (a b c : Option (List ℕ)) → i < most →
+      (r : Reached i m p olds mids a b) →
       is_over script r.here ≡ false → FailsAt detail script mids news b c r.here → RunsShort detail script olds news a c start
   ends_cut i m p olds mids news a b c more r on fails =
       let left = some_moments i r.here more on in

@@ -26,7 +26,8 @@ kind_of_is Smi Smi e = refl
 
 -- what sits in the next socket, and in those behind it
 seated_more : (chips : List ChipSpec) (psus smis : ℕ) (kind : ChipKind) (kinds : List ChipKind) →
-    seated_from chips psus smis (kind ∷ kinds) ≡ seat_at chips kind (before_of kind psus smis) ∷ seated_from chips (psus_after kind psus) (smis_after kind smis) kinds
+    seated_from chips psus smis (kind ∷ kinds)
+    ≡ seat_at chips kind (before_of kind psus smis) ∷ seated_from chips (psus_after kind psus) (smis_after kind smis) kinds
 seated_more chips psus smis Psu kinds = refl
 seated_more chips psus smis Smi kinds = refl
 
@@ -44,12 +45,14 @@ rest_of (z ∷ xs) ys (suc i) x e = rest_of xs ys i x e
 pub record Counted (chips : List ChipSpec) (specs : List ChipSpec) (kinds : List ChipKind) (i psus smis : ℕ) : Type 0 where
   pub left : seated_from chips psus smis (drop i kinds) ≡ drop i specs
 
-pub counted_here : (chips specs : List ChipSpec) (kinds : List ChipKind) (i psus smis : ℕ) (kind : ChipKind) (later : List ChipKind) → drop i kinds ≡ kind ∷ later →
+pub counted_here : (chips specs : List ChipSpec) (kinds : List ChipKind) (i psus smis : ℕ) (kind : ChipKind) (later : List ChipKind) →
+    drop i kinds ≡ kind ∷ later →
     Counted chips specs kinds i psus smis → slice_get specs i ≡ Some (seat_at chips kind (before_of kind psus smis))
 counted_here chips specs kinds i psus smis kind later e counted =
     first_of specs _ i _ (sym counted.left ∙ ap (seated_from chips psus smis) e ∙ seated_more chips psus smis kind later)
 
-pub counted_more : (chips specs : List ChipSpec) (kinds : List ChipKind) (i psus smis : ℕ) (kind : ChipKind) (later : List ChipKind) → drop i kinds ≡ kind ∷ later →
+pub counted_more : (chips specs : List ChipSpec) (kinds : List ChipKind) (i psus smis : ℕ) (kind : ChipKind) (later : List ChipKind) →
+    drop i kinds ≡ kind ∷ later →
     Counted chips specs kinds i psus smis → Counted chips specs kinds (suc i) (psus_after kind psus) (smis_after kind smis)
 counted_more chips specs kinds i psus smis kind later e counted = record {
   left = ap (seated_from chips (psus_after kind psus) (smis_after kind smis)) (rest_of kinds later i kind e)
@@ -57,7 +60,8 @@ counted_more chips specs kinds i psus smis kind later e counted = record {
 }
 
 -- the kinds from a socket on
-pub kinds_from : (states : List ChipState) (i : ℕ) (s : ChipState) → slice_get states i ≡ Some s → drop i (kinds_of states) ≡ s.view.kind ∷ drop (suc i) (kinds_of states)
+pub kinds_from : (states : List ChipState) (i : ℕ) (s : ChipState) → slice_get states i ≡ Some s →
+    drop i (kinds_of states) ≡ s.view.kind ∷ drop (suc i) (kinds_of states)
 kinds_from [] i s lies = cc
 kinds_from (t ∷ states) zero s lies = let same : t ≡ s = cc in ap (λ (u : ChipState). u.view.kind ∷ kinds_of states) same
 kinds_from (t ∷ states) (suc i) s lies = kinds_from states i s lies
@@ -67,17 +71,21 @@ whole_from : (specs : List ChipSpec) (n : ℕ) (olds news : List ChipState) → 
 whole_from specs n [] [] all place s lies = cc
 whole_from specs n [] (y ∷ news) all place s lies = absurd all
 whole_from specs n (x ∷ olds) [] all place s lies = absurd all
-whole_from specs n (x ∷ olds) (y ∷ news) all zero s lies = let same : y ≡ s = cc in subst (λ (u : ChipState). IsWhole u.view) same all.0.whole
+whole_from specs n (x ∷ olds) (y ∷ news) all zero s lies =
+    let same : y ≡ s = cc in subst (λ (u : ChipState). IsWhole u.view) same all.0.whole
 whole_from specs n (x ∷ olds) (y ∷ news) all (suc place) s lies = whole_from specs (n + 1) olds news all.1 place s lies
 
 pub all_whole : (specs : List ChipSpec) (olds news : List ChipState) → NumberedZip (FitsWhole specs) 0 olds news → AreWhole news
 all_whole specs olds news all = whole_from specs 0 olds news all
 
 -- a chip that is fitted as what sits in the next socket
-pub fits_seated : (specs : List ChipSpec) (socket : ℕ) (seat : ChipSpec) (old new : ChipState) → slice_get specs socket ≡ Some seat → Fits seat old new → IsWhole new.view → LeavesOwn new.view →
+pub fits_seated : (specs : List ChipSpec) (socket : ℕ) (seat : ChipSpec) (old new : ChipState) → slice_get specs socket ≡ Some seat →
+    Fits seat old new → IsWhole new.view → LeavesOwn new.view →
     FitsWhole specs socket old new
 fits_seated specs socket seat old new is fits whole ports = record {
-  fits = λ spec lies. let same : Some seat ≡ Some spec = sym is ∙ lies in let seats : seat ≡ spec = cc in subst (λ (c : ChipSpec). Fits c old new) seats fits;
+  fits =
+      λ spec lies. let same : Some seat ≡ Some spec = sym is
+      ∙ lies in let seats : seat ≡ spec = cc in subst (λ (c : ChipSpec). Fits c old new) seats fits;
   whole = whole;
   ports = ports;
 }
@@ -91,14 +99,17 @@ fitted_leaves patch (SmiSpec pages rom wired) is first e = let same : 12 ≡ fir
 pub leaves_own : (spec : ChipSpec) (old new : ChipState) → IsSpec spec → Fits spec old new → LeavesOwn new.view
 leaves_own spec old new is fits first e = fitted_leaves old.patch spec is first (ap (λ (v : ChipView). v.ports) (sym fits.view) ∙ e)
 
-ports_from : (specs : List ChipSpec) (n : ℕ) (olds news : List ChipState) → NumberedZip (FitsWhole specs) n olds news → (place : ℕ) (s : ChipState) → slice_get news place ≡ Some s → LeavesOwn s.view
+ports_from : (specs : List ChipSpec) (n : ℕ) (olds news : List ChipState) → NumberedZip (FitsWhole specs) n olds news →
+    (place : ℕ) (s : ChipState) → slice_get news place ≡ Some s → LeavesOwn s.view
 ports_from specs n [] [] all place s lies = cc
 ports_from specs n [] (y ∷ news) all place s lies = absurd all
 ports_from specs n (x ∷ olds) [] all place s lies = absurd all
-ports_from specs n (x ∷ olds) (y ∷ news) all zero s lies = let same : y ≡ s = cc in subst (λ (u : ChipState). LeavesOwn u.view) same all.0.ports
+ports_from specs n (x ∷ olds) (y ∷ news) all zero s lies =
+    let same : y ≡ s = cc in subst (λ (u : ChipState). LeavesOwn u.view) same all.0.ports
 ports_from specs n (x ∷ olds) (y ∷ news) all (suc place) s lies = ports_from specs (n + 1) olds news all.1 place s lies
 
-pub all_leave : (specs : List ChipSpec) (olds news : List ChipState) → NumberedZip (FitsWhole specs) 0 olds news → LeaveOwnPorts (map seat_of (views news))
+pub all_leave : (specs : List ChipSpec) (olds news : List ChipState) → NumberedZip (FitsWhole specs) 0 olds news →
+    LeaveOwnPorts (map seat_of (views news))
 all_leave specs olds news all = leave_own_ports news (ports_from specs 0 olds news all)
 
 -- ---- the views of a rack that is fitted
@@ -108,7 +119,8 @@ seated_length chips psus smis [] = refl
 seated_length chips psus smis (Psu ∷ kinds) = ap suc (seated_length chips (psus + 1) smis kinds)
 seated_length chips psus smis (Smi ∷ kinds) = ap suc (seated_length chips psus (smis + 1) kinds)
 
-views_from : (specs : List ChipSpec) (n : ℕ) (rest : List ChipSpec) (olds news : List ChipState) → drop n specs ≡ rest → length rest ≡ length olds → NumberedZip (FitsWhole specs) n olds news →
+views_from : (specs : List ChipSpec) (n : ℕ) (rest : List ChipSpec) (olds news : List ChipState) → drop n specs ≡ rest →
+    length rest ≡ length olds → NumberedZip (FitsWhole specs) n olds news →
     views news ≡ fitted_as olds rest
 views_from specs n rest [] [] lies long all = refl
 views_from specs n rest [] (y ∷ news) lies long all = absurd all
@@ -116,13 +128,16 @@ views_from specs n rest (x ∷ olds) [] lies long all = absurd all
 views_from specs n [] (x ∷ olds) (y ∷ news) lies long all = cc
 views_from specs n (spec ∷ rest) (x ∷ olds) (y ∷ news) lies long all =
     let here : y.view ≡ fitted x.patch spec = (all.0.fits spec (first_of specs rest n spec lies)).view in
-    let later : views news ≡ fitted_as olds rest = views_from specs (n + 1) rest olds news (rw add-one (rest_of specs rest n spec lies)) (omega (arith, long)) all.1 in
+    let later : views news ≡ fitted_as olds rest =
+    views_from specs (n + 1) rest olds news (rw add-one (rest_of specs rest n spec lies)) (omega (arith, long)) all.1 in
     ap (λ (v : ChipView). v ∷ views news) here ∙ ap (λ (vs : List ChipView). fitted x.patch spec ∷ vs) later
 
 -- a rack that is fitted has the views that the description and the chips' own patches give
-pub views_fitted : (chips : List ChipSpec) (olds news : List ChipState) → NumberedZip (FitsWhole (seated chips olds)) 0 olds news → views news ≡ fitted_views chips olds
+pub views_fitted : (chips : List ChipSpec) (olds news : List ChipState) → NumberedZip (FitsWhole (seated chips olds)) 0 olds news →
+    views news ≡ fitted_views chips olds
 views_fitted chips olds news all =
-    views_from (seated chips olds) 0 (seated chips olds) olds news refl (seated_length chips 0 0 (kinds_of olds) ∙ length-map olds (λ (s : ChipState). s.view.kind)) all
+    views_from (seated chips olds) 0 (seated chips olds) olds news refl
+    (seated_length chips 0 0 (kinds_of olds) ∙ length-map olds (λ (s : ChipState). s.view.kind)) all
 
 -- ---- a rack that is fitted in part
 

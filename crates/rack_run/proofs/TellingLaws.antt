@@ -37,7 +37,8 @@ telling-goes way script n i x y more on goes =
     ∙ telling-more way script (n - (i + 1)) x on
     ∙ ap (λ (turn : Turn). telling_on script x (moment_of way script x (way.step x)) (λ z. telling way script (n - (i + 1)) z) turn) goes
 
-pub telling-stops : (way : Way) (script : Script) (n i : ℕ) (x : Position) (stop : Stop) → i < n → is_over script x ≡ false → way.step x ≡ Stops stop →
+pub telling-stops : (way : Way) (script : Script) (n i : ℕ) (x : Position) (stop : Stop) → i < n → is_over script x ≡ false →
+    way.step x ≡ Stops stop →
     telling way script (n - i) x ≡ then_on way script x (record { moments = []; ending = record { position = x; stop = stop } })
 telling-stops way script n i x stop more on stops =
     ap (λ k. telling way script k x) (left_over n i more)

@@ -39,19 +39,23 @@ write_text w = text_told-one (Wrote w) ∙ text_of-one (out_line w)
 -- ---- pieces that are put
 
 -- a piece that is a whole line
-pub puts_piece : {T : Type 0} {E : Type 0} (r : Result T E) (a b : Option (List ℕ)) (n m : ℕ) (piece text : List ℕ) → piece ≡ text → text ≢ [] →
+pub puts_piece : {T : Type 0} {E : Type 0} (r : Result T E) (a b : Option (List ℕ)) (n m : ℕ) (piece text : List ℕ) → piece ≡ text →
+    text ≢ [] →
     OnOk r (Adds a b piece) → OnErr r (AddsPart a b piece) → HasCause n m r → Puts r a b n m text
 puts_piece r a b n m piece text same some ok err cause = puts_line r a b n m text some (rw same at ok) (rw same at err) cause
 
 -- a piece that is put before another text
-pub puts_ahead : {S : Type 0} {T : Type 0} {E : Type 0} {F : Type 0} (v : S) (r : Result T E) (a b c : Option (List ℕ)) (k m n : ℕ) (piece x y : List ℕ) → piece ≡ x →
+pub puts_ahead : {S : Type 0} {T : Type 0} {E : Type 0} {F : Type 0} (v : S) (r : Result T E) (a b c : Option (List ℕ)) (k m n : ℕ)
+    (piece x y : List ℕ) →
+    piece ≡ x →
     Adds a b piece → HasCause {T = S} {E = F} k m (Ok v) → Puts r b c m n y → Puts r a c k n (x ++ y)
 puts_ahead {S = S} {F = F} v r a b c k m n piece x y same adds cause later =
     let first : Puts {T = S} {E = F} (Ok v) a b k m x = record { ok = rw same at adds; err = tt; some = tt; cause = cause } in
     puts_then v r a b c k m n x y first later
 
 -- a piece that fails before another text
-pub puts_cut : {S : Type 0} {T : Type 0} {E : Type 0} {F : Type 0} (e : E) (f : F) (a b : Option (List ℕ)) (k m : ℕ) (piece x y : List ℕ) → piece ≡ x → x ≢ [] →
+pub puts_cut : {S : Type 0} {T : Type 0} {E : Type 0} {F : Type 0} (e : E) (f : F) (a b : Option (List ℕ)) (k m : ℕ) (piece x y : List ℕ) →
+    piece ≡ x → x ≢ [] →
     AddsPart a b piece → HasCause {T = S} {E = E} k m (Err e) → Puts {T = T} {E = F} (Err f) a b k m (x ++ y)
 puts_cut {S = S} {E = E} e f a b k m piece x y same some part cause =
     let first : Puts {T = S} {E = E} (Err e) a b k m x = record { ok = tt; err = rw same at part; some = some; cause = cause } in
@@ -60,28 +64,34 @@ puts_cut {S = S} {E = E} e f a b k m piece x y same some part cause =
 -- the same told by another value, or by another error
 pub puts_as : {S : Type 0} {T : Type 0} {E : Type 0} {F : Type 0} (u : S) (v : T) (a b : Option (List ℕ)) (n m : ℕ) (text : List ℕ) →
     Puts {T = S} {E = F} (Ok u) a b n m text → Puts {T = T} {E = E} (Ok v) a b n m text
-puts_as u v a b n m text puts = record { ok = puts.ok; err = tt; some = tt; cause = record { later = puts.cause.later; failed = tt; done = puts.cause.done } }
+puts_as u v a b n m text puts =
+    record { ok = puts.ok; err = tt; some = tt; cause = record { later = puts.cause.later; failed = tt; done = puts.cause.done } }
 
 pub puts_failed : {S : Type 0} {T : Type 0} {E : Type 0} {F : Type 0} (e : E) (f : F) (a b : Option (List ℕ)) (n m : ℕ) (text : List ℕ) →
     Puts {T = S} {E = E} (Err e) a b n m text → Puts {T = T} {E = F} (Err f) a b n m text
-puts_failed e f a b n m text puts = record { ok = tt; err = puts.err; some = puts.some; cause = record { later = puts.cause.later; failed = puts.cause.failed; done = tt } }
+puts_failed e f a b n m text puts =
+    record { ok = tt; err = puts.err; some = puts.some; cause = record { later = puts.cause.later; failed = puts.cause.failed; done = tt } }
 
 -- ---- served steps
 
 pub steps_more : (steps : List Heard) (i : ℕ) (h : Heard) → i < length steps → h ≡ get_or steps i h →
-    text_told (map (λ (k : Heard). Traced (step_of k)) (drop i steps)) ≡ bus_line (step_of h) ++ text_told (map (λ (k : Heard). Traced (step_of k)) (drop (i + 1) steps))
+    text_told (map (λ (k : Heard). Traced (step_of k)) (drop i steps))
+    ≡ bus_line (step_of h) ++ text_told (map (λ (k : Heard). Traced (step_of k)) (drop (i + 1) steps))
 steps_more steps i h within here =
     at_drop_more (λ (hs : List Heard). text_told (map (λ (k : Heard). Traced (step_of k)) hs)) steps i h within
     ∙ ap (λ (first : Heard). text_told (Traced (step_of first) ∷ map (λ (k : Heard). Traced (step_of k)) (drop (i + 1) steps))) (sym here)
     ∙ text_told-cons (Traced (step_of h)) (map (λ (k : Heard). Traced (step_of k)) (drop (i + 1) steps))
-    ∙ ap (λ (first : List ℕ). first ++ text_told (map (λ (k : Heard). Traced (step_of k)) (drop (i + 1) steps))) (text_of-one (bus_line (step_of h)))
+    ∙ ap (λ (first : List ℕ). first ++ text_told (map (λ (k : Heard). Traced (step_of k)) (drop (i + 1) steps)))
+    (text_of-one (bus_line (step_of h)))
 
 pub steps_all : (steps : List Heard) (i : ℕ) → length steps ≤ i → text_told (map (λ (k : Heard). Traced (step_of k)) (drop i steps)) ≡ []
-steps_all steps i past = at_drop_all (λ (hs : List Heard). text_told (map (λ (k : Heard). Traced (step_of k)) hs)) steps i past ∙ text_told-nil
+steps_all steps i past =
+    at_drop_all (λ (hs : List Heard). text_told (map (λ (k : Heard). Traced (step_of k)) hs)) steps i past ∙ text_told-nil
 
 -- ---- the rows of a picture
 
-pub rows_more : (ws : List Write) (y : ℕ) → y < 64 → text_of (drop y (rows_told ws)) ≡ picture_row y ws ++ text_of (drop (y + 1) (rows_told ws))
+pub rows_more : (ws : List Write) (y : ℕ) → y < 64 →
+    text_of (drop y (rows_told ws)) ≡ picture_row y ws ++ text_of (drop (y + 1) (rows_told ws))
 rows_more ws y within =
     let long : length (rows_told ws) ≡ 64 = length-map-range_with_len (λ (k : ℕ). picture_row k ws) 0 64 in
     let from_none : 0 + y ≡ y = omega arith in
@@ -96,10 +106,12 @@ rows_all ws y past =
 
 -- ---- frames
 
-pub frame_text : (frame phi : ℕ) (ws : List Write) → frame_line frame phi (tone_of ws) ++ text_of (rows_told ws) ≡ text_of (frame_lines frame phi ws)
+pub frame_text : (frame phi : ℕ) (ws : List Write) →
+    frame_line frame phi (tone_of ws) ++ text_of (rows_told ws) ≡ text_of (frame_lines frame phi ws)
 frame_text frame phi ws = sym (text_of-cons (frame_line frame phi (tone_of ws)) (rows_told ws))
 
-pub frame_unshown : (shows : List ℕ) (frame phi : ℕ) (ws : List Write) → list_any (λ f. f == frame) shows ≡ false → frame_told shows (Some frame) phi ws ≡ []
+pub frame_unshown : (shows : List ℕ) (frame phi : ℕ) (ws : List Write) → list_any (λ f. f == frame) shows ≡ false →
+    frame_told shows (Some frame) phi ws ≡ []
 frame_unshown shows frame phi ws off = rw off refl
 
 pub frame_shown : (shows : List ℕ) (frame phi : ℕ) (ws : List Write) → list_any (λ f. f == frame) shows ≡ true →
@@ -108,12 +120,14 @@ frame_shown shows frame phi ws on = rw on (sym (text_told-one (Shown frame phi w
 
 -- ---- the end of an instruction
 
-pub end_screen : (screen : ShownScreen) (wrote : Option PortWrite) (p : ProgressState) (x y : Position) → screen ≡ screen_with wrote p.screen → Keeps p x.flat.state →
+pub end_screen : (screen : ShownScreen) (wrote : Option PortWrite) (p : ProgressState) (x y : Position) →
+    screen ≡ screen_with wrote p.screen → Keeps p x.flat.state →
     y.flat.state.writes ≡ with_write (option_map write_as wrote) x.flat.state.writes → screen ≡ shown y.flat.state.writes
 end_screen screen wrote p x y is keeps writes =
     is ∙ (keeps_more wrote p x.flat.state (record y.flat.state { count = x.flat.state.count + 1 }) keeps writes refl).screen
 
-pub end_told : (detail : Detail) (script : Script) (shows : List ℕ) (wrote : Option PortWrite) (frame : Option ℕ) (phi : ℕ) (p : ProgressState)
+pub end_told : (detail : Detail) (script : Script) (shows : List ℕ) (wrote : Option PortWrite) (frame : Option ℕ) (phi : ℕ)
+    (p : ProgressState)
     (x y : Position) → Keeps p x.flat.state → y.flat.state.phi ≡ phi →
     y.flat.state.writes ≡ with_write (option_map write_as wrote) x.flat.state.writes → frame ≡ frame_at p phi → shows ≡ script.shows →
     text_in detail (write_told wrote ++ frame_told shows frame phi y.flat.state.writes) ≡ text_in detail (told_turn script x (Goes y))

@@ -38,7 +38,8 @@ text_if-nil false = refl
 pub text_in-nil : (detail : Detail) → text_in detail [] ≡ []
 text_in-nil detail = text_if-nil (is_told detail)
 
-text_if-append : (b : Bool) (xs ys : List Told) → (if b then text_told (xs ++ ys) else []) ≡ (if b then text_told xs else []) ++ (if b then text_told ys else [])
+text_if-append : (b : Bool) (xs ys : List Told) →
+    (if b then text_told (xs ++ ys) else []) ≡ (if b then text_told xs else []) ++ (if b then text_told ys else [])
 text_if-append true xs ys = text_told-append xs ys
 text_if-append false xs ys = refl
 

@@ -9,7 +9,9 @@ use Rattle.rack_run.proofs.flat.run.Goals as goal
 
 pub loop-init : goal.loop-init
 loop-init g c = record {
-  reached = λ x stands keeps. reached_first (seen c.args.script.now) x c.args.isa.now c.args.progress.now (g.K.Sink.written c.args.sink.now) stands keeps;
+  reached =
+      λ x stands keeps. reached_first (seen c.args.script.now) x c.args.isa.now c.args.progress.now
+      (g.K.Sink.written c.args.sink.now) stands keeps;
   faults = refl;
   count = c.requires.count;
   phi = c.requires.phi;
@@ -23,7 +25,8 @@ returns-then-is_over-clause-out g c = λ x stands keeps.
     (sym (over_is c.args.script.now.end c.loop.progress here.here.flat.state here.keeps) ∙ sym c.is_over.ensures ∙ c.if-is_over.true) c.ending.ensures
 
 pub returns-then-is_over-clause-cause : goal.returns-then-is_over-clause-cause
-returns-then-is_over-clause-cause g c = record { later = omega (arith, c.loop.invariant.faults); failed = tt; done = c.loop.invariant.faults }
+returns-then-is_over-clause-cause g c =
+    record { later = omega (arith, c.loop.invariant.faults); failed = tt; done = c.loop.invariant.faults }
 
 pub turn-requires-clause-bounded : goal.turn-requires-clause-bounded
 turn-requires-clause-bounded g c = omega (arith, c.loop.invariant.clocks, c.loop-test.true, c.most_instructions-end.type_inv)
@@ -37,22 +40,26 @@ turn-requires-clause-count g c = omega (arith, c.loop.invariant.count, c.loop-te
 pub returns-in-Err-Halt-clause-out : goal.returns-in-Err-Halt-clause-out
 returns-in-Err-Halt-clause-out g c = λ x stands keeps.
     let here = c.loop.invariant.reached x stands keeps in
-    let on = sym (over_is c.args.script.now.end c.loop.progress here.here.flat.state here.keeps) ∙ sym c.is_over.ensures ∙ c.if-is_over.false in
+    let on =
+    sym (over_is c.args.script.now.end c.loop.progress here.here.flat.state here.keeps) ∙ sym c.is_over.ensures ∙ c.if-is_over.false in
     let more : c.loop.counter < most_instructions c.args.script.now.end = rw c.most_instructions-end.ensures at c.loop-test.true in
     let cut = rw c.in-Err-Halt.field-0-is at (c.in-Err-Halt.ensures.cut here.here (rw c.loop.invariant.count here.stands) here.keeps) in
     ends_stopped (seen c.args.script.now) x c.loop.counter c.loop.isa c.turn.new.isa c.loop.progress c.turn.new.progress _ _ _
-    c.ending-in-Err-Halt.result (stop_of c.in-Err-Halt.halt) more here on cut.0 cut.1 cut.2 cut.3 (rw c.in-Err-Halt.field-0-is at c.ending-in-Err-Halt.ensures)
+    c.ending-in-Err-Halt.result (stop_of c.in-Err-Halt.halt) more here on cut.0 cut.1 cut.2 cut.3
+    (rw c.in-Err-Halt.field-0-is at c.ending-in-Err-Halt.ensures)
 
 pub returns-in-Err-Halt-clause-cause : goal.returns-in-Err-Halt-clause-cause
 returns-in-Err-Halt-clause-cause g c =
-    let stays : g.K.Sink.faults c.turn.new.sink ≡ g.K.Sink.faults c.loop.sink = rw c.in-Err-Halt.field-0-is at c.in-Err-Halt.ensures.cause in
+    let stays : g.K.Sink.faults c.turn.new.sink ≡ g.K.Sink.faults c.loop.sink =
+    rw c.in-Err-Halt.field-0-is at c.in-Err-Halt.ensures.cause in
     let same = stays ∙ c.loop.invariant.faults in
     record { later = omega (arith, same); failed = tt; done = same }
 
 pub returns-in-Err-Sink-clause-short : goal.returns-in-Err-Sink-clause-short
 returns-in-Err-Sink-clause-short g c = λ x stands keeps.
     let here = c.loop.invariant.reached x stands keeps in
-    let on = sym (over_is c.args.script.now.end c.loop.progress here.here.flat.state here.keeps) ∙ sym c.is_over.ensures ∙ c.if-is_over.false in
+    let on =
+    sym (over_is c.args.script.now.end c.loop.progress here.here.flat.state here.keeps) ∙ sym c.is_over.ensures ∙ c.if-is_over.false in
     let more : c.loop.counter < most_instructions c.args.script.now.end = rw c.most_instructions-end.ensures at c.loop-test.true in
     ends_cut (seen c.args.script.now) x c.loop.counter c.loop.isa c.loop.progress _ _ _ more here on
     (rw c.in-Err-Sink.field-0-is at (c.in-Err-Sink.ensures.cut here.here (rw c.loop.invariant.count here.stands) here.keeps))
@@ -68,9 +75,12 @@ loop-preserved g c =
     record {
       reached = λ x stands keeps.
           let here = c.loop.invariant.reached x stands keeps in
-          let on = sym (over_is c.args.script.now.end c.loop.progress here.here.flat.state here.keeps) ∙ sym c.is_over.ensures ∙ c.if-is_over.false in
+          let on =
+          sym (over_is c.args.script.now.end c.loop.progress here.here.flat.state here.keeps) ∙ sym c.is_over.ensures
+          ∙ c.if-is_over.false in
           let more : c.loop.counter < most_instructions c.args.script.now.end = rw c.most_instructions-end.ensures at c.loop-test.true in
-          reached_more (seen c.args.script.now) x c.loop.counter c.loop.isa c.turn.new.isa c.loop.progress c.turn.new.progress _ _ _ more here on counted
+          reached_more (seen c.args.script.now) x
+          c.loop.counter c.loop.isa c.turn.new.isa c.loop.progress c.turn.new.progress _ _ _ more here on counted
           (c.in-Ok.ensures.goes here.here (rw c.loop.invariant.count here.stands) here.keeps);
       faults = c.in-Ok.ensures.cause ∙ c.loop.invariant.faults;
       count = counted;
@@ -80,7 +90,8 @@ loop-preserved g c =
 
 pub returns-clause-out : goal.returns-clause-out
 returns-clause-out g c = λ x stands keeps.
-    ends_done (seen c.args.script.now) x c.loop.counter c.loop.isa c.loop.progress _ _ c.ending-2.result (c.loop.invariant.reached x stands keeps)
+    ends_done (seen c.args.script.now) x c.loop.counter c.loop.isa c.loop.progress _ _ c.ending-2.result
+    (c.loop.invariant.reached x stands keeps)
     (rw c.most_instructions-end.ensures at c.loop-test.false) c.ending-2.ensures
 
 pub returns-clause-cause : goal.returns-clause-cause

@@ -7,13 +7,19 @@ use Rattle.rack_run.proofs.flat.run_from_reset.Goals as goal
 pub returns-clause-out : goal.returns-clause-out
 returns-clause-out g c = λ vs stands.
     let script = seen c.args.script.now in
-    let begun = stands_begun c.happen_flat_at.new.isa vs script c.as_slice.result.now c.as_slice.ensures.events (c.happen_flat_at.ensures.stands 0 _ stands) in
-    let keeps = keeps_begun c.happen_flat_at.new.isa vs script c.new-progress.result c.phi.result begun c.phi.ensures c.new-progress.ensures in
+    let begun =
+    stands_begun c.happen_flat_at.new.isa vs script c.as_slice.result.now c.as_slice.ensures.events
+    (c.happen_flat_at.ensures.stands 0 _ stands) in
+    let keeps =
+    keeps_begun c.happen_flat_at.new.isa vs script c.new-progress.result c.phi.result begun c.phi.ensures c.new-progress.ensures in
     out_plays vs script _ _ c.run.result (c.run.ensures.out (start_of vs script) begun keeps)
 
 pub returns-clause-short : goal.returns-clause-short
 returns-clause-short g c = λ vs stands.
     let script = seen c.args.script.now in
-    let begun = stands_begun c.happen_flat_at.new.isa vs script c.as_slice.result.now c.as_slice.ensures.events (c.happen_flat_at.ensures.stands 0 _ stands) in
-    let keeps = keeps_begun c.happen_flat_at.new.isa vs script c.new-progress.result c.phi.result begun c.phi.ensures c.new-progress.ensures in
+    let begun =
+    stands_begun c.happen_flat_at.new.isa vs script c.as_slice.result.now c.as_slice.ensures.events
+    (c.happen_flat_at.ensures.stands 0 _ stands) in
+    let keeps =
+    keeps_begun c.happen_flat_at.new.isa vs script c.new-progress.result c.phi.result begun c.phi.ensures c.new-progress.ensures in
     short_plays vs script _ _ c.run.result (c.run.ensures.short (start_of vs script) begun keeps)

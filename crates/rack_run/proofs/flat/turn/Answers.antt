@@ -29,9 +29,11 @@ returns-in-Ok-told-clause-goes g c = λ x stands keeps.
     let phi = phi_there c.step.new.self _ leads.next leads.stands ∙ sym c.phi.ensures in
     let puts = c.in-Ok-told.ensures.puts x leads.next keeps phi leads.gains in
     let count : c.tell_end-told.new.progress.count ≡ c.args.progress.now.count + 1 = ap (λ p. p.count) c.in-Ok-told.ensures.after in
-    let there = keeps_there c.in-Ok.done.wrote c.args.progress.now c.tell_end-told.new.progress c.phi.result x.flat.state leads.next.flat.state keeps leads.gains
+    let there =
+    keeps_there c.in-Ok.done.wrote c.args.progress.now c.tell_end-told.new.progress c.phi.result x.flat.state leads.next.flat.state keeps leads.gains
     (count_there c.step.new.self _ leads.next leads.stands) (sym phi) c.in-Ok-told.ensures.after in
-    let falls = c.in-Ok-told.ensures.fallen ∙ frame_falls c.args.progress.now x.flat.state leads.next.flat.state c.phi.result keeps (sym phi) in
+    let falls =
+    c.in-Ok-told.ensures.fallen ∙ frame_falls c.args.progress.now x.flat.state leads.next.flat.state c.phi.result keeps (sym phi) in
     record {
       there = leads.next;
       turns = leads.goes;

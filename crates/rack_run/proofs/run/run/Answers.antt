@@ -8,7 +8,9 @@ use Rattle.rack_run.proofs.run.run.Goals as goal
 
 pub loop-init : goal.loop-init
 loop-init g c = record {
-  reached = λ x r keeps. reached_first c.args.detail (seen c.args.script.now) x c.args.machine.now c.args.progress.now _ (g.K.Sink.written c.args.sink.now) r keeps;
+  reached =
+      λ x r keeps. reached_first c.args.detail (seen c.args.script.now) x c.args.machine.now c.args.progress.now _
+      (g.K.Sink.written c.args.sink.now) r keeps;
   faults = refl;
   mode = c.requires.mode;
   chips = refl;
@@ -24,7 +26,8 @@ returns-then-is_over-clause-out g c = λ x r keeps.
     (sym (over_is c.args.script.now.end c.loop.progress here.here.flat.state here.keeps) ∙ sym c.is_over.ensures ∙ c.if-is_over.true) c.ending.ensures
 
 pub returns-then-is_over-clause-cause : goal.returns-then-is_over-clause-cause
-returns-then-is_over-clause-cause g c = record { later = omega (arith, c.loop.invariant.faults); failed = tt; done = c.loop.invariant.faults }
+returns-then-is_over-clause-cause g c =
+    record { later = omega (arith, c.loop.invariant.faults); failed = tt; done = c.loop.invariant.faults }
 
 pub turn-requires-clause-few : goal.turn-requires-clause-few
 turn-requires-clause-few g c = omega (arith, c.requires.few, c.loop.invariant.chips)
@@ -44,22 +47,26 @@ turn-requires-clause-count g c = omega (arith, c.loop.invariant.count, c.loop-te
 pub returns-in-Err-Halt-clause-out : goal.returns-in-Err-Halt-clause-out
 returns-in-Err-Halt-clause-out g c = λ x r keeps.
     let here = c.loop.invariant.reached x r keeps in
-    let on = sym (over_is c.args.script.now.end c.loop.progress here.here.flat.state here.keeps) ∙ sym c.is_over.ensures ∙ c.if-is_over.false in
+    let on =
+    sym (over_is c.args.script.now.end c.loop.progress here.here.flat.state here.keeps) ∙ sym c.is_over.ensures ∙ c.if-is_over.false in
     let more : c.loop.counter < most_instructions c.args.script.now.end = rw c.most_instructions-end.ensures at c.loop-test.true in
     let cut = rw c.in-Err-Halt.field-0-is at (c.in-Err-Halt.ensures.cut here.here here.represents here.keeps) in
-    ends_stopped c.args.detail (seen c.args.script.now) x c.loop.counter c.loop.machine c.turn.new.machine c.loop.progress c.turn.new.progress _ _ _ _ _ _
+    ends_stopped c.args.detail (seen c.args.script.now) x
+    c.loop.counter c.loop.machine c.turn.new.machine c.loop.progress c.turn.new.progress _ _ _ _ _ _
     c.ending-in-Err-Halt.result c.in-Err-Halt.halt more here on cut (rw c.in-Err-Halt.field-0-is at c.ending-in-Err-Halt.ensures)
 
 pub returns-in-Err-Halt-clause-cause : goal.returns-in-Err-Halt-clause-cause
 returns-in-Err-Halt-clause-cause g c =
-    let stays : g.K.Sink.faults c.turn.new.sink ≡ g.K.Sink.faults c.loop.sink = rw c.in-Err-Halt.field-0-is at c.in-Err-Halt.ensures.cause in
+    let stays : g.K.Sink.faults c.turn.new.sink ≡ g.K.Sink.faults c.loop.sink =
+    rw c.in-Err-Halt.field-0-is at c.in-Err-Halt.ensures.cause in
     let same = stays ∙ c.loop.invariant.faults in
     record { later = omega (arith, same); failed = tt; done = same }
 
 pub returns-in-Err-Sink-clause-short : goal.returns-in-Err-Sink-clause-short
 returns-in-Err-Sink-clause-short g c = λ x r keeps.
     let here = c.loop.invariant.reached x r keeps in
-    let on = sym (over_is c.args.script.now.end c.loop.progress here.here.flat.state here.keeps) ∙ sym c.is_over.ensures ∙ c.if-is_over.false in
+    let on =
+    sym (over_is c.args.script.now.end c.loop.progress here.here.flat.state here.keeps) ∙ sym c.is_over.ensures ∙ c.if-is_over.false in
     let more : c.loop.counter < most_instructions c.args.script.now.end = rw c.most_instructions-end.ensures at c.loop-test.true in
     ends_cut c.args.detail (seen c.args.script.now) x c.loop.counter c.loop.machine c.loop.progress _ _ _ _ _ _ more here on
     (rw c.in-Err-Sink.field-0-is at (c.in-Err-Sink.ensures.cut here.here here.represents here.keeps))
@@ -73,9 +80,11 @@ pub loop-preserved : goal.loop-preserved
 loop-preserved g c = record {
   reached = λ x r keeps.
       let here = c.loop.invariant.reached x r keeps in
-      let on = sym (over_is c.args.script.now.end c.loop.progress here.here.flat.state here.keeps) ∙ sym c.is_over.ensures ∙ c.if-is_over.false in
+      let on =
+      sym (over_is c.args.script.now.end c.loop.progress here.here.flat.state here.keeps) ∙ sym c.is_over.ensures ∙ c.if-is_over.false in
       let more : c.loop.counter < most_instructions c.args.script.now.end = rw c.most_instructions-end.ensures at c.loop-test.true in
-      reached_more c.args.detail (seen c.args.script.now) x c.loop.counter c.loop.machine c.turn.new.machine c.loop.progress c.turn.new.progress _ _ _ _ _ _ more here on
+      reached_more c.args.detail (seen c.args.script.now) x
+      c.loop.counter c.loop.machine c.turn.new.machine c.loop.progress c.turn.new.progress _ _ _ _ _ _ more here on
       (c.in-Ok.ensures.goes here.here here.represents here.keeps);
   faults = c.in-Ok.ensures.cause ∙ c.loop.invariant.faults;
   mode = c.turn.ensures.mode;
@@ -87,7 +96,8 @@ loop-preserved g c = record {
 
 pub returns-clause-out : goal.returns-clause-out
 returns-clause-out g c = λ x r keeps.
-    ends_done c.args.detail (seen c.args.script.now) x c.loop.counter c.loop.machine c.loop.progress _ _ _ _ c.ending-2.result (c.loop.invariant.reached x r keeps)
+    ends_done c.args.detail (seen c.args.script.now) x c.loop.counter c.loop.machine c.loop.progress _ _ _ _ c.ending-2.result
+    (c.loop.invariant.reached x r keeps)
     (rw c.most_instructions-end.ensures at c.loop-test.false) c.ending-2.ensures
 
 pub returns-clause-cause : goal.returns-clause-cause

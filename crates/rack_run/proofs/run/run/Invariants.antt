@@ -10,7 +10,8 @@ use Rattle.rack_run.proofs.run.run.Given as goal
 
 abbrev pub invariant-loop : goal.invariant-loop
 invariant-loop g l = record {
-  reached : (x : Position) → Represents l.fn.machine (map (λ b. (goal.Chip-dyn g (b.vtable, b.value)).state b.value) l.fn.rack.items) x → Keeps l.fn.progress x.flat.state →
+  reached : (x : Position) → Represents l.fn.machine (map (λ b. (goal.Chip-dyn g (b.vtable, b.value)).state b.value) l.fn.rack.items) x →
+      Keeps l.fn.progress x.flat.state →
       Reached l.detail (seen l.script) x l.counter l.machine l.progress
       (map (λ b. (goal.Chip-dyn g (b.vtable, b.value)).state b.value) l.fn.rack.items)
       (map (λ b. (goal.Chip-dyn g (b.vtable, b.value)).state b.value) l.rack.items) (g.K.Sink.written l.fn.sink) (g.K.Sink.written l.sink);

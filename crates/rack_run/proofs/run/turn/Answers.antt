@@ -6,7 +6,8 @@ use Rattle.rack_run.proofs.run.turn.Goals as goal
 
 pub returns-in_default-clause-cut : goal.returns-in_default-clause-cut
 returns-in_default-clause-cut g c = λ x r keeps.
-    told_fails _ _ x c.instr-outcome.result _ _ _ _ (c.instr-outcome.ensures.refines x r) c.instr-outcome.ensures.ran c.in_default.field-0 _ _ _ _ c.in_default.ensures
+    told_fails _ _ x c.instr-outcome.result _ _ _ _
+    (c.instr-outcome.ensures.refines x r) c.instr-outcome.ensures.ran c.in_default.field-0 _ _ _ _ c.in_default.ensures
 
 pub tell_end-requires-clause-onward : goal.tell_end-requires-clause-onward
 tell_end-requires-clause-onward g c = omega (arith, c.requires.phi, c.phi.ensures, c.instr-outcome.ensures.onward)
@@ -15,7 +16,8 @@ pub returns-in_default-tell_end-clause-cut : goal.returns-in_default-tell_end-cl
 returns-in_default-tell_end-clause-cut g c = λ x r keeps.
     let refines = c.instr-outcome.ensures.refines x r in
     let done = rw c.in-Done.is at refines in
-    end_fails _ _ x c.instr-outcome.result _ _ _ _ refines c.instr-outcome.ensures.ran c.in-Ok.field-0 _ _ _ _ c.in-Ok.ensures done.after done.turns c.in_default-tell_end.field-0 _ _
+    end_fails _ _ x c.instr-outcome.result _ _ _ _ refines c.instr-outcome.ensures.ran c.in-Ok.field-0 _ _ _ _ c.in-Ok.ensures
+    done.after done.turns c.in_default-tell_end.field-0 _ _
     (c.in_default-tell_end.ensures.puts x done.after keeps (sym (c.phi.ensures ∙ done.represents.stands.phi)) done.written)
 
 pub returns-in-Ok-tell_end-clause-goes : goal.returns-in-Ok-tell_end-clause-goes
@@ -24,9 +26,11 @@ returns-in-Ok-tell_end-clause-goes g c = λ x r keeps.
     let done = rw c.in-Done.is at refines in
     let phi : c.phi.result ≡ done.after.flat.state.phi = c.phi.ensures ∙ done.represents.stands.phi in
     let kept = progress_kept c.in-Done.wrote _ _ x done.after c.phi.result keeps done.turns done.written phi c.tell_end.ensures.after in
-    end_told _ _ x c.instr-outcome.result _ _ _ _ refines c.instr-outcome.ensures.ran c.in-Ok.field-0 _ _ _ _ c.in-Ok.ensures done.after done.turns c.in-Ok-tell_end.fallen _ _ _ _ _
+    end_told _ _ x c.instr-outcome.result _ _ _ _ refines c.instr-outcome.ensures.ran c.in-Ok.field-0 _ _ _ _ c.in-Ok.ensures
+    done.after done.turns c.in-Ok-tell_end.fallen _ _ _ _ _
     (c.in-Ok-tell_end.ensures.puts x done.after keeps (sym phi) done.written) kept
-    (c.happen_behind.ensures.behind x done.after done.represents kept (c.in-Ok-tell_end.ensures.fallen ∙ frame_falls _ x.flat.state done.after.flat.state c.phi.result keeps phi))
+    (c.happen_behind.ensures.behind x done.after done.represents kept
+    (c.in-Ok-tell_end.ensures.fallen ∙ frame_falls _ x.flat.state done.after.flat.state c.phi.result keeps phi))
 
 pub returns-in-Fault-clause-cut : goal.returns-in-Fault-clause-cut
 returns-in-Fault-clause-cut g c = λ x r keeps.

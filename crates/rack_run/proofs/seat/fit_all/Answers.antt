@@ -20,60 +20,86 @@ fit_next-requires-clause-smis g c =
 
 pub loop-chip-preserved : goal.loop-chip-preserved
 loop-chip-preserved g c =
-    let here = unchanged_at (λ b. (goal.Chip-dyn g (b.vtable, b.value)).state b.value) _ c.deref_mut-chip-items.result.now c.loop-chip.chip-items c.loop-chip.chip-index c.chip-item.result
+    let here =
+    unchanged_at (λ b. (goal.Chip-dyn g (b.vtable, b.value)).state b.value) _ c.deref_mut-chip-items.result.now
+    c.loop-chip.chip-items c.loop-chip.chip-index c.chip-item.result
     c.loop-chip-test.true c.loop-chip.auto.chip-items c.loop-chip.invariant.changed in
     let kinds = kinds_from _ c.loop-chip.chip-index _ here in
-    let seat = counted_here c.as_slice-chips.result.now _ _ c.loop-chip.chip-index c.loop-chip.sockets.psus c.loop-chip.sockets.smis _ _ kinds c.loop-chip.invariant.counted in
+    let seat =
+    counted_here c.as_slice-chips.result.now _ _ c.loop-chip.chip-index c.loop-chip.sockets.psus c.loop-chip.sockets.smis _ _ kinds
+    c.loop-chip.invariant.counted in
     record {
       few = c.fit_next.ensures.more ∙ ap (λ n. n + 1) c.loop-chip.invariant.few;
       counted = rw (c.fit_next.ensures.psus, c.fit_next.ensures.smis, add-one)
-          (counted_more c.as_slice-chips.result.now _ _ c.loop-chip.chip-index c.loop-chip.sockets.psus c.loop-chip.sockets.smis _ _ kinds c.loop-chip.invariant.counted);
-      changed = changed-more (λ b. (goal.Chip-dyn g (b.vtable, b.value)).state b.value) _ c.deref_mut-chip-items.result.now c.loop-chip.chip-items c.loop-chip.chip-index c.chip-item.result
+          (counted_more c.as_slice-chips.result.now _ _ c.loop-chip.chip-index c.loop-chip.sockets.psus c.loop-chip.sockets.smis _ _ kinds
+          c.loop-chip.invariant.counted);
+      changed =
+          changed-more (λ b. (goal.Chip-dyn g (b.vtable, b.value)).state b.value) _ c.deref_mut-chip-items.result.now
+          c.loop-chip.chip-items c.loop-chip.chip-index c.chip-item.result
           c.fit_next.new.chip c.loop-chip-test.true c.loop-chip.auto.chip-items c.loop-chip.invariant.changed
-          (fits_seated _ c.loop-chip.chip-index _ _ _ seat c.in_ok-fit_next.ensures.fits c.in_ok-fit_next.ensures.whole c.in_ok-fit_next.ensures.ports);
+          (fits_seated _ c.loop-chip.chip-index _ _ _ seat c.in_ok-fit_next.ensures.fits c.in_ok-fit_next.ensures.whole
+          c.in_ok-fit_next.ensures.ports);
     }
 
 pub returns-clause-fitted : goal.returns-clause-fitted
 returns-clause-fitted g c =
-    let long : length c.loop-chip.chip-items ≡ length c.args.rack.now.items = rw c.deref_mut-chip-items.ensures.value at c.loop-chip.auto.chip-items in
-    let count : length c.args.rack.now.items ≡ vec_len c.args.rack.now = rw c.deref_mut-chip-items.ensures.value at c.deref_mut-chip-items.ensures.len in
+    let long : length c.loop-chip.chip-items ≡ length c.args.rack.now.items =
+    rw c.deref_mut-chip-items.ensures.value at c.loop-chip.auto.chip-items in
+    let count : length c.args.rack.now.items ≡ vec_len c.args.rack.now =
+    rw c.deref_mut-chip-items.ensures.value at c.deref_mut-chip-items.ensures.len in
     let past : length c.args.rack.now.items ≤ c.loop-chip.chip-index = rw c.deref_mut-chip-items.ensures.value at c.loop-chip-test.false in
-    let fitted = changed-written (λ b. (goal.Chip-dyn g (b.vtable, b.value)).state b.value) _ c.args.rack.now.items c.loop-chip.chip-items _ c.loop-chip.chip-index count long past
+    let fitted =
+    changed-written (λ b. (goal.Chip-dyn g (b.vtable, b.value)).state b.value) _ c.args.rack.now.items c.loop-chip.chip-items _
+    c.loop-chip.chip-index count long past
     (rw c.deref_mut-chip-items.ensures.value at c.loop-chip.invariant.changed) in
     rw c.as_slice-chips.ensures.chips at fitted
 
 pub returns-clause-whole : goal.returns-clause-whole
 returns-clause-whole g c =
-    let long : length c.loop-chip.chip-items ≡ length c.args.rack.now.items = rw c.deref_mut-chip-items.ensures.value at c.loop-chip.auto.chip-items in
-    let count : length c.args.rack.now.items ≡ vec_len c.args.rack.now = rw c.deref_mut-chip-items.ensures.value at c.deref_mut-chip-items.ensures.len in
+    let long : length c.loop-chip.chip-items ≡ length c.args.rack.now.items =
+    rw c.deref_mut-chip-items.ensures.value at c.loop-chip.auto.chip-items in
+    let count : length c.args.rack.now.items ≡ vec_len c.args.rack.now =
+    rw c.deref_mut-chip-items.ensures.value at c.deref_mut-chip-items.ensures.len in
     let past : length c.args.rack.now.items ≤ c.loop-chip.chip-index = rw c.deref_mut-chip-items.ensures.value at c.loop-chip-test.false in
-    let fitted = changed-written (λ b. (goal.Chip-dyn g (b.vtable, b.value)).state b.value) _ c.args.rack.now.items c.loop-chip.chip-items _ c.loop-chip.chip-index count long past
+    let fitted =
+    changed-written (λ b. (goal.Chip-dyn g (b.vtable, b.value)).state b.value) _ c.args.rack.now.items c.loop-chip.chip-items _
+    c.loop-chip.chip-index count long past
     (rw c.deref_mut-chip-items.ensures.value at c.loop-chip.invariant.changed) in
     all_whole _ _ _ fitted
 
 pub returns-clause-ports : goal.returns-clause-ports
 returns-clause-ports g c =
-    let long : length c.loop-chip.chip-items ≡ length c.args.rack.now.items = rw c.deref_mut-chip-items.ensures.value at c.loop-chip.auto.chip-items in
-    let count : length c.args.rack.now.items ≡ vec_len c.args.rack.now = rw c.deref_mut-chip-items.ensures.value at c.deref_mut-chip-items.ensures.len in
+    let long : length c.loop-chip.chip-items ≡ length c.args.rack.now.items =
+    rw c.deref_mut-chip-items.ensures.value at c.loop-chip.auto.chip-items in
+    let count : length c.args.rack.now.items ≡ vec_len c.args.rack.now =
+    rw c.deref_mut-chip-items.ensures.value at c.deref_mut-chip-items.ensures.len in
     let past : length c.args.rack.now.items ≤ c.loop-chip.chip-index = rw c.deref_mut-chip-items.ensures.value at c.loop-chip-test.false in
-    let fitted = changed-written (λ b. (goal.Chip-dyn g (b.vtable, b.value)).state b.value) _ c.args.rack.now.items c.loop-chip.chip-items _ c.loop-chip.chip-index count long past
+    let fitted =
+    changed-written (λ b. (goal.Chip-dyn g (b.vtable, b.value)).state b.value) _ c.args.rack.now.items c.loop-chip.chip-items _
+    c.loop-chip.chip-index count long past
     (rw c.deref_mut-chip-items.ensures.value at c.loop-chip.invariant.changed) in
     all_leave _ _ _ fitted
 
 pub returns-clause-views : goal.returns-clause-views
 returns-clause-views g c =
-    let long : length c.loop-chip.chip-items ≡ length c.args.rack.now.items = rw c.deref_mut-chip-items.ensures.value at c.loop-chip.auto.chip-items in
-    let count : length c.args.rack.now.items ≡ vec_len c.args.rack.now = rw c.deref_mut-chip-items.ensures.value at c.deref_mut-chip-items.ensures.len in
+    let long : length c.loop-chip.chip-items ≡ length c.args.rack.now.items =
+    rw c.deref_mut-chip-items.ensures.value at c.loop-chip.auto.chip-items in
+    let count : length c.args.rack.now.items ≡ vec_len c.args.rack.now =
+    rw c.deref_mut-chip-items.ensures.value at c.deref_mut-chip-items.ensures.len in
     let past : length c.args.rack.now.items ≤ c.loop-chip.chip-index = rw c.deref_mut-chip-items.ensures.value at c.loop-chip-test.false in
-    let fitted = changed-written (λ b. (goal.Chip-dyn g (b.vtable, b.value)).state b.value) _ c.args.rack.now.items c.loop-chip.chip-items _ c.loop-chip.chip-index count long past
+    let fitted =
+    changed-written (λ b. (goal.Chip-dyn g (b.vtable, b.value)).state b.value) _ c.args.rack.now.items c.loop-chip.chip-items _
+    c.loop-chip.chip-index count long past
     (rw c.deref_mut-chip-items.ensures.value at c.loop-chip.invariant.changed) in
     views_fitted c.args.chips.now _ _ (rw c.as_slice-chips.ensures.chips at fitted)
 
 pub returns-in_err-fit_next-clause-partly : goal.returns-in_err-fit_next-clause-partly
 returns-in_err-fit_next-clause-partly g c =
     let p = err_from_is_err_and c.from_residual.result c.from_residual.ensures.1 in
-    let count : length c.args.rack.now.items ≡ vec_len c.args.rack.now = rw c.deref_mut-chip-items.ensures.value at c.deref_mut-chip-items.ensures.len in
-    let long : length c.loop-chip.chip-items ≡ length c.args.rack.now.items = rw c.deref_mut-chip-items.ensures.value at c.loop-chip.auto.chip-items in
+    let count : length c.args.rack.now.items ≡ vec_len c.args.rack.now =
+    rw c.deref_mut-chip-items.ensures.value at c.deref_mut-chip-items.ensures.len in
+    let long : length c.loop-chip.chip-items ≡ length c.args.rack.now.items =
+    rw c.deref_mut-chip-items.ensures.value at c.loop-chip.auto.chip-items in
     let within : c.loop-chip.chip-index < length c.args.rack.now.items = rw c.deref_mut-chip-items.ensures.value at c.loop-chip-test.true in
     let so_far = rw (c.deref_mut-chip-items.ensures.value, c.as_slice-chips.ensures.chips) at c.loop-chip.invariant.changed in
     rw p.1 (partly_written (λ b. (goal.Chip-dyn g (b.vtable, b.value)).state b.value) _ c.args.rack.now.items c.loop-chip.chip-items _ c.loop-chip.chip-index c.chip-item.result c.fit_next.new.chip count long within so_far

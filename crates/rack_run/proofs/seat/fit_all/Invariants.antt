@@ -10,7 +10,8 @@ invariant-loop-chip g l = record {
   few : l.sockets.psus + l.sockets.smis ≡ l.chip-index;
   counted : Counted l.chips (seated l.chips (map (λ b. (goal.Chip-dyn g (b.vtable, b.value)).state b.value) l.initial.chip-items))
       (kinds_of (map (λ b. (goal.Chip-dyn g (b.vtable, b.value)).state b.value) l.initial.chip-items)) l.chip-index l.sockets.psus l.sockets.smis;
-  changed : ChangedBelow (FitsWhole (seated l.chips (map (λ b. (goal.Chip-dyn g (b.vtable, b.value)).state b.value) l.initial.chip-items))) l.chip-index
+  changed : ChangedBelow
+      (FitsWhole (seated l.chips (map (λ b. (goal.Chip-dyn g (b.vtable, b.value)).state b.value) l.initial.chip-items))) l.chip-index
       (map (λ b. (goal.Chip-dyn g (b.vtable, b.value)).state b.value) l.initial.chip-items)
       (map (λ b. (goal.Chip-dyn g (b.vtable, b.value)).state b.value) l.chip-items);
 }

@@ -9,7 +9,8 @@ use Rattle.rack_run.proofs.telling.put_rows.Given as goal
 
 abbrev pub invariant-loop-y : goal.invariant-loop-y
 invariant-loop-y g l = record {
-  so_far : (ws : List Write) → l.screen ≡ shown ws → PutSoFar (g.K.Sink.written l.fn.sink) (g.K.Sink.written l.sink) (g.K.Sink.faults l.fn.sink) (g.K.Sink.faults l.sink)
+  so_far : (ws : List Write) → l.screen ≡ shown ws →
+      PutSoFar (g.K.Sink.written l.fn.sink) (g.K.Sink.written l.sink) (g.K.Sink.faults l.fn.sink) (g.K.Sink.faults l.sink)
       (text_of (rows_told ws)) (text_of (drop l.y (rows_told ws)));
   faults : g.K.Sink.faults l.sink ≡ g.K.Sink.faults l.fn.sink;
 }

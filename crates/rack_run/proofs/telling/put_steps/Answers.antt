@@ -12,10 +12,12 @@ loop-step-preserved g c =
     let line : c.as_bytes.result.now ≡ bus_line (step_of c.step-item.result) =
     c.as_bytes.ensures.value ∙ rw c.number.ensures.value at c.bus_line-line.ensures c.step-item.result.taker in
     let begins = steps_more c.args.steps.now c.loop-step.step-index c.step-item.result c.loop-step-test.true c.step-item.is in
-    record { so_far = so_far_more _ _ _ _ _ _ _ _ _ _ _ c.loop-step.invariant.so_far begins (rw line at c.in_ok-put.ensures.ok) c.in_ok-put.ensures.cause }
+    let lines = rw line at c.in_ok-put.ensures.ok in
+    record { so_far = so_far_more _ _ _ _ _ _ _ _ _ _ _ c.loop-step.invariant.so_far begins lines c.in_ok-put.ensures.cause }
 
 pub returns : goal.returns
-returns g c = so_far_all _ _ _ _ _ _ _ c.loop-step.invariant.so_far (steps_all c.args.steps.now c.loop-step.step-index c.loop-step-test.false)
+returns g c =
+    so_far_all _ _ _ _ _ _ _ c.loop-step.invariant.so_far (steps_all c.args.steps.now c.loop-step.step-index c.loop-step-test.false)
 
 pub returns-in_err-put : goal.returns-in_err-put
 returns-in_err-put g c =
@@ -23,4 +25,6 @@ returns-in_err-put g c =
     let line : c.as_bytes.result.now ≡ bus_line (step_of c.step-item.result) =
     c.as_bytes.ensures.value ∙ rw c.number.ensures.value at c.bus_line-line.ensures c.step-item.result.taker in
     let begins = steps_more c.args.steps.now c.loop-step.step-index c.step-item.result c.loop-step-test.true c.step-item.is in
-    rw p.1 (so_far_cut _ _ _ _ _ _ _ _ _ _ _ _ c.loop-step.invariant.so_far begins (bus_some _) (rw line at c.in_err-put.ensures.err) c.in_err-put.ensures.cause)
+    rw p.1
+    (so_far_cut _ _ _ _ _ _ _ _ _ _ _ _ c.loop-step.invariant.so_far begins (bus_some _)
+    (rw line at c.in_err-put.ensures.err) c.in_err-put.ensures.cause)

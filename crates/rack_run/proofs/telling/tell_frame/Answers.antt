@@ -15,4 +15,6 @@ returns-then-not-contains-clause-puts g c = λ ws screen.
 pub returns-clause-puts : goal.returns-clause-puts
 returns-clause-puts g c = λ ws screen.
     let shown = frame_shown c.args.shows.now c.in-Some.frame c.args.phi ws (sym c.contains.ensures.value ∙ c.if-not-contains.false) in
-    rw c.in-Some.is (puts_told _ _ _ _ _ c.args.detail _ (sym c.is_told.ensures ∙ c.if-not-is_told.false) (puts_same _ _ _ _ _ _ _ shown (c.put_frame.ensures.puts ws screen)))
+    rw c.in-Some.is
+    (puts_told _ _ _ _ _ c.args.detail _ (sym c.is_told.ensures ∙ c.if-not-is_told.false)
+    (puts_same _ _ _ _ _ _ _ shown (c.put_frame.ensures.puts ws screen)))

@@ -8,13 +8,15 @@ use Rattle.rack_run.proofs.telling.tell_turn.Goals as goal
 
 pub returns-clause-puts : goal.returns-clause-puts
 returns-clause-puts g c = λ ws screen.
-    puts_same _ _ _ _ _ _ _ (sym (text_in-append c.args.detail (write_told c.args.wrote) (frame_told c.args.shows.now c.args.fallen c.args.phi ws)))
+    puts_same _ _ _ _ _ _ _
+    (sym (text_in-append c.args.detail (write_told c.args.wrote) (frame_told c.args.shows.now c.args.fallen c.args.phi ws)))
     (puts_then _ _ _ _ _ _ _ _ _ _ c.in_ok-tell_write.ensures (c.tell_frame.ensures.puts ws screen))
 
 pub returns-in_err-tell_write-clause-puts : goal.returns-in_err-tell_write-clause-puts
 returns-in_err-tell_write-clause-puts g c = λ ws screen.
     let p = err_from_is_err_and c.from_residual.result c.from_residual.ensures.1 in
-    rw p.1 (puts_same _ _ _ _ _ _ _ (sym (text_in-append c.args.detail (write_told c.args.wrote) (frame_told c.args.shows.now c.args.fallen c.args.phi ws)))
+    rw p.1
+    (puts_same _ _ _ _ _ _ _ (sym (text_in-append c.args.detail (write_told c.args.wrote) (frame_told c.args.shows.now c.args.fallen c.args.phi ws)))
     (puts_first _ _ _ _ _ _ _ _ c.in_err-tell_write.ensures))
 
 pub returns-clause-cause : goal.returns-clause-cause

@@ -11,6 +11,9 @@ returns-in_default g c = rw c.in_default.is (puts_nothing _ _ _ c.args.detail)
 
 pub returns : goal.returns
 returns g c =
-    let puts = puts_piece _ _ _ _ _ _ _ (c.as_bytes.ensures.value ∙ c.out_line.ensures) (out_some _) c.put.ensures.ok c.put.ensures.err c.put.ensures.cause in
-    rw c.in-Some.is (puts_told _ _ _ _ _ c.args.detail (Wrote (write_as c.in-Some.write) ∷ []) (sym c.is_told.ensures ∙ c.if-not-is_told.false)
+    let puts =
+    puts_piece _ _ _ _ _ _ _ (c.as_bytes.ensures.value ∙ c.out_line.ensures)
+    (out_some _) c.put.ensures.ok c.put.ensures.err c.put.ensures.cause in
+    rw c.in-Some.is
+    (puts_told _ _ _ _ _ c.args.detail (Wrote (write_as c.in-Some.write) ∷ []) (sym c.is_told.ensures ∙ c.if-not-is_told.false)
     (puts_same _ _ _ _ _ _ _ (sym (write_text (write_as c.in-Some.write))) puts))
