@@ -10,8 +10,7 @@ use Rattle.console_spec.specs.Telling.{Telling, told_in}
 use Rattle.console_spec.specs.declared.Regs.{Regs}
 use Rattle.data_bus.specs.Racks.{views}
 use Rattle.generator.specs.SummaryLines.{gen_line}
-use Rattle.memory_map.specs.MapOf.{views_of}
-use Rattle.rack_run.specs.Endings.{Tells, Plays as RackPlays, PlaysPart, Refers, stop_at}
+use Rattle.rack_run.specs.Endings.{Tells, Plays as RackPlays, Refers, stop_at}
 use Rattle.rack_run.specs.Seating.{seated, fitted_views, RackFits, RackFitsInPart}
 use Rattle.rack_run.specs.Texts.{text_in, text_told}
 use Rattle.rack_run.specs.declared.detail.Detail.TheVariants.{Writes}
@@ -149,23 +148,11 @@ module _ (manner : Manner) (game : Game) (fitted : List ChipState) where
   pub reports_not_begun : (a b : Option (List ℕ)) (before now due : ℕ) → AddsPart a b opening → Rose before now → Reports a b before now 5 due (lines_by manner run)
   reports_not_begun a b before now due part rose = reports_part a b before now due opening (told ++ closing) (lines_by manner run) part rose (text_by manner run)
 
-  pub on_not_begun : (a b : Option (List ℕ)) → AddsPart a b opening → OnFitted a b 5 manner game (views fitted) fitted fitted
-  on_not_begun a b part = record {
-    ran = λ five. absurd (five refl);
-    failed = λ five. inl (record { same = refl; part = part });
-  }
-
   -- it failed at one of its lines
   pub reports_cut : (a b c : Option (List ℕ)) (start before now due : ℕ) → Adds a b opening → before ≡ start → AddsPart b c told → Rose before now → Reports a c start now 5 due (lines_by manner run)
   reports_cut a b c start before now due first same part rose =
       reports_part a c start now due (opening ++ told) closing (lines_by manner run) (adds_part_behind a b c opening told first part) (subst (λ (n : ℕ). Rose n now) same rose)
       (text_by manner run ∙ sym (append_assoc opening told closing))
-
-  pub on_cut : (a b c : Option (List ℕ)) (news : List ChipState) → Adds a b opening → PlaysPart (detail_of manner) game.script fitted news b c → OnFitted a c 5 manner game (views fitted) fitted news
-  on_cut a b c news first part = record {
-    ran = λ five. absurd (five refl);
-    failed = λ five. inr (inl (record { powered = part.powered; powers = part.powers; between = b; opening = first; cut = part.cut }));
-  }
 
   -- it came to its end
   ran_on : (ending : Ending) (news : List ChipState) (b c : Option (List ℕ)) → RackPlays (detail_of manner) game.script ending fitted news b c → RanOn manner game (views fitted) fitted news

@@ -1,5 +1,5 @@
 -- How a run on a rack is told: whole, as `play` does, with every bus step or without, or by a summary, as `gen` does.
-use Rattle.std.specs.Prelude.{ℕ, Bool, true, false, sum, List, [], ◌∷◌, length}
+use Rattle.std.specs.Prelude.{ℕ, true, false, sum, List, [], ◌∷◌, length}
 use Rattle.f8_spec.specs.ChipState.{ChipView}
 use Rattle.console_spec.specs.Processor.{shown}
 use Rattle.console_spec.specs.Run.{Stop, Ending}

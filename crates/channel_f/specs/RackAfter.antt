@@ -2,7 +2,7 @@
 use Rattle.std.specs.Prelude.{◌≡◌, ◌≢◌, ℕ, ◌⊎◌, List, ◌++◌, Option, Some, None, Result, Ok, Err}
 use Rattle.f8_spec.specs.ChipState.{ChipView, ChipState}
 use Rattle.console_spec.specs.RunText.{text_of}
-use Rattle.console_spec.specs.Telling.{Telling, told_in}
+use Rattle.console_spec.specs.Telling.{told_in}
 use Rattle.f8_machine.specs.Rounds.{RackPowers}
 use Rattle.rack_run.specs.Endings.{CutShort}
 use Rattle.rack_run.specs.Lives.{Lives}
