@@ -1,5 +1,5 @@
 -- The first draws of the number 1, computed from the definitions.
-use Rattle.std.proofs.Common.{◌≡◌, ℕ, List, [], ◌∷◌, map, refl}
+use Rattle.std.proofs.Common.{◌≡◌, [], ◌∷◌, map, refl}
 use Rattle.console_spec.specs.Generator.{next_draw, drawn_byte, opcodes_from}
 
 three_draws : map drawn_byte (next_draw 1 ∷ next_draw (next_draw 1) ∷ next_draw (next_draw (next_draw 1)) ∷ []) ≡ 0x3C ∷ 0x5E ∷ 0x81 ∷ []

@@ -1,5 +1,5 @@
 -- Pictures worked out by hand, computed from the definitions.
-use Rattle.std.proofs.Common.{◌≡◌, ℕ, List, [], ◌∷◌, ◌++◌, map, replicate, refl}
+use Rattle.std.proofs.Common.{◌≡◌, ℕ, List, [], ◌∷◌, ◌++◌, replicate, refl}
 use Rattle.console_spec.specs.Writes.{Write}
 use Rattle.console_spec.specs.Display.{pixel_of, palette_of, tone_of, row_of_pixels}
 

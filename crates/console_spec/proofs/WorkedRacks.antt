@@ -11,7 +11,7 @@ use Rattle.f8_spec.specs.declared.chips.Page.{Page}
 use Rattle.console_spec.specs.Processor.{own_inputs, effect}
 use Rattle.console_spec.specs.FlatMemory.{first_memory}
 use Rattle.console_spec.specs.Services.{Conflict, Undriven, Astray}
-use Rattle.console_spec.specs.Telling.{telling, played_by, referred_by}
+use Rattle.console_spec.specs.Telling.{telling, played_by}
 use Rattle.console_spec.proofs.Played.{played, played_record}
 use Rattle.console_spec.specs.Run.{Done, Unserved, Reserved, power_position, position_after_reset, instruction_course, reset_course}
 use Rattle.console_spec.specs.declared.Who.TheVariants.{Cpu, Socket, Nobody}
