@@ -1,6 +1,5 @@
 -- One turn of the loop over a line, for each thing that may stand at the front of its rest.
-use Rattle.std.proofs.Common.{◌≡◌, ℕ, zero, suc, ◌+◌, ◌-◌, ◌<◌, List, [], ◌∷◌, ◌++◌, length, length-drop, take, drop, Result, Ok, Err, refl, sym, ◌∙◌, ap, arith, append_assoc, append-nil, add-zero}
-use Rattle.std.proofs.lemmas.List.{take_all}
+use Rattle.std.proofs.Common.{◌≡◌, ℕ, zero, suc, ◌+◌, ◌-◌, ◌<◌, List, [], ◌∷◌, ◌++◌, length, drop, Result, Ok, Err, refl, sym, ◌∙◌, ap, arith, append_assoc, append-nil, add-zero}
 use Rattle.asm_text.specs.Lexemes.{lexeme}
 use Rattle.asm_text.specs.Tokens.{behind, tokens_at}
 use Rattle.asm_text.specs.declared.front.Lexeme.{Lexeme}
@@ -18,10 +17,6 @@ after found (Err e) = Err e
 -- the tokens found before this column and what is found in the rest make the whole
 pub record SoFar (found : List Token) (column : ℕ) (rest : List ℕ) (whole : Result (List Token) TokenFault) : Type 0 where
   pub is : after found (tokens_at 0 column rest) ≡ whole
-
--- a slice from a place to the end
-pub rest_from : (n : ℕ) (bs : List ℕ) → take (length bs - n) (drop n bs) ≡ drop n bs
-rest_from n bs = take_all (length bs - n) (drop n bs) (omega (arith, length-drop n bs))
 
 -- bytes of a token already read only move the column
 skipped : (k column : ℕ) (bs : List ℕ) → tokens_at k column bs ≡ tokens_at 0 (column + k) (drop k bs)

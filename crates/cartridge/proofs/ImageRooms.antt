@@ -17,7 +17,7 @@ use Rattle.f8_asm.specs.Evaluation.{values}
 use Rattle.f8_asm.specs.Grammar.{column_of}
 use Rattle.f8_asm.specs.Image.{Picture, ascending, image_of}
 use Rattle.f8_asm.specs.Judging.{taken, unsigned}
-use Rattle.f8_asm.specs.Lines.{lines}
+use Rattle.text_lines.specs.Lines.{lines}
 use Rattle.f8_asm.specs.Marks.{is_free}
 use Rattle.f8_asm.specs.PassOne.{in_line, no_reading, read_lines}
 use Rattle.f8_asm.specs.PassTwo.{Layout, no_layout, is_inside, with_label, fits, settled, settle, place, place_lines}

@@ -1,6 +1,6 @@
 -- The loop over the bytes that are listed.
-use Rattle.std.proofs.Common.{◌≡◌, ℕ, zero, suc, ◌+◌, ◌-◌, ◌<◌, List, [], ◌∷◌, length, drop, take, refl, sym, ◌∙◌, ap, arith, add-zero, length-drop}
-use Rattle.std.proofs.lemmas.List.{take_all}
+use Rattle.std.proofs.Common.{◌≡◌, ℕ, zero, suc, ◌+◌, ◌-◌, ◌<◌, List, [], ◌∷◌, length, drop, take, refl, sym, ◌∙◌, ap, arith, add-zero}
+use Rattle.std.proofs.lemmas.List.{take_rest}
 use Rattle.f8_asm.specs.declared.pieces.Piece.{Piece}
 use Rattle.f8_asm.specs.Listing.{piece, entries, with_entry, with_entries}
 
@@ -10,10 +10,6 @@ unfolding entries
 skipped zero raw at bs = rw (add-zero at) refl
 skipped (suc k) raw at [] = refl
 skipped (suc k) raw at (b ∷ bs) = let next : at + 1 + k ≡ at + suc k = omega arith in skipped k raw (at + 1) bs ∙ ap (λ a. entries 0 raw a (drop k bs)) next
-
--- a slice from a place to the end
-pub rest_from : (n : ℕ) (bs : List ℕ) → take (length bs - n) (drop n bs) ≡ drop n bs
-rest_from n bs = take_all (length bs - n) (drop n bs) (omega (arith, length-drop n bs))
 
 -- the statements written and those of the rest make the whole
 pub record ListsOn (written : List ℕ) (raw at : ℕ) (rest whole : List ℕ) : Type 0 where
@@ -38,4 +34,4 @@ module _ {written whole : List ℕ} {raw at : ℕ} where
 
   -- one turn of the loop
   pub listed_step : (p : Piece) (b : ℕ) (bs rest new : List ℕ) → p ≡ piece raw at b bs → rest ≡ b ∷ bs → 0 < p.length → new ≡ with_entry written p.entry → ListsOn written raw at rest whole → ListsOn new p.raw (at + p.length) (take (length rest - p.length) (drop p.length rest)) whole
-  listed_step p b bs rest new is front some text on = rw (text, rest_from, front, is) (listed_more b bs (rw is at some) (rw front at on))
+  listed_step p b bs rest new is front some text on = rw (text, take_rest, front, is) (listed_more b bs (rw is at some) (rw front at on))

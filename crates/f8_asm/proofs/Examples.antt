@@ -12,7 +12,7 @@ use Rattle.f8_asm.specs.Answers.{form}
 use Rattle.f8_asm.specs.Bytes.{list_bytes}
 use Rattle.f8_asm.specs.Grammar.{chain, level, parenthesised, opened, operand_of, operand, expression}
 use Rattle.f8_asm.specs.Judging.{fault_at}
-use Rattle.f8_asm.specs.Lines.{lines}
+use Rattle.text_lines.specs.Lines.{lines}
 use Rattle.f8_asm.specs.Listing.{pair_text, gap_of, front_of, piece, entries, listing}
 use Rattle.f8_asm.specs.PassThree.{line_bytes}
 use Rattle.f8_asm.specs.Registers.{same_word, one_letter_register, two_letter_register, register_of, pair_op}

@@ -2,7 +2,6 @@ pub mod NameLookup
 pub mod Chain
 pub mod Depth
 pub mod ItemList
-pub mod LineLaws
 pub mod LineTokens
 pub mod Steps
 pub mod NoMarks

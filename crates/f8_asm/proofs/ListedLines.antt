@@ -15,10 +15,10 @@ use Rattle.f8_asm.specs.declared.spelling.Entry.{Entry}
 use Rattle.f8_asm.specs.declared.spelling.Entry.TheVariants as entry
 use Rattle.f8_asm.specs.Bytes.{bytes_of}
 use Rattle.f8_asm.specs.Evaluation.{values}
-use Rattle.f8_asm.specs.Lines.{lines, without_return}
+use Rattle.text_lines.specs.Lines.{lines, without_return}
 use Rattle.f8_asm.specs.Listing.{front_of, field_of, field_text, back_of, with_entry, with_entries}
 use Rattle.f8_asm.specs.Statements.{statement, label_of, effect_of}
-use Rattle.f8_asm.proofs.LineLaws.{no_feed, lines_at_feed}
+use Rattle.text_lines.proofs.LineLaws.{no_feed, lines_at_feed}
 
 -- ---- the text of a listing, line by line
 

@@ -8,7 +8,7 @@ use Rattle.asm_text.specs.declared.answers.Token.{Token}
 use Rattle.asm_text.specs.declared.answers.TokenKind.TheVariants as kind
 use Rattle.f8_asm.specs.declared.spelling.Entry.{Entry}
 use Rattle.f8_asm.specs.Image.{ascending, image_of, everywhere, bytes_from, picture_of}
-use Rattle.f8_asm.specs.Lines.{lines}
+use Rattle.text_lines.specs.Lines.{lines}
 use Rattle.f8_asm.specs.Listing.{entries, listing}
 use Rattle.f8_asm.specs.Marks.{no_marks}
 use Rattle.f8_asm.specs.PassOne.{read_line, read_lines, no_reading}

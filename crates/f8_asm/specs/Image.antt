@@ -3,7 +3,7 @@ use Rattle.std.specs.Prelude.{ℕ, ℤ, ◌+◌, List, [], ◌∷◌, Option, So
 use Rattle.f8_asm.specs.declared.answers.AsmFault.{AsmFault}
 use Rattle.f8_asm.specs.declared.answers.Room.{Room}
 use Rattle.f8_asm.specs.Answers.{◌>>=◌}
-use Rattle.f8_asm.specs.Lines.{lines}
+use Rattle.text_lines.specs.Lines.{lines}
 use Rattle.f8_asm.specs.PassOne.{no_reading, read_lines}
 use Rattle.f8_asm.specs.PassTwo.{no_layout, place_lines}
 use Rattle.f8_asm.specs.PassThree.{no_bytes, emit_lines}

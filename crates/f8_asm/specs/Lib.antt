@@ -7,7 +7,6 @@ pub mod Names
 pub mod Grammar
 pub mod Evaluation
 pub mod Statements
-pub mod Lines
 pub mod PassOne
 pub mod Judging
 pub mod Marks

@@ -1,7 +1,7 @@
 // The first pass: the tokens of each line, whether they make a statement, and whether a name is given twice.
 ghost use Rattle.std.specs.Prelude.{◌≡◌, ◌≤◌, ◌<◌, ◌+◌, ◌^◌, length};
 ghost use Rattle.f8_asm.specs.Answers.{SaysOfLine, SaysOfText, StepsOfLine, StepsOfText};
-ghost use Rattle.f8_asm.specs.Lines.{lines};
+ghost use Rattle.text_lines.specs.Lines.{lines};
 ghost use Rattle.f8_asm.specs.PassOne.{statement_checked, check, check_labelled, read_line, read_lines, no_reading};
 
 use crate::answers::{AsmAnswer, AsmCause};
@@ -10,10 +10,11 @@ use crate::grammar::{Scope, column_of};
 use crate::line::Line;
 use crate::statements::{label_of, statement, unlabelled};
 use crate::symbols::Symbols;
-use crate::text::{first_line, line_tokens, told};
+use crate::text::{line_tokens, told};
 use asm_text::{LINE_LIMIT, Name, Token};
 use std::alloc::Global;
 use std::marker::Model;
+use text_lines::first_line;
 
 /// Whether tokens make a statement. What names stand for doesn't matter.
 fn check_statement(

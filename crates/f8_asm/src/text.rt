@@ -1,40 +1,13 @@
-// The lines of a text, and the tokens of a line.
-ghost use Rattle.std.specs.Prelude.{◌≡◌, ◌<◌, ◌≤◌, ◌∷◌, length};
+// The tokens of a line.
+ghost use Rattle.std.specs.Prelude.{◌≡◌, ◌≤◌, length};
 ghost use Rattle.std.specs.Str.{is_utf8};
 ghost use Rattle.f8_asm.specs.Answers.{SaysOfText};
-ghost use Rattle.f8_asm.specs.Lines.{lines, without_return};
 ghost use Rattle.f8_asm.specs.PassOne.{end_of, line_tokens, told};
 
 use crate::answers::{AsmAnswer, AsmCause, AsmFault};
 use crate::faults::LineFault;
 use asm_text::{LINE_LIMIT, Token, TokenFault, TokenList, tokens};
 use std::alloc::Global;
-
-/// A line without the carriage return at its end.
-fn without_return(line: &[u8]) -> &[u8]
-    ensures value { result.now ≡ without_return line.now }
-    ensures within { length result.now ≤ length line.now }
-{
-    let Some((last, front)) = line.split_last() else {
-        return line;
-    };
-    if *last == b'\r' { front } else { line }
-}
-
-/// The first line of a text that isn't empty, and what follows it.
-pub fn first_line(text: &[u8]) -> (&[u8], &[u8])
-    requires { 0 < length text.now }
-    ensures split { lines text.now ≡ result.0.now ∷ lines result.1.now }
-    ensures line { length result.0.now ≤ length text.now }
-    ensures rest { length result.1.now < length text.now }
-{
-    for (at, byte) in text.iter().enumerate() {
-        if *byte == b'\n' {
-            return (without_return(&text[..at]), &text[at + 1..]);
-        }
-    }
-    (text, &text[text.len()..])
-}
 
 /// The column past the last token.
 fn end_of(tokens: &[Token]) -> u32

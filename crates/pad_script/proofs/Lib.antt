@@ -1,4 +1,3 @@
-pub mod LineLaws
 pub mod WordLaws
 pub mod NumberLaws
 pub mod LineSteps

@@ -13,7 +13,8 @@ use Rattle.pad_script.specs.declared.statement.Statement.{Statement}
 use Rattle.pad_script.specs.declared.statement.Statement.TheVariants.{Power, Ends, Comes, Shows}
 use Rattle.pad_script.specs.Answers.{made_of}
 use Rattle.pad_script.specs.Limits.{HasLimits}
-use Rattle.pad_script.specs.Lines.{is_skipped, is_printable, lines, lone, words}
+use Rattle.pad_script.specs.Words.{is_skipped, is_printable, lone, words}
+use Rattle.text_lines.specs.Lines.{lines}
 use Rattle.pad_script.specs.Numbers.{byte_of, number_of, within}
 use Rattle.pad_script.specs.Reading.{SaysOfText, script_of}
 use Rattle.pad_script.specs.Statements.{at_frame, event_of, frames, keys_of, keys_with, line_of, power, pulse_of, pulse_with, setting, setting_of, show, statement_of, steps, with_byte}

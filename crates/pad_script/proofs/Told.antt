@@ -9,7 +9,7 @@ use Rattle.console_spec.specs.declared.End.{End}
 use Rattle.pad_script.specs.declared.script.Script.{Script as KeptScript}
 use Rattle.pad_script.specs.declared.statement.Statement.{Statement}
 use Rattle.pad_script.specs.declared.statement.Statement.TheVariants.{Power, Ends, Comes, Shows}
-use Rattle.pad_script.specs.Lines.{lines}
+use Rattle.text_lines.specs.Lines.{lines}
 use Rattle.pad_script.specs.Reading.{Draft, Script, SaysOfText, and_then, finished, is_full, no_draft, read_line, read_lines, said, said_by, script_of, seen}
 use Rattle.pad_script.specs.Statements.{line_of}
 use Rattle.pad_script.specs.Telling.{IsPower, IsTold, ends, events, powers, said_in, shows, statements}

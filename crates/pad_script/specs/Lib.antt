@@ -1,5 +1,5 @@
 pub mod Answers
-pub mod Lines
+pub mod Words
 pub mod Numbers
 pub mod Statements
 pub mod Reading

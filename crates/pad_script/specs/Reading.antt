@@ -11,7 +11,7 @@ use Rattle.pad_script.specs.declared.script.Script.{Script as KeptScript}
 use Rattle.pad_script.specs.declared.statement.Statement.{Statement}
 use Rattle.pad_script.specs.declared.statement.Statement.TheVariants.{Power, Ends, Comes, Shows}
 pub use Rattle.console_spec.specs.Scripts.{Script}
-use Rattle.pad_script.specs.Lines.{lines}
+use Rattle.text_lines.specs.Lines.{lines}
 use Rattle.pad_script.specs.Statements.{line_of}
 
 -- a script, without where it lies in memory

@@ -1,14 +1,14 @@
 ghost use Rattle.std.specs.Prelude.{◌≤◌, ◌+◌, IfOk, length};
 ghost use Rattle.pad_script.specs.Limits.{HasLimits};
-ghost use Rattle.pad_script.specs.Lines.{lines};
+ghost use Rattle.text_lines.specs.Lines.{lines};
 ghost use Rattle.pad_script.specs.Reading.{SaysOfText, script_of, seen};
 ghost use Rattle.pad_script.specs.Telling.{IsTold, statements};
 
 use super::answers::ScriptAnswer;
 use super::draft::Draft;
 use super::script::Script;
-use super::words::first_line;
 use std::alloc::Global;
+use text_lines::first_line;
 
 /// The most bytes of a text.
 pub const TEXT_LIMIT: usize = 16_777_216;

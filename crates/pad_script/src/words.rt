@@ -1,32 +1,7 @@
-// Lines and words of a text.
-ghost use Rattle.std.specs.Prelude.{◌≡◌, ◌<◌, ◌≤◌, ◌∷◌, [], length, option_map, unwrap_or};
-ghost use Rattle.pad_script.specs.Lines.{is_printable, is_skipped as is_not_read, is_space, lines, lone, without_return, words};
+// The words of a line, and lines that are skipped.
+ghost use Rattle.std.specs.Prelude.{◌≡◌, ◌∷◌, [], option_map, unwrap_or};
+ghost use Rattle.pad_script.specs.Words.{is_printable, is_skipped as is_not_read, is_space, lone, words};
 ghost use Rattle.std.specs.List.{list_all};
-
-/// A line without the carriage return at its end.
-fn without_return(line: &[u8]) -> &[u8]
-    ensures value { result.now ≡ without_return line.now }
-    ensures within { length result.now ≤ length line.now }
-{
-    let Some((last, front)) = line.split_last() else {
-        return line;
-    };
-    if *last == b'\r' { front } else { line }
-}
-
-/// The first line of a text that isn't empty, and what follows it.
-pub fn first_line(text: &[u8]) -> (&[u8], &[u8])
-    requires { 0 < length text.now }
-    ensures split { lines text.now ≡ result.0.now ∷ lines result.1.now }
-    ensures rest { length result.1.now < length text.now }
-{
-    for (at, byte) in text.iter().enumerate() {
-        if *byte == b'\n' {
-            return (without_return(&text[..at]), &text[at + 1..]);
-        }
-    }
-    (text, &text[text.len()..])
-}
 
 /// The first word of a text, and what follows the blank behind it.
 pub fn first_word(text: &[u8]) -> (&[u8], Option<&[u8]>)

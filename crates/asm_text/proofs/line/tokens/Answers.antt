@@ -1,6 +1,7 @@
 use Rattle.std.proofs.Common.{◌∙◌, sym, ap, arith, length, length-drop}
+use Rattle.std.proofs.lemmas.List.{take_rest}
 use Rattle.asm_text.proofs.Reading.{reads_line}
-use Rattle.asm_text.proofs.Scan.{on_blank, on_end, on_bad, on_wide, on_token, rest_from}
+use Rattle.asm_text.proofs.Scan.{on_blank, on_end, on_bad, on_wide, on_token}
 use Rattle.asm_text.proofs.line.tokens.Goals as goal
 
 pub loop-found-preserved-in-Blank : goal.loop-found-preserved-in-Blank
@@ -8,8 +9,8 @@ loop-found-preserved-in-Blank c =
     let front = sym c.in-Blank.is ∙ c.in_ok-lexeme_at.ensures.value in
     let within = rw c.in-Blank.is at c.in_ok-lexeme_at.ensures.within in
     record {
-      read = rw rest_from (on_blank c.loop-found.invariant.read front within);
-      columns = omega (arith, ap length (rest_from 1 c.loop-found.rest.now), length-drop 1 c.loop-found.rest.now);
+      read = rw take_rest (on_blank c.loop-found.invariant.read front within);
+      columns = omega (arith, ap length (take_rest c.loop-found.rest.now 1), length-drop 1 c.loop-found.rest.now);
     }
 
 pub returns-in-End-clause-ok : goal.returns-in-End-clause-ok
@@ -32,8 +33,8 @@ loop-found-preserved c =
     let front = sym c.in-Lexed.is ∙ c.in_ok-lexeme_at.ensures.value in
     let within = rw c.in-Lexed.is at c.in_ok-lexeme_at.ensures.within in
     record {
-      read = rw (c.in_ok-push-in-Lexed.ensures.items, rest_from) (on_token c.loop-found.invariant.read _ _ front within.0);
-      columns = omega (arith, ap length (rest_from c.in-Lexed.length c.loop-found.rest.now), length-drop c.in-Lexed.length c.loop-found.rest.now, within.1);
+      read = rw (c.in_ok-push-in-Lexed.ensures.items, take_rest) (on_token c.loop-found.invariant.read _ _ front within.0);
+      columns = omega (arith, ap length (take_rest c.loop-found.rest.now c.in-Lexed.length), length-drop c.in-Lexed.length c.loop-found.rest.now, within.1);
     }
 
 pub returns-in_err-lexeme_at-clause-grammar : goal.returns-in_err-lexeme_at-clause-grammar

@@ -2,7 +2,7 @@ use Rattle.std.proofs.Common.{◌≡◌, ◌∙◌, sym, arith, []}
 use Rattle.std.proofs.lemmas.Bool.Decides.{nat_tests}
 use Rattle.std.proofs.lemmas.List.{nil_from_length}
 use Rattle.std.proofs.lemmas.Result.{err_from_is_err_and}
-use Rattle.f8_asm.specs.Lines.{lines}
+use Rattle.text_lines.specs.Lines.{lines}
 use Rattle.f8_asm.proofs.Steps.{read_to_end, read_more, read_stops}
 use Rattle.f8_asm.proofs.pass_one.read_lines.Goals as goal
 

@@ -1,5 +1,5 @@
 use Rattle.std.proofs.Common.{◌≡◌, ◌+◌, ◌≤◌, length}
-use Rattle.f8_asm.specs.Lines.{lines}
+use Rattle.text_lines.specs.Lines.{lines}
 use Rattle.f8_asm.specs.PassOne.{read_lines, no_reading}
 use Rattle.f8_asm.proofs.pass_one.read_lines.Given as goal
 

@@ -2,7 +2,7 @@ use Rattle.std.proofs.Common.{◌≡◌, ◌∙◌, sym, arith, []}
 use Rattle.std.proofs.lemmas.Bool.Decides.{nat_tests}
 use Rattle.std.proofs.lemmas.List.{nil_from_length}
 use Rattle.std.proofs.lemmas.Result.{err_from_is_err_and}
-use Rattle.pad_script.specs.Lines.{lines}
+use Rattle.text_lines.specs.Lines.{lines}
 use Rattle.pad_script.specs.Reading.{finished, script_of}
 use Rattle.pad_script.proofs.Limits.{limited_answer}
 use Rattle.pad_script.proofs.LineSteps.{read_to_end, read_more, read_stops}

@@ -1,5 +1,5 @@
 use Rattle.std.proofs.Common.{◌≡◌, ◌+◌, ◌≤◌, length}
-use Rattle.pad_script.specs.Lines.{lines}
+use Rattle.text_lines.specs.Lines.{lines}
 use Rattle.pad_script.specs.Reading.{read_lines, no_draft}
 use Rattle.pad_script.proofs.read.read_script.Given as goal
 

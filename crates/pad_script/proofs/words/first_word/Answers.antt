@@ -1,13 +1,13 @@
 use Rattle.std.proofs.Common.{◌≡◌, arith, get_or}
 use Rattle.std.proofs.lemmas.Bool.Decides.{nat_tests}
-use Rattle.pad_script.proofs.LineLaws.{rest_from}
+use Rattle.std.proofs.lemmas.List.{take_rest}
 use Rattle.pad_script.proofs.WordLaws.{split_at_blank, whole_word}
 use Rattle.pad_script.proofs.words.first_word.Goals as goal
 
 pub returns-then-byte-eq32 : goal.returns-then-byte-eq32
 returns-then-byte-eq32 c =
     let blank : get_or c.args.text.now c.loop-at.at 0 ≡ 32 = grind (arith, nat_tests) in
-    rw rest_from (split_at_blank c.args.text.now c.loop-at.at c.loop-at.invariant c.loop-at-test.true blank)
+    rw take_rest (split_at_blank c.args.text.now c.loop-at.at c.loop-at.invariant c.loop-at-test.true blank)
 
 pub returns : goal.returns
 returns c = whole_word c.args.text.now c.loop-at.at c.loop-at.invariant c.loop-at-test.false

@@ -1,5 +1,5 @@
 use Rattle.std.proofs.Common.{◌≡◌, ◌∷◌, sym, ◌∙◌, ap}
-use Rattle.pad_script.specs.Lines.{lone, words}
+use Rattle.pad_script.specs.Words.{lone, words}
 use Rattle.pad_script.proofs.WordLaws.{not_lone}
 use Rattle.pad_script.proofs.words.only_word.Goals as goal
 

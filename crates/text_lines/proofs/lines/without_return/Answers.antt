@@ -1,7 +1,7 @@
 use Rattle.std.proofs.Common.{◌≡◌, sym, arith}
 use Rattle.std.proofs.lemmas.Bool.Decides.{nat_tests}
-use Rattle.pad_script.proofs.LineLaws.{returned, unreturned}
-use Rattle.pad_script.proofs.words.without_return.Goals as goal
+use Rattle.text_lines.proofs.LineLaws.{returned, unreturned}
+use Rattle.text_lines.proofs.lines.without_return.Goals as goal
 
 pub returns-then-last-eq13-clause-value : goal.returns-then-last-eq13-clause-value
 returns-then-last-eq13-clause-value c =

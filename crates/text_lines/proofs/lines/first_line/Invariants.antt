@@ -1,5 +1,5 @@
-use Rattle.f8_asm.proofs.LineLaws.{NoFeed}
-use Rattle.f8_asm.proofs.text.first_line.Given as goal
+use Rattle.text_lines.proofs.LineLaws.{NoFeed}
+use Rattle.text_lines.proofs.lines.first_line.Given as goal
 
 -- no LF has been passed
 abbrev pub invariant-loop-at : goal.invariant-loop-at

@@ -5,7 +5,7 @@ use Rattle.std.specs.List.{list_all}
 use Rattle.std.proofs.Math.Seq.{drop-cons}
 use Rattle.std.proofs.lemmas.List.{take_all, nil_from_length}
 use Rattle.std.proofs.lemmas.Bool.Decides.{nat_tests}
-use Rattle.f8_asm.specs.Lines.{lines, without_return}
+use Rattle.text_lines.specs.Lines.{lines, without_return}
 
 -- no LF is among bytes
 abbrev pub no_feed : ℕ → Bool
@@ -54,10 +54,6 @@ split_at_feed text at none within feed =
 -- no LF at all
 pub whole_line : (text : List ℕ) (n : ℕ) → NoFeed n text → 0 < length text → length text ≤ n → lines text ≡ text ∷ []
 whole_line text n none some all = lines_alone text some (rw (take_all n text all) at none.is)
-
--- a slice from a place to the end
-pub rest_from : (n : ℕ) (bs : List ℕ) → take (length bs - n) (drop n bs) ≡ drop n bs
-rest_from n bs = take_all (length bs - n) (drop n bs) (omega (arith, length-drop n bs))
 
 -- no LF at all, and nothing behind the line
 pub whole_text : (text : List ℕ) (n : ℕ) → NoFeed n text → 0 < length text → length text ≤ n → lines text ≡ text ∷ lines (drop (length text) text)

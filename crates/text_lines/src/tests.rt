@@ -1,0 +1,14 @@
+use super::*;
+use std::test::Fail;
+
+#[test]
+fn line_ends(rt: HostRuntime) -> Result<(), Fail> {
+    let (line, rest) = first_line(b"A\r\r\n\nB\r".as_slice());
+    assert_eq!(rt; line, b"A\r".as_slice());
+    let (line, rest) = first_line(rest);
+    assert!(rt; line.is_empty());
+    let (line, rest) = first_line(rest);
+    assert_eq!(rt; line, b"B\r".as_slice());
+    assert!(rt; rest.is_empty());
+    Ok(())
+}
