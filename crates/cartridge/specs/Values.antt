@@ -8,6 +8,7 @@ use Rattle.hex.specs.declared.error.FromHexError.{FromHexError}
 use Rattle.toml.specs.Data.{Data, Items, no_items, item, Members, as_integer, as_str, as_bool, as_array, as_table}
 use Rattle.f8_spec.specs.declared.chips.ChipKind.{ChipKind}
 use Rattle.f8_spec.specs.declared.chips.ChipKind.TheVariants.{Psu, Smi}
+use Rattle.asm_text.specs.Bytes.{is_printable}
 use Rattle.cartridge.specs.declared.keys.Key.{Key}
 use Rattle.cartridge.specs.declared.refusal.CartCause.{CartCause}
 use Rattle.cartridge.specs.declared.refusal.CartCause.TheVariants.{Missing, WrongType, Range, Boundary, TooMany, BadHex, Both}
@@ -84,10 +85,6 @@ fitting room (Err e) = Err BadHex
 -- so many bytes, of which at most all are given by two hexadecimal digits of either case each
 abbrev pub rom_in : ℕ → Data → Result (List ℕ) CartCause
 rom_in room d = text d >>= λ digits. fitting room (decode_of digits)
-
--- a character of ASCII that prints, the blank too
-abbrev pub is_printable : ℕ → Bool
-is_printable c = nat_le 0x20 c && nat_le c 0x7E
 
 abbrev pub is_file_name : List ℕ → Bool
 is_file_name name = nat_le 1 (length name) && nat_le (length name) 64 && list_all is_printable name

@@ -4,10 +4,11 @@ ghost use Rattle.std.specs.List.{list_all};
 ghost use Rattle.std.specs.Result.{result_ok};
 ghost use Rattle.hex.specs.Hex.{decode_of};
 ghost use Rattle.toml.specs.View.{view, table_view};
+ghost use Rattle.asm_text.specs.Bytes.{is_printable as prints};
 ghost use Rattle.cartridge.specs.declared.keys.Key.TheVariants.{Rom, Source};
 ghost use Rattle.cartridge.specs.declared.refusal.TableStop.TheVariants.{Fault};
 ghost use Rattle.cartridge.specs.Faults.{SaysOfTable, at_key};
-ghost use Rattle.cartridge.specs.Values.{filled as filled_to, fitting, rom_in as rom_told, is_printable as prints, is_file_name as names_file, source_named as source_judged, source_in as source_told};
+ghost use Rattle.cartridge.specs.Values.{filled as filled_to, fitting, rom_in as rom_told, is_file_name as names_file, source_named as source_judged, source_in as source_told};
 ghost use Rattle.cartridge.specs.ChipTables.{rom_of, mask_of, source_of};
 
 use super::keys::Key;

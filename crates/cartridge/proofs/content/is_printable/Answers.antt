@@ -1,7 +1,7 @@
 use Rattle.std.proofs.Common.{rules, tests}
 use Rattle.std.proofs.lemmas.Iterator.Adapters.{YieldsList-from_bytes}
 use Rattle.std.proofs.lemmas.Iterator.Search.{all_from_yields_List}
-use Rattle.cartridge.specs.Values.{is_printable}
+use Rattle.asm_text.specs.Bytes.{is_printable}
 use Rattle.cartridge.proofs.content.is_printable.Goals as goal
 
 pub returns : goal.returns
