@@ -1,9 +1,10 @@
 -- A rack of chips by sockets, and what a bus step makes of each chip. A change of what a chip keeps over a step changes the relations of
 -- one chip here, and nothing that speaks of racks.
-use Rattle.std.specs.Prelude.{ℕ, ◌+◌, ◌≡◌, Bool, true, ◌==◌, ◌||◌, if◌then◌else◌, List, [], ◌∷◌, map, slice_get, Option, Some}
+use Rattle.std.specs.Prelude.{ℕ, ◌+◌, ◌≡◌, Bool, true, ◌==◌, ◌||◌, List, [], ◌∷◌, map, slice_get, Option, Some}
 use Rattle.std.specs.List.{enumerate_from}
 use Rattle.f8_spec.specs.ChipState.{ChipView, ChipState, MayHear, Settles, is_asking}
 use Rattle.f8_spec.specs.BusArbitration.{is_first}
+use Rattle.f8_spec.specs.MicroSteps.{step_clocks}
 
 -- two lists in step, each pair with its place
 abbrev pub NumberedZip : {A B : Type 0} → (ℕ → A → B → Type 0) → ℕ → List A → List B → Type 0
@@ -21,15 +22,11 @@ named_views states = enumerate_from 0 (views states)
 
 -- ---- what happens to one chip
 
--- a bus step lasts 4 Φ, or 6 where it is a long one
-abbrev pub clocks_of : Bool → ℕ
-clocks_of long = if long then 6 else 4
-
 -- The chip in a socket hears a step: its code, its length, its byte, and whether it is the chip whose interrupt is acknowledged. So far
 -- no timer moves.
 abbrev pub SettlesStep : ℕ → Bool → Option ℕ → ℕ → ℕ → ChipState → ChipState → Type 0
 SettlesStep romc long first byte socket old new =
-    Settles 0 (record { romc = romc; byte = byte; clocks = clocks_of long; first = is_first first socket }) old new
+    Settles 0 (record { romc = romc; byte = byte; clocks = step_clocks long; first = is_first first socket }) old new
 
 -- a chip that hears nothing
 abbrev pub Stays : ℕ → ChipState → ChipState → Type 0

@@ -1,7 +1,8 @@
 ghost use Rattle.std.specs.Prelude.{◌≡◌, ◌≤◌, length, map};
 ghost use Rattle.f8_spec.specs.BusArbitration.{is_first as is_first_socket};
 ghost use Rattle.f8_spec.specs.ChipState.{MayHear};
-ghost use Rattle.data_bus.specs.Racks.{AllMayHear, RackSettles, SettlesStep, clocks_of};
+ghost use Rattle.f8_spec.specs.MicroSteps.{step_clocks};
+ghost use Rattle.data_bus.specs.Racks.{AllMayHear, RackSettles, SettlesStep};
 
 use super::ask::is_first;
 use super::{Cycle, Rack};
@@ -9,7 +10,7 @@ use chip_face::Chip;
 
 /// The length of a step in Φ.
 fn clocks(long: bool) -> u8
-    ensures { result ≡ clocks_of long }
+    ensures { result ≡ step_clocks long }
 {
     if long { 6 } else { 4 }
 }

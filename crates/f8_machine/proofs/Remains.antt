@@ -4,7 +4,7 @@ use Rattle.std.proofs.lemmas.List.{drop_more, map-append}
 use Rattle.f8_spec.specs.BusCodes.{driver_of}
 use Rattle.f8_spec.specs.ChipState.{ChipView, ChipState}
 use Rattle.f8_spec.specs.Instructions.{decoded, row_of}
-use Rattle.f8_spec.specs.MicroSteps.{Step as MicroStep, steps_of}
+use Rattle.f8_spec.specs.MicroSteps.{Step as MicroStep, steps_of, step_clocks}
 use Rattle.f8_spec.specs.declared.instructions.Op.{Op}
 use Rattle.f8_spec.specs.declared.instructions.Row.{Row}
 use Rattle.f8_spec.specs.declared.instructions.Row.TheVariants.{Plain, PlainLong, Idle, StackToK, StackFromK, CallK, JumpQ, DataToPair, DataFromQ, DataFromH, ReadData, StoreData, Return, Immediate, PortIn, PortOut, Call, Jump, LoadData, Exchange, AddData, Branch, BranchIsar, ShortIn, ShortOut}
@@ -15,7 +15,7 @@ use Rattle.cpu3850.specs.declared.steps.Step.{Step}
 use Rattle.cpu3850.specs.CpuSteps.{CpuState, bus_step, planned_as, planned, driven, taken}
 use Rattle.cpu3850.specs.Reaching.{Reaches, Places, is_placed_by}
 use Rattle.probe.specs.ProbeState.{ProbeState, probe_after}
-use Rattle.data_bus.specs.Racks.{clocks_of, views}
+use Rattle.data_bus.specs.Racks.{views}
 use Rattle.data_bus.specs.declared.fault.BusFault.{BusFault}
 use Rattle.f8_machine.specs.BusSteps.{IsPlain, IsServed, IsRefused, told}
 use Rattle.f8_machine.specs.Faults.{fault_of}
@@ -97,9 +97,9 @@ module _ (i : Inputs) (x : Position) (aim : Aim) (s : MicroStep) (rest : List Mi
       byte ≡ byte_of i s.source → IsServed (bus_step s) placed probe probe_now states states_now steps steps_now byte → OnBus i x aim rest probe_now states_now steps_now
   more_by left placed byte probe_now states_now steps_now same served =
       let vs = views states in
-      let moved = along-more i x aim s rest probe vs left.so_far left.along (clocks_of s.long) served.socket served.verdict in
-      let now_views : views states_now ≡ stepped s (byte_of i s.source) (clocks_of s.long) vs =
-      views_settled s.romc s.long byte states states_now served.settled ∙ ap (λ (b : ℕ). stepped s b (clocks_of s.long) vs) same in
+      let moved = along-more i x aim s rest probe vs left.so_far left.along (step_clocks s.long) served.socket served.verdict in
+      let now_views : views states_now ≡ stepped s (byte_of i s.source) (step_clocks s.long) vs =
+      views_settled s.romc s.long byte states states_now served.settled ∙ ap (λ (b : ℕ). stepped s b (step_clocks s.long) vs) same in
       let now_probe : probe_now ≡ probe_after s.romc (byte_of i s.source) probe = served.heard ∙ ap (λ (b : ℕ). probe_after s.romc b probe) same in
       record {
         so_far = left.so_far ++ traced i s served.socket ∷ [];

@@ -5,10 +5,11 @@ use Rattle.std.proofs.lemmas.Option.{slice_get-map}
 use Rattle.f8_spec.specs.BusCodes.{Count, moved_by}
 use Rattle.f8_spec.specs.ChipState.{ChipView, ChipState, HeardStep, PortRole, DataPort, VectorHigh, VectorLow, ControlPort, TimerPort, has_counters, has_second_counter, has_ram_at, place_of, bytes_with_at, bytes_with, stored, port_role, port_written, port_written_if, effect, after_step}
 use Rattle.f8_spec.specs.BusArbitration.{Seat, seat_of}
+use Rattle.f8_spec.specs.MicroSteps.{step_clocks}
 use Rattle.f8_spec.specs.declared.chips.ChipKind.{ChipKind}
 use Rattle.f8_spec.specs.declared.chips.ChipKind.TheVariants.{Psu, Smi}
 use Rattle.f8_spec.specs.declared.chips.Page.{Page}
-use Rattle.data_bus.specs.Racks.{NumberedZip, SettlesStep, Stays, RackSettles, RackStays, clocks_of, views}
+use Rattle.data_bus.specs.Racks.{NumberedZip, SettlesStep, Stays, RackSettles, RackStays, views}
 use Rattle.f8_spec.specs.ChipState.{IsFilled}
 
 -- the step as a chip hears it whose interrupt is not acknowledged
@@ -155,7 +156,7 @@ comes_after romc byte clocks vs place v w lies lies_after =
 
 -- the views from a socket on
 settled_from : (romc : ℕ) (long : Bool) (byte n : ℕ) (olds news : List ChipState) → NumberedZip (SettlesStep romc long None byte) n olds news →
-    views news ≡ map (after_step 0 (plain_step romc byte (clocks_of long))) (views olds)
+    views news ≡ map (after_step 0 (plain_step romc byte (step_clocks long))) (views olds)
 settled_from romc long byte n [] [] all = refl
 settled_from romc long byte n [] (new ∷ news) all = absurd all
 settled_from romc long byte n (old ∷ olds) [] all = absurd all
@@ -163,7 +164,7 @@ settled_from romc long byte n (old ∷ olds) (new ∷ news) all = ap₂ (λ v vs
 
 -- the views of a rack that heard a step
 pub views_settled : (romc : ℕ) (long : Bool) (byte : ℕ) (olds news : List ChipState) → RackSettles romc long None byte olds news →
-    map (λ s. s.view) news ≡ map (after_step 0 (plain_step romc byte (clocks_of long))) (map (λ s. s.view) olds)
+    map (λ s. s.view) news ≡ map (after_step 0 (plain_step romc byte (step_clocks long))) (map (λ s. s.view) olds)
 views_settled romc long byte olds news all = settled_from romc long byte 0 olds news all
 
 -- the chips from a socket on

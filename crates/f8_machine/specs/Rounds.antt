@@ -1,7 +1,8 @@
 -- What the chips of a rack are after the bus steps of a record, and what those that tell it heard.
 use Rattle.std.specs.Prelude.{◌≡◌, ℕ, false, List, [], ◌∷◌, ◌++◌, map, Option, Some}
 use Rattle.f8_spec.specs.ChipState.{ChipView, ChipState, HeardStep, PowersOn, after_step, told_step}
-use Rattle.data_bus.specs.Racks.{NumberedZip, clocks_of}
+use Rattle.f8_spec.specs.MicroSteps.{step_clocks}
+use Rattle.data_bus.specs.Racks.{NumberedZip}
 use Rattle.console_spec.specs.CounterCopies.{power_start}
 use Rattle.console_spec.specs.BusTrace.{TracedStep}
 use Rattle.f8_machine.specs.declared.heard.Heard.{Heard}
@@ -12,7 +13,7 @@ heard_of t = record { romc = t.romc; long = t.long; byte = t.byte; who = t.who; 
 
 -- a step of a record as the chip in a socket hears it; no interrupt is acknowledged so far
 abbrev pub heard_in : ℕ → Heard → HeardStep
-heard_in socket h = record { romc = h.romc; byte = h.byte; clocks = clocks_of h.long; first = false }
+heard_in socket h = record { romc = h.romc; byte = h.byte; clocks = step_clocks h.long; first = false }
 
 -- the chip in a socket after the steps
 abbrev pub after_steps : ℕ → List Heard → ChipView → ChipView
