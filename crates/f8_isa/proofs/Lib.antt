@@ -1,4 +1,3 @@
 pub mod InstructionRows
 pub mod Results
 pub mod Standing
-pub mod WriteTold
