@@ -116,6 +116,8 @@ impl Machine {
     /// The next instruction, on a machine that was reset. Where a bus step of it isn't served, the registers and the clocks are those
     /// before it, while the probe and the chips have heard its served steps; and from then on each call answers the same, with no step,
     /// and changes nothing. So it does at an opcode that is reserved.
+    // Not inlined, so that an outcome is built in its caller's place, and isn't copied there piece by piece.
+    #[inline(never)]
     pub fn instr(&mut self, rack: &mut Rack) -> Outcome
         requires few { length rack.old.items ≤ 16 }
         requires mode { IsReset self.old.mode }

@@ -27,7 +27,7 @@ impl Model for Record {
 }
 
 impl Record {
-    /// No step.
+    /// No step. The places behind the steps are zeros throughout, which are set at one stroke.
     pub fn new() -> Record
         ensures { result ≡ [] }
     {
@@ -36,7 +36,7 @@ impl Record {
                 romc: Romc::FETCH,
                 long: false,
                 byte: 0,
-                who: Who::Nobody,
+                who: Who::Cpu,
                 taker: None,
             }; MOST_STEPS],
             len: 0,
