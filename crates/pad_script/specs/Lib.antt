@@ -4,4 +4,5 @@ pub mod Numbers
 pub mod Statements
 pub mod Reading
 pub mod Telling
+pub mod FirstFault
 pub mod Limits

@@ -1,4 +1,5 @@
 ghost use Rattle.std.specs.Prelude.{◌≤◌, ◌+◌, IfOk, length};
+ghost use Rattle.pad_script.specs.FirstFault.{TellsFault};
 ghost use Rattle.pad_script.specs.Limits.{HasLimits};
 ghost use Rattle.text_lines.specs.Lines.{lines};
 ghost use Rattle.pad_script.specs.Reading.{SaysOfText, script_of, seen};
@@ -20,6 +21,7 @@ pub fn read_script(alloc: Global, text: &[u8]) -> Result<Script, ScriptAnswer>
     requires { length text.now ≤ TEXT_LIMIT }
     ensures script { SaysOfText result (script_of text.now) }
     ensures told { IfOk result (λ script. IsTold (statements (lines text.now)) (seen script)) }
+    ensures fault { TellsFault result (lines text.now) }
     ensures limit { IfOk result (λ script. length script.events + length script.shows ≤ 1024) }
     ensures ends { IfOk result (λ script. HasLimits script.end) }
 {
