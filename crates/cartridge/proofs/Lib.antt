@@ -8,8 +8,10 @@ pub mod Specified
 pub mod ChipsWhole
 pub mod PlannedChips
 pub mod BytesPut
+pub mod Filled
 pub mod Finished
 pub mod Alike
 pub mod ExpressionsAlike
 pub mod StatementsAlike
 pub mod ImageRooms
+mod WorkedDescriptions

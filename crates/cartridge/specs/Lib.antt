@@ -6,6 +6,7 @@ pub mod Rooms
 pub mod ChipTables
 pub mod Description
 pub mod Filling
+pub mod Filled
 pub mod Carts
 pub mod Plans
 pub mod Splits

@@ -3,6 +3,7 @@ ghost use Rattle.std.specs.Prelude.{◌≡◌, IfOk, option_map};
 ghost use Rattle.toml.specs.View.{table_view};
 ghost use Rattle.cartridge.specs.Faults.{SaysOfDescription};
 ghost use Rattle.cartridge.specs.Filling.{planned, plan_of as plan_told, source_at, HasRoomFor, filled_plan, IsPlan};
+ghost use Rattle.cartridge.specs.Filled.{IsFilled};
 ghost use Rattle.cartridge.specs.Carts.{cart_of};
 ghost use Rattle.cartridge.specs.Plans.{seen_cart, seen_source, str_seen};
 
@@ -67,7 +68,8 @@ impl Plan {
     /// that was there before stays. It takes no memory.
     pub fn fill(&mut self, chip: u8, image: &Image)
         requires { HasRoomFor self.old chip image.now.bytes }
-        ensures { self.new ≡ filled_plan self.old chip image.now.bytes }
+        ensures plan { self.new ≡ filled_plan self.old chip image.now.bytes }
+        ensures image { IsFilled self.old chip image.now.bytes self.new }
     {
         if let Some(rom) = &mut self.sources[usize::from(chip)] {
             rom.fill(image.bytes());

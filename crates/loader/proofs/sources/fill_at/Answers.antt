@@ -16,7 +16,7 @@ returns-in_err-image-clause-works g c =
 
 pub returns-clause-works : goal.returns-clause-works
 returns-clause-works g c =
-    rw c.fill.ensures
+    rw c.fill.ensures.plan
     (filled_some (g.S.Store.files c.args.store.now) (g.S.Store.files c.load_source.new.store) (g.S.Store.faults c.args.store.now) (g.S.Store.faults c.load_source.new.store)
     (g.S.Store.fetches c.args.store.now) (g.S.Store.fetches c.load_source.new.store) c.args.chip c.args.plan c.in-Some.name.now c.in-Some-room.room c.in_ok-image.image
     c.in-Some.ensures c.in-Some-room.ensures c.in_ok-image.ensures.works)

@@ -2,6 +2,7 @@ use Rattle.std.proofs.Common.{◌≡◌, ◌<◌, Some, List, arith, get_or, len
 use Rattle.cartridge.specs.Filling.{PlannedChip}
 use Rattle.cartridge.specs.Rooms.{LiesIn}
 use Rattle.cartridge.proofs.PlannedChips.{has_source, source_has, no_source, rom_fits, seen-filled, still_plan}
+use Rattle.cartridge.proofs.Filled.{plan_filled}
 use Rattle.cartridge.proofs.plan.Plan.fill.Goals as goal
 use Rattle.cartridge.proofs.plan.Plan.fill.Goals.{After-from, In-Some, in-Some, in_default}
 
@@ -42,9 +43,9 @@ invariant_of-self c =
           below (sym (rw (w.in_default.is, c.from.ensures) at c.index_mut.ensures.value)) (rw (← c.self.view_is) at c.requires))
     ]
 
-pub returns : goal.returns
-returns c =
-    let below = within (goal.at.returns c).After-from in
+pub returns-clause-plan : goal.returns-clause-plan
+returns-clause-plan c =
+    let below = within (goal.at.returns-clause-plan c).After-from in
     elim c.match-index_mut.branch [
       | in-Some w ↦
           rw (w.self-inside-is, c.from.ensures, ← c.self.view_is)
@@ -55,3 +56,6 @@ returns c =
           absurd (no_source c.self.inside.specs.items c.self.inside.sources.items c.args.chip (λ s. LiesIn s.room c.args.image.now.bytes) c.self.invariant.0
           below (sym (rw (w.in_default.is, c.from.ensures) at c.index_mut.ensures.value)) (rw (← c.self.view_is) at c.requires))
     ]
+
+pub returns-clause-image : goal.returns-clause-image
+returns-clause-image c = rw (returns-clause-plan c) (plan_filled c.args.self.now c.args.chip c.args.image.now.bytes c.requires)
