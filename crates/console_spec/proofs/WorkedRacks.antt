@@ -74,6 +74,18 @@ pop_undriven : (played pop_at_once 0x12 3).stop ≡ Unserved (Undriven 0 0)
 unfolding played_by telling own_inputs effect decoded first_memory
 pop_undriven = refl
 
+-- the state is that of reset
+pop_undriven_state : (played pop_at_once 0x12 3).position.flat.state ≡ record {
+  flow = record { p = 0; p1 = 0; d0 = 0; d1 = 0 };
+  registers = record { accumulator = 0x12; isar = 18; status = clear_status; scratchpad = replicate 64 0x12 };
+  keys = replicate 256 0;
+  writes = [];
+  count = 0;
+  phi = 14;
+}
+unfolding played_by telling own_inputs effect decoded first_memory
+pop_undriven_state = refl
+
 -- the data counters part where a 3851 has one alone
 abbrev pub exchange_alone : List ChipView
 exchange_alone = psu 0 4 (0x2A ∷ 0x00 ∷ 0x05 ∷ 0x2C ∷ 0x16 ∷ []) ∷ []

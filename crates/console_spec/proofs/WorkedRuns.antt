@@ -63,18 +63,55 @@ unfolding played_by telling own_inputs effect decoded first_memory
 decrement = refl
 
 -- 0 compared with 0
-compare_equal : status_byte (played (rom (0x70 ∷ 0x25 ∷ 0x00 ∷ 0x90 ∷ [])) 0 2).position.flat.state.registers.status ≡ 0x07
+abbrev compare : List ℕ
+compare = 0x70 ∷ 0x25 ∷ 0x00 ∷ 0x90 ∷ []
+
+compare_equal : status_byte (played (rom compare) 0 2).position.flat.state.registers.status ≡ 0x07
 unfolding played_by telling own_inputs effect decoded first_memory
 compare_equal = refl
 
+compare_place : (played (rom compare) 0 2).position.flat.state.flow.p ≡ 3
+unfolding played_by telling own_inputs effect decoded first_memory
+compare_place = refl
+
+compare_clocks : (played (rom compare) 0 2).position.flat.state.phi ≡ 28
+unfolding played_by telling own_inputs effect decoded first_memory
+compare_clocks = refl
+
 -- decimal sums: 67 and 01 less 66, and 6A and 05
-decimal_sum : (played (rom (0x20 ∷ 0x67 ∷ 0x50 ∷ 0x71 ∷ 0xD0 ∷ 0x90 ∷ [])) 0 4).position.flat.state.registers.accumulator ≡ 0x02
+abbrev sum_of_67 : List ℕ
+sum_of_67 = 0x20 ∷ 0x67 ∷ 0x50 ∷ 0x71 ∷ 0xD0 ∷ 0x90 ∷ []
+
+abbrev sum_of_6A : List ℕ
+sum_of_6A = 0x20 ∷ 0x6A ∷ 0x50 ∷ 0x75 ∷ 0xD0 ∷ 0x90 ∷ []
+
+decimal_sum : (played (rom sum_of_67) 0 4).position.flat.state.registers.accumulator ≡ 0x02
 unfolding played_by telling own_inputs effect decoded first_memory
 decimal_sum = refl
 
-decimal_sum_6A : (played (rom (0x20 ∷ 0x6A ∷ 0x50 ∷ 0x75 ∷ 0xD0 ∷ 0x90 ∷ [])) 0 4).position.flat.state.registers.accumulator ≡ 0x09
+decimal_sum_status : status_byte (played (rom sum_of_67) 0 4).position.flat.state.registers.status ≡ 0x01
+unfolding played_by telling own_inputs effect decoded first_memory
+decimal_sum_status = refl
+
+decimal_sum_scratch : (played (rom sum_of_67) 0 4).position.flat.state.registers.scratchpad ≡ 0x67 ∷ replicate 63 0
+unfolding played_by telling own_inputs effect decoded first_memory
+decimal_sum_scratch = refl
+
+decimal_sum_place : (played (rom sum_of_67) 0 4).position.flat.state.flow.p ≡ 5
+unfolding played_by telling own_inputs effect decoded first_memory
+decimal_sum_place = refl
+
+decimal_sum_clocks : (played (rom sum_of_67) 0 4).position.flat.state.phi ≡ 40
+unfolding played_by telling own_inputs effect decoded first_memory
+decimal_sum_clocks = refl
+
+decimal_sum_6A : (played (rom sum_of_6A) 0 4).position.flat.state.registers.accumulator ≡ 0x09
 unfolding played_by telling own_inputs effect decoded first_memory
 decimal_sum_6A = refl
+
+decimal_sum_6A_status : status_byte (played (rom sum_of_6A) 0 4).position.flat.state.registers.status ≡ 0x01
+unfolding played_by telling own_inputs effect decoded first_memory
+decimal_sum_6A_status = refl
 
 -- without chips the branch to FFFE is done, and meets there what nobody holds
 flat_branch_below_zero : (referred (rom (0x90 ∷ 0xFD ∷ [])) 0 2).position.flat.state ≡ record {
@@ -91,6 +128,19 @@ flat_branch_below_zero = refl
 flat_branch_below_zero_stop : (referred (rom (0x90 ∷ 0xFD ∷ [])) 0 2).stop ≡ Reserved 0xFFFE 0xFF
 unfolding referred_by telling own_inputs effect decoded first_memory
 flat_branch_below_zero_stop = refl
+
+-- a reserved opcode, and no chip at all, where every address reads FF
+flat_reserved : (referred (rom (0x2D ∷ [])) 0 5).stop ≡ Reserved 0 0x2D
+unfolding referred_by telling own_inputs effect decoded first_memory
+flat_reserved = refl
+
+flat_reserved_clocks : (referred (rom (0x2D ∷ [])) 0 5).position.flat.state.phi ≡ 14
+unfolding referred_by telling own_inputs effect decoded first_memory
+flat_reserved_clocks = refl
+
+flat_without_chips : (referred [] 0 1).stop ≡ Reserved 0 0xFF
+unfolding referred_by telling own_inputs effect decoded first_memory
+flat_without_chips = refl
 
 -- the text of the first run, whole
 text_of_branch_to_self : text_of (telling_lines (played_alone (rom (0x71 ∷ 0x2B ∷ 0x90 ∷ 0xFE ∷ [])) 0 3)) ≡

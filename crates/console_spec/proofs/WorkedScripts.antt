@@ -1,5 +1,6 @@
 -- Runs by scripts worked out by hand, computed from the definitions.
 use Rattle.std.proofs.Common.{◌≡◌, ℕ, true, false, List, [], ◌∷◌, length, refl}
+use Rattle.f8_spec.specs.Flags.{status_byte}
 use Rattle.f8_spec.specs.Instructions.{decoded}
 use Rattle.console_spec.specs.Processor.{own_inputs, effect}
 use Rattle.console_spec.specs.FlatMemory.{first_memory}
@@ -13,7 +14,7 @@ use Rattle.console_spec.specs.Telling.{Traced, TracedFault, Wrote, Shown, tellin
 use Rattle.std.specs.Prelude.{flat_map, codes, slice_index, None}
 use Rattle.std.specs.Fmt.{digits}
 use Rattle.console_spec.specs.RunText.{text_of, lines_of, bus_line, out_line}
-use Rattle.console_spec.proofs.Played.{steps_alone, played_alone, referred}
+use Rattle.console_spec.proofs.Played.{steps_alone, played, played_alone, referred}
 use Rattle.console_spec.proofs.WorkedRacks.{psu}
 
 -- a key byte is read, written back, and then a port is read that no chip has as a data port
@@ -38,6 +39,14 @@ key_read = refl
 key_clocks : (played_by (psu 0 4 keyed ∷ []) false keys_then_missing).ending.position.flat.state.phi ≡ 56
 unfolding played_by telling own_inputs effect decoded first_memory
 key_clocks = refl
+
+key_place : (played_by (psu 0 4 keyed ∷ []) false keys_then_missing).ending.position.flat.state.flow.p ≡ 4
+unfolding played_by telling own_inputs effect decoded first_memory
+key_place = refl
+
+key_status : status_byte (played_by (psu 0 4 keyed ∷ []) false keys_then_missing).ending.position.flat.state.registers.status ≡ 0x01
+unfolding played_by telling own_inputs effect decoded first_memory
+key_status = refl
 
 -- a branch to itself, with its steps told: eight, those of reset counted
 abbrev branch : List ℕ
@@ -98,6 +107,22 @@ unread_traced : told_in (telling (on_rack true) (steps_alone 0 1) 1 (shortly_bef
     ≡ Traced (record { romc = 3; long = true; byte = 2; who = Socket 0; taker = None }) ∷ TracedFault 0x1B true ∷ []
 unfolding telling own_inputs effect decoded first_memory
 unread_traced = refl
+
+unread_stop : (played (psu 0 4 (0x26 ∷ 0x02 ∷ []) ∷ []) 0 1).stop ≡ Unserved (Undriven 0x1B 2)
+unfolding played_by telling own_inputs effect decoded first_memory
+unread_stop = refl
+
+unread_clocks : (played (psu 0 4 (0x26 ∷ 0x02 ∷ []) ∷ []) 0 1).position.flat.state.phi ≡ 14
+unfolding played_by telling own_inputs effect decoded first_memory
+unread_clocks = refl
+
+unread_count : (played (psu 0 4 (0x26 ∷ 0x02 ∷ []) ∷ []) 0 1).position.flat.state.count ≡ 0
+unfolding played_by telling own_inputs effect decoded first_memory
+unread_count = refl
+
+unread_place : (played (psu 0 4 (0x26 ∷ 0x02 ∷ []) ∷ []) 0 1).position.flat.state.flow.p ≡ 0
+unfolding played_by telling own_inputs effect decoded first_memory
+unread_place = refl
 
 unread_flat : (referred (psu 0 4 (0x26 ∷ 0x02 ∷ []) ∷ []) 0 1).position.flat.state.registers.accumulator ≡ 255
 unfolding referred_by telling own_inputs effect decoded first_memory
