@@ -1,2 +1,3 @@
 pub mod PictureRows
 pub mod TextLaws
+mod WorkedRefusals
