@@ -14,3 +14,4 @@ pub mod PlayLaws
 pub mod FlatLaws
 pub mod FlatTurns
 pub mod EndLaws
+mod WorkedSockets

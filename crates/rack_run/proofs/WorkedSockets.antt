@@ -1,0 +1,95 @@
+-- Sockets and chips with a byte of their own, worked out by hand and computed from the definitions.
+use Rattle.std.proofs.Common.{◌≡◌, ℕ, false, List, [], ◌∷◌, ◌++◌, replicate, Some, None, refl}
+use Rattle.f8_spec.specs.ChipState.{ChipView, blank_view}
+use Rattle.f8_spec.specs.Flags.{clear_status, status_byte}
+use Rattle.f8_spec.specs.Instructions.{decoded}
+use Rattle.f8_spec.specs.declared.chips.ChipKind.{ChipKind}
+use Rattle.f8_spec.specs.declared.chips.ChipKind.TheVariants as kind
+use Rattle.f8_spec.specs.declared.chips.PageSort.TheVariants.{Ram}
+use Rattle.chip_face.specs.declared.specification.ChipSpec.{ChipSpec}
+use Rattle.chip_face.specs.declared.specification.ChipSpec.TheVariants.{Psu, Smi}
+use Rattle.console_spec.specs.FlatMemory.{first_memory}
+use Rattle.console_spec.specs.Processor.{own_inputs, effect}
+use Rattle.console_spec.specs.Run.{Ending, Done, Reserved}
+use Rattle.console_spec.specs.Telling.{telling, played_by}
+use Rattle.console_spec.proofs.Played.{played}
+use Rattle.rack_run.specs.Seating.{fitted_views}
+use Rattle.rack_run.specs.Sockets.{shortage_of}
+
+-- a 3851 at 0 with LIS 1, NOP, and a branch to the NOP
+abbrev described : ChipSpec
+described = Psu 0 (0x71 ∷ 0x2B ∷ 0x90 ∷ 0xFE ∷ replicate 1020 255) 4 0 false
+
+-- a 3853 with the page of RAM that has this number
+abbrev ram : ℕ → ChipSpec
+ram number = Smi (record { number = number; sort = Ram } ∷ []) [] false
+
+-- ---- sockets
+
+-- those of the program's own rack: twelve for 3851s and two for 3853s
+abbrev own_sockets : List ChipKind
+own_sockets = replicate 12 kind.Psu ++ replicate 2 kind.Smi
+
+empty_rack : shortage_of (described ∷ []) [] ≡ Some (record { kind = kind.Psu; need = 1; have = 0 })
+empty_rack = refl
+
+thirteen_psus : shortage_of (replicate 13 described) own_sockets ≡ Some (record { kind = kind.Psu; need = 13; have = 12 })
+thirteen_psus = refl
+
+three_smis : shortage_of (described ∷ ram 0x28 ∷ ram 0x29 ∷ ram 0x2A ∷ []) own_sockets ≡ Some (record { kind = kind.Smi; need = 3; have = 2 })
+three_smis = refl
+
+one_chip : shortage_of (described ∷ []) own_sockets ≡ None
+one_chip = refl
+
+-- ---- a rack of one 3851 that has a byte of its own at an address
+
+abbrev patched : ℕ → ℕ → List ChipView
+patched at byte = fitted_views (described ∷ []) (record { view = blank_view kind.Psu; heard_steps = None; patch = Some (at, byte) } ∷ [])
+
+-- INC in place of NOP
+abbrev with_inc : Ending
+with_inc = played (patched 0x0001 0x1F) 0 3
+
+with_inc_stop : with_inc.stop ≡ Done
+unfolding played_by telling own_inputs effect decoded first_memory
+with_inc_stop = refl
+
+with_inc_place : with_inc.position.flat.state.flow.p ≡ 1
+unfolding played_by telling own_inputs effect decoded first_memory
+with_inc_place = refl
+
+with_inc_accumulator : with_inc.position.flat.state.registers.accumulator ≡ 0x02
+unfolding played_by telling own_inputs effect decoded first_memory
+with_inc_accumulator = refl
+
+with_inc_status : status_byte with_inc.position.flat.state.registers.status ≡ 0x01
+unfolding played_by telling own_inputs effect decoded first_memory
+with_inc_status = refl
+
+with_inc_count : with_inc.position.flat.state.count ≡ 3
+unfolding played_by telling own_inputs effect decoded first_memory
+with_inc_count = refl
+
+with_inc_clocks : with_inc.position.flat.state.phi ≡ 36
+unfolding played_by telling own_inputs effect decoded first_memory
+with_inc_clocks = refl
+
+-- a reserved opcode in place of LIS 1
+abbrev with_reserved : Ending
+with_reserved = played (patched 0x0000 0x2D) 0 3
+
+with_reserved_stop : with_reserved.stop ≡ Reserved 0 0x2D
+unfolding played_by telling own_inputs effect decoded first_memory
+with_reserved_stop = refl
+
+with_reserved_state : with_reserved.position.flat.state ≡ record {
+  flow = record { p = 0; p1 = 0; d0 = 0; d1 = 0 };
+  registers = record { accumulator = 0; isar = 0; status = clear_status; scratchpad = replicate 64 0 };
+  keys = replicate 256 0;
+  writes = [];
+  count = 0;
+  phi = 14;
+}
+unfolding played_by telling own_inputs effect decoded first_memory
+with_reserved_state = refl
