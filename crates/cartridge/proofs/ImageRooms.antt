@@ -15,7 +15,7 @@ use Rattle.f8_asm.specs.declared.operands.Effect.TheVariants.{Names, Moves, Fill
 use Rattle.f8_asm.specs.declared.operands.Statement.{Statement}
 use Rattle.f8_asm.specs.Evaluation.{values}
 use Rattle.f8_asm.specs.Grammar.{column_of}
-use Rattle.f8_asm.specs.Image.{Picture, ascending, image_of}
+use Rattle.f8_asm.specs.Image.{Picture, ascending, image_in, image_of}
 use Rattle.f8_asm.specs.Judging.{taken, unsigned}
 use Rattle.text_lines.specs.Lines.{lines}
 use Rattle.f8_asm.specs.Marks.{is_free}
@@ -155,10 +155,9 @@ blank zero i = refl
 blank (suc n) zero = refl
 blank (suc n) (suc i) = blank n i
 
-none-in : (room : Room) (n : ℕ) → n ≡ 65536 → InRoom room no_bytes
+none-in : (room : Room) (n : ℕ) → InRoom room (no_bytes n)
 unfolding no_bytes
-none-in room n same =
-    subst (λ (k : ℕ). InRoom room (replicate k None)) same (record { at = λ i b h. let nothing = blank n i in cc (nothing, h) })
+none-in room n = record { at = λ i b h. let nothing = blank n i in cc (nothing, h) }
 
 -- ---- the bytes of the image
 
@@ -174,14 +173,14 @@ ascending-in room place (Some b ∷ table) inside =
     (ascending-in room (place + 1) table (λ i b h. let here = inside (suc i) b h in (omega (arith, here.0), omega (arith, here.1))))
 
 pub image_lies_in : (text : List ℕ) (room : Room) (picture : Picture) → image_of text room ≡ Ok picture → LiesIn room picture.bytes
-unfolding image_of
+unfolding image_of image_in
 image_lies_in text room picture h =
     read-ok (LiesIn room picture.bytes) (read_lines 1 no_reading (lines text)) _ picture h (λ read at_read h.
-    read-ok (LiesIn room picture.bytes) (place_lines room no_layout read.lines) _ picture h (λ laid at_laid h.
-    read-ok (LiesIn room picture.bytes) (emit_lines laid.names no_bytes laid.placed) _ picture h (λ table at_table h.
+    read-ok (LiesIn room picture.bytes) (place_lines room (no_layout 65536) read.lines) _ picture h (λ laid at_laid h.
+    read-ok (LiesIn room picture.bytes) (emit_lines laid.names (no_bytes 65536) laid.placed) _ picture h (λ table at_table h.
     let e : ascending 0 table ≡ picture.bytes = cc h in
-    let placed = all-placed room no_layout read.lines laid at_laid (All-nil (IsPlaced room)) in
-    let inside = all-in room laid.names no_bytes laid.placed table at_table placed (none-in room 65536 refl) in
+    let placed = all-placed room (no_layout 65536) read.lines laid at_laid (All-nil (IsPlaced room)) in
+    let inside = all-in room laid.names (no_bytes 65536) laid.placed table at_table placed (none-in room 65536) in
     subst (λ (bytes : List (ℕ × ℕ)). LiesIn room bytes) e
     (ascending-in room 0 table (λ i b at_i. let here = inside.at i b at_i in (omega (arith, here.0), omega (arith, here.1)))))))
 

@@ -15,3 +15,4 @@ pub mod ListedPieces
 pub mod ListedPasses
 pub mod RoundTrip
 mod Examples
+mod WorkedImages

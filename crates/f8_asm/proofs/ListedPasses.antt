@@ -154,7 +154,7 @@ place_all (reads_more {at} {l} {ls} {front} {rest} gives behind) filled placed f
 
 -- ---- the bytes of the image
 
-ascending_none : (at n : ℕ) → ascending at (replicate n None) ≡ []
+pub ascending_none : (at n : ℕ) → ascending at (replicate n None) ≡ []
 ascending_none at zero = refl
 ascending_none at (suc n) = ascending_none (at + 1) n
 

@@ -3,7 +3,7 @@ use Rattle.std.proofs.Common.{◌≡◌, ℕ, Bool, false, List, length, replica
 use Rattle.std.proofs.lemmas.List.{length-replicate}
 use Rattle.f8_asm.specs.Marks.{no_marks}
 
-pub are_no_marks : (n : ℕ) (marks : List Bool) → n ≡ 65536 → marks ≡ replicate n false → marks ≡ no_marks
+pub are_no_marks : (n : ℕ) (marks : List Bool) → n ≡ 65536 → marks ≡ replicate n false → marks ≡ no_marks 65536
 unfolding no_marks
 are_no_marks n marks same is = is ∙ ap (λ k. replicate k false) same
 

@@ -1,5 +1,5 @@
 -- A listing assembles to its bytes again, and isn't long.
-use Rattle.std.proofs.Common.{◌≡◌, ℕ, ◌+◌, ◌*◌, zero, suc, ◌≤◌, false, List, [], ◌∷◌, ◌++◌, length, length-append, map, replicate, Option, None, Ok, refl, sym, ◌∙◌, ap, arith}
+use Rattle.std.proofs.Common.{◌≡◌, ℕ, ◌+◌, ◌*◌, zero, suc, ◌≤◌, false, List, [], ◌∷◌, ◌++◌, length, length-append, map, replicate, Option, Ok, refl, ◌∙◌, ap, arith}
 use Rattle.std.specs.Prelude.{codes}
 use Rattle.std.specs.List.{list_any}
 use Rattle.std.proofs.lemmas.Str.{IsUtf8-from_ascii}
@@ -7,7 +7,7 @@ use Rattle.asm_text.specs.Tokens.{tokens_of}
 use Rattle.asm_text.specs.declared.answers.Token.{Token}
 use Rattle.asm_text.specs.declared.answers.TokenKind.TheVariants as kind
 use Rattle.f8_asm.specs.declared.spelling.Entry.{Entry}
-use Rattle.f8_asm.specs.Image.{ascending, image_of, everywhere, bytes_from, picture_of}
+use Rattle.f8_asm.specs.Image.{ascending, image_in, image_of, everywhere, bytes_from, picture_of}
 use Rattle.text_lines.specs.Lines.{lines}
 use Rattle.f8_asm.specs.Listing.{entries, listing}
 use Rattle.f8_asm.specs.Marks.{no_marks}
@@ -36,9 +36,9 @@ org_line : read_line 1 no_reading org ≡ Ok (reading (numbered 1 org_tokens ∷
 unfolding all_open read_line no_reading
 org_line = rw (some_utf8 1 org (IsUtf8-from_ascii org (printable_ascii org refl)), org_read) refl
 
-org_placed : place everywhere no_layout (numbered 1 org_tokens) ≡ Ok (layout 0 no_marks ((record { address = 0; line = numbered 1 org_tokens }) ∷ []))
+org_placed : (size : ℕ) → place everywhere (no_layout size) (numbered 1 org_tokens) ≡ Ok (layout 0 (no_marks size) ((record { address = 0; line = numbered 1 org_tokens }) ∷ []))
 unfolding all_open place settle
-org_placed = refl
+org_placed size = refl
 
 org_emitted : (table : List (Option ℕ)) → emit [] table (record { address = 0; line = numbered 1 org_tokens }) ≡ Ok table
 unfolding all_open emit line_bytes
@@ -61,27 +61,28 @@ any_none : (n : ℕ) → list_any (λ m. m) (replicate n false) ≡ false
 any_none zero = refl
 any_none (suc n) = any_none n
 
-no_mark : (n : ℕ) → n ≡ 65536 → list_any (λ m. m) no_marks ≡ false
-unfolding no_marks
-no_mark n same = ap (λ k. list_any (λ m. m) (replicate k false)) (sym same) ∙ any_none n
-
 -- every address is free at first
-free : (n : ℕ) → n ≡ 65536 → FreeFrom no_marks 0
-free n same = record { is = no_mark n same }
+free : (n : ℕ) → FreeFrom (no_marks n) 0
+unfolding no_marks
+free n = record { is = any_none n }
 
--- bytes put in an empty table; the number of addresses is a variable, so that no list of them is written out
-image_is : (n : ℕ) (bytes : List ℕ) → n ≡ 65536 → length bytes ≤ n → ascending 0 (written no_bytes 0 bytes) ≡ bytes_from 0 bytes
+-- bytes put in an empty table
+image_is : (n : ℕ) (bytes : List ℕ) → length bytes ≤ n → ascending 0 (written (no_bytes n) 0 bytes) ≡ bytes_from 0 bytes
 unfolding no_bytes
-image_is n bytes same fits = ap (λ k. ascending 0 (written (replicate k None) 0 bytes)) (sym same) ∙ image_bytes n bytes fits
+image_is n bytes fits = image_bytes n bytes fits
 
--- the image of a listing has its bytes, and no names
-pub round_trip : (n : ℕ) (bytes : List ℕ) → n ≡ 65536 → AreBytes bytes → length bytes ≤ n → image_of (listing bytes) everywhere ≡ Ok (picture_of bytes)
-unfolding image_of read_lines place_lines emit_lines
-round_trip n bytes same all fits =
+-- The image of a listing has its bytes, and no names. The number of addresses is a variable, so that no list of them is written out.
+listing_image : (n : ℕ) (bytes : List ℕ) → n ≤ 65536 → AreBytes bytes → length bytes ≤ n → image_in n (listing bytes) everywhere ≡ Ok (picture_of bytes)
+unfolding image_in read_lines place_lines emit_lines
+listing_image n bytes least all fits =
     let coded = coded_entries 0 0 0 bytes all (omega arith) in
     let read = read_all coded 2 (numbered 1 org_tokens ∷ []) in
-    let placed = place_all read.reads no_marks ((record { address = 0; line = numbered 1 org_tokens }) ∷ []) (free n same) (omega arith) in
-    rw (listed bytes coded, org_line, read.is, org_placed, placed.is, placed.names, placed.placed, org_emitted no_bytes, emit_all placed.emits no_bytes, image_is n bytes same fits) refl
+    let placed = place_all read.reads (no_marks n) ((record { address = 0; line = numbered 1 org_tokens }) ∷ []) (free n) (omega arith) in
+    rw (listed bytes coded, org_line, read.is, org_placed n, placed.is, placed.names, placed.placed, org_emitted (no_bytes n), emit_all placed.emits (no_bytes n), image_is n bytes fits) refl
+
+pub round_trip : (bytes : List ℕ) → AreBytes bytes → length bytes ≤ 65536 → image_of (listing bytes) everywhere ≡ Ok (picture_of bytes)
+unfolding image_of
+round_trip bytes all fits = listing_image 65536 bytes (omega arith) all fits
 
 -- ---- the size of a text
 

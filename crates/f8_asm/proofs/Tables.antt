@@ -5,7 +5,7 @@ use Rattle.std.proofs.lemmas.List.{length-replicate}
 use Rattle.f8_asm.specs.PassThree.{no_bytes, written}
 use Rattle.f8_asm.specs.Image.{ascending}
 
-pub are_no_bytes : (n : ℕ) (table : List (Option ℕ)) → n ≡ 65536 → table ≡ replicate n None → table ≡ no_bytes
+pub are_no_bytes : (n : ℕ) (table : List (Option ℕ)) → n ≡ 65536 → table ≡ replicate n None → table ≡ no_bytes 65536
 unfolding no_bytes
 are_no_bytes n table same is = is ∙ ap (λ k. replicate k None) same
 

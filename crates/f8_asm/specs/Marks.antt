@@ -2,9 +2,9 @@
 use Rattle.std.specs.Prelude.{ℕ, zero, suc, ◌+◌, Bool, true, false, not, List, replicate, slice_set, slice_range}
 use Rattle.std.specs.List.{list_any}
 
--- no address is marked
-unfoldable pub no_marks : List Bool
-no_marks = replicate 65536 false
+-- none of so many addresses is marked
+unfoldable pub no_marks : ℕ → List Bool
+no_marks size = replicate size false
 
 -- so many addresses from one on are marked
 abbrev pub marked : List Bool → ℕ → ℕ → List Bool

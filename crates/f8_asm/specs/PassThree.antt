@@ -10,9 +10,9 @@ use Rattle.f8_asm.specs.Evaluation.{values}
 use Rattle.f8_asm.specs.PassOne.{in_line}
 use Rattle.f8_asm.specs.Statements.{statement, label_of, unlabelled}
 
--- the byte of each address, before any is known
-unfoldable pub no_bytes : List (Option ℕ)
-no_bytes = replicate 65536 None
+-- the byte of each of so many addresses, before any is known
+unfoldable pub no_bytes : ℕ → List (Option ℕ)
+no_bytes size = replicate size None
 
 -- bytes one after the other from an address on
 abbrev pub written : List (Option ℕ) → ℕ → List ℕ → List (Option ℕ)

@@ -26,8 +26,9 @@ pub record Layout : Type 0 where
   pub filled : List Bool
   pub placed : List PlacedLine
 
-abbrev pub no_layout : Layout
-no_layout = record { here = 0; names = []; filled = no_marks; placed = [] }
+-- before the first line, among so many addresses
+abbrev pub no_layout : ℕ → Layout
+no_layout size = record { here = 0; names = []; filled = no_marks size; placed = [] }
 
 -- all of so many bytes lie in the room
 abbrev pub is_inside : Room → ℕ → ℕ → Bool

@@ -63,7 +63,7 @@ impl Image {
 ///
 /// `Fault`: the first fault of the text, in text order within the earliest of three passes (docs/ASSEMBLY.md).
 /// `Memory`: memory is missing.
-#[tactic(auto, unfolding(crate::specs::Image::image_of))]
+#[tactic(auto, unfolding(crate::specs::Image::image_of, crate::specs::Image::image_in))]
 pub fn assemble(alloc: Global, text: &[u8], room: Room) -> Result<Image, AsmAnswer>
     requires { length text.now ≤ LINE_LIMIT }
     ensures { SaysOfText result (image_of text.now room) }

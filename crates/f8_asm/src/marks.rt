@@ -9,7 +9,7 @@ const ADDRESSES: usize = 65_536;
 
 /// No address is marked.
 pub fn no_marks(alloc: Global) -> Result<Vec<bool>, AllocError>
-    ensures value { IfOk result (λ marks. marks.items ≡ no_marks) }
+    ensures value { IfOk result (λ marks. marks.items ≡ no_marks 65536) }
     ensures length { IfOk result (λ marks. length marks.items ≡ 65536) }
 {
     let marks = vec![in alloc; false; ADDRESSES]?;

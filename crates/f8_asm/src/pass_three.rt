@@ -57,7 +57,7 @@ fn emit(
 
 /// The bytes of lines at their addresses.
 fn emit_all(alloc: Global, symbols: &Symbols, lines: &[PlacedLine]) -> Result<Table, AsmAnswer>
-    ensures { SaysOfText result (emit_lines symbols.now no_bytes lines.now) }
+    ensures { SaysOfText result (emit_lines symbols.now (no_bytes 65536) lines.now) }
 {
     let mut table = Table::new(alloc)?;
     for placed in lines {
@@ -68,7 +68,7 @@ fn emit_all(alloc: Global, symbols: &Symbols, lines: &[PlacedLine]) -> Result<Ta
 
 /// The bytes of all lines of a layout.
 pub fn emit_lines(alloc: Global, layout: &Layout) -> Result<Table, AsmAnswer>
-    ensures { SaysOfText result (emit_lines layout.now.names no_bytes layout.now.placed) }
+    ensures { SaysOfText result (emit_lines layout.now.names (no_bytes 65536) layout.now.placed) }
 {
     emit_all(alloc, layout.symbols(), layout.placed())
 }

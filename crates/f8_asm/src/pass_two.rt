@@ -50,7 +50,7 @@ impl Model for Layout {
 impl Layout {
     /// Nothing is known before the first line.
     fn new(alloc: Global) -> Result<Layout, AllocError>
-        ensures { IfOk result (λ s. s ≡ no_layout) }
+        ensures { IfOk result (λ s. s ≡ no_layout 65536) }
     {
         Ok(Layout {
             here: 0,
@@ -189,7 +189,7 @@ impl Layout {
 
 /// The layout of lines, if all bytes lie in the room and on addresses of their own.
 pub fn place_lines(alloc: Global, room: Room, lines: Vec<Line>) -> Result<Layout, AsmAnswer>
-    ensures { SaysOfText result (place_lines room no_layout lines.items) }
+    ensures { SaysOfText result (place_lines room (no_layout 65536) lines.items) }
 {
     let mut layout = Layout::new(alloc)?;
     for line in lines {

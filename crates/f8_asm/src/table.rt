@@ -11,7 +11,7 @@ const ADDRESSES: usize = 65_536;
 
 /// No address has a byte.
 fn no_bytes(alloc: Global) -> Result<Vec<Option<u8>>, AllocError>
-    ensures value { IfOk result (λ table. table.items ≡ no_bytes) }
+    ensures value { IfOk result (λ table. table.items ≡ no_bytes 65536) }
     ensures length { IfOk result (λ table. length table.items ≡ 65536) }
 {
     let mut table = Vec::with_capacity(alloc, ADDRESSES)?;
@@ -67,7 +67,7 @@ impl Model for Table {
 impl Table {
     /// No byte.
     pub fn new(alloc: Global) -> Result<Table, AllocError>
-        ensures { IfOk result (λ t. t ≡ no_bytes) }
+        ensures { IfOk result (λ t. t ≡ no_bytes 65536) }
     {
         let bytes = no_bytes(alloc)?;
         Ok(Table { bytes })

@@ -1,4 +1,4 @@
-use Rattle.std.proofs.Common.{ℕ, List, [], ◌∷◌, get_or, suc, Fits, w8, refl, arith}
+use Rattle.std.proofs.Common.{ℕ, List, [], ◌∷◌, get_or, suc, Fits, w8, arith}
 use Rattle.f8_asm.proofs.ListedPieces.{AreBytes}
 use Rattle.f8_asm.proofs.RoundTrip.{round_trip, listing_short}
 use Rattle.f8_asm.proofs.listing.disassemble.Goals as goal
@@ -9,7 +9,7 @@ are_bytes (b ∷ bs) fit = (let first = fit 0 in omega (arith, first), are_bytes
 
 pub returns-in-Ok-clause-round_trip : goal.returns-in-Ok-clause-round_trip
 returns-in-Ok-clause-round_trip c =
-    rw c.in-Ok.ensures (round_trip 65536 c.args.bytes.now refl (are_bytes c.args.bytes.now c.type_inv.bytes) c.requires)
+    rw c.in-Ok.ensures (round_trip c.args.bytes.now (are_bytes c.args.bytes.now c.type_inv.bytes) c.requires)
 
 pub returns-in-Ok-clause-size : goal.returns-in-Ok-clause-size
 returns-in-Ok-clause-size c =

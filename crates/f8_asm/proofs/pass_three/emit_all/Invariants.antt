@@ -5,4 +5,4 @@ use Rattle.f8_asm.proofs.pass_three.emit_all.Given as goal
 
 -- the lines whose bytes are put and those that follow make the whole
 abbrev pub invariant-loop-placed : goal.invariant-loop-placed
-invariant-loop-placed l = EmitsOn l.symbols l.table (drop l.placed-index l.lines) (emit_lines l.symbols no_bytes l.lines)
+invariant-loop-placed l = EmitsOn l.symbols l.table (drop l.placed-index l.lines) (emit_lines l.symbols (no_bytes 65536) l.lines)

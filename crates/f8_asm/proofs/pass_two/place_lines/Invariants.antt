@@ -5,4 +5,4 @@ use Rattle.f8_asm.proofs.pass_two.place_lines.Given as goal
 
 -- the lines placed and those that follow make the whole
 abbrev pub invariant-loop-line : goal.invariant-loop-line
-invariant-loop-line l = place_lines l.room l.layout (into_iter_items l.line-iterator) ≡ place_lines l.room no_layout l.fn.lines.items
+invariant-loop-line l = place_lines l.room l.layout (into_iter_items l.line-iterator) ≡ place_lines l.room (no_layout 65536) l.fn.lines.items
