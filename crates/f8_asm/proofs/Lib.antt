@@ -14,5 +14,6 @@ pub mod ListedBytes
 pub mod ListedPieces
 pub mod ListedPasses
 pub mod RoundTrip
+pub mod ListingIs
 mod Examples
 mod WorkedImages

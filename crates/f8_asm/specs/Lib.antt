@@ -15,3 +15,4 @@ pub mod Bytes
 pub mod PassThree
 pub mod Image
 pub mod Listing
+pub mod ListingLaw

@@ -2,6 +2,7 @@
 ghost use Rattle.std.specs.Prelude.{◌≡◌, ◌≤◌, ◌+◌, ◌*◌, length, IfOk, Ok};
 ghost use Rattle.f8_asm.specs.Image.{image_of, everywhere, picture_of};
 ghost use Rattle.f8_asm.specs.Listing.{listing};
+ghost use Rattle.f8_asm.specs.ListingLaw.{IsListingText};
 
 use crate::pieces::next_piece;
 use crate::spelling::push_entry;
@@ -62,6 +63,7 @@ fn list(alloc: Global, bytes: &[u8]) -> Result<Vec<u8>, AllocError>
 pub fn disassemble(alloc: Global, bytes: &[u8]) -> Result<Text, Memory>
     requires { length bytes.now ≤ 65536 }
     ensures text { IfOk result (λ text. text ≡ listing bytes.now) }
+    ensures law { IfOk result (λ text. IsListingText bytes.now text) }
     ensures round_trip { IfOk result (λ text. image_of text everywhere ≡ Ok (picture_of bytes.now)) }
     ensures size { IfOk result (λ text. length text ≤ 8 * length bytes.now + 10) }
 {
