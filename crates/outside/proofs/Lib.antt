@@ -1,3 +1,4 @@
 pub mod FileNames
 pub mod Reading
 pub mod SinkLaws
+pub mod Writing

@@ -4,3 +4,4 @@ pub mod MemorySinks
 pub mod StoreRules
 pub mod Reading
 pub mod MemoryStores
+pub mod Writing

@@ -1,5 +1,5 @@
 -- What is read of a reader, where the bytes that it has left are known.
-use Rattle.std.specs.Prelude.{◌≡◌, ℕ, ◌<◌, List, ◌++◌, length, Option}
+use Rattle.std.specs.Prelude.{◌≡◌, ℕ, ◌+◌, List, ◌++◌, length, Option}
 use Rattle.std.specs.Io.KnownBytes.{Consumes, IsAtEnd}
 
 -- a piece of so many bytes was read and appended, and one of none only at the end
@@ -15,8 +15,8 @@ pub record AllRead (old new : Option (List ℕ)) (bytes : List ℕ) : Type 0 whe
   pub consumed : Consumes old new bytes
   pub ended : IsAtEnd new
 
--- more bytes than the limit were there
+-- more bytes than the limit were there, of which one past it was read
 pub record ReadPast (old new : Option (List ℕ)) (limit : ℕ) : Type 0 where
   pub bytes : List ℕ
   pub consumed : Consumes old new bytes
-  pub past : limit < length bytes
+  pub past : length bytes ≡ limit + 1

@@ -1,15 +1,25 @@
-ghost use Rattle.std.specs.Prelude.{◌≤◌, ◌<◌, length, IfOk};
+ghost use Rattle.std.specs.Prelude.{◌≡◌, ◌≤◌, ◌<◌, length, IfOk, Ok, Err, MatchResult};
 ghost use Rattle.outside.specs.Reading.{PieceRead, AllRead, ReadPast};
 ghost use Rattle.outside.specs.StoreRules.{WhereLong};
 
 use super::store::{FetchFault, Store};
 use std::alloc::Global;
-use std::fs;
 use std::io::Read;
 use std::rt::Files;
+use std::{fs, io};
 
 /// How many bytes are read at once.
 const PIECE: usize = 4096;
+
+/// What the system gave. Any error of it is a failed fetch, and none is want of memory.
+fn or_failed<T>(outcome: io::Result<T>) -> Result<T, FetchFault>
+    ensures { MatchResult outcome (λ given. result ≡ Ok given) (λ _. result ≡ Err FetchFault.Failed) }
+{
+    match outcome {
+        Ok(given) => Ok(given),
+        Err(_) => Err(FetchFault::Failed),
+    }
+}
 
 /// Appends one piece of at most `most` bytes, and says how many it has: none at the end. Nothing is appended at a fault.
 fn read_piece<F: Read>(file: &mut F, bytes: &mut Vec<u8>, most: usize) -> Result<usize, FetchFault>
@@ -20,9 +30,7 @@ fn read_piece<F: Read>(file: &mut F, bytes: &mut Vec<u8>, most: usize) -> Result
 {
     let mut piece = [0; PIECE];
     let room = &mut piece[..most.min(PIECE)];
-    let Ok(taken) = file.read(room) else {
-        return Err(FetchFault::Failed);
-    };
+    let taken = or_failed(file.read(room))?;
     match bytes.extend_from_slice(&room[..taken]) {
         Ok(()) => Ok(taken),
         Err(_) => Err(FetchFault::Memory),
@@ -56,8 +64,10 @@ pub struct FileStore<R: Files + Drop> {
 }
 
 impl<R: Files + Drop> FileStore<R> {
-    /// A store that has met no fault.
-    pub fn new(system: R) -> Self {
+    /// A store that was asked for nothing and has met no fault.
+    pub fn new(system: R) -> Self
+        ensures { (result.fetches ≡ 0) × (result.faults ≡ 0) }
+    {
         FileStore {
             system,
             fetches: 0,
@@ -68,10 +78,8 @@ impl<R: Files + Drop> FileStore<R> {
     fn read(&self, alloc: Global, name: &str, limit: u32) -> Result<Vec<u8>, FetchFault>
         ensures within { IfOk result (λ bytes. length bytes.items ≤ limit) }
     {
-        match fs::open(&self.system, name) {
-            Ok(mut file) => read_whole(alloc, &mut file, limit),
-            Err(_) => Err(FetchFault::Failed),
-        }
+        let mut file = or_failed(fs::open(&self.system, name))?;
+        read_whole(alloc, &mut file, limit)
     }
 }
 

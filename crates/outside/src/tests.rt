@@ -101,17 +101,17 @@ fn keeps_lines_in_memory(rt: HostRuntime) -> Result<(), Fail> {
     Ok(())
 }
 
-/// Takes two bytes a call, up to a number of them, and then nothing.
+/// Keeps what it takes: three bytes a call, as far as it has room, and then nothing.
 #[derive(Drop)]
 struct Narrow {
-    left: usize,
+    kept: Vec<u8>,
+    room: usize,
 }
 
 impl Write for Narrow {
     fn write(&mut self, buf: &[u8]) -> io::Result<usize> {
-        let taken = buf.len().min(2).min(self.left);
-        self.left -= taken;
-        Ok(taken)
+        let left = self.room.saturating_sub(self.kept.len());
+        self.kept.write(&buf[..buf.len().min(3).min(left)])
     }
 
     fn flush(&mut self) -> io::Result<()> {
@@ -121,9 +121,14 @@ impl Write for Narrow {
 
 #[test]
 fn writes_a_piece_in_several_calls(rt: HostRuntime) -> Result<(), Fail> {
-    let mut sink = OutSink::new(Narrow { left: 12 });
+    let mut narrow = Narrow {
+        kept: Vec::new(rt.alloc()),
+        room: 12,
+    };
+    let mut sink = OutSink::new(&mut narrow);
     assert!(rt; sink.put(b"stop done\n").is_ok());
     assert!(rt; sink.put(b"").is_ok());
     assert!(rt; sink.put(b"total").is_err());
+    assert_eq!(rt; narrow.kept.as_slice(), b"stop done\nto".as_slice());
     Ok(())
 }
