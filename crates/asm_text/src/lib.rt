@@ -7,4 +7,4 @@ mod front;
 mod line;
 
 pub use answers::{Name, Token, TokenFault, TokenKind, TokenList};
-pub use line::{LINE_LIMIT, tokens};
+pub use line::tokens;

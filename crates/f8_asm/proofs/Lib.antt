@@ -4,6 +4,7 @@ pub mod Depth
 pub mod ItemList
 pub mod LineTokens
 pub mod Steps
+pub mod FewNames
 pub mod NoMarks
 pub mod ListBytes
 pub mod Tables

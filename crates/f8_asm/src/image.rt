@@ -8,7 +8,6 @@ use crate::pass_one::read_lines;
 use crate::pass_three::emit_lines;
 use crate::pass_two::place_lines;
 use crate::symbols::Symbols;
-use asm_text::LINE_LIMIT;
 use std::alloc::Global;
 use std::marker::Model;
 
@@ -21,11 +20,14 @@ pub struct Image {
 }
 
 impl Model for Image {
+    ghost use Rattle.std.specs.Prelude.{◌≤◌, length};
     ghost use Rattle.f8_asm.specs.Image.{Picture};
 
     ghost Value = { Picture };
 
     ghost view = { λ i. record { bytes = i.bytes.items; symbols = i.symbols } };
+
+    ghost invariant = { λ i. length i.symbols ≤ 16777216 };
 }
 
 impl Image {
@@ -41,19 +43,19 @@ impl Image {
     }
 
     /// How many symbols there are.
-    pub fn symbol_count(&self) -> usize
+    pub fn symbol_count(&self) -> u32
         ensures { result ≡ length self.now.symbols }
     {
-        self.symbols.len()
+        self.symbols.len() as u32
     }
 
     /// The name and the value of a symbol, counted from 0 in the order in which they were defined, and `None` from
     /// their number on. A name is a letter or `_`, and then letters, digits and `_`, at most 32 bytes.
-    pub fn symbol(&self, k: usize) -> Option<(&str, i64)>
+    pub fn symbol(&self, k: u32) -> Option<(&str, i64)>
         ensures entry { symbol_seen result ≡ slice_get self.now.symbols k }
         ensures name { IfSome result (λ s. IsTrue (is_name s.0.now)) }
     {
-        self.symbols.get(k)
+        self.symbols.get(k as usize)
     }
 }
 
@@ -65,7 +67,7 @@ impl Image {
 /// `Memory`: memory is missing.
 #[tactic(auto, unfolding(crate::specs::Image::image_of, crate::specs::Image::image_in))]
 pub fn assemble(alloc: Global, text: &[u8], room: Room) -> Result<Image, AsmAnswer>
-    requires { length text.now ≤ LINE_LIMIT }
+    requires { length text.now ≤ 16777216 }
     ensures { SaysOfText result (image_of text.now room) }
 {
     let reading = read_lines(alloc, text)?;

@@ -11,7 +11,7 @@ use crate::line::Line;
 use crate::statements::{label_of, statement, unlabelled};
 use crate::symbols::Symbols;
 use crate::text::{line_tokens, told};
-use asm_text::{LINE_LIMIT, Name, Token};
+use asm_text::{Name, Token};
 use std::alloc::Global;
 use std::marker::Model;
 use text_lines::first_line;
@@ -93,7 +93,7 @@ impl Reading {
     /// Reads one line more.
     #[tactic(auto, unfolding(crate::specs::PassOne::read_line))]
     fn read_line(&mut self, alloc: Global, number: u32, bytes: &[u8]) -> Result<(), AsmAnswer>
-        requires { length bytes.now ≤ LINE_LIMIT }
+        requires { length bytes.now ≤ 16777216 }
         ensures { StepsOfText result self.new (read_line number self.old bytes.now) }
     {
         let tokens = line_tokens(alloc, number, bytes)?;
@@ -119,7 +119,7 @@ impl Reading {
 
 /// The lines of a text, if each makes a statement and no name is given twice.
 pub fn read_lines(alloc: Global, text: &[u8]) -> Result<Reading, AsmAnswer>
-    requires { length text.now ≤ LINE_LIMIT }
+    requires { length text.now ≤ 16777216 }
     ensures { SaysOfText result (read_lines 1 no_reading (lines text.now)) }
 {
     let mut reading = Reading::new(alloc);

@@ -1,5 +1,5 @@
 // Names with their values.
-ghost use Rattle.std.specs.Prelude.{◌≡◌, [], OnOk, slice_get, length, IfSome, IsTrue};
+ghost use Rattle.std.specs.Prelude.{◌≡◌, [], OnOk, OnErr, slice_get, length, IfSome, IsTrue};
 ghost use Rattle.asm_text.specs.Bytes.{is_name};
 ghost use Rattle.f8_asm.specs.Names.{value_of, with_name, symbol_seen};
 
@@ -47,7 +47,8 @@ impl Symbols {
     /// Gives a name a value. The one error is want of memory, and nothing has changed then.
     #[tactic(auto, using(crate::proofs::NameLookup::inserted))]
     pub fn define(&mut self, alloc: Global, name: &Name, value: i64) -> Result<(), AllocError>
-        ensures { OnOk result (self.new ≡ with_name self.old name.now value) }
+        ensures named { OnOk result (self.new ≡ with_name self.old name.now value) }
+        ensures same { OnErr result (self.new ≡ self.old) }
     {
         let key = String::from_str(alloc, name.as_str())?;
         self.entries.insert(key, value)?;

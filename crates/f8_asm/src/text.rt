@@ -6,7 +6,7 @@ ghost use Rattle.f8_asm.specs.PassOne.{end_of, line_tokens, told};
 
 use crate::answers::{AsmAnswer, AsmCause, AsmFault};
 use crate::faults::LineFault;
-use asm_text::{LINE_LIMIT, Token, TokenFault, TokenList, tokens};
+use asm_text::{Token, TokenFault, TokenList, tokens};
 use std::alloc::Global;
 
 /// The column past the last token.
@@ -48,7 +48,7 @@ fn fault(line: u32, column: u32, cause: AsmCause) -> AsmAnswer
 /// The tokens of a line, if it is UTF-8.
 #[tactic(auto, unfolding(crate::specs::PassOne::line_tokens))]
 pub fn line_tokens(alloc: Global, number: u32, bytes: &[u8]) -> Result<TokenList, AsmAnswer>
-    requires { length bytes.now ≤ LINE_LIMIT }
+    requires { length bytes.now ≤ 16777216 }
     ensures { SaysOfText result (line_tokens number bytes.now) }
 {
     let Ok(line) = std::str::from_utf8(bytes) else {

@@ -14,7 +14,7 @@ mod words;
 
 pub use answers::{ScriptAnswer, ScriptCause, ScriptFault};
 pub use event_list::EventList;
-pub use read::{TEXT_LIMIT, read_script};
+pub use read::read_script;
 pub use script::{At, End, Event, Script};
 pub use show_list::ShowList;
 

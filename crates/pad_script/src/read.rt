@@ -11,14 +11,11 @@ use super::script::Script;
 use std::alloc::Global;
 use text_lines::first_line;
 
-/// The most bytes of a text.
-pub const TEXT_LIMIT: usize = 16_777_216;
-
 /// The script of a text, or the text's first fault: that of the first line that has one, and of such a line's faults the first in the
 /// order Word, Number, Range, Twice, TooMany. A text without an end of the run is at fault at the line after its last. `Memory`: memory
 /// is missing; it says nothing of the text. The run of a script ends at frame 600 at the latest, or after 1,000,000 instructions at most.
 pub fn read_script(alloc: Global, text: &[u8]) -> Result<Script, ScriptAnswer>
-    requires { length text.now ≤ TEXT_LIMIT }
+    requires { length text.now ≤ 16777216 }
     ensures script { SaysOfText result (script_of text.now) }
     ensures told { IfOk result (λ script. IsTold (statements (lines text.now)) (seen script)) }
     ensures fault { TellsFault result (lines text.now) }

@@ -2,9 +2,12 @@ use super::*;
 use std::alloc::Global;
 use std::test::Fail;
 
+// longer texts are not tried here
+const LIMIT: usize = 65_536;
+
 // the line and the number of the cause of a text's fault; (0, 0) where it has none, and (0, 1) where it isn't read
 fn fault_of(alloc: Global, text: &[u8]) -> (u32, u8) {
-    if text.len() > TEXT_LIMIT {
+    if text.len() > LIMIT {
         return (0, 1);
     }
     match read_script(alloc, text) {

@@ -5,8 +5,8 @@ use Rattle.f8_asm.specs.Names.{with_name, are_names}
 use Rattle.f8_asm.proofs.NameLookup.{inserted, names_kept}
 use Rattle.f8_asm.proofs.symbols.Symbols.define.Goals as goal
 
-pub returns : goal.returns
-returns c =
+pub returns-clause-named : goal.returns-clause-named
+returns-clause-named c =
     ap (map (λ e. (string_bytes e.0, e.1))) (rw (to_z-of_z w64 c.args.value c.ranges.value) at c.in_ok-insert.ensures.entries) ∙ inserted c.self.inside.entries.entries c.in_ok-key.key c.args.value ∙ rw (c.in_ok-key.ensures.ok, c.as_str.ensures.text) (ap (λ names. with_name names c.args.name.now c.args.value) c.self.view_is)
 
 -- the key is a name, and so were the others
