@@ -17,11 +17,11 @@ abbrev pub strokes : List Write → List (List Write)
 strokes [] = []
 strokes (w ∷ ws) = if is_rise w ws then ws ∷ strokes ws else strokes ws
 
-abbrev pub column_of : List Write → ℕ
-column_of before = (255 - latch_of 4 before) % 128
+abbrev pub x_of : List Write → ℕ
+x_of before = (255 - latch_of 4 before) % 128
 
-abbrev pub line_of : List Write → ℕ
-line_of before = (255 - latch_of 5 before) % 64
+abbrev pub y_of : List Write → ℕ
+y_of before = (255 - latch_of 5 before) % 64
 
 abbrev pub colour_of : List Write → ℕ
 colour_of before = (255 - latch_of 1 before) / 64
@@ -32,7 +32,7 @@ colour_at (Some before) = colour_of before
 
 -- the colour of a pixel, 0 to 3: that of the last stroke there, and 0 where there was none
 abbrev pub pixel_of : ℕ → ℕ → List Write → ℕ
-pixel_of x y writes = colour_at (find (λ before. (column_of before == x) && (line_of before == y)) (strokes writes))
+pixel_of x y writes = colour_at (find (λ before. (x_of before == x) && (y_of before == y)) (strokes writes))
 
 -- the palette of a row, 0 to 3
 abbrev pub palette_of : ℕ → List Write → ℕ

@@ -306,13 +306,13 @@ written_port op operand seats = None
 
 -- What an instruction gets, but for the opcode at its end.
 unfoldable pub own_inputs : Op → List ℕ → List Seat → State → Inputs
-own_inputs op rom seats s = record {
+own_inputs op memory seats s = record {
   taken = is_taken op s.registers;
   vectored = false;
-  operand = byte_at rom (places_on s.flow.p 1);
-  second = byte_at rom (places_on s.flow.p 2);
+  operand = byte_at memory (places_on s.flow.p 1);
+  second = byte_at memory (places_on s.flow.p 2);
   opcode = 0;
-  data_byte = byte_at rom s.flow.d0;
+  data_byte = byte_at memory s.flow.d0;
   data_high = s.flow.d0 / 256;
   data_low = s.flow.d0 % 256;
   stack_high = s.flow.p1 / 256;
@@ -325,7 +325,7 @@ own_inputs op rom seats s = record {
   h_high = scratch_byte 10 s.registers;
   h_low = scratch_byte 11 s.registers;
   port = port_field op;
-  port_byte = read_port op (byte_at rom (places_on s.flow.p 1)) seats s;
+  port_byte = read_port op (byte_at memory (places_on s.flow.p 1)) seats s;
   vector_high = 0;
   vector_low = 0;
 }
@@ -344,8 +344,8 @@ with_write (Some w) ws = w ∷ ws
 
 -- the state after an instruction
 abbrev pub after_instruction : Op → List ℕ → List Seat → State → State
-after_instruction op rom seats s =
-    let i = own_inputs op rom seats s in
+after_instruction op memory seats s =
+    let i = own_inputs op memory seats s in
     let phi = s.phi + clocks_of op i.taken in
     record {
       flow = flow_after (row_of op) i true s.flow;

@@ -3,11 +3,11 @@ use Rattle.std.proofs.Common.{◌≡◌, ℕ, Bool, true, false, List, ◌∷◌
 use Rattle.std.specs.Prelude.{◌&&◌, ◌==◌, if◌then◌else◌, Some}
 use Rattle.std.specs.List.{find}
 use Rattle.console_spec.specs.Writes.{Write}
-use Rattle.console_spec.specs.Display.{is_rise, strokes, column_of, line_of, colour_of, colour_at, pixel_of}
+use Rattle.console_spec.specs.Display.{is_rise, strokes, x_of, y_of, colour_of, colour_at, pixel_of}
 
 -- the last stroke's place is looked at first
 abbrev is_at : ℕ → ℕ → List Write → Bool
-is_at x y before = (column_of before == x) && (line_of before == y)
+is_at x y before = (x_of before == x) && (y_of before == y)
 
 first_found : (x y : ℕ) (ws : List Write) →
     colour_at (find (is_at x y) (ws ∷ strokes ws)) ≡ (if is_at x y ws then colour_of ws else pixel_of x y ws)
