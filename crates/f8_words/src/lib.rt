@@ -2,10 +2,12 @@
 #![tactic(auto)]
 
 mod addresses;
+mod laws;
 mod status_word;
 mod sums;
 
 pub use addresses::wrap_add;
+pub use laws::sum_law;
 pub use status_word::Flags;
 pub use sums::{Sum, add9, bcd};
 
