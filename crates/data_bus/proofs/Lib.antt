@@ -3,3 +3,4 @@ pub mod Racks
 pub mod Gathering
 pub mod CodeFacts
 pub mod Judging
+pub mod Sockets

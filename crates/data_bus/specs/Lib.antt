@@ -1,3 +1,4 @@
 pub mod Racks
 pub mod Polling
 pub mod Steps
+pub mod SocketsLaw

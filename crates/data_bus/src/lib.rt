@@ -17,7 +17,7 @@ use chip_face::Chip;
 pub use cycle::{Cycle, Served};
 pub use f8_spec::Party;
 pub use fault::BusFault;
-pub use order::order_law;
+pub use order::{order_law, sockets_law};
 pub use parties::Parties;
 pub use transfer::step;
 

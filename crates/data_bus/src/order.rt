@@ -1,3 +1,4 @@
+ghost use Rattle.data_bus.specs.SocketsLaw.{SocketsLaw};
 ghost use Rattle.f8_spec.specs.OrderLaw.{OrderLaw};
 
 /// The order law of the bus rule: rearrange the chips of a rack and rename their sockets, no two alike, and the acknowledged one with
@@ -5,4 +6,10 @@ ghost use Rattle.f8_spec.specs.OrderLaw.{OrderLaw};
 /// contract is the law.
 pub fn order_law()
     ensures { OrderLaw }
+{}
+
+/// The chips that a fault names come by ascending sockets, and the one that is told as standing by is in the lowest socket of those that do.
+/// This call does nothing; its contract is the law.
+pub fn sockets_law()
+    ensures { SocketsLaw }
 {}
