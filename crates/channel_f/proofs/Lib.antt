@@ -2,3 +2,4 @@ mod KeyWords
 pub mod Games
 mod Outcomes
 mod Completeness
+mod WorkedWords
