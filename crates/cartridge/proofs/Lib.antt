@@ -10,8 +10,5 @@ pub mod PlannedChips
 pub mod BytesPut
 pub mod Filled
 pub mod Finished
-pub mod Alike
-pub mod ExpressionsAlike
-pub mod StatementsAlike
 pub mod ImageRooms
 mod WorkedDescriptions

@@ -1,6 +1,7 @@
 -- The addresses that the image of a source may have. They are this project's own.
-use Rattle.std.specs.Prelude.{ℕ, ◌+◌, ◌-◌, ◌*◌, ◌≤◌, All, List}
+use Rattle.std.specs.Prelude.{ℕ, ◌+◌, ◌-◌, ◌*◌}
 use Rattle.f8_asm.specs.declared.answers.Room.{Room}
+pub use Rattle.f8_asm.specs.Image.{LiesIn}
 use Rattle.cartridge.specs.declared.page_run.PageRun.{PageRun}
 
 -- the addresses of a 3851, of which there are 1,024
@@ -14,7 +15,3 @@ run_room run = record { first = 256 * run.first; last = 256 * (run.first + run.c
 -- how many addresses a room has
 abbrev pub room_size : Room → ℕ
 room_size room = room.last + 1 - room.first
-
--- all of these bytes have their addresses in the room
-abbrev pub LiesIn : Room → List (ℕ × ℕ) → Type 0
-LiesIn room bytes = All (λ b. (room.first ≤ b.0) × (b.0 ≤ room.last)) bytes

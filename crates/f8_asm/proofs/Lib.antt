@@ -16,5 +16,9 @@ pub mod ListedPieces
 pub mod ListedPasses
 pub mod RoundTrip
 pub mod ListingIs
+pub mod Alike
+pub mod ExpressionsAlike
+pub mod StatementsAlike
+pub mod ImageRooms
 mod Examples
 mod WorkedImages

@@ -1,5 +1,5 @@
 -- The image of a text, or its first fault.
-use Rattle.std.specs.Prelude.{ℕ, ℤ, ◌+◌, List, [], ◌∷◌, Option, Some, None, Result, Ok}
+use Rattle.std.specs.Prelude.{ℕ, ℤ, ◌+◌, ◌<◌, ◌≤◌, All, AllPairs, List, [], ◌∷◌, Option, Some, None, Result, Ok}
 use Rattle.f8_asm.specs.declared.answers.AsmFault.{AsmFault}
 use Rattle.f8_asm.specs.declared.answers.Room.{Room}
 use Rattle.f8_asm.specs.Answers.{◌>>=◌}
@@ -27,6 +27,14 @@ image_in size text room =
 -- the image among all addresses
 unfoldable pub image_of : List ℕ → Room → Result Picture AsmFault
 image_of text room = image_in 65536 text room
+
+-- all of these bytes have their addresses in the room
+abbrev pub LiesIn : Room → List (ℕ × ℕ) → Type 0
+LiesIn room bytes = All (λ b. (room.first ≤ b.0) × (b.0 ≤ room.last)) bytes
+
+-- each address is above those before it
+abbrev pub Ascends : List (ℕ × ℕ) → Type 0
+Ascends bytes = AllPairs (λ b c. b.0 < c.0) bytes
 
 -- all addresses
 abbrev pub everywhere : Room

@@ -1,7 +1,7 @@
 // The image of a text.
-ghost use Rattle.std.specs.Prelude.{◌≡◌, ◌≤◌, length};
+ghost use Rattle.std.specs.Prelude.{◌≡◌, ◌≤◌, length, IfOk};
 ghost use Rattle.f8_asm.specs.Answers.{SaysOfText};
-ghost use Rattle.f8_asm.specs.Image.{image_of};
+ghost use Rattle.f8_asm.specs.Image.{image_of, LiesIn, Ascends};
 
 use crate::answers::{AsmAnswer, Room};
 use crate::pass_one::read_lines;
@@ -68,7 +68,9 @@ impl Image {
 #[tactic(auto, unfolding(crate::specs::Image::image_of, crate::specs::Image::image_in))]
 pub fn assemble(alloc: Global, text: &[u8], room: Room) -> Result<Image, AsmAnswer>
     requires { length text.now ≤ 16777216 }
-    ensures { SaysOfText result (image_of text.now room) }
+    ensures value { SaysOfText result (image_of text.now room) }
+    ensures ascent { IfOk result (λ image. Ascends image.bytes) }
+    ensures room { IfOk result (λ image. LiesIn room image.bytes) }
 {
     let reading = read_lines(alloc, text)?;
     let layout = place_lines(alloc, room, reading.into_lines())?;

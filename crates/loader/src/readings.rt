@@ -44,7 +44,7 @@ pub fn read_description(alloc: Global, bytes: &[u8]) -> Result<Plan, Stop>
 }
 
 /// The image of an assembly text, that of a chip's source or the one file of a command, with its bytes in the room.
-#[tactic(auto, unfolding(crate::specs::Readings::assembled), using(cartridge::proofs::ImageRooms::image_lies_in))]
+#[tactic(auto, unfolding(crate::specs::Readings::assembled))]
 pub fn read_image(alloc: Global, source: Option<u8>, text: &[u8], room: Room) -> Result<Image, Stop>
     requires { length text.now ≤ 262144 }
     ensures says { Says (λ image. image) result (assembled source room text.now) }

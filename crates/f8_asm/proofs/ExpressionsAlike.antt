@@ -10,7 +10,7 @@ use Rattle.f8_asm.specs.declared.values.Prefix.TheVariants.{Negative, LowByte, H
 use Rattle.f8_asm.specs.Answers.{◌>>=◌}
 use Rattle.f8_asm.specs.Words.{is_reserved}
 use Rattle.f8_asm.specs.Grammar.{Actions, Read, operator_at, chain, level, closed, parenthesised, behind_prefix, opened, operand_of, operand, expression}
-use Rattle.cartridge.proofs.Alike.{Alike, alike_ok, alike_err, alike_then, alike_if}
+use Rattle.f8_asm.proofs.Alike.{Alike, alike_ok, alike_err, alike_then, alike_if}
 
 -- the same tokens are left
 abbrev pub SameRest : {A B : Type 0} → (A × List Token) → (B × List Token) → Type 0

@@ -29,8 +29,8 @@ use Rattle.f8_asm.specs.Registers.{is_accumulator}
 use Rattle.f8_asm.specs.Statements.{operand_at, comma, done, coded, one, two, register_operand, numbered_at, register_at, accumulator, load_from, load, item_before, items, item_list, operands, wants_label, statement_of, statement_in, statement, single_effect, item_size, effect_of}
 use Rattle.f8_asm.specs.Words.{shape_of}
 use Rattle.f8_spec.specs.Instructions.{encoded}
-use Rattle.cartridge.proofs.Alike.{Alike, alike_ok, alike_err, alike_self, alike_then, alike_if, read-ok}
-use Rattle.cartridge.proofs.ExpressionsAlike.{SameRest, expression_alike}
+use Rattle.f8_asm.proofs.Alike.{Alike, alike_ok, alike_err, alike_self, alike_then, alike_if, read-ok}
+use Rattle.f8_asm.proofs.ExpressionsAlike.{SameRest, expression_alike}
 
 -- how many bytes an effect fills
 abbrev pub filled_by : Effect → ℕ
