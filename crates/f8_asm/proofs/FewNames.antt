@@ -12,7 +12,7 @@ use Rattle.f8_asm.specs.Answers.{◌>>=◌}
 use Rattle.f8_asm.specs.Evaluation.{values}
 use Rattle.f8_asm.specs.Grammar.{column_of}
 use Rattle.f8_asm.specs.Judging.{taken, unsigned}
-use Rattle.f8_asm.specs.Lines.{lines, begins, with_first}
+use Rattle.text_lines.specs.Lines.{lines, begins, with_first}
 use Rattle.f8_asm.specs.Names.{with_name}
 use Rattle.f8_asm.specs.PassOne.{Reading, line_tokens, in_line, check, read_line, read_lines, no_reading}
 use Rattle.f8_asm.specs.PassTwo.{Layout, with_label, fits, settled, settle, place, place_lines, no_layout}

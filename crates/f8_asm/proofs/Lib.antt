@@ -20,5 +20,7 @@ pub mod Alike
 pub mod ExpressionsAlike
 pub mod StatementsAlike
 pub mod ImageRooms
+pub mod ImageBytes
+pub mod ImageIs
 mod Examples
 mod WorkedImages

@@ -16,3 +16,4 @@ pub mod PassThree
 pub mod Image
 pub mod Listing
 pub mod ListingLaw
+pub mod ImageLaw
