@@ -91,7 +91,7 @@ unfolding read_line
 read_line_adds number s bytes =
     then (line_tokens number bytes) _ (λ ts. Unit {0}) (OneLine s) (any (line_tokens number bytes))
     (λ ts _. then (in_line number ts (check s.names ts)) _ (λ names. Unit {0}) (OneLine s) (any (in_line number ts (check s.names ts)))
-      (λ names _. omega (arith, length-append s.lines ((record { number = number; tokens = ts }) ∷ []))))
+    (λ names _. omega (arith, length-append s.lines ((record { number = number; tokens = ts }) ∷ []))))
 
 read_lines_adds : (number : ℕ) (s : Reading) (ls : List (List ℕ)) → IfOk (read_lines number s ls) (λ t. length t.lines ≤ length s.lines + length ls)
 unfolding read_lines
@@ -116,9 +116,9 @@ few_lines (b ∷ bs) =
     let others = one_of ((b == 13) && begins 10 bs) (lines bs) (with_first b (lines bs)) (length (b ∷ bs)) (omega arith) (omega (arith, with_first_adds b (lines bs))) in
     one_of (b == 10) ([] ∷ lines bs) (cond ((b == 13) && begins 10 bs) (lines bs) (with_first b (lines bs))) (length (b ∷ bs)) (omega arith) others
 
-pub few_names : (text : List ℕ) (room : Room) (read : Reading) (laid : Layout) → read_lines 1 no_reading (lines text) ≡ Ok read → place_lines room no_layout read.lines ≡ Ok laid → length laid.names ≤ length text
+pub few_names : (size : ℕ) (text : List ℕ) (room : Room) (read : Reading) (laid : Layout) → read_lines 1 no_reading (lines text) ≡ Ok read → place_lines room (no_layout size) read.lines ≡ Ok laid → length laid.names ≤ length text
 unfolding no_reading
-few_names text room read laid reads places =
+few_names size text room read laid reads places =
     let lines_read : length read.lines ≤ 0 + length (lines text) = rw reads at (read_lines_adds 1 no_reading (lines text)) in
-    let names_laid : length laid.names ≤ 0 + length read.lines = rw places at (place_lines_adds room no_layout read.lines) in
+    let names_laid : length laid.names ≤ 0 + length read.lines = rw places at (place_lines_adds room (no_layout size) read.lines) in
     omega (arith, few_lines text)
