@@ -11,13 +11,17 @@ abbrev pub image_byte : List (ℕ × ℕ) → ℕ → Option ℕ
 image_byte [] address = None
 image_byte (b ∷ bs) address = or_else (image_byte bs address) (if b.0 == address then Some b.1 else None)
 
+-- the byte that a ROM has at an address of its room
+abbrev pub rom_byte : PlannedSource → ℕ → ℕ
+rom_byte rom address = slice_index rom.bytes (address - rom.source.room.first)
+
 -- the byte of each address of a ROM is the image's where it has one there, and else the old one
 pub record HasImage (bytes : List (ℕ × ℕ)) (old new : PlannedSource) : Type 0 where
   pub source : new.source ≡ old.source
   pub filled : new.filled ≡ true
   pub size : length new.bytes ≡ length old.bytes
   pub each : (address : ℕ) → old.source.room.first ≤ address → address < old.source.room.first + length old.bytes →
-      slice_index new.bytes (address - old.source.room.first) ≡ unwrap_or (image_byte bytes address) (slice_index old.bytes (address - old.source.room.first))
+      rom_byte new address ≡ unwrap_or (image_byte bytes address) (rom_byte old address)
 
 -- a chip is as it was, but for the ROM of its source
 pub record IsFilledChip (bytes : List (ℕ × ℕ)) (old new : PlannedChip) : Type 0 where
