@@ -3,7 +3,6 @@ use Rattle.std.proofs.Common.{◌≡◌, ℕ, ◌+◌, ◌≤◌, Bool, true, fa
 use Rattle.std.specs.Prelude.{◌&&◌, not, filter_map}
 use Rattle.std.specs.List.{enumerate_from}
 use Rattle.f8_spec.specs.BusArbitration.{PlacedSeat, answers, would_answer, party_if}
-use Rattle.f8_spec.specs.declared.bus.BusRule.{BusRule}
 use Rattle.f8_spec.specs.declared.bus.Party.{Party}
 use Rattle.data_bus.specs.SocketsLaw.{AscendFrom, SocketsLaw}
 

@@ -1,5 +1,5 @@
 -- What sums and their flags say of numbers.
-use Rattle.std.proofs.Common.{◌≡◌, ℕ, ◌+◌, ◌-◌, ◌*◌, ◌/◌, ◌%◌, ◌<◌, ◌≤◌, ◌↔◌, Bool, true, false, refl, arith}
+use Rattle.std.proofs.Common.{ℕ, ◌<◌, Bool, true, false, arith}
 use Rattle.f8_words.specs.SumLaw.{Compares, Overflows, AddsDecimals, SumLaw}
 
 compares : (a n : ℕ) → a < 256 → n < 256 → Compares a n

@@ -1,12 +1,11 @@
 -- A run ends as its script asks.
-use Rattle.std.proofs.Common.{◌≡◌, ◌≢◌, ℕ, zero, suc, ◌+◌, ◌*◌, ◌/◌, ◌≤◌, Bool, true, false, List, [], ◌∷◌, Option, Some, None, refl, sym, ap, ◌∙◌, subst, arith}
-use Rattle.std.specs.Prelude.{nat_le, ◌==◌}
-use Rattle.f8_spec.specs.Instructions.{decoded, row_of, row_clocks, clocks_of}
+use Rattle.std.proofs.Common.{◌≡◌, ◌≢◌, ℕ, zero, suc, ◌+◌, ◌*◌, ◌≤◌, Bool, true, false, List, [], ◌∷◌, Option, Some, None, refl, ◌∙◌, arith}
+use Rattle.f8_spec.specs.Instructions.{decoded, row_of, row_clocks}
 use Rattle.f8_spec.specs.ChipState.{ChipView}
 use Rattle.f8_spec.specs.declared.instructions.Op.{Op}
 use Rattle.f8_spec.specs.declared.instructions.Row.{Row}
 use Rattle.console_spec.specs.Processor.{State, own_inputs}
-use Rattle.console_spec.specs.Run.{Position, Turn, Stop, Goes, Stops, Done, Unserved, Reserved, Ending, next, flat_next, turn_by, decided, goes_unless, instruction_fault, position_after, opcode_at, power_position, position_after_reset, reset_fault, seats_of}
+use Rattle.console_spec.specs.Run.{Position, Turn, Goes, Stops, Done, Unserved, Reserved, next, flat_next, decided, goes_unless, instruction_fault, position_after, opcode_at, power_position, position_after_reset, reset_fault, seats_of}
 use Rattle.console_spec.specs.Scripts.{Script, frame_clocks, events_at, most_instructions}
 use Rattle.console_spec.specs.Services.{Fault}
 use Rattle.console_spec.specs.Telling.{Way, Telling, is_over_at, is_over, with_event, with_events, events_behind, moment_of, telling, telling_on, telling_behind, on_rack, on_flat, begun, played_by, referred_by}
