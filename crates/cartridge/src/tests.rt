@@ -37,6 +37,8 @@ fn tops_have_faults(rt: HostRuntime) -> Result<(), Fail> {
         ("", "top format 1"),
         ("format = 3", "top format 4"),
         ("format = 1\nsplit = [1, 1]", "top split 4"),
+        ("format = 1\nchip = 5", "top chip 3"),
+        ("format = 1\nchip = [1]", "top chip 3"),
     ] {
         let got = answer(rt.alloc(), text)?;
         assert_eq!(rt; got.as_str(), want, "{text}");
@@ -67,6 +69,12 @@ fn chips_have_faults(rt: HostRuntime) -> Result<(), Fail> {
             "0 ram_pages 5",
         ),
         ("kind = '3851'\nbase = 0\nports = 4\nrom = '712'", "0 rom 7"),
+        ("kind = '3851'\nbase = 0\nports = 4\nrom = 7", "0 rom 3"),
+        ("kind = '3851'\nbase = 0\nports = 4", "0 rom 1"),
+        (
+            "kind = '3851'\nbase = 0\nports = 4\nsource = 7",
+            "0 source 3",
+        ),
         (
             "kind = '3851'\nbase = 0\nports = 4\nrom = '71'\nsource = 'a'",
             "0 source 8",

@@ -79,6 +79,7 @@ fn texts_have_faults(rt: HostRuntime) -> Result<(), Fail> {
         (" NOP\r NOP", "1 5 2"),
         (" A 5", "1 2 11"),
         (" EQU 5", "1 2 11"),
+        (" 5", "1 2 11"),
         (" LR A,A", "1 7 11"),
         (" LR HU,W", "1 8 11"),
         (" LI 1/0+X", "1 9 5"),
