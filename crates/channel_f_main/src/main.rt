@@ -1,11 +1,21 @@
 //! The program over the system: its words, its files, its standard output, and a rack of chips.
 #![tactic(auto)]
 
+ghost use Rattle.std.specs.Prelude.{◌≡◌, map, string_bytes, OnOk, OnErr, IfErr, Err};
+ghost use Rattle.std.specs.Process.{exit_status};
+ghost use Rattle.command_line.specs.CommandLine.{command_of};
+ghost use Rattle.channel_f.specs.Answers.{answer_of};
+ghost use Rattle.channel_f.specs.Commands.{around, Says};
+ghost use Rattle.channel_f.specs.Completeness.{IsComplete};
+
 use channel_f::{Status, console};
+use chip_face::Chip;
 use f8_machine::Rack;
-use outside::{FileStore, OutSink};
+use outside::{FileStore, OutSink, Sink, Store};
 use psu3851::Psu;
 use smi3853::Smi;
+use std::alloc::Global;
+use std::env::Args;
 use std::process::ExitCode;
 use std::{env, io};
 
@@ -28,24 +38,49 @@ macro_rules! seat {
     };
 }
 
-fn main(rt: HostRuntime) -> ExitCode {
-    let Ok(words) = env::args(&rt) else {
-        return ExitCode::from(Status::NoWords.code());
+/// The words behind the program's name.
+fn words_given(alloc: Global, args: io::Result<Args>) -> Result<Vec<String>, Status>
+    ensures wanting { OnOk args (IfErr result (λ status. status ≡ Status.Memory)) }
+    ensures none { OnErr args (result ≡ Err Status.NoWords) }
+{
+    let Ok(args) = args else {
+        return Err(Status::NoWords);
     };
-    let Ok(words) = words.skip(1).collect::<Vec<String>>(rt.alloc()) else {
-        return ExitCode::from(Status::Memory.code());
+    match args.skip(1).collect(alloc) {
+        Ok(words) => Ok(words),
+        Err(_) => Err(Status::Memory),
+    }
+}
+
+/// Answers the words as `console` does, and gives the exit status.
+fn ended<S: Store, K: Sink>(
+    alloc: Global,
+    words: &[String],
+    store: &mut S,
+    sink: &mut K,
+    rack: &mut Rack,
+) -> ExitCode
+    ensures says { Says (around (K.written sink.old) (K.faults sink.old) (S.files store.old) (S.faults store.old) (S.fetches store.old)) (around (K.written sink.new) (K.faults sink.new) (S.files store.new) (S.faults store.new) (S.fetches store.new)) (exit_status result) (map state rack.old.items) (map state rack.new.items) (command_of (map string_bytes words.now)) }
+    ensures complete { IsComplete (around (K.written sink.old) (K.faults sink.old) (S.files store.old) (S.faults store.old) (S.fetches store.old)) (around (K.written sink.new) (K.faults sink.new) (S.files store.new) (S.faults store.new) (S.fetches store.new)) (exit_status result) (answer_of (map state rack.old.items) (command_of (map string_bytes words.now))) }
+{
+    ExitCode::from(console(alloc, words, store, sink, rack))
+}
+
+fn main(rt: HostRuntime) -> ExitCode {
+    let words = match words_given(rt.alloc(), env::args(&rt)) {
+        Ok(words) => words,
+        Err(status) => return ExitCode::from(status.code()),
     };
     let mut rack: Rack = Vec::new(rt.alloc());
     seat!(rt, rack, PSUS, Psu::blank());
     seat!(rt, rack, SMIS, Smi::blank());
     let mut sink = OutSink::new(io::writer(&rt));
     let mut store = FileStore::new(&rt);
-    let status = console(
+    ended(
         rt.alloc(),
         words.as_slice(),
         &mut store,
         &mut sink,
         &mut rack,
-    );
-    ExitCode::from(status)
+    )
 }
