@@ -375,12 +375,12 @@ fn refuses_with_one_line(rt: HostRuntime) -> Result<(), Fail> {
     Ok(())
 }
 
-/// A file of so many bytes, all blanks, with the description of a loop as `cart`.
-fn blank_file(alloc: Global, name: &str, size: usize) -> Result<FileList, Fail> {
+/// A file of so many bytes, each this one, with the description of a loop as `cart`.
+fn even_file(alloc: Global, name: &str, byte: u8, size: usize) -> Result<FileList, Fail> {
     let mut list = Vec::new(alloc);
     let cart = Vec::from_slice(alloc, LOOP_CART.as_bytes())?;
     list.push(NamedFile::new("cart".to_string(alloc)?, cart))?;
-    let bytes = vec![in alloc; b' '; size]?;
+    let bytes = vec![in alloc; byte; size]?;
     list.push(NamedFile::new(name.to_string(alloc)?, bytes))?;
     match FileList::from_vec(list) {
         Some(list) => Ok(list),
@@ -390,31 +390,47 @@ fn blank_file(alloc: Global, name: &str, size: usize) -> Result<FileList, Fail> 
 
 #[test]
 fn refuses_files_past_their_limit(rt: HostRuntime) -> Result<(), Fail> {
-    let rows: [(&str, usize, &[&str], &str); 4] = [
+    let rows: [(&str, u8, usize, &[&str], &str); 5] = [
         (
             "script",
+            b' ',
             65_536,
             &["play", "cart", "script"],
             "error script line 2 cause 6\n",
         ),
         (
             "script",
+            b' ',
             65_537,
             &["play", "cart", "script"],
             "error long script\n",
         ),
         (
             "long",
+            b' ',
             65_537,
             &["ref", "long", "script"],
             "error long cart\n",
         ),
-        ("file", 262_145, &["asm", "file"], "error long file\n"),
+        (
+            "file",
+            b' ',
+            262_145,
+            &["asm", "file"],
+            "error long file\n",
+        ),
+        (
+            "file",
+            b'7',
+            131_074,
+            &["dis", "file"],
+            "error long file\n",
+        ),
     ];
     let mut rack = rack_of!(rt, 1, Psu::blank(), 0, Smi::blank());
-    for (name, size, words, text) in rows {
+    for (name, byte, size, words, text) in rows {
         let words = words_of(rt.alloc(), words)?;
-        let mut store = SureStore::new(blank_file(rt.alloc(), name, size)?);
+        let mut store = SureStore::new(even_file(rt.alloc(), name, byte, size)?);
         let mut sink = SureSink::new(rt.alloc(), 1024)?;
         let status = console(
             rt.alloc(),
