@@ -69,8 +69,12 @@ below place c w high fits leads = let there = leads.back high in omega arith
 led : (place c : ℕ) → place ≤ 65536 → c < 256 → Led place c (target place c)
 led place c within byte =
     choose place c (nat_lt c 128) _ _
-    (λ low. choose place c (nat_lt (place + c) 65536) (Some (place + c)) None (λ fits. led_forth place c (grind (arith, nat_tests)) (grind (arith, nat_tests))) (λ far w. past place c w (grind (arith, nat_tests)) (grind (arith, nat_tests))))
-    (λ high. choose place c (nat_le 256 (place + c)) (Some (place + c - 256)) None (λ fits. led_back place c (grind (arith, nat_tests)) byte within (grind (arith, nat_tests))) (λ far w. below place c w (grind (arith, nat_tests)) (grind (arith, nat_tests))))
+    (λ low. choose place c (nat_lt (place + c) 65536) (Some (place + c)) None
+    (λ fits. led_forth place c (grind (arith, nat_tests)) (grind (arith, nat_tests)))
+    (λ far w. past place c w (grind (arith, nat_tests)) (grind (arith, nat_tests))))
+    (λ high. choose place c (nat_le 256 (place + c)) (Some (place + c - 256)) None
+    (λ fits. led_back place c (grind (arith, nat_tests)) byte within (grind (arith, nat_tests)))
+    (λ far w. below place c w (grind (arith, nat_tests)) (grind (arith, nat_tests))))
 
 -- ---- the first statement
 
@@ -97,20 +101,24 @@ module _ (at b : ℕ) where
   reserved_first bs is rest = reserved is (rw (add-zero (at + 1)) at (rest 0))
 
   module _ (op : Op) (is : decoded b ≡ Some op) where
-    alone_first : (bs : List ℕ) → tail_of (row_of op) ≡ tail.Nothing → Rest at bs → IsListing at (b ∷ bs) (behind at bs (tail_piece at b op bs tail.Nothing))
+    alone_first : (bs : List ℕ) → tail_of (row_of op) ≡ tail.Nothing → Rest at bs
+        → IsListing at (b ∷ bs) (behind at bs (tail_piece at b op bs tail.Nothing))
     alone_first bs tail_is rest = instruction_alone is (length_by op tail.Nothing tail_is) (rw (add-zero (at + 1)) at (rest 0))
 
     byte_first : (bs : List ℕ) → tail_of (row_of op) ≡ tail.Byte → Rest at bs → IsListing at (b ∷ bs) (behind at bs (byte_piece b op bs))
     unfolding entries
     byte_first [] tail_is rest = let size = length_by op tail.Byte tail_is in cut_instruction is (omega (arith, size))
-    byte_first (c ∷ cs) tail_is rest = instruction_with_byte is (length_by op tail.Byte tail_is) (branch_by op tail.Byte tail_is) (moved (two_on at) (rest 1))
+    byte_first (c ∷ cs) tail_is rest = instruction_with_byte is (length_by op tail.Byte tail_is) (branch_by op tail.Byte tail_is)
+        (moved (two_on at) (rest 1))
 
-    reaching_first : (c : ℕ) (cs : List ℕ) (w : Option ℕ) → Led (at + 1) c w → tail_of (row_of op) ≡ tail.Place → Rest at (c ∷ cs) → IsListing at (b ∷ c ∷ cs) (behind at (c ∷ cs) (reaching b op w))
+    reaching_first : (c : ℕ) (cs : List ℕ) (w : Option ℕ) → Led (at + 1) c w → tail_of (row_of op) ≡ tail.Place → Rest at (c ∷ cs)
+        → IsListing at (b ∷ c ∷ cs) (behind at (c ∷ cs) (reaching b op w))
     unfolding entries piece
     reaching_first c cs None far tail_is rest = branch_astray is (branch_by op tail.Place tail_is) far (moved (two_on at) (rest 1))
     reaching_first c cs (Some w) far tail_is rest = branch is (branch_by op tail.Place tail_is) far (moved (two_on at) (rest 1))
 
-    place_first : (bs : List ℕ) → AreBytes bs → at + 1 ≤ 65536 → tail_of (row_of op) ≡ tail.Place → Rest at bs → IsListing at (b ∷ bs) (behind at bs (place_piece at b op bs))
+    place_first : (bs : List ℕ) → AreBytes bs → at + 1 ≤ 65536 → tail_of (row_of op) ≡ tail.Place → Rest at bs
+        → IsListing at (b ∷ bs) (behind at bs (place_piece at b op bs))
     unfolding entries
     place_first [] all fits tail_is rest = let size = length_by op tail.Place tail_is in cut_instruction is (omega (arith, size))
     place_first (c ∷ cs) all fits tail_is rest = reaching_first c cs (target (at + 1) c) (led (at + 1) c fits all.0) tail_is rest
@@ -121,25 +129,30 @@ module _ (at b : ℕ) where
     word_first (c ∷ []) tail_is rest = let size = length_by op tail.Word tail_is in cut_instruction is (omega (arith, size))
     word_first (c ∷ d ∷ ds) tail_is rest = instruction_with_word is (length_by op tail.Word tail_is) (moved (three_on at) (rest 2))
 
-    tail_first : (bs : List ℕ) (t : Tail) → AreBytes bs → at + 1 ≤ 65536 → tail_of (row_of op) ≡ t → Rest at bs → IsListing at (b ∷ bs) (behind at bs (tail_piece at b op bs t))
+    tail_first : (bs : List ℕ) (t : Tail) → AreBytes bs → at + 1 ≤ 65536 → tail_of (row_of op) ≡ t → Rest at bs
+        → IsListing at (b ∷ bs) (behind at bs (tail_piece at b op bs t))
     tail_first bs tail.Nothing all fits tail_is rest = alone_first bs tail_is rest
     tail_first bs tail.Byte all fits tail_is rest = byte_first bs tail_is rest
     tail_first bs tail.Place all fits tail_is rest = place_first bs all fits tail_is rest
     tail_first bs tail.Word all fits tail_is rest = word_first bs tail_is rest
 
-  op_first : (bs : List ℕ) (o : Option Op) → AreBytes bs → at + 1 ≤ 65536 → decoded b ≡ o → Rest at bs → IsListing at (b ∷ bs) (behind at bs (op_piece at b bs o))
+  op_first : (bs : List ℕ) (o : Option Op) → AreBytes bs → at + 1 ≤ 65536 → decoded b ≡ o → Rest at bs
+      → IsListing at (b ∷ bs) (behind at bs (op_piece at b bs o))
   op_first bs None all fits is rest = reserved_first bs is rest
   op_first bs (Some op) all fits is rest = tail_first op is bs (tail_of (row_of op)) all fits refl rest
 
 -- ---- all bytes
 
 -- the statements of bytes list those that aren't skipped
-list_entries : (skip at : ℕ) (bytes : List ℕ) → AreBytes bytes → at + length bytes ≤ 65536 → IsListing (at + skip) (drop skip bytes) (entries skip 0 at bytes)
+list_entries : (skip at : ℕ) (bytes : List ℕ) → AreBytes bytes → at + length bytes ≤ 65536
+    → IsListing (at + skip) (drop skip bytes) (entries skip 0 at bytes)
 unfolding entries piece
 list_entries zero at [] all fits = nothing_left
 list_entries (suc skip) at [] all fits = nothing_left
-list_entries (suc skip) at (b ∷ bs) all fits = let next : at + 1 + skip ≡ at + suc skip = omega arith in rw next at (list_entries skip (at + 1) bs all.1 (omega arith))
-list_entries zero at (b ∷ bs) all fits = rw (add-zero at) (op_first at b bs (decoded b) all.1 (omega arith) refl (λ skip. list_entries skip (at + 1) bs all.1 (omega arith)))
+list_entries (suc skip) at (b ∷ bs) all fits = let next : at + 1 + skip ≡ at + suc skip = omega arith in rw next at
+    (list_entries skip (at + 1) bs all.1 (omega arith))
+list_entries zero at (b ∷ bs) all fits = rw (add-zero at)
+    (op_first at b bs (decoded b) all.1 (omega arith) refl (λ skip. list_entries skip (at + 1) bs all.1 (omega arith)))
 
 pub listing_is : (bytes : List ℕ) → AreBytes bytes → length bytes ≤ 65536 → IsListingText bytes (listing bytes)
 unfolding listing

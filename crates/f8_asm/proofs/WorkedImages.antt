@@ -36,7 +36,8 @@ tokens l = elim (tokens_of l) [ Ok ts ↦ ts | Err fault ↦ [] ]
 abbrev loop_text : List ℕ
 loop_text = codes "LOOP: NOP\nBR LOOP"
 
-loop_in : (n : ℕ) → image_in (suc (suc (suc n))) loop_text everywhere ≡ Ok (record { bytes = (0, 0x2B) ∷ (1, 0x90) ∷ (2, 0xFE) ∷ []; symbols = (codes "LOOP", pos 0) ∷ [] })
+loop_in : (n : ℕ) → image_in (suc (suc (suc n))) loop_text everywhere ≡ Ok
+    (record { bytes = (0, 0x2B) ∷ (1, 0x90) ∷ (2, 0xFE) ∷ []; symbols = (codes "LOOP", pos 0) ∷ [] })
 unfolding assembly_open
 loop_in n = rw (printable_tokens 1 (codes "LOOP: NOP") refl, printable_tokens 2 (codes "BR LOOP") refl, ascending_none 3 n) refl
 
@@ -48,20 +49,25 @@ loop = loop_in 65533
 abbrev overlap_text : List ℕ
 overlap_text = codes " ORG 2\n DB 1\n ORG 2\n DB 2"
 
-org_line : (number : ℕ) (done : List Line) → read_line number (reading done) (codes " ORG 2") ≡ Ok (reading (done ++ numbered number (tokens (codes " ORG 2")) ∷ []))
+org_line : (number : ℕ) (done : List Line)
+    → read_line number (reading done) (codes " ORG 2") ≡ Ok (reading (done ++ numbered number (tokens (codes " ORG 2")) ∷ []))
 unfolding assembly_open
 org_line number done = rw (printable_tokens number (codes " ORG 2") refl) refl
 
-one_line : (number : ℕ) (done : List Line) → read_line number (reading done) (codes " DB 1") ≡ Ok (reading (done ++ numbered number (tokens (codes " DB 1")) ∷ []))
+one_line : (number : ℕ) (done : List Line)
+    → read_line number (reading done) (codes " DB 1") ≡ Ok (reading (done ++ numbered number (tokens (codes " DB 1")) ∷ []))
 unfolding assembly_open
 one_line number done = rw (printable_tokens number (codes " DB 1") refl) refl
 
-two_line : (number : ℕ) (done : List Line) → read_line number (reading done) (codes " DB 2") ≡ Ok (reading (done ++ numbered number (tokens (codes " DB 2")) ∷ []))
+two_line : (number : ℕ) (done : List Line)
+    → read_line number (reading done) (codes " DB 2") ≡ Ok (reading (done ++ numbered number (tokens (codes " DB 2")) ∷ []))
 unfolding assembly_open
 two_line number done = rw (printable_tokens number (codes " DB 2") refl) refl
 
 abbrev overlap_lines : List Line
-overlap_lines = numbered 1 (tokens (codes " ORG 2")) ∷ numbered 2 (tokens (codes " DB 1")) ∷ numbered 3 (tokens (codes " ORG 2")) ∷ numbered 4 (tokens (codes " DB 2")) ∷ []
+overlap_lines =
+    numbered 1 (tokens (codes " ORG 2")) ∷ numbered 2 (tokens (codes " DB 1"))
+    ∷ numbered 3 (tokens (codes " ORG 2")) ∷ numbered 4 (tokens (codes " DB 2")) ∷ []
 
 -- what is read of the lines before this many, and the lines behind
 abbrev read_before : ℕ → Reading
@@ -79,7 +85,8 @@ overlap_read =
     ∙ sym (read_more 4 (read_before 3) (read_before 4) (codes " DB 2") (lines_behind 4) (two_line 4 (take 3 overlap_lines)))
     ∙ read_to_end 5 (read_before 4)
 
-overlap_laid : (n : ℕ) → place_lines everywhere (no_layout (suc (suc (suc n)))) overlap_lines ≡ Err (record { line = 4; column = 2; cause = Overlap })
+overlap_laid : (n : ℕ) → place_lines everywhere (no_layout (suc (suc (suc n)))) overlap_lines ≡ Err
+    (record { line = 4; column = 2; cause = Overlap })
 unfolding assembly_open
 overlap_laid n = refl
 
@@ -110,7 +117,8 @@ unfolding image_of
 byte_too_large = byte_too_large_in 65534
 
 -- 512 less 1 is 511
-branch_too_far_in : (n : ℕ) → image_in (suc (suc n)) (codes " BT 1,$200") everywhere ≡ Err (record { line = 1; column = 7; cause = BranchRange })
+branch_too_far_in : (n : ℕ) → image_in (suc (suc n)) (codes " BT 1,$200") everywhere ≡ Err
+    (record { line = 1; column = 7; cause = BranchRange })
 unfolding assembly_open
 branch_too_far_in n = rw (printable_tokens 1 (codes " BT 1,$200") refl) refl
 
