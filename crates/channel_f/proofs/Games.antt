@@ -8,6 +8,7 @@ use Rattle.console_spec.specs.Run.{Stop, Done, Unserved, Reserved, Ending as Fla
 use Rattle.console_spec.specs.RunText.{verdict_line, told_lines, ending_lines, flat_telling_lines, lines_of, text_of}
 use Rattle.console_spec.specs.Telling.{Telling, told_in}
 use Rattle.console_spec.specs.declared.Regs.{Regs}
+use Rattle.console_spec.specs.declared.VerdictWord.TheVariants.{Unchecked}
 use Rattle.data_bus.specs.Racks.{views}
 use Rattle.generator.specs.SummaryLines.{gen_line}
 use Rattle.rack_run.specs.Endings.{Tells, Plays as RackPlays, Refers, stop_at}
@@ -57,12 +58,12 @@ closing_is (Summary seed) told e tells = told_sums told e tells
 text_by : (manner : Manner) (t : Telling) → text_of (lines_by manner t) ≡ text_of (opening_lines manner) ++ (text_in (detail_of manner) (told_in t.moments) ++ text_of (closing_lines manner t.ending))
 unfolding text_told
 text_by (Whole true) t =
-    text_of-append (verdict_line ∷ []) (flat_telling_lines t)
-    ∙ ap (λ (text : List ℕ). text_of (verdict_line ∷ []) ++ text) (text_of-append (flat_map lines_of (told_in t.moments)) (ending_lines t.ending))
+    text_of-append (verdict_line Unchecked ∷ []) (flat_telling_lines t)
+    ∙ ap (λ (text : List ℕ). text_of (verdict_line Unchecked ∷ []) ++ text) (text_of-append (flat_map lines_of (told_in t.moments)) (ending_lines t.ending))
 text_by (Whole false) t =
-    text_of-append (verdict_line ∷ []) (flat_telling_lines t)
-    ∙ ap (λ (text : List ℕ). text_of (verdict_line ∷ []) ++ text) (text_of-append (flat_map lines_of (told_in t.moments)) (ending_lines t.ending))
-text_by (Summary seed) t = text_of-append (gen_line seed ∷ verdict_line ∷ []) (summary_lines t.ending)
+    text_of-append (verdict_line Unchecked ∷ []) (flat_telling_lines t)
+    ∙ ap (λ (text : List ℕ). text_of (verdict_line Unchecked ∷ []) ++ text) (text_of-append (flat_map lines_of (told_in t.moments)) (ending_lines t.ending))
+text_by (Summary seed) t = text_of-append (gen_line seed ∷ verdict_line Unchecked ∷ []) (summary_lines t.ending)
 
 flat_text : (t : Telling) → text_of (flat_telling_lines t) ≡ text_in Writes (told_in t.moments) ++ text_of (ending_lines t.ending)
 unfolding text_told

@@ -7,6 +7,7 @@ use Rattle.console_spec.specs.RunText.{verdict_line, stop_line, total_line, told
 use Rattle.console_spec.specs.Scripts.{Script}
 use Rattle.console_spec.specs.Telling.{Telling, played_by}
 use Rattle.console_spec.specs.declared.Regs.{Regs}
+use Rattle.console_spec.specs.declared.VerdictWord.TheVariants.{Unchecked}
 use Rattle.generator.specs.SummaryLines.{gen_line, writes_line, scratch_sum_line}
 use Rattle.rack_run.specs.Endings.{bytes_written, stop_at}
 use Rattle.rack_run.specs.Texts.{is_traced}
@@ -27,8 +28,8 @@ run_by manner script vs = played_by vs (is_traced (detail_of manner)) script
 
 -- before it begins
 abbrev pub opening_lines : Manner → List (List ℕ)
-opening_lines (Whole traced) = verdict_line ∷ []
-opening_lines (Summary seed) = gen_line seed ∷ verdict_line ∷ []
+opening_lines (Whole traced) = verdict_line Unchecked ∷ []
+opening_lines (Summary seed) = gen_line seed ∷ verdict_line Unchecked ∷ []
 
 -- what stops it, the instructions and their clocks, the writes that ports took with the sum of their bytes, and the sum of the scratchpad
 abbrev pub told_summary : Stop → Regs → (count phi writes bytes : ℕ) → List (List ℕ)
@@ -48,7 +49,7 @@ closing_lines (Summary seed) e = summary_lines e
 -- all its lines
 abbrev pub lines_by : Manner → Telling → List (List ℕ)
 lines_by (Whole traced) t = telling_lines t
-lines_by (Summary seed) t = gen_line seed ∷ verdict_line ∷ summary_lines t.ending
+lines_by (Summary seed) t = gen_line seed ∷ verdict_line Unchecked ∷ summary_lines t.ending
 
 -- the same from an ending as a run tells it
 abbrev pub told_closing : Manner → ToldEnding → List (List ℕ)

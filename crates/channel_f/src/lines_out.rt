@@ -11,12 +11,11 @@ ghost use Rattle.channel_f.specs.Statuses.{exit_code};
 use super::manner::Manner;
 use super::status::Status;
 use asm_lines::{put_image, put_listing};
-use data_bus::BusFault;
 use f8_asm::{Image, Text};
 use generator::{gen_line, scratch_sum, scratch_sum_line, writes_line};
 use outside::{Sink, SinkFault};
 use rack_run::{Ending, Halt};
-use report::Line;
+use report::{Line, VerdictWord};
 
 /// Each line is one put.
 fn put_all<K: Sink>(sink: &mut K, lines: &[Line]) -> Result<(), SinkFault>
@@ -30,31 +29,12 @@ fn put_all<K: Sink>(sink: &mut K, lines: &[Line]) -> Result<(), SinkFault>
     Ok(())
 }
 
-/// The line of a bus step that isn't served.
-fn fault_line(fault: &BusFault) -> Line
-    ensures { result ≡ spelled_stop (stop_at (Some (Halt.Fault fault.now))) }
-{
-    match fault {
-        BusFault::Conflict { romc, parties } => report::stop_conflict_line(
-            romc.number(),
-            parties.as_slice(),
-        ),
-        BusFault::Undriven { romc, at } => report::stop_undriven_line(romc.number(), *at),
-        BusFault::Astray {
-            romc,
-            socket,
-            at,
-            reference,
-        } => report::stop_astray_line(romc.number(), *socket, *at, *reference),
-    }
-}
-
 fn stop_line(halt: &Option<Halt>) -> Line
     ensures { result ≡ spelled_stop (stop_at halt.now) }
 {
     match halt {
         None => report::stop_done_line(),
-        Some(Halt::Fault(fault)) => fault_line(fault),
+        Some(Halt::Fault(fault)) => report::stop_fault_line(fault),
         Some(Halt::Reserved { at, code }) => report::stop_reserved_line(*at, *code),
     }
 }
@@ -110,11 +90,10 @@ pub fn put_opening<K: Sink>(sink: &mut K, manner: Manner) -> Result<(), SinkFaul
     ensures err { OnErr result (AddsPart (K.written sink.old) (K.written sink.new) (text_of (opening_lines manner))) }
     ensures cause { HasCause (K.faults sink.old) (K.faults sink.new) result }
 {
+    let verdict = report::verdict_line(VerdictWord::Unchecked);
     match manner {
-        Manner::Whole { .. } => put_all(sink, [report::verdict_line()].as_slice()),
-        Manner::Summary { seed } => {
-            put_all(sink, [gen_line(seed), report::verdict_line()].as_slice())
-        }
+        Manner::Whole { .. } => put_all(sink, [verdict].as_slice()),
+        Manner::Summary { seed } => put_all(sink, [gen_line(seed), verdict].as_slice()),
     }
 }
 

@@ -11,12 +11,20 @@ use Rattle.console_spec.specs.Display.{palette_of, tone_of, row_of_pixels}
 use Rattle.console_spec.specs.BusTrace.{TracedStep}
 use Rattle.console_spec.specs.Telling.{Told, Traced, TracedFault, Wrote, Shown, Telling, told_in}
 use Rattle.console_spec.specs.declared.Regs.{Regs}
+use Rattle.console_spec.specs.declared.VerdictWord.{VerdictWord}
+use Rattle.console_spec.specs.declared.VerdictWord.TheVariants.{Whole, Agreed, NoVerdict, Unchecked}
 use Rattle.console_spec.specs.declared.Who.{Who}
 use Rattle.console_spec.specs.declared.Who.TheVariants.{Cpu, Socket, Nobody}
 
--- nothing was checked beforehand
-unfoldable pub verdict_line : List ℕ
-verdict_line = codes "verdict unchecked\n"
+-- what was found beforehand, or that nothing was checked
+abbrev pub verdict_text : VerdictWord → List ℕ
+verdict_text Whole = codes "whole"
+verdict_text Agreed = codes "agreed"
+verdict_text NoVerdict = codes "none"
+verdict_text Unchecked = codes "unchecked"
+
+unfoldable pub verdict_line : VerdictWord → List ℕ
+verdict_line word = codes "verdict " ++ verdict_text word ++ codes "\n"
 
 -- a chip of a conflict, with its own address or the port
 abbrev pub party_text : Party → List ℕ
@@ -114,4 +122,4 @@ abbrev pub flat_telling_lines : Telling → List (List ℕ)
 flat_telling_lines t = flat_map lines_of (told_in t.moments) ++ ending_lines t.ending
 
 abbrev pub telling_lines : Telling → List (List ℕ)
-telling_lines t = verdict_line ∷ flat_telling_lines t
+telling_lines t = verdict_line Unchecked ∷ flat_telling_lines t

@@ -42,6 +42,22 @@ pub enum Who {
     Nobody,
 }
 
+/// What is known of a cartridge before it runs (this project's own).
+#[derive(Clone, Copy, Debug, PartialEq, Eq)]
+pub enum VerdictWord {
+    /// Every bus step of every run is served.
+    Whole,
+
+    /// Every bus step of every run is served, but that a step at the data counter may have no chip that drives.
+    Agreed,
+
+    /// Neither was found.
+    NoVerdict,
+
+    /// Nothing was checked.
+    Unchecked,
+}
+
 /// What comes from outside at a frame (this project's own).
 #[derive(Clone, Copy, Debug, PartialEq, Eq)]
 pub enum Event {

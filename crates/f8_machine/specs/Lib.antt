@@ -2,6 +2,7 @@ pub mod FlatViews
 pub mod PortViews
 pub mod ChipCopies
 pub mod Faults
+pub mod HeardSteps
 pub mod Traces
 pub mod BusSteps
 pub mod Rounds

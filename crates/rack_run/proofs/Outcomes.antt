@@ -9,13 +9,14 @@ use Rattle.console_spec.specs.Run.{Position, Stops, Reserved as ReservedStop, go
 use Rattle.console_spec.specs.Services.{Fault}
 use Rattle.console_spec.specs.Telling.{Told, Traced, told_course, told_steps, code_of}
 use Rattle.f8_machine.specs.Faults.{fault_of}
+use Rattle.f8_machine.specs.HeardSteps.{step_of}
 use Rattle.f8_machine.specs.MachineState.{MachineState, steps_in}
 use Rattle.f8_machine.specs.Refinement.{Refines, ResetRefines}
 use Rattle.f8_machine.specs.Rounds.{heard_of}
 use Rattle.f8_machine.specs.declared.heard.Heard.{Heard}
 use Rattle.f8_machine.specs.declared.outcome.Outcome.{Outcome}
 use Rattle.f8_machine.specs.declared.outcome.Outcome.TheVariants.{Done, Fault as FaultOutcome, Reserved}
-use Rattle.rack_run.specs.Texts.{is_traced, step_of, served_told, unserved_told, outcome_told}
+use Rattle.rack_run.specs.Texts.{is_traced, served_told, unserved_told, outcome_told}
 use Rattle.rack_run.specs.declared.detail.Detail.{Detail}
 use Rattle.rack_run.specs.declared.detail.Detail.TheVariants.{Nothing, Writes, Steps}
 

@@ -18,7 +18,8 @@ use Rattle.f8_machine.specs.declared.heard.Heard.{Heard}
 use Rattle.report.proofs.TextLaws.{text_of-cons, text_of-drop, text_of-drop_all}
 use Rattle.video.specs.ScreenState.{Shown as ShownScreen, shown}
 use Rattle.rack_run.specs.Progressing.{ProgressState, Keeps, screen_with, frame_at}
-use Rattle.rack_run.specs.Texts.{Puts, text_told, text_in, rows_told, step_of, write_told, frame_told}
+use Rattle.f8_machine.specs.HeardSteps.{step_of}
+use Rattle.rack_run.specs.Texts.{Puts, text_told, text_in, rows_told, write_told, frame_told}
 use Rattle.rack_run.specs.declared.detail.Detail.{Detail}
 use Rattle.rack_run.proofs.Progressed.{keeps_more, frame_falls, told_is}
 use Rattle.rack_run.proofs.PutLaws.{puts_line, puts_then, puts_first}

@@ -2,11 +2,11 @@
 use Rattle.std.specs.Prelude.{◌≢◌, ℕ, ◌==◌, Bool, true, false, if◌then◌else◌, List, [], ◌∷◌, ◌++◌, map, flat_map, Option, Some, None, Result, OnOk, OnErr}
 use Rattle.std.specs.List.{list_any, range_with_len}
 use Rattle.console_board.specs.declared.PortWrite.{PortWrite}
-use Rattle.console_spec.specs.BusTrace.{TracedStep}
 use Rattle.console_spec.specs.RunText.{lines_of, picture_row, text_of}
 use Rattle.console_spec.specs.Telling.{Told, Traced, TracedFault, Wrote, Shown, code_of}
 use Rattle.console_spec.specs.Writes.{Write}
 use Rattle.f8_machine.specs.Faults.{fault_of}
+use Rattle.f8_machine.specs.HeardSteps.{step_of}
 use Rattle.f8_machine.specs.PortWrites.{write_as}
 use Rattle.f8_machine.specs.declared.heard.Heard.{Heard}
 use Rattle.f8_machine.specs.declared.outcome.Outcome.{Outcome}
@@ -39,10 +39,6 @@ pub record Puts {T E : Type 0} (result : Result T E) (old new : Option (List ℕ
   pub err : OnErr result (AddsPart old new text)
   pub some : OnErr result (text ≢ [])
   pub cause : HasCause before now result
-
--- a served step, as the definitions have it
-abbrev pub step_of : Heard → TracedStep
-step_of h = record { romc = h.romc; long = h.long; byte = h.byte; who = h.who; taker = h.taker }
 
 -- the served steps of reset or an instruction, where they are told, and the step that is not served
 abbrev pub served_told : Detail → List Heard → List Told

@@ -28,6 +28,7 @@ use data_bus::BusFault;
 use f8_machine::{Chain, Machine, Outcome, Rack};
 use outside::{Sink, SinkFault};
 use pad_script::Script;
+use romc_table::Romc;
 
 /// How the run ends where this stops it.
 fn ending(machine: &Machine, progress: &Progress, halt: Option<Halt>) -> Ending
@@ -44,13 +45,13 @@ fn ending(machine: &Machine, progress: &Progress, halt: Option<Halt>) -> Ending
 }
 
 /// The code of a bus step that isn't served.
-fn code_of(fault: &BusFault) -> u8
+fn code_of(fault: &BusFault) -> Romc
     ensures { result ≡ told_code (fault_of fault.now) }
 {
     match fault {
         BusFault::Conflict { romc, .. }
         | BusFault::Undriven { romc, .. }
-        | BusFault::Astray { romc, .. } => romc.number(),
+        | BusFault::Astray { romc, .. } => *romc,
     }
 }
 

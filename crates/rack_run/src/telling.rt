@@ -6,11 +6,12 @@ ghost use Rattle.console_spec.specs.RunText.{frame_lines, text_of};
 ghost use Rattle.console_spec.specs.Telling.{Traced, told_turn};
 ghost use Rattle.console_spec.specs.Writes.{Write};
 ghost use Rattle.video.specs.ScreenState.{shown};
+ghost use Rattle.f8_machine.specs.HeardSteps.{step_of};
 ghost use Rattle.f8_machine.specs.PortWrites.{write_as};
 ghost use Rattle.outside.specs.SinkRules.{HasCause};
 ghost use Rattle.pad_script.specs.Reading.{seen};
 ghost use Rattle.rack_run.specs.Progressing.{Keeps, frame_at, progress_with};
-ghost use Rattle.rack_run.specs.Texts.{Puts, rows_told, text_told, text_in, step_of, served_told, unserved_told, write_told, frame_told};
+ghost use Rattle.rack_run.specs.Texts.{Puts, rows_told, text_told, text_in, served_told, unserved_told, write_told, frame_told};
 
 use super::detail::Detail;
 use super::progress::Progress;
@@ -19,6 +20,7 @@ use f8_machine::Heard;
 use outside::{Sink, SinkFault};
 use pad_script::Script;
 use report::{bus_fault_line, bus_line, frame_line, out_line, row_line};
+use romc_table::Romc;
 
 /// The rows of a picture.
 const ROWS: u8 = 64;
@@ -27,8 +29,7 @@ fn put_steps<K: Sink>(sink: &mut K, steps: &[Heard]) -> Result<(), SinkFault>
     ensures { Puts result (K.written sink.old) (K.written sink.new) (K.faults sink.old) (K.faults sink.new) (text_told (map (λ h. Traced (step_of h)) steps.now)) }
 {
     for step in steps {
-        let line = bus_line(step.romc.number(), step.long, step.byte, step.who);
-        sink.put(line.as_bytes())?;
+        sink.put(bus_line(step).as_bytes())?;
     }
     Ok(())
 }
@@ -51,7 +52,7 @@ pub(crate) fn tell_steps<K: Sink>(
 pub(crate) fn tell_fault<K: Sink>(
     sink: &mut K,
     detail: Detail,
-    romc: u8,
+    romc: Romc,
     long: bool,
 ) -> Result<(), SinkFault>
     ensures { Puts result (K.written sink.old) (K.written sink.new) (K.faults sink.old) (K.faults sink.new) (text_in detail (unserved_told detail romc long)) }
@@ -76,7 +77,7 @@ fn tell_write<K: Sink>(
     if !detail.is_told() {
         return Ok(());
     }
-    sink.put(out_line(write.phi, write.port, write.byte).as_bytes())
+    sink.put(out_line(&write).as_bytes())
 }
 
 fn put_rows<K: Sink>(sink: &mut K, screen: &Screen) -> Result<(), SinkFault>
@@ -84,7 +85,7 @@ fn put_rows<K: Sink>(sink: &mut K, screen: &Screen) -> Result<(), SinkFault>
     ensures cause { HasCause (K.faults sink.old) (K.faults sink.new) result }
 {
     for y in 0..ROWS {
-        sink.put(row_line(&screen.row_text(y)).as_bytes())?;
+        sink.put(row_line(screen, y).as_bytes())?;
     }
     Ok(())
 }

@@ -1,3 +1,2 @@
-pub mod PictureRows
 pub mod TextLaws
 mod WorkedRefusals

@@ -1,6 +1,6 @@
 //! The lines that the program tells a run and its refusals by (this project's own), each on a buffer of its own, so that no writer takes
 //! memory. Every line is ASCII and ends with a line feed; numbers are decimal without leading zeros, or have a fixed number of
-//! hexadecimal capitals. Only the text of a picture's row is told as it's passed.
+//! hexadecimal capitals.
 #![tactic(auto)]
 
 mod line_buffer;
@@ -10,13 +10,14 @@ mod run_lines;
 mod tests;
 mod told_lines;
 
+pub use console_spec::VerdictWord;
 pub use line_buffer::{LINE_ROOM, Line};
 pub use refusal_lines::{
     Reader, error_asm, error_cart, error_hex, error_long, error_rack, error_reader, error_sockets,
     error_store, error_toml, error_words,
 };
 pub use run_lines::{
-    regs_line, scratch_line, stop_astray_line, stop_conflict_line, stop_done_line,
-    stop_reserved_line, stop_undriven_line, total_line, verdict_line,
+    regs_line, scratch_line, stop_done_line, stop_fault_line, stop_reserved_line, total_line,
+    verdict_line,
 };
 pub use told_lines::{bus_fault_line, bus_line, frame_line, out_line, row_line};

@@ -1,20 +1,37 @@
 // The lines of a run, from its verdict to its total.
 ghost use Rattle.std.specs.Prelude.{◌≡◌, ◌<◌, ◌≤◌, length};
-ghost use Rattle.console_spec.specs.RunText.{verdict_line as spelled_verdict, stop_line as spelled_stop, regs_line as spelled_regs, scratch_line as spelled_scratch, total_line as spelled_total};
+ghost use Rattle.console_spec.specs.RunText.{verdict_text as spelled_word, verdict_line as spelled_verdict, stop_line as spelled_stop, fault_line as spelled_fault, regs_line as spelled_regs, scratch_line as spelled_scratch, total_line as spelled_total};
 ghost use Rattle.console_spec.specs.Run.{Done, Unserved, Reserved};
 ghost use Rattle.console_spec.specs.Services.{Conflict, Undriven, Astray};
+ghost use Rattle.f8_machine.specs.Faults.{fault_of};
 
 use super::line_buffer::Line;
-use console_spec::Regs;
+use console_spec::{Regs, VerdictWord};
+use data_bus::BusFault;
 use f8_spec::Party;
+use romc_table::Romc;
 
-/// `verdict unchecked`: nothing was checked beforehand.
+fn verdict_text(word: VerdictWord) -> &'static [u8]
+    ensures text { result.now ≡ spelled_word word }
+    ensures size { length result.now ≤ 9 }
+{
+    match word {
+        VerdictWord::Whole => b"whole",
+        VerdictWord::Agreed => b"agreed",
+        VerdictWord::NoVerdict => b"none",
+        VerdictWord::Unchecked => b"unchecked",
+    }
+}
+
+/// `verdict whole`, `verdict agreed`, `verdict none` and `verdict unchecked`: what was found before a run, or that nothing was checked.
 #[tactic(auto, unfolding(console_spec::specs::RunText::verdict_line))]
-pub fn verdict_line() -> Line
-    ensures { result ≡ spelled_verdict }
+pub fn verdict_line(word: VerdictWord) -> Line
+    ensures { result ≡ spelled_verdict word }
 {
     let mut line = Line::new();
-    line.text(b"verdict unchecked\n");
+    line.text(b"verdict ");
+    line.text(verdict_text(word));
+    line.text(b"\n");
     line
 }
 
@@ -28,15 +45,15 @@ pub fn stop_done_line() -> Line
     line
 }
 
-/// `stop conflict`: several chips drive or take in a step with this code, each at its own address.
-#[tactic(auto, unfolding(console_spec::specs::RunText::stop_line, console_spec::specs::RunText::fault_line))]
-pub fn stop_conflict_line(romc: u8, parties: &[Party]) -> Line
+/// Several chips drive or take in a step with this code, each at its own address or the port.
+#[tactic(auto, unfolding(console_spec::specs::RunText::fault_line))]
+fn conflict_line(romc: Romc, parties: &[Party]) -> Line
     requires few { length parties.now ≤ 16 }
-    ensures { result ≡ spelled_stop (Unserved (Conflict romc parties.now)) }
+    ensures { result ≡ spelled_fault (Conflict romc parties.now) }
 {
     let mut line = Line::new();
     line.text(b"stop conflict romc ");
-    line.hex2(romc);
+    line.hex2(romc.number());
     for party in parties {
         line.text(b" socket ");
         line.small(party.socket);
@@ -47,29 +64,29 @@ pub fn stop_conflict_line(romc: u8, parties: &[Party]) -> Line
     line
 }
 
-/// `stop undriven`: no chip drives a step with this code at this address.
-#[tactic(auto, unfolding(console_spec::specs::RunText::stop_line, console_spec::specs::RunText::fault_line))]
-pub fn stop_undriven_line(romc: u8, at: u16) -> Line
-    ensures { result ≡ spelled_stop (Unserved (Undriven romc at)) }
+/// No chip drives a step with this code at this address or port.
+#[tactic(auto, unfolding(console_spec::specs::RunText::fault_line))]
+fn undriven_line(romc: Romc, at: u16) -> Line
+    ensures { result ≡ spelled_fault (Undriven romc at) }
 {
     let mut line = Line::new();
     line.text(b"stop undriven romc ");
-    line.hex2(romc);
+    line.hex2(romc.number());
     line.text(b" at ");
     line.hex4(at);
     line.text(b"\n");
     line
 }
 
-/// `stop astray`: in a step with this code the chip in this socket drives or takes at an address, or holds the reference and does
-/// neither, and the reference is another.
-#[tactic(auto, unfolding(console_spec::specs::RunText::stop_line, console_spec::specs::RunText::fault_line))]
-pub fn stop_astray_line(romc: u8, socket: u8, at: u16, reference: u16) -> Line
-    ensures { result ≡ spelled_stop (Unserved (Astray romc socket at reference)) }
+/// In a step with this code the chip in this socket drives or takes at an address, or holds the reference and does neither, and the
+/// reference is another.
+#[tactic(auto, unfolding(console_spec::specs::RunText::fault_line))]
+fn astray_line(romc: Romc, socket: u8, at: u16, reference: u16) -> Line
+    ensures { result ≡ spelled_fault (Astray romc socket at reference) }
 {
     let mut line = Line::new();
     line.text(b"stop astray romc ");
-    line.hex2(romc);
+    line.hex2(romc.number());
     line.text(b" socket ");
     line.small(socket);
     line.text(b" at ");
@@ -78,6 +95,23 @@ pub fn stop_astray_line(romc: u8, socket: u8, at: u16, reference: u16) -> Line
     line.hex4(reference);
     line.text(b"\n");
     line
+}
+
+/// `stop conflict`, `stop undriven` and `stop astray`: a bus step isn't served, by its code and the sockets and addresses concerned.
+#[tactic(auto, unfolding(console_spec::specs::RunText::stop_line))]
+pub fn stop_fault_line(fault: &BusFault) -> Line
+    ensures { result ≡ spelled_stop (Unserved (fault_of fault.now)) }
+{
+    match fault {
+        BusFault::Conflict { romc, parties } => conflict_line(*romc, parties.as_slice()),
+        BusFault::Undriven { romc, at } => undriven_line(*romc, *at),
+        BusFault::Astray {
+            romc,
+            socket,
+            at,
+            reference,
+        } => astray_line(*romc, *socket, *at, *reference),
+    }
 }
 
 /// `stop reserved`: at this address stands an opcode that no instruction has.

@@ -1,6 +1,10 @@
 use super::*;
+use console_board::{PortWrite, Screen};
 use console_spec::{Regs, Who};
+use data_bus::{BusFault, Parties};
+use f8_machine::Heard;
 use f8_spec::{ChipKind, Party};
+use romc_table::Romc;
 use std::process::Abort;
 
 fn tells(rt: &impl Abort, line: &Line, text: &str) {
@@ -67,44 +71,59 @@ fn refusals_with_a_place(rt: HostRuntime) {
 }
 
 #[test]
+fn verdicts(rt: HostRuntime) {
+    tells(&rt, &verdict_line(VerdictWord::Whole), "verdict whole\n");
+    tells(&rt, &verdict_line(VerdictWord::Agreed), "verdict agreed\n");
+    tells(&rt, &verdict_line(VerdictWord::NoVerdict), "verdict none\n");
+    let unchecked = verdict_line(VerdictWord::Unchecked);
+    tells(&rt, &unchecked, "verdict unchecked\n");
+}
+
+#[test]
 fn stops(rt: HostRuntime) {
-    tells(&rt, &verdict_line(), "verdict unchecked\n");
     tells(&rt, &stop_done_line(), "stop done\n");
-    let parties = [
-        Party {
-            socket: 0,
-            at: 0x0010,
-        },
-        Party {
-            socket: 12,
-            at: 0x2800,
-        },
-    ];
-    let conflict = stop_conflict_line(0x02, &parties);
+    tells(
+        &rt,
+        &stop_reserved_line(0xFFFE, 0xFF),
+        "stop reserved FF at FFFE\n",
+    );
+}
+
+#[test]
+fn stops_at_a_fault(rt: HostRuntime) {
+    let mut parties = Parties::new();
+    parties.push(Party {
+        socket: 0,
+        at: 0x0010,
+    });
+    parties.push(Party {
+        socket: 12,
+        at: 0x2800,
+    });
+    let conflict = stop_fault_line(&BusFault::Conflict {
+        romc: Romc::READ_DATA,
+        parties,
+    });
     tells(
         &rt,
         &conflict,
         "stop conflict romc 02 socket 0 at 0010 socket 12 at 2800\n",
     );
-    tells(
-        &rt,
-        &stop_undriven_line(0x02, 0x0400),
-        "stop undriven romc 02 at 0400\n",
-    );
-}
-
-#[test]
-fn stops_at_one_place(rt: HostRuntime) {
-    let astray = stop_astray_line(0x00, 1, 0x0405, 0x0000);
+    let undriven = stop_fault_line(&BusFault::Undriven {
+        romc: Romc::READ_DATA,
+        at: 0x0400,
+    });
+    tells(&rt, &undriven, "stop undriven romc 02 at 0400\n");
+    let astray = stop_fault_line(&BusFault::Astray {
+        romc: Romc::FETCH,
+        socket: 1,
+        at: 0x0405,
+        reference: 0x0000,
+    });
     tells(
         &rt,
         &astray,
         "stop astray romc 00 socket 1 at 0405 reference 0000\n",
-    );
-    tells(
-        &rt,
-        &stop_reserved_line(0xFFFE, 0xFF),
-        "stop reserved FF at FFFE\n",
     );
 }
 
@@ -135,29 +154,49 @@ fn registers(rt: HostRuntime) {
     tells(&rt, &total_line(6, 102), "total 6 instructions 102 phi\n");
 }
 
+fn heard(romc: Romc, long: bool, byte: u8, who: Who) -> Heard {
+    Heard {
+        romc,
+        long,
+        byte,
+        who,
+        taker: Some(3),
+    }
+}
+
 #[test]
 fn bus_steps(rt: HostRuntime) {
-    let idle = bus_line(0x1C, false, 0x00, Who::Nobody);
-    tells(&rt, &idle, "bus 1C S 00 -\n");
-    let by_cpu = bus_line(0x08, true, 0x00, Who::Cpu);
-    tells(&rt, &by_cpu, "bus 08 L 00 cpu\n");
-    let by_socket = bus_line(0x00, false, 0x71, Who::Socket(0));
-    tells(&rt, &by_socket, "bus 00 S 71 0\n");
-    tells(&rt, &bus_fault_line(0x02, true), "bus 02 L -- fault\n");
+    let idle = heard(Romc::IDLE, false, 0x00, Who::Nobody);
+    tells(&rt, &bus_line(&idle), "bus 1C S 00 -\n");
+    let by_cpu = heard(Romc::RESET, true, 0x00, Who::Cpu);
+    tells(&rt, &bus_line(&by_cpu), "bus 08 L 00 cpu\n");
+    let by_socket = heard(Romc::FETCH, false, 0x71, Who::Socket(0));
+    tells(&rt, &bus_line(&by_socket), "bus 00 S 71 0\n");
+    let fault = bus_fault_line(Romc::READ_DATA, true);
+    tells(&rt, &fault, "bus 02 L -- fault\n");
 }
 
 #[test]
 fn writes_and_frames(rt: HostRuntime) {
-    tells(&rt, &out_line(32, 0x00, 0x20), "out 32 00 20\n");
+    let write = PortWrite {
+        phi: 32,
+        port: 0x00,
+        byte: 0x20,
+    };
+    tells(&rt, &out_line(&write), "out 32 00 20\n");
     tells(&rt, &frame_line(1, 29_840, 0), "frame 1 phi 29840 tone 0\n");
-    let mut text = [b'0'; 130];
-    text[0] = b'1';
-    text[1] = b' ';
-    text[127] = b'3';
-    text[129] = b'3';
+}
+
+// Pixels 125 and 127 of row 63 have colour 3, so that its palette is 1.
+#[test]
+fn rows(rt: HostRuntime) {
+    let mut screen = Screen::dark();
+    for (port, byte) in [(4, 0x80), (0, 0x20), (0, 0x00), (4, 0x82), (0, 0x20)] {
+        screen.port(port, byte);
+    }
     tells(
         &rt,
-        &row_line(&text),
+        &row_line(&screen, 63),
         "1 00000000000000000000000000000000000000000000000000000000000000000000000000000000000000000000000000000000000000000000000000000303\n",
     );
 }

@@ -1,9 +1,16 @@
 // The lines that are told as a run goes: bus steps, writes to ports, and frames.
-ghost use Rattle.std.specs.Prelude.{ℕ, ◌≡◌, ◌≤◌, ◌+◌, ◌++◌, Option, codes, length};
-ghost use Rattle.console_spec.specs.RunText.{length_text as spelled_length, who_text as spelled_who, bus_line as spelled_bus, bus_fault_line as spelled_bus_fault, out_line as spelled_out, frame_line as spelled_frame};
+ghost use Rattle.std.specs.Prelude.{◌≡◌, ◌≤◌, ◌<◌, ◌+◌, ◌++◌, List, codes, length};
+ghost use Rattle.console_spec.specs.RunText.{length_text as spelled_length, who_text as spelled_who, bus_line as spelled_bus, bus_fault_line as spelled_bus_fault, out_line as spelled_out, frame_line as spelled_frame, picture_row};
+ghost use Rattle.console_spec.specs.Writes.{Write};
+ghost use Rattle.f8_machine.specs.HeardSteps.{step_of};
+ghost use Rattle.f8_machine.specs.PortWrites.{write_as};
+ghost use Rattle.video.specs.ScreenState.{pixel_in, digits_in, shown};
 
 use super::line_buffer::Line;
+use console_board::{PortWrite, Screen};
 use console_spec::Who;
+use f8_machine::Heard;
+use romc_table::Romc;
 
 /// `L` for a long step and `S` for a short one.
 fn length_text(long: bool) -> &'static [u8]
@@ -28,48 +35,48 @@ fn write_who(line: &mut Line, who: Who)
 
 /// `bus`: a bus step that is served, by its code, whether it's a long one, its byte, and who drove the byte. Who took the byte isn't told.
 #[tactic(auto, unfolding(console_spec::specs::RunText::bus_line))]
-pub fn bus_line(romc: u8, long: bool, byte: u8, who: Who) -> Line
-    ensures { (taker : Option ℕ) → result ≡ spelled_bus (record { romc = romc; long = long; byte = byte; who = who; taker = taker }) }
+pub fn bus_line(heard: &Heard) -> Line
+    ensures { result ≡ spelled_bus (step_of heard.now) }
 {
     let mut line = Line::new();
     line.text(b"bus ");
-    line.hex2(romc);
+    line.hex2(heard.romc.number());
     line.text(b" ");
-    line.text(length_text(long));
+    line.text(length_text(heard.long));
     line.text(b" ");
-    line.hex2(byte);
+    line.hex2(heard.byte);
     line.text(b" ");
-    write_who(&mut line, who);
+    write_who(&mut line, heard.who);
     line.text(b"\n");
     line
 }
 
 /// `bus`: a bus step that isn't served, by its code and whether it's a long one.
 #[tactic(auto, unfolding(console_spec::specs::RunText::bus_fault_line))]
-pub fn bus_fault_line(romc: u8, long: bool) -> Line
+pub fn bus_fault_line(romc: Romc, long: bool) -> Line
     ensures { result ≡ spelled_bus_fault romc long }
 {
     let mut line = Line::new();
     line.text(b"bus ");
-    line.hex2(romc);
+    line.hex2(romc.number());
     line.text(b" ");
     line.text(length_text(long));
     line.text(b" -- fault\n");
     line
 }
 
-/// `out`: a port took a byte, in an instruction that ends at this clock, in Φ.
+/// `out`: a port took a byte, with the clock at the end of the instruction, in Φ.
 #[tactic(auto, unfolding(console_spec::specs::RunText::out_line))]
-pub fn out_line(phi: u64, port: u8, byte: u8) -> Line
-    ensures { result ≡ spelled_out (record { phi = phi; port = port; byte = byte }) }
+pub fn out_line(wrote: &PortWrite) -> Line
+    ensures { result ≡ spelled_out (write_as wrote.now) }
 {
     let mut line = Line::new();
     line.text(b"out ");
-    line.decimal(phi);
+    line.decimal(wrote.phi);
     line.text(b" ");
-    line.hex2(port);
+    line.hex2(wrote.port);
     line.text(b" ");
-    line.hex2(byte);
+    line.hex2(wrote.byte);
     line.text(b"\n");
     line
 }
@@ -91,12 +98,14 @@ pub fn frame_line(frame: u32, phi: u64, tone: u8) -> Line
     line
 }
 
-/// A row of a picture: its text, which is the digit of its palette, a blank, and a digit for each of its 128 pixels.
-pub fn row_line(text: &[u8; 130]) -> Line
-    ensures { result ≡ text.now ++ codes "\n" }
+/// A row of the picture that a screen shows: the digit of its palette, a blank, and a digit for each of its 128 pixels. `y` is below 64.
+pub fn row_line(screen: &Screen, y: u8) -> Line
+    requires { y < 64 }
+    ensures value { result ≡ digits_in (pixel_in screen.now.rows) y ++ codes "\n" }
+    ensures display { (ws : List Write) → screen.now ≡ shown ws → result ≡ picture_row y ws }
 {
     let mut line = Line::new();
-    line.text(text);
+    line.text(&screen.row_text(y));
     line.text(b"\n");
     line
 }

@@ -9,8 +9,7 @@ use Rattle.rack_run.proofs.telling.put_rows.Goals as goal
 pub loop-y-preserved : goal.loop-y-preserved
 loop-y-preserved g c = record {
   so_far = λ ws screen.
-      let line : c.as_bytes.result.now ≡ picture_row c.loop-y.y ws =
-      c.as_bytes.ensures.value ∙ c.row_line.ensures ∙ c.row_text.ensures.display ws screen in
+      let line : c.as_bytes.result.now ≡ picture_row c.loop-y.y ws = c.as_bytes.ensures.value ∙ c.row_line.ensures.display ws screen in
       so_far_more _ _ _ _ _ _ _ _ _ _ _ (c.loop-y.invariant.so_far ws screen) (rows_more ws c.loop-y.y c.loop-y-test.true)
       (rw line at c.in_ok-put.ensures.ok) c.in_ok-put.ensures.cause;
   faults = c.in_ok-put.ensures.cause.done ∙ c.loop-y.invariant.faults;
@@ -23,8 +22,7 @@ returns-clause-puts g c =
 pub returns-in_err-put-clause-puts : goal.returns-in_err-put-clause-puts
 returns-in_err-put-clause-puts g c = λ ws screen.
     let p = err_from_is_err_and c.from_residual.result c.from_residual.ensures.1 in
-    let line : c.as_bytes.result.now ≡ picture_row c.loop-y.y ws =
-    c.as_bytes.ensures.value ∙ c.row_line.ensures ∙ c.row_text.ensures.display ws screen in
+    let line : c.as_bytes.result.now ≡ picture_row c.loop-y.y ws = c.as_bytes.ensures.value ∙ c.row_line.ensures.display ws screen in
     rw p.1
     (so_far_cut _ _ _ _ _ _ _ _ _ _ _ _ (c.loop-y.invariant.so_far ws screen) (rows_more ws c.loop-y.y c.loop-y-test.true) (row_some _ _)
     (rw line at c.in_err-put.ensures.err) c.in_err-put.ensures.cause)

@@ -1,7 +1,8 @@
 -- The lines of the steps so far are put.
 use Rattle.std.proofs.Common.{map, drop}
 use Rattle.console_spec.specs.Telling.{Traced}
-use Rattle.rack_run.specs.Texts.{text_told, step_of}
+use Rattle.f8_machine.specs.HeardSteps.{step_of}
+use Rattle.rack_run.specs.Texts.{text_told}
 use Rattle.rack_run.proofs.PutLaws.{PutSoFar}
 use Rattle.rack_run.proofs.telling.put_steps.Given as goal
 

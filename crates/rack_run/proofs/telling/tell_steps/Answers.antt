@@ -1,7 +1,7 @@
 -- Where steps are not told, nothing is put.
 use Rattle.std.proofs.Common.{map, sym, ◌∙◌}
 use Rattle.console_spec.specs.Telling.{Traced}
-use Rattle.rack_run.specs.Texts.{step_of}
+use Rattle.f8_machine.specs.HeardSteps.{step_of}
 use Rattle.rack_run.proofs.PutLaws.{puts_traced, puts_untraced}
 use Rattle.rack_run.proofs.telling.tell_steps.Goals as goal
 

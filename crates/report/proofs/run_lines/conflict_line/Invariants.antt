@@ -3,10 +3,10 @@ use Rattle.std.proofs.Common.{◌≡◌, ◌≤◌, ◌++◌, ◌+◌, ◌*◌, 
 use Rattle.std.specs.Prelude.{flat_map}
 use Rattle.f8_spec.specs.Spelling.{hex2}
 use Rattle.console_spec.specs.RunText.{party_text}
-use Rattle.report.proofs.run_lines.stop_conflict_line.Given as goal
+use Rattle.report.proofs.run_lines.conflict_line.Given as goal
 
 abbrev pub invariant-loop-party : goal.invariant-loop-party
 invariant-loop-party l = record {
   len : length l.line ≤ 21 + 19 * l.party-index;
-  text : l.line ≡ codes "stop conflict romc " ++ hex2 l.romc ++ flat_map party_text (take l.party-index l.parties);
+  text : l.line ≡ codes "stop conflict romc " ++ hex2 l.fn.romc ++ flat_map party_text (take l.party-index l.parties);
 }
