@@ -412,20 +412,8 @@ fn refuses_files_past_their_limit(rt: HostRuntime) -> Result<(), Fail> {
             &["ref", "long", "script"],
             "error long cart\n",
         ),
-        (
-            "file",
-            b' ',
-            262_145,
-            &["asm", "file"],
-            "error long file\n",
-        ),
-        (
-            "file",
-            b'7',
-            131_074,
-            &["dis", "file"],
-            "error long file\n",
-        ),
+        ("file", b' ', 262_145, &["asm", "file"], "error long file\n"),
+        ("file", b'7', 131_074, &["dis", "file"], "error long file\n"),
     ];
     let mut rack = rack_of!(rt, 1, Psu::blank(), 0, Smi::blank());
     for (name, byte, size, words, text) in rows {

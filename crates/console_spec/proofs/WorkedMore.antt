@@ -107,7 +107,7 @@ patch_stops = refl
 
 -- a key byte is read and written back; then a port is read that no chip has
 keyed_text : text_of (telling_lines (played_by (psu 0 4 (0x20 ∷ 0x0F ∷ 0xB4 ∷ 0xA4 ∷ 0x26 ∷ 0x02 ∷ []) ∷ []) false
-        (record { power = 0; end = Steps 4; events = record { frame = 0; event = Keys 4 0x30 } ∷ []; shows = [] }))) ≡
+    (record { power = 0; end = Steps 4; events = record { frame = 0; event = Keys 4 0x30 } ∷ []; shows = [] }))) ≡
     codes "verdict unchecked\nout 40 04 0F\nstop undriven romc 1B at 0002\nregs P=0004 P1=0000 D0=0000 D1=0000 A=3F IS=00 W=01\n" ++ no_scratch
     ++ codes "total 3 instructions 56 phi\n"
 unfolding played_by telling own_inputs effect decoded first_memory text_of verdict_line out_line stop_line fault_line regs_line scratch_line total_line digits
@@ -133,11 +133,11 @@ ordinary =
     psu 0 4 (0x2A ∷ 0x08 ∷ 0x00 ∷ 0x16 ∷ 0x25 ∷ 0x55 ∷ 0x94 ∷ 0x04 ∷ 0x29 ∷ 0x08 ∷ 0x02 ∷ 0x90 ∷ 0xFF ∷ [])
     ∷ psu 0x400 8 []
     ∷ psu 0x800 32 (0x55 ∷ 0x2B ∷ 0x28 ∷ 0x08 ∷ 0x10 ∷ 0x90 ∷ 0xFC ∷ replicate 9 0xFF
-        ++ 0x08 ∷ 0x70 ∷ 0xB4 ∷ 0xB0 ∷ 0xA4 ∷ 0x18 ∷ 0xB4 ∷ 0x20 ∷ 0x37 ∷ 0xB5 ∷ 0x20 ∷ 0x20 ∷ 0xB0 ∷ 0x0C ∷ [])
+    ++ 0x08 ∷ 0x70 ∷ 0xB4 ∷ 0xB0 ∷ 0xA4 ∷ 0x18 ∷ 0xB4 ∷ 0x20 ∷ 0x37 ∷ 0xB5 ∷ 0x20 ∷ 0x20 ∷ 0xB0 ∷ 0x0C ∷ [])
     ∷ []
 
 ordinary_outs : text_of (flat_map lines_of (told_in (played_by ordinary false
-        (record { power = 0; end = Steps 17; events = record { frame = 0; event = Keys 4 0x05 } ∷ []; shows = [] })).moments))
+    (record { power = 0; end = Steps 17; events = record { frame = 0; event = Keys 4 0x05 } ∷ []; shows = [] })).moments))
     ≡ codes "out 154 04 00\nout 162 00 00\nout 198 04 FA\nout 224 05 37\nout 242 00 20\n"
 unfolding played_by telling own_inputs effect decoded first_memory text_of out_line digits
 ordinary_outs = refl

@@ -122,6 +122,7 @@ pub end_law : EndLaw
 unfolding played_by referred_by
 end_law vs traced script =
     let x = begun vs script in
-    let most = most_instructions script.end in
-    (behind_reset script x (λ z. telling (on_rack traced) script most z) (ends (on_rack traced) script rack_fairly most (position_after_reset x) (starts_reset vs script)) (reset_fault x),
-     ends on_flat script flat_fairly most (position_after_reset x) (starts_reset vs script))
+    let most = most_instructions script.end in (
+      behind_reset script x (λ z. telling (on_rack traced) script most z) (ends (on_rack traced) script rack_fairly most (position_after_reset x) (starts_reset vs script)) (reset_fault x),
+      ends on_flat script flat_fairly most (position_after_reset x) (starts_reset vs script),
+    )

@@ -103,4 +103,4 @@ returns-in_err-fit_next-clause-partly g c =
     let within : c.loop-chip.chip-index < length c.args.rack.now.items = rw c.deref_mut-chip-items.ensures.value at c.loop-chip-test.true in
     let so_far = rw (c.deref_mut-chip-items.ensures.value, c.as_slice-chips.ensures.chips) at c.loop-chip.invariant.changed in
     rw p.1 (partly_written (λ b. (goal.Chip-dyn g (b.vtable, b.value)).state b.value) _ c.args.rack.now.items c.loop-chip.chip-items _ c.loop-chip.chip-index c.chip-item.result c.fit_next.new.chip count long within so_far
-        c.in_err-fit_next.ensures.same)
+    c.in_err-fit_next.ensures.same)
