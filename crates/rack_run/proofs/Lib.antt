@@ -14,4 +14,5 @@ pub mod PlayLaws
 pub mod FlatLaws
 pub mod FlatTurns
 pub mod EndLaws
+pub mod TraceLaws
 mod WorkedSockets

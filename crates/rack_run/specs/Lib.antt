@@ -3,6 +3,7 @@ pub mod Lives
 pub mod Progressing
 pub mod Endings
 pub mod EndLaw
+pub mod TraceLaw
 pub mod Turns
 pub mod Seating
 pub mod Sockets

@@ -1,7 +1,14 @@
 ghost use Rattle.rack_run.specs.EndLaw.{EndLaw};
+ghost use Rattle.rack_run.specs.TraceLaw.{TraceLaw};
 
 /// A run ends as its script asks: where no fault and no reserved opcode stops it, all its frames have fallen, or all its instructions are
 /// done. This call does nothing; its contract is the law.
 pub fn end_law()
     ensures { EndLaw }
+{}
+
+/// What a trace tells agrees with how the run goes on: a bus step that isn't served stands in it just where the run stops by it, and the
+/// steps of an instruction that is done, or of reset, take as many Φ as it takes. This call does nothing; its contract is the law.
+pub fn trace_law()
+    ensures { TraceLaw }
 {}

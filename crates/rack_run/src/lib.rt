@@ -16,7 +16,7 @@ mod telling;
 pub use detail::Detail;
 pub use ending::{Ending, Halt};
 pub use flat::{ReferFault, refer};
-pub use law::end_law;
+pub use law::{end_law, trace_law};
 pub use run::play;
 pub use seat::fit_all;
 pub use sockets::{Shortage, first_shortage};
