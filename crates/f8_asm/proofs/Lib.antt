@@ -22,5 +22,6 @@ pub mod StatementsAlike
 pub mod ImageRooms
 pub mod ImageBytes
 pub mod ImageIs
+pub mod FirstFault
 mod Examples
 mod WorkedImages

@@ -2,6 +2,7 @@
 ghost use Rattle.std.specs.Prelude.{◌≡◌, ◌≤◌, length, IfOk};
 ghost use Rattle.f8_asm.specs.Answers.{SaysOfText};
 ghost use Rattle.f8_asm.specs.Image.{image_of, LiesIn, Ascends};
+ghost use Rattle.f8_asm.specs.FirstFault.{TellsFault};
 ghost use Rattle.f8_asm.specs.ImageLaw.{IsImage};
 
 use crate::answers::{AsmAnswer, Room};
@@ -73,6 +74,7 @@ pub fn assemble(alloc: Global, text: &[u8], room: Room) -> Result<Image, AsmAnsw
     ensures ascent { IfOk result (λ image. Ascends image.bytes) }
     ensures room { IfOk result (λ image. LiesIn room image.bytes) }
     ensures law { IfOk result (λ image. IsImage text.now image) }
+    ensures fault { TellsFault result text.now room }
 {
     let reading = read_lines(alloc, text)?;
     let layout = place_lines(alloc, room, reading.into_lines())?;
