@@ -3,13 +3,13 @@ use Rattle.std.proofs.Common.{◌≡◌, ℕ, zero, suc, ◌+◌, ◌-◌, ◌<�
 use Rattle.std.specs.Prelude.{All, option_map, option_and_then, slice_get, IsSomeAnd, false}
 use Rattle.std.proofs.lemmas.List.{length_push, length-set, map_push, map-id}
 use Rattle.std.proofs.lemmas.List.Elements.{All-nil, All-cons, All-head, All-tail}
-use Rattle.chip_face.specs.Fitting.{IsSpec, IsChipList, is_blank}
+use Rattle.chip_face.specs.Fitting.{IsSpec, IsChipList, is_blank, rom_of}
 use Rattle.chip_face.specs.declared.specification.ChipSpec.{ChipSpec}
 use Rattle.chip_face.specs.declared.specification.ChipSpec.TheVariants.{Blank, Psu, Smi}
 use Rattle.cartridge.specs.declared.chip_table.ChipPlan.{ChipPlan}
 use Rattle.cartridge.specs.declared.rom_source.SourceRom.{SourceRom}
 use Rattle.cartridge.specs.ChipTables.{DescribedSource}
-use Rattle.cartridge.specs.Filling.{PlannedSource, PlannedChip, IsPlannedChip, IsPlan, IsRomOf, HasRom, written, filled_source, filled_chip, changed_at, rom_of, planned_chip, unfilled}
+use Rattle.cartridge.specs.Filling.{PlannedSource, PlannedChip, IsPlannedChip, IsPlan, IsRomOf, HasRom, written, filled_source, filled_chip, changed_at, planned_chip, unfilled}
 use Rattle.cartridge.specs.Carts.{with_rom, spec_from, finished}
 use Rattle.cartridge.specs.Plans.{seen_chip, seen_rom, seen_chips, seen_source}
 

@@ -12,6 +12,7 @@ use Rattle.f8_spec.specs.declared.chips.ChipKind.TheVariants as kind
 use Rattle.f8_spec.specs.declared.chips.PageSort.{PageSort}
 use Rattle.f8_spec.specs.declared.chips.PageSort.TheVariants as sort
 use Rattle.f8_asm.specs.declared.answers.Room.{Room}
+use Rattle.chip_face.specs.Fitting.{rom_of as rom_of_spec}
 use Rattle.chip_face.specs.declared.specification.ChipSpec.{ChipSpec}
 use Rattle.chip_face.specs.declared.specification.ChipSpec.TheVariants.{Psu, Smi}
 use Rattle.cartridge.specs.declared.keys.Key.{Key}
@@ -25,7 +26,7 @@ use Rattle.cartridge.specs.Keys.{value_at, known, chip_keys}
 use Rattle.cartridge.specs.Pages.{lies_within, lie_apart, placed, run_at, pages_of}
 use Rattle.cartridge.specs.Values.{required, optional, needed, usually, typed, text, within, number_in, multiple_of, multiple_in, kind_in, filled, fitting, rom_in, is_file_name, source_named, source_in}
 use Rattle.cartridge.specs.Rooms.{room_size, psu_room, run_room}
-use Rattle.cartridge.specs.Filling.{HasRom, IsPlannedChip, planned_chip, unfilled, rom_of as rom_of_spec}
+use Rattle.cartridge.specs.Filling.{HasRom, IsPlannedChip, planned_chip, unfilled}
 use Rattle.cartridge.specs.ChipTables.{DescribedChip, named_source, rom_of, mask_of, source_of, wired_of, psu_of, smi_of, chip_of_kind, chip_of}
 use Rattle.cartridge.proofs.PageNumbers.{AreSorted, pages_of-ascends, pages_of-rom_count}
 

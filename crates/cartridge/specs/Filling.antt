@@ -2,7 +2,7 @@
 -- project's own.
 use Rattle.std.specs.Prelude.{ℕ, zero, suc, ◌+◌, ◌-◌, ◌≡◌, ◌≤◌, Bool, true, false, All, List, [], ◌∷◌, length, map, replicate, slice_get, slice_set, Option, Some, None, option_map, option_and_then, IsSomeAnd, Result, Ok}
 use Rattle.toml.specs.Data.{Members}
-use Rattle.chip_face.specs.Fitting.{IsSpec, is_blank}
+use Rattle.chip_face.specs.Fitting.{IsSpec, is_blank, rom_of}
 use Rattle.chip_face.specs.declared.specification.ChipSpec.{ChipSpec}
 use Rattle.chip_face.specs.declared.specification.ChipSpec.TheVariants.{Blank, Psu, Smi}
 use Rattle.cartridge.specs.ChipTables.{DescribedSource, DescribedChip}
@@ -73,11 +73,6 @@ abbrev pub filled_plan : Planned → ℕ → List (ℕ × ℕ) → Planned
 filled_plan plan chip bytes = record { split = plan.split; chips = changed_at (filled_chip bytes) chip plan.chips }
 
 -- ---- what holds of every plan
-
-abbrev pub rom_of : ChipSpec → List ℕ
-rom_of (Blank kind) = []
-rom_of (Psu base rom ports vector wired) = rom
-rom_of (Smi pages rom wired) = rom
 
 -- the bytes of a source are as many as those of its chip's ROM, and one for each address of its room
 pub record IsRomOf (spec : ChipSpec) (s : PlannedSource) : Type 0 where

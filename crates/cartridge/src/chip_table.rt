@@ -13,16 +13,10 @@ use super::page_run::{pages_of, run_at};
 use super::refusal::TableStop;
 use super::rom_source::ChipSource;
 use super::values::{kind_at, multiple_at, number_at, truth_at};
-use chip_face::{ChipKind, ChipSpec, PageSort};
+use chip_face::{ChipKind, ChipSpec, PAGE_SIZE, PSU_ROM_SIZE, PageSort};
 use f8_asm::Room;
 use std::alloc::Global;
 use toml::Table;
-
-/// The bytes of a 3851.
-const PSU_BYTES: usize = 1024;
-
-/// The bytes of a page.
-const PAGE_BYTES: usize = 256;
 
 /// A chip with the bytes that its digits give, and its source, where it has one.
 #[derive(Debug, Drop)]
@@ -59,8 +53,8 @@ fn psu_of(alloc: Global, table: &Table) -> Result<ChipPlan, TableStop>
     let ports = multiple_at(table, Key::Ports, 4, 252, 4)? as u8;
     let vector = number_at(table, Key::Vector, 65_535)?;
     let wired = truth_at(table, Key::Interrupt)?;
-    let rom = mask_at(alloc, table, PSU_BYTES)?;
-    let name = source_at(alloc, table, PSU_BYTES)?;
+    let rom = mask_at(alloc, table, PSU_ROM_SIZE)?;
+    let name = source_at(alloc, table, PSU_ROM_SIZE)?;
     let source = named_source(psu_room(base), name);
     let spec = ChipSpec::Psu {
         base,
@@ -87,7 +81,7 @@ fn smi_of(alloc: Global, table: &Table) -> Result<ChipPlan, TableStop>
         &[rom, ram],
     )?;
     let wired = truth_at(table, Key::Interrupt)?;
-    let size = PAGE_BYTES * usize::from(rom.count);
+    let size = PAGE_SIZE * usize::from(rom.count);
     let bytes = rom_at(alloc, table, size)?;
     let name = source_at(alloc, table, size)?;
     let source = named_source(rom.room(), name);

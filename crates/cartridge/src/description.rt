@@ -15,14 +15,12 @@ use super::known::known;
 use super::refusal::{CartAnswer, CartCause, CartFault, KeyFault, TableStop};
 use super::split::Split;
 use super::values::{needed_number, value_at};
+use chip_face::MOST_CHIPS;
 use std::alloc::Global;
 use toml::Table;
 
 /// The keys at the top.
 const TOP_KEYS: [Key; 3] = [Key::Format, Key::Split, Key::Chip];
-
-/// The most chips of a description.
-const MOST_CHIPS: usize = 16;
 
 /// The top of a description: the tracked registers, and the tables of the chips.
 #[derive(Drop)]

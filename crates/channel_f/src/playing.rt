@@ -15,7 +15,7 @@ ghost use Rattle.channel_f.specs.Statuses.{exit_code};
 use super::lines_out::{put_closing, put_ending, put_lines, put_opening};
 use super::manner::Manner;
 use super::status::Status;
-use chip_face::Chip;
+use chip_face::{Chip, MOST_CHIPS};
 use f8_machine::{Chain, Rack};
 use f8_spec::Memory;
 use loader::Game;
@@ -24,16 +24,13 @@ use rack_run::{ReferFault, first_shortage, fit_all, play, refer};
 use report::Line;
 use std::alloc::Global;
 
-/// The most chips that a rack may have.
-const SOCKETS: usize = 16;
-
 /// The line of why a game isn't begun on a rack: it has more chips than 16, or too few sockets of a kind.
 #[tactic(auto, unfolding(crate::specs::Answers::refusal))]
 fn refusal(game: &Game, rack: &Rack) -> Option<Line>
     ensures line { result ≡ spelled_refusal (seen_game game.now) (map state rack.now.items) }
     ensures few { result ≡ None → length rack.now.items ≤ 16 }
 {
-    if rack.len() > SOCKETS {
+    if rack.len() > MOST_CHIPS {
         return Some(report::error_rack(rack.len() as u64));
     }
     let shortage = first_shortage(&game.chips, rack)?;

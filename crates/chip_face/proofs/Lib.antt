@@ -1,1 +1,2 @@
+pub mod RomPages
 mod WorkedValues

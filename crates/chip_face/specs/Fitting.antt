@@ -43,6 +43,18 @@ is_blank (Blank kind) = true
 is_blank (Psu base rom ports vector wired) = false
 is_blank (Smi pages rom wired) = false
 
+-- the ROM's bytes
+abbrev pub rom_of : ChipSpec → List ℕ
+rom_of (Blank kind) = []
+rom_of (Psu base rom ports vector wired) = rom
+rom_of (Smi pages rom wired) = rom
+
+-- how many of them belong to a page of a 3853
+abbrev pub rom_size : PageSort → ℕ
+rom_size Rom = 256
+rom_size Ram = 0
+rom_size Void = 0
+
 -- the chips of a description
 pub record IsChipList (chips : List ChipSpec) : Type 0 where
   pub few : length chips ≤ 16

@@ -5,6 +5,7 @@ mod chip_list;
 mod face;
 mod fault;
 mod lists;
+mod sizes;
 mod specification;
 
 pub use chip_list::ChipList;
@@ -13,4 +14,5 @@ pub use face::Chip;
 pub use fault::FitFault;
 pub use lists::{Bytes, PageList};
 pub use romc_table::{Counters, Romc};
+pub use sizes::{MOST_CHIPS, PAGE_SIZE, PSU_ROM_SIZE, SMI_FIRST_PORT, rom_size};
 pub use specification::ChipSpec;

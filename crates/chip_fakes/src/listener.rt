@@ -61,9 +61,9 @@ fn told(romc: Romc, byte: u8, phi: u8, first: bool) -> Heard
 }
 
 impl Chip for Listener {
-    ghost use Rattle.std.specs.Prelude.{◌≡◌, ◌≢◌, ◌↔◌, OnOk, OnErr, IsErrOf};
+    ghost use Rattle.std.specs.Prelude.{◌≡◌, ◌≢◌, ◌↔◌, false, OnOk, OnErr, IsErrOf};
     ghost use Rattle.f8_spec.specs.ChipState.{IsWhole, MayHear, PowersOn, Settles, TakesKeys, TakesPulse, told_step};
-    ghost use Rattle.chip_face.specs.Fitting.{Fits, IsSpec, kind_of};
+    ghost use Rattle.chip_face.specs.Fitting.{Fits, IsSpec, is_blank, kind_of};
     ghost use Rattle.chip_face.specs.Steps.{IsStepLength};
     ghost use Rattle.chip_fakes.specs.ListenerState.{listener_state, recording_of};
     ghost use Rattle.chip_fakes.specs.Recording.{emptied, recorded};
@@ -79,6 +79,7 @@ impl Chip for Listener {
         ensures ok { OnOk result (Fits spec.now (listener_state self.old) (listener_state self.new)) }
         ensures whole { OnOk result (IsWhole (listener_state self.new).view) }
         ensures wrong_kind { IsErrOf result FitFault.WrongKind ↔ (kind_of spec.now ≢ (listener_state self.old).view.kind) }
+        ensures memory { IsErrOf result FitFault.Memory → is_blank spec.now ≡ false }
         ensures err { OnErr result (listener_state self.new ≡ listener_state self.old) }
         ensures recording { recording_of self.new ≡ recording_of self.old }
     {

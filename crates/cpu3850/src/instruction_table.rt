@@ -1,4 +1,5 @@
 use super::steps::{StepRow, list};
+use f8_ops::registers::{H, K, Q};
 use f8_ops::{Op, Row, decode, row_of};
 use std::marker::Model;
 
@@ -139,9 +140,9 @@ fn pair_of(op: Op) -> u8
     ensures below { result ≤ 14 }
 {
     match op {
-        Op::LrQDc => 14,
-        Op::LrHDc => 10,
-        _ => 12,
+        Op::LrQDc => Q,
+        Op::LrHDc => H,
+        _ => K,
     }
 }
 

@@ -1,15 +1,13 @@
 use f8_ops::Op;
+use f8_ops::registers::OWN_PORTS;
 use std::marker::Model;
-
-/// How many ports the 3850 has of its own.
-const OWN_PORTS: usize = 2;
 
 /// The ports 0 and 1 of the 3850, which only its own `INS` and `OUTS` reach: the byte that `OUTS` last put into each, and the key byte of
 /// each, which comes from outside. Contracts see the bytes.
 #[derive(Debug, Drop)]
 pub(crate) struct OwnPorts {
-    latches: [u8; OWN_PORTS],
-    keys: [u8; OWN_PORTS],
+    latches: [u8; OWN_PORTS as usize],
+    keys: [u8; OWN_PORTS as usize],
 }
 
 impl Model for OwnPorts {
@@ -31,18 +29,18 @@ impl OwnPorts {
         ensures { result ≡ clear_ports }
     {
         OwnPorts {
-            latches: [0; OWN_PORTS],
-            keys: [0; OWN_PORTS],
+            latches: [0; OWN_PORTS as usize],
+            keys: [0; OWN_PORTS as usize],
         }
     }
 
-    pub(crate) fn latches(&self) -> [u8; OWN_PORTS]
+    pub(crate) fn latches(&self) -> [u8; OWN_PORTS as usize]
         ensures { result ≡ self.now.latches }
     {
         self.latches
     }
 
-    pub(crate) fn set_latches(&mut self, latches: [u8; OWN_PORTS])
+    pub(crate) fn set_latches(&mut self, latches: [u8; OWN_PORTS as usize])
         ensures { self.new ≡ record self.old { latches = latches } }
     {
         self.latches = latches;
@@ -68,7 +66,7 @@ impl OwnPorts {
         ensures { result ≡ read_by op byte self.now }
     {
         match op {
-            Op::Ins { n } if n < 2 => self.byte(n),
+            Op::Ins { n } if n < OWN_PORTS => self.byte(n),
             _ => byte,
         }
     }
@@ -78,7 +76,7 @@ impl OwnPorts {
         ensures { self.new ≡ put_by op accumulator self.old }
     {
         match op {
-            Op::Outs { n } if n < 2 => self.latches[usize::from(n)] = accumulator,
+            Op::Outs { n } if n < OWN_PORTS => self.latches[usize::from(n)] = accumulator,
             _ => {}
         }
     }

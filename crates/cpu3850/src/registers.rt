@@ -1,29 +1,12 @@
 use super::kept::Kept;
 use console_spec::Regs;
+use f8_ops::registers::{H, J, K, Q};
 use f8_ops::{Op, Row};
 use f8_words::{Flags, Sum, add9, bcd};
 use std::marker::Model;
 
 /// How many bytes the scratchpad has.
 const SCRATCHPAD_SIZE: usize = 64;
-
-/// The register to which the status word goes.
-const J: u8 = 9;
-
-/// The pair H, high byte first.
-const HU: u8 = 10;
-
-const HL: u8 = 11;
-
-/// The pair K, likewise.
-const KU: u8 = 12;
-
-const KL: u8 = 13;
-
-/// The pair Q, likewise.
-const QU: u8 = 14;
-
-const QL: u8 = 15;
 
 /// What the 3850 keeps beside the opcode: accumulator, ISAR, status word and scratchpad. Contracts see the flat machine's registers.
 #[derive(Debug, Drop)]
@@ -211,14 +194,14 @@ impl RegisterFile {
         ensures { self.new ≡ effect op byte self.old }
     {
         match op {
-            Op::LrAKu => self.accumulator = self.scratch(KU),
-            Op::LrAKl => self.accumulator = self.scratch(KL),
-            Op::LrAQu => self.accumulator = self.scratch(QU),
-            Op::LrAQl => self.accumulator = self.scratch(QL),
-            Op::LrKuA => self.set_scratch(KU, self.accumulator),
-            Op::LrKlA => self.set_scratch(KL, self.accumulator),
-            Op::LrQuA => self.set_scratch(QU, self.accumulator),
-            Op::LrQlA => self.set_scratch(QL, self.accumulator),
+            Op::LrAKu => self.accumulator = self.scratch(K),
+            Op::LrAKl => self.accumulator = self.scratch(K + 1),
+            Op::LrAQu => self.accumulator = self.scratch(Q),
+            Op::LrAQl => self.accumulator = self.scratch(Q + 1),
+            Op::LrKuA => self.set_scratch(K, self.accumulator),
+            Op::LrKlA => self.set_scratch(K + 1, self.accumulator),
+            Op::LrQuA => self.set_scratch(Q, self.accumulator),
+            Op::LrQlA => self.set_scratch(Q + 1, self.accumulator),
             Op::LrAIs => self.accumulator = self.isar,
             Op::LrIsA => self.isar = self.accumulator % 64,
             Op::Sr1 => self.set_result(self.accumulator / 2),
@@ -298,11 +281,11 @@ impl RegisterFile {
         ensures { result ≡ driven_in row port index self.now }
     {
         match row {
-            Row::StackFromK => two(self.scratch(KU), self.scratch(KL), index),
-            Row::CallK => two(self.scratch(KL), self.scratch(KU), index),
-            Row::JumpQ => two(self.scratch(QL), self.scratch(QU), index),
-            Row::DataFromQ => two(self.scratch(QU), self.scratch(QL), index),
-            Row::DataFromH => two(self.scratch(HU), self.scratch(HL), index),
+            Row::StackFromK => two(self.scratch(K), self.scratch(K + 1), index),
+            Row::CallK => two(self.scratch(K + 1), self.scratch(K), index),
+            Row::JumpQ => two(self.scratch(Q + 1), self.scratch(Q), index),
+            Row::DataFromQ => two(self.scratch(Q), self.scratch(Q + 1), index),
+            Row::DataFromH => two(self.scratch(H), self.scratch(H + 1), index),
             Row::StoreData | Row::AddData => only(0, self.accumulator, index),
             Row::PortOut => only(1, self.accumulator, index),
             Row::Call => only(3, self.accumulator, index),

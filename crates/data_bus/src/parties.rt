@@ -1,16 +1,14 @@
 ghost use Rattle.std.specs.Prelude.{◌≡◌, ◌<◌, ◌≤◌, ◌+◌, ◌==◌, ◌++◌, [], ◌∷◌, length, slice_index_or};
 
+use chip_face::MOST_CHIPS;
 use f8_spec::Party;
 use std::marker::Model;
-
-/// The most chips that a rack has.
-pub(crate) const SOCKETS: usize = 16;
 
 /// The chips that drive or take a byte in one bus step, at most 16, in the order in which they were added. A bus step adds them by
 /// ascending sockets. Contracts see the list.
 #[derive(Debug, Drop)]
 pub struct Parties {
-    items: [Party; SOCKETS],
+    items: [Party; MOST_CHIPS],
     len: usize,
 }
 
@@ -31,7 +29,7 @@ impl Parties {
         ensures { result ≡ [] }
     {
         Parties {
-            items: [Party { socket: 0, at: 0 }; SOCKETS],
+            items: [Party { socket: 0, at: 0 }; MOST_CHIPS],
             len: 0,
         }
     }

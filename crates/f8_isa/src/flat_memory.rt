@@ -8,8 +8,8 @@ use memory_map::{Map, Sort};
 use std::alloc::{AllocError, Global};
 use std::marker::Model;
 
-/// What is read where no chip, or not just one, holds an address.
-const NO_BYTE: u8 = 0xFF;
+/// What is read where no chip, or not just one, holds an address, or has a port as a data port.
+pub const NO_BYTE: u8 = 0xFF;
 
 /// The byte that is read at each of the 65,536 addresses, and which of the 256 pages of addresses stores change. Contracts see the two
 /// lists.

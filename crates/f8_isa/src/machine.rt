@@ -2,19 +2,17 @@ use super::counters::Flow;
 use super::flat_memory::FlatMemory;
 use super::instruction_table::{Instruction, InstructionTable};
 use super::ports::Ports;
-use super::register_file::{H, K, Q, RegisterFile};
+use super::register_file::RegisterFile;
 use chip_face::ChipList;
 use console_board::PortWrite;
 use console_spec::Regs;
+use f8_ops::registers::{H, K, OWN_PORTS, Q};
 use f8_ops::{Op, RESET_PHI, Reserved, Row};
 use f8_spec::Memory;
 use f8_words::wrap_add;
 use memory_map::Map;
 use std::alloc::Global;
 use std::marker::Model;
-
-/// The processor has the ports below this one by `INS` and `OUTS`.
-const OWN_PORTS: u8 = 2;
 
 /// What an instruction did beyond registers and memory: its write, where a port took one, with the clocks at the instruction's end, and
 /// whether an interrupt was taken at its end. So far there is no interrupt.

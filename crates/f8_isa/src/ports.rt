@@ -1,12 +1,10 @@
 ghost use Rattle.std.specs.Prelude.{◌≡◌};
 ghost use Rattle.f8_isa.specs.KeptPorts.{AreReadable, AreWritable};
 
+use super::flat_memory::NO_BYTE;
 use console_board::PortWrite;
 use memory_map::Map;
 use std::marker::Model;
-
-/// What is read at a port that no chip, or not just one, has as a data port.
-const NO_BYTE: u8 = 0xFF;
 
 /// A latch and a key byte for each of 256 ports, and which of the ports are those of exactly one chip: to read, and to write. Contracts see
 /// the four lists.

@@ -1,16 +1,7 @@
 use f8_ops::Op;
+use f8_ops::registers::{J, K, Q};
 use f8_words::{Flags, Sum, add9, bcd};
 use std::marker::Model;
-
-/// The register J, in which the status word is kept.
-const J: u8 = 9;
-
-/// The pairs H, K and Q: the register with the high byte, with the low one behind it.
-pub const H: u8 = 10;
-
-pub const K: u8 = 12;
-
-pub const Q: u8 = 14;
 
 /// The field from which on a field names the register that ISAR points to, and the fields that also step ISAR up and down.
 const POINTED: u8 = 12;

@@ -1,14 +1,12 @@
 ghost use Rattle.std.specs.Prelude.{◌≡◌, ◌<◌, ◌≤◌, ◌++◌, [], ◌∷◌, length};
 
+use chip_face::MOST_CHIPS;
 use std::marker::Model;
-
-/// The most chips that a rack has.
-const SOCKETS: usize = 16;
 
 /// The sockets of the chips of a description, in its order, at most 16. Contracts see the list.
 #[derive(Debug, Drop)]
 pub struct Chain {
-    sockets: [u8; SOCKETS],
+    sockets: [u8; MOST_CHIPS],
     len: usize,
 }
 
@@ -28,7 +26,7 @@ impl Chain {
         ensures { result ≡ [] }
     {
         Chain {
-            sockets: [0; SOCKETS],
+            sockets: [0; MOST_CHIPS],
             len: 0,
         }
     }

@@ -12,6 +12,7 @@ use chip_face::{Chip, Counters};
 use console_spec::Regs;
 use cpu3850::{Cpu, Steps};
 use data_bus::Rack;
+use f8_ops::registers::OWN_PORTS;
 use f8_ops::{RESET_PHI, Reserved};
 use probe::Probe;
 use std::marker::Model;
@@ -220,7 +221,7 @@ impl Machine {
         ensures running { (x : Position) → Represents self.old (map state rack.old.items) x → Represents self.new (map state rack.new.items) (with_event (Keys port byte) x) }
         ensures chips { length rack.new.items ≡ length rack.old.items }
     {
-        if port < 2 {
+        if port < OWN_PORTS {
             self.cpu.keys(port, byte);
         } else {
             key_all(rack, port, byte);

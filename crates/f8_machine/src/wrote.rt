@@ -4,6 +4,7 @@ ghost use Rattle.f8_machine.specs.PortWrites.{write_as, chip_write, done_write};
 
 use super::heard::Heard;
 use console_board::PortWrite;
+use f8_ops::registers::OWN_PORTS;
 use f8_ops::{Op, decode};
 
 /// The code in which a chip takes the byte of a port.
@@ -28,7 +29,7 @@ pub(crate) fn done_write(code: u8, phi: u64, latches: [u8; 2], steps: &[Heard]) 
     ensures { option_map write_as result ≡ done_write (decoded code) phi latches steps.now }
 {
     match decode(code) {
-        Ok(Op::Outs { n }) if n < 2 => Some(PortWrite {
+        Ok(Op::Outs { n }) if n < OWN_PORTS => Some(PortWrite {
             phi,
             port: n,
             byte: latches[usize::from(n)],

@@ -3,6 +3,7 @@
 
 mod mnemonics;
 mod opcodes;
+pub mod registers;
 mod table;
 
 pub use f8_spec::{Op, Row};

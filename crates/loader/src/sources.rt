@@ -11,16 +11,13 @@ use super::purposes::Purpose;
 use super::readings::read_image;
 use super::refusals::Stop;
 use cartridge::Plan;
-use chip_face::ChipList;
+use chip_face::{ChipList, MOST_CHIPS};
 use f8_asm::{Image, Room};
 use outside::Store;
 use std::alloc::Global;
 
 /// The most bytes of an assembly file.
 pub const ASSEMBLY_LIMIT: u32 = 262_144;
-
-/// The most chips of a description.
-const MOST_CHIPS: u8 = 16;
 
 /// The image of a chip's source, in its room.
 #[tactic(auto, unfolding(crate::specs::Games::image_for))]
@@ -61,7 +58,7 @@ fn fill_sources<S: Store>(alloc: Global, store: &mut S, mut plan: Plan) -> Resul
     ensures works { Works (S.files store.old) (S.files store.new) (S.faults store.old) (S.faults store.new) (S.fetches store.old) (S.fetches store.new) (filled_up_to 16 plan) (outcome_as (λ filled. filled) result) }
     ensures filled { IfOk result (λ filled. position wants_image filled.chips ≡ None) }
 {
-    for chip in 0..MOST_CHIPS {
+    for chip in 0..MOST_CHIPS as u8 {
         plan = fill_at(alloc, store, plan, chip)?;
     }
     Ok(plan)

@@ -7,14 +7,11 @@ use Rattle.f8_spec.specs.ChipState.{is_rom, place_of, sort_at, held_byte}
 use Rattle.f8_spec.specs.declared.chips.Page.{Page}
 use Rattle.f8_spec.specs.declared.chips.PageSort.{PageSort}
 use Rattle.f8_spec.specs.declared.chips.PageSort.TheVariants.{Rom, Ram, Void}
-use Rattle.chip_face.specs.Fitting.{IsSpec, fitted, page_bytes, page_content, psu_pages, rom_after}
+use Rattle.chip_face.specs.Fitting.{IsSpec, fitted, page_bytes, page_content, psu_pages, rom_after, rom_size}
 use Rattle.chip_face.specs.declared.specification.ChipSpec.{ChipSpec}
 use Rattle.chip_face.specs.declared.specification.ChipSpec.TheVariants.{Blank, Psu, Smi}
-use Rattle.memory_map.specs.ChipPages.{PageView, rom_size, page_among, chip_page}
-
--- the ROM pages among some
-abbrev pub rom_count : List Page → ℕ
-rom_count pages = count_by (λ p. is_rom p.sort) pages
+use Rattle.chip_face.proofs.RomPages.{rom_count, size_counted, length-page_content}
+use Rattle.memory_map.specs.ChipPages.{PageView, page_among, chip_page}
 
 -- ---- the search for a page
 
@@ -60,14 +57,6 @@ fitted_byte Rom rom offset = slice_index rom offset
 fitted_byte Ram rom offset = 0
 fitted_byte Void rom offset = 255
 
-size_counted : (p : Page) (ps : List Page) → 256 * rom_count (p ∷ ps) ≡ rom_size p.sort + 256 * rom_count ps
-size_counted p ps = rw (sum_by-cons (λ (q : Page). if is_rom q.sort then 1 else 0) p ps) (step p.sort (rom_count ps))
-  where
-    step : (sort : PageSort) (count : ℕ) → 256 * ((if is_rom sort then 1 else 0) + count) ≡ rom_size sort + 256 * count
-    step Rom count = omega arith
-    step Ram count = omega arith
-    step Void count = omega arith
-
 -- what is left of the bytes behind a page
 length-rom_after : (sort : PageSort) (rom : List ℕ) → length (rom_after sort rom) ≡ length rom - rom_size sort
 length-rom_after Rom rom = length-drop 256 rom
@@ -79,11 +68,6 @@ left_after p ps rom size = omega (arith, size_counted p ps, length-rom_after p.s
 
 has_own : (p : Page) (ps : List Page) (rom : List ℕ) → length rom ≡ 256 * rom_count (p ∷ ps) → rom_size p.sort ≤ length rom
 has_own p ps rom size = omega (arith, size_counted p ps)
-
-length-page_content : (sort : PageSort) (rom : List ℕ) → rom_size sort ≤ length rom → length (page_content sort rom) ≡ 256
-length-page_content Rom rom enough = length-take-le 256 rom enough
-length-page_content Ram rom enough = length-replicate {A = ℕ} 256 0
-length-page_content Void rom enough = length-replicate {A = ℕ} 256 255
 
 content_byte : (sort : PageSort) (rom : List ℕ) (offset : ℕ) → offset < 256 →
     slice_index (page_content sort rom) offset ≡ fitted_byte sort (take (rom_size sort) rom) offset

@@ -9,9 +9,9 @@ use Rattle.f8_spec.specs.declared.chips.PageSort.{PageSort}
 use Rattle.f8_spec.specs.declared.chips.PageSort.TheVariants.{Rom, Ram, Void}
 use Rattle.console_spec.specs.FlatMemory.{sort_among, only_of, holding, fixed_byte_by}
 use Rattle.console_spec.specs.declared.Sort.TheVariants.{Shared as ManyChips}
-use Rattle.chip_face.specs.Fitting.{IsSpec}
+use Rattle.chip_face.specs.Fitting.{IsSpec, rom_size}
 use Rattle.chip_face.specs.declared.specification.ChipSpec.{ChipSpec}
-use Rattle.memory_map.specs.ChipPages.{PageView, chip_page, rom_size}
+use Rattle.memory_map.specs.ChipPages.{PageView, chip_page}
 use Rattle.memory_map.specs.Holders.{OwnedPage, Empty, followed_by, holders_from, holder_of, owned_page}
 use Rattle.memory_map.specs.MapEntries.{entry_of, bytes_by, page_bytes}
 use Rattle.memory_map.specs.MapOf.{MapTable, Tells, IsMapOf, mapped_sort, mapped_owner, mapped_byte, mapped_readers, mapped_takers, page_sort, sort_by, owner_by, seats_of, views_of}

@@ -2,8 +2,7 @@
 use Rattle.std.specs.Prelude.{ℕ, ◌==◌, if◌then◌else◌, List, [], ◌∷◌, take, Option, Some, None}
 use Rattle.f8_spec.specs.declared.chips.Page.{Page}
 use Rattle.f8_spec.specs.declared.chips.PageSort.{PageSort}
-use Rattle.f8_spec.specs.declared.chips.PageSort.TheVariants.{Rom, Ram, Void}
-use Rattle.chip_face.specs.Fitting.{psu_pages, rom_after}
+use Rattle.chip_face.specs.Fitting.{psu_pages, rom_after, rom_of, rom_size}
 use Rattle.chip_face.specs.declared.specification.ChipSpec.{ChipSpec}
 use Rattle.chip_face.specs.declared.specification.ChipSpec.TheVariants.{Blank, Psu, Smi}
 
@@ -11,12 +10,6 @@ use Rattle.chip_face.specs.declared.specification.ChipSpec.TheVariants.{Blank, P
 pub record PageView : Type 0 where
   pub sort : PageSort
   pub rom : List ℕ
-
--- a specification has the bytes of ROM pages alone
-abbrev pub rom_size : PageSort → ℕ
-rom_size Rom = 256
-rom_size Ram = 0
-rom_size Void = 0
 
 -- the page of a number among some pages, whose ROM bytes lie one page after another
 abbrev pub page_among : ℕ → List Page → List ℕ → Option PageView
@@ -28,11 +21,6 @@ abbrev pub pages_of : ChipSpec → List Page
 pages_of (Blank kind) = []
 pages_of (Psu base rom ports vector wired) = psu_pages base
 pages_of (Smi pages rom wired) = pages
-
-abbrev pub rom_of : ChipSpec → List ℕ
-rom_of (Blank kind) = []
-rom_of (Psu base rom ports vector wired) = rom
-rom_of (Smi pages rom wired) = rom
 
 -- the page of a number in a chip, and none where the chip does not hold it
 unfoldable pub chip_page : ℕ → ChipSpec → Option PageView

@@ -1,10 +1,7 @@
 use super::pages::{HeldPage, chip_page};
 use super::table::Entry;
-use chip_face::{ChipSpec, PageSort};
+use chip_face::{ChipSpec, PAGE_SIZE, PageSort};
 use std::alloc::AllocError;
-
-/// The bytes of a page.
-const PAGE_SIZE: usize = 256;
 
 /// The chips that hold a page of 256 addresses: none, the one at a place among the chips, or two and more.
 #[derive(Clone, Copy)]

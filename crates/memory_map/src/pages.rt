@@ -1,9 +1,9 @@
 ghost use Rattle.std.specs.Prelude.{◌≡◌, ◌*◌, ◌%◌, MatchOption, Some, None, length, count_by};
 ghost use Rattle.f8_spec.specs.ChipState.{is_rom};
 ghost use Rattle.chip_face.specs.Fitting.{IsSpec, psu_pages};
-ghost use Rattle.memory_map.specs.ChipPages.{chip_page, page_among, rom_size};
+ghost use Rattle.memory_map.specs.ChipPages.{chip_page, page_among};
 
-use chip_face::{ChipSpec, Page, PageSort};
+use chip_face::{ChipSpec, Page, PageSort, rom_size};
 
 /// A page of 256 addresses as a chip holds it: what it is, and its 256 bytes where it is ROM, and none where it isn't.
 #[derive(Clone, Copy)]
@@ -28,16 +28,6 @@ fn psu_pages(base: u16) -> [Page; 4]
         page(first + 2),
         page(first + 3),
     ]
-}
-
-/// How many bytes of a specification's ROM belong to a page.
-fn rom_size(sort: PageSort) -> usize
-    ensures { result ≡ rom_size sort }
-{
-    match sort {
-        PageSort::Rom => 256,
-        PageSort::Ram | PageSort::Void => 0,
-    }
 }
 
 /// The page of a number among some pages, whose ROM bytes lie one page after another.

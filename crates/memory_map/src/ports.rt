@@ -5,10 +5,7 @@ ghost use Rattle.chip_face.specs.Fitting.{IsSpec, fitted};
 ghost use Rattle.memory_map.specs.MapOf.{seats_of};
 ghost use Rattle.memory_map.specs.MapPorts.{AreReaders, AreTakers};
 
-use chip_face::ChipSpec;
-
-/// The first of a 3853's four ports.
-const SMI_PORTS: u8 = 0x0C;
+use chip_face::{ChipSpec, SMI_FIRST_PORT};
 
 /// A chip has a port as a data port. Of a 3851's four ports those are the first two; a 3853 has none.
 fn has_data_port(chip: &ChipSpec, port: u8) -> bool
@@ -29,7 +26,7 @@ fn has_port(chip: &ChipSpec, port: u8) -> bool
     match chip {
         ChipSpec::Blank(_) => false,
         ChipSpec::Psu { ports, .. } => port >= *ports && port - *ports < 4,
-        ChipSpec::Smi { .. } => port >= SMI_PORTS && port - SMI_PORTS < 4,
+        ChipSpec::Smi { .. } => port >= SMI_FIRST_PORT && port - SMI_FIRST_PORT < 4,
     }
 }
 

@@ -1,12 +1,9 @@
 ghost use Rattle.std.specs.Prelude.{◌≡◌, ◌%◌, ◌≤◌};
 
-use chip_face::{Chip, ChipKind, ChipSpec, FitFault, Offer};
+use chip_face::{Chip, ChipKind, ChipSpec, FitFault, Offer, PSU_ROM_SIZE};
 use f8_counters::{Interrupts, Registers, high_byte, low_byte, port_offset};
 use romc_table::{Counters, Romc};
 use std::alloc::Global;
-
-/// The bytes of a 3851's ROM.
-const ROM_SIZE: usize = 1024;
 
 /// A 3851. It tells no step that it heard, and has no patch.
 #[derive(Drop)]
@@ -33,7 +30,7 @@ pub struct Psu {
     /// Control, timer and request.
     interrupts: Interrupts,
     vector: u16,
-    rom: [u8; ROM_SIZE],
+    rom: [u8; PSU_ROM_SIZE],
     ghost boundary: { base % 1024 ≡ 0 },
     ghost whole: { size % 1024 ≡ 0 },
     ghost one_rom: { size ≤ 1024 },
@@ -56,7 +53,7 @@ impl Psu {
             key_bytes: [0; 2],
             interrupts: Interrupts::new(false),
             vector: 0,
-            rom: [0; ROM_SIZE],
+            rom: [0; PSU_ROM_SIZE],
         }
     }
 }
@@ -181,7 +178,7 @@ impl Chip for Psu {
                 *self = Psu::blank();
                 self.rom.copy_from_slice(rom.as_slice());
                 self.base = *base;
-                self.size = ROM_SIZE as u16;
+                self.size = PSU_ROM_SIZE as u16;
                 self.ports = Some(*ports);
                 self.vector = *vector;
                 self.interrupts = Interrupts::new(*wired);

@@ -9,17 +9,13 @@ use Rattle.f8_spec.specs.ChipState.{filled_bytes, is_ram, is_rom}
 use Rattle.f8_spec.specs.declared.chips.Page.{Page}
 use Rattle.f8_spec.specs.declared.chips.PageSort.{PageSort}
 use Rattle.f8_spec.specs.declared.chips.PageSort.TheVariants.{Rom, Ram, Void}
-use Rattle.chip_face.specs.Fitting.{page_bytes, page_content, rom_after}
-use Rattle.smi3853.specs.Spaces.{rom_need}
-
--- the ROM pages among some
-abbrev pub rom_count : List Page → ℕ
-rom_count pages = count_by (λ p. is_rom p.sort) pages
+use Rattle.chip_face.specs.Fitting.{page_bytes, page_content, rom_after, rom_size}
+use Rattle.chip_face.proofs.RomPages.{rom_count, size_counted, length-page_content}
 
 -- ---- the bytes of a specification
 
 -- a page takes its bytes from the front of the ROM, and leaves what is behind them
-own_bytes : (sort : PageSort) (rom : List ℕ) → page_content sort (take (rom_need sort) rom) ≡ page_content sort rom
+own_bytes : (sort : PageSort) (rom : List ℕ) → page_content sort (take (rom_size sort) rom) ≡ page_content sort rom
 own_bytes Rom rom = take_take rom
   where
     take_take : (xs : List ℕ) → take 256 (take 256 xs) ≡ take 256 xs
@@ -27,26 +23,13 @@ own_bytes Rom rom = take_take rom
 own_bytes Ram rom = refl
 own_bytes Void rom = refl
 
-bytes_after : (sort : PageSort) (rom : List ℕ) → drop (rom_need sort) rom ≡ rom_after sort rom
+bytes_after : (sort : PageSort) (rom : List ℕ) → drop (rom_size sort) rom ≡ rom_after sort rom
 bytes_after Rom rom = refl
 bytes_after Ram rom = refl
 bytes_after Void rom = refl
 
-length-page_content : (sort : PageSort) (rom : List ℕ) → rom_need sort ≤ length rom → length (page_content sort rom) ≡ 256
-length-page_content Rom rom enough = length-take-le 256 rom enough
-length-page_content Ram rom enough = length-replicate {A = ℕ} 256 0
-length-page_content Void rom enough = length-replicate {A = ℕ} 256 255
-
-need_counted : (p : Page) (ps : List Page) → 256 * rom_count (p ∷ ps) ≡ rom_need p.sort + 256 * rom_count ps
-need_counted p ps = rw (sum_by-cons (λ (q : Page). if is_rom q.sort then 1 else 0) p ps) (step p.sort (rom_count ps))
-  where
-    step : (sort : PageSort) (count : ℕ) → 256 * ((if is_rom sort then 1 else 0) + count) ≡ rom_need sort + 256 * count
-    step Rom count = omega arith
-    step Ram count = omega arith
-    step Void count = omega arith
-
 -- a whole page of ROM
-pub whole_page : (sort : PageSort) (rom : List ℕ) → length rom ≡ rom_need sort → sort ≡ Rom → page_content sort rom ≡ rom
+pub whole_page : (sort : PageSort) (rom : List ℕ) → length rom ≡ rom_size sort → sort ≡ Rom → page_content sort rom ≡ rom
 whole_page Rom rom size same = take_all 256 rom (omega arith)
 whole_page Ram rom size same = cc
 whole_page Void rom size same = cc
@@ -59,12 +42,12 @@ pub record Filling (pages : List Page) (rom bytes rest : List ℕ) (i : ℕ) : T
 
 -- the ROM has the bytes of the next page
 pub Filling-enough : (pages : List Page) (rom bytes rest : List ℕ) (i : ℕ) (d : Page) → i < length pages → Filling pages rom bytes rest i →
-    rom_need (get_or pages i d).sort ≤ length rest
+    rom_size (get_or pages i d).sort ≤ length rest
 Filling-enough pages rom bytes rest i d within before =
     let all = rw (drop_more pages i d within) at before.left in
-    omega (arith, need_counted (get_or pages i d) (drop (i + 1) pages))
+    omega (arith, size_counted (get_or pages i d) (drop (i + 1) pages))
 
-pub Filling-more : (pages : List Page) (rom bytes rest : List ℕ) (i own : ℕ) (d : Page) → i < length pages → own ≡ rom_need (get_or pages i d).sort →
+pub Filling-more : (pages : List Page) (rom bytes rest : List ℕ) (i own : ℕ) (d : Page) → i < length pages → own ≡ rom_size (get_or pages i d).sort →
     Filling pages rom bytes rest i →
     Filling pages rom (bytes ++ page_content (get_or pages i d).sort (take own rest)) (drop own rest) (i + 1)
 Filling-more pages rom bytes rest i own d within size before = rw size (record {
@@ -73,7 +56,7 @@ Filling-more pages rom bytes rest i own d within size before = rw size (record {
       rw (own_bytes page.sort rest, bytes_after page.sort rest, append_assoc) whole;
   left =
       let all = rw (drop_more pages i d within) at before.left in
-      omega (arith, need_counted page (drop (i + 1) pages), length-drop (rom_need page.sort) rest);
+      omega (arith, size_counted page (drop (i + 1) pages), length-drop (rom_size page.sort) rest);
   size =
       let content = length-page_content page.sort rest (Filling-enough pages rom bytes rest i d within before) in
       rw (own_bytes page.sort rest, length-append) (let b = before.size in omega arith);

@@ -2,8 +2,6 @@
 use Rattle.std.specs.Prelude.{ℕ, ◌*◌, ◌<◌, ◌≤◌, ◌≡◌, List, length, slice_get, Option, Some}
 use Rattle.f8_spec.specs.ChipState.{place_of}
 use Rattle.f8_spec.specs.declared.chips.Page.{Page}
-use Rattle.f8_spec.specs.declared.chips.PageSort.{PageSort}
-use Rattle.f8_spec.specs.declared.chips.PageSort.TheVariants.{Rom, Ram, Void}
 
 -- 256 bytes for each page, in the order of the pages
 pub record Contents : Type 0 where
@@ -19,9 +17,3 @@ pub record IsSpace (pages : List Page) (bytes : List ℕ) (places : List (Option
   pub few : length pages ≤ 256
   pub size : length bytes ≡ length pages * 256
   pub table : IsPlaces places pages
-
--- how many bytes of a specification's ROM belong to a page
-abbrev pub rom_need : PageSort → ℕ
-rom_need Rom = 256
-rom_need Ram = 0
-rom_need Void = 0

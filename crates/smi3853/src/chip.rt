@@ -1,13 +1,10 @@
 ghost use Rattle.std.specs.Prelude.{◌≡◌};
 
 use super::space::Space;
-use chip_face::{Chip, ChipKind, ChipSpec, FitFault, Offer};
+use chip_face::{Chip, ChipKind, ChipSpec, FitFault, Offer, SMI_FIRST_PORT};
 use f8_counters::{Interrupts, Registers, high_byte, low_byte, port_offset, with_high, with_low};
 use romc_table::{Counters, Romc};
 use std::alloc::Global;
-
-/// The first of the four ports of a 3853.
-const FIRST_PORT: u8 = 0x0C;
 
 /// A 3853. It tells no step that it heard, and has no patch.
 #[derive(Drop)]
@@ -123,7 +120,7 @@ impl Smi {
         ensures { result ≡ option_and_then (offset_from port) (smi_view self.now).ports }
     {
         let _space = self.space.as_ref()?;
-        port_offset(port, FIRST_PORT)
+        port_offset(port, SMI_FIRST_PORT)
     }
 
     /// A byte for a port, which is lost where the chip doesn't have it. A write to control ends a latched request.

@@ -1,14 +1,11 @@
 ghost use Rattle.std.specs.Prelude.{◌≡◌, ◌≤◌, ◌*◌, ◌++◌, IfOk, OnOk, length, map, count_by, replicate, if◌then◌else◌};
 ghost use Rattle.std.specs.List.Sorted.{IsStrictlyIncreasing};
 ghost use Rattle.f8_spec.specs.ChipState.{filled_bytes, is_ram, is_rom};
-ghost use Rattle.chip_face.specs.Fitting.{page_bytes, page_content};
-ghost use Rattle.smi3853.specs.Spaces.{IsPlaces, rom_need};
+ghost use Rattle.chip_face.specs.Fitting.{page_bytes, page_content, rom_size};
+ghost use Rattle.smi3853.specs.Spaces.{IsPlaces};
 
-use chip_face::{Page, PageSort};
+use chip_face::{PAGE_SIZE, Page, PageSort, rom_size};
 use std::alloc::{AllocError, Global};
-
-/// The bytes of a page.
-const PAGE_SIZE: usize = 256;
 
 /// The place of each page, by its number. Since the pages ascend, there are 256 at most.
 pub fn places_of(pages: &[Page]) -> [Option<u8>; 256]
@@ -24,20 +21,10 @@ pub fn places_of(pages: &[Page]) -> [Option<u8>; 256]
     places
 }
 
-/// How many bytes of a specification's ROM belong to a page.
-fn rom_size(sort: PageSort) -> usize
-    ensures { result ≡ rom_need sort }
-{
-    match sort {
-        PageSort::Rom => PAGE_SIZE,
-        PageSort::Ram | PageSort::Void => 0,
-    }
-}
-
 /// Adds the bytes of a page before power-on: those of the ROM where it is a ROM page, and else 0 in RAM and 255 where there is nothing.
 #[tactic(auto, using(crate::proofs::Filling::whole_page))]
 fn add_page(bytes: &mut Vec<u8>, sort: PageSort, rom: &[u8]) -> Result<(), AllocError>
-    requires { length rom.now ≡ rom_need sort }
+    requires { length rom.now ≡ rom_size sort }
     ensures { OnOk result (bytes.new.items ≡ bytes.old.items ++ page_content sort rom.now) }
 {
     let end = bytes.len() + PAGE_SIZE;
