@@ -17,3 +17,4 @@ pub mod Image
 pub mod Listing
 pub mod ListingLaw
 pub mod ImageLaw
+pub mod ExpressionForms
