@@ -1,5 +1,5 @@
 -- What is read of tokens is an expression.
-use Rattle.std.proofs.Common.{◌≡◌, ℕ, zero, suc, ◌≤◌, Bool, true, false, List, [], ◌∷◌, ◌++◌, length, Option, Some, None, Ok, refl, sym, ap, ◌∙◌, subst, arith, append_assoc, append-nil, length-append, le_refl}
+use Rattle.std.proofs.Common.{◌≡◌, ℕ, zero, suc, ◌≤◌, Bool, true, false, List, [], ◌∷◌, ◌++◌, length, Option, Some, None, Ok, refl, sym, ap, ◌∙◌, subst, arith, append_assoc, length-append, le_refl}
 use Rattle.std.specs.Prelude.{◌==◌, if◌then◌else◌}
 use Rattle.std.proofs.lemmas.Bool.Decides.{nat_tests}
 use Rattle.asm_text.specs.declared.answers.Token.{Token}
@@ -8,7 +8,6 @@ use Rattle.asm_text.specs.declared.answers.TokenKind.TheVariants as kind
 use Rattle.f8_asm.specs.declared.values.Operator.{Operator}
 use Rattle.f8_asm.specs.declared.values.Prefix.{Prefix}
 use Rattle.f8_asm.specs.declared.values.Prefix.TheVariants.{Negative, LowByte, HighByte}
-use Rattle.f8_asm.specs.Answers.{◌>>=◌}
 use Rattle.f8_asm.specs.ExpressionForms.{prefix_mark, Forms, BeginsWithExpression}
 use Rattle.f8_asm.specs.Grammar.{Actions, Read, operator_at, chain, level, closed, parenthesised, behind_prefix, opened, operand_of, operand, expression}
 use Rattle.f8_asm.specs.Words.{is_reserved}
@@ -37,7 +36,8 @@ module _ {A : Type 0} (acts : Actions A) where
       let same : ◌≡◌ {A = A × List Token} (x, us) (v, rest) = cc h in
       subst (λ (r : A × List Token). Formed acts strength depth ts r.0 r.1) same formed
 
-module _ {A : Type 0} (acts : Actions A) (depth k : ℕ) (g : List Token → Read A) (tight : (ts : List Token) (v : A) (rest : List Token) → g ts ≡ Ok (v, rest) → Formed acts k depth ts v rest) where
+module _ {A : Type 0} (acts : Actions A) (depth k : ℕ) (g : List Token → Read A)
+    (tight : (ts : List Token) (v : A) (rest : List Token) → g ts ≡ Ok (v, rest) → Formed acts k depth ts v rest) where
   -- operators behind what is formed
   abbrev ChainForms : ℕ → Type 0
   ChainForms n =
@@ -56,9 +56,9 @@ module _ {A : Type 0} (acts : Actions A) (depth k : ℕ) (g : List Token → Rea
       let size = ap length right.whole in
       let parts = length-append right.front r.1 in
       let whole = further (before ++ t ∷ right.front) (acts.between operator left r.0) r.1 v rest (omega arith) right.ends
-          (Forms.joined t operator found.strength_is forms found.kind_is right.forms) h in
+      (Forms.joined t operator found.strength_is forms found.kind_is right.forms) h in
       let same : (before ++ t ∷ right.front) ++ r.1 ≡ before ++ t ∷ ts =
-          append_assoc before (t ∷ right.front) r.1 ∙ ap (λ us. before ++ t ∷ us) (sym right.whole) in
+      append_assoc before (t ∷ right.front) r.1 ∙ ap (λ us. before ++ t ∷ us) (sym right.whole) in
       subst (λ us. Formed acts (suc k) depth us v rest) same whole)
 
   chain_formed : (n : ℕ) → ChainForms n
@@ -96,7 +96,8 @@ closed_is {A} x (u ∷ us) v rest h = goes u.kind refl
         (λ closing h. closes mark is (grind (arith, nat_tests)) h)
         (λ other h. cc h)
 
-module _ {A : Type 0} (acts : Actions A) (depth : ℕ) (f : List Token → Read A) (each : (ts : List Token) (v : A) (rest : List Token) → f ts ≡ Ok (v, rest) → Formed acts 0 depth ts v rest) where
+module _ {A : Type 0} (acts : Actions A) (depth : ℕ) (f : List Token → Read A)
+    (each : (ts : List Token) (v : A) (rest : List Token) → f ts ≡ Ok (v, rest) → Formed acts 0 depth ts v rest) where
   level_formed : (k : ℕ) (ts : List Token) (v : A) (rest : List Token) → level acts f k ts ≡ Ok (v, rest) → Formed acts k depth ts v rest
   unfolding level
   level_formed zero ts v rest h = each ts v rest h
@@ -104,7 +105,7 @@ module _ {A : Type 0} (acts : Actions A) (depth : ℕ) (f : List Token → Read 
       read-ok (Formed acts (suc k) depth ts v rest) (level acts f k ts) _ (v, rest) h (λ r at_r h.
       let first = level_formed k ts r.0 r.1 at_r in
       let whole = chain_formed acts depth k (level acts f k) (λ us w after e. level_formed k us w after e) (length r.1) first.front r.0 r.1 v rest
-          (le_refl (length r.1)) first.ends (Forms.tighter first.forms) h in
+      (le_refl (length r.1)) first.ends (Forms.tighter first.forms) h in
       subst (λ us. Formed acts (suc k) depth us v rest) (sym first.whole) whole)
 
   behind_formed : (prefix : Prefix) (t : Token) (ts : List Token) (v : A) (rest : List Token) → t.kind ≡ kind.Mark (prefix_mark prefix)

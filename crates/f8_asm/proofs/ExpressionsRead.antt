@@ -1,17 +1,16 @@
 -- Expressions are read whole.
-use Rattle.std.proofs.Common.{◌≡◌, ℕ, zero, suc, ◌+◌, ◌<◌, false, List, [], ◌∷◌, ◌++◌, length, Some, Ok, refl, sym, ap, ◌∙◌, arith, append_assoc, length-append, le_refl}
+use Rattle.std.proofs.Common.{◌≡◌, ℕ, zero, suc, ◌<◌, false, List, [], ◌∷◌, ◌++◌, length, Ok, refl, sym, ◌∙◌, arith, append_assoc, length-append, le_refl}
 use Rattle.asm_text.specs.declared.answers.Token.{Token}
 use Rattle.asm_text.specs.declared.answers.TokenKind.TheVariants as kind
 use Rattle.f8_asm.specs.declared.values.Operator.{Operator}
 use Rattle.f8_asm.specs.declared.values.Prefix.{Prefix}
 use Rattle.f8_asm.specs.declared.values.Prefix.TheVariants.{Negative, LowByte, HighByte}
-use Rattle.f8_asm.specs.Answers.{◌>>=◌}
 use Rattle.f8_asm.specs.ExpressionForms.{operator_mark, strength_of, prefix_mark, Forms, BeginsWithExpression}
-use Rattle.f8_asm.specs.Grammar.{Actions, Read, chain, level, parenthesised, behind_prefix, opened, operand_of, operand, deeper, expression}
+use Rattle.f8_asm.specs.Grammar.{Actions, Read, level, parenthesised, behind_prefix, opened, operand_of, operand, deeper, expression}
 use Rattle.f8_asm.specs.Words.{is_reserved}
 use Rattle.f8_asm.proofs.Chain.{ChainOn, chain_goes, chain_stops, chain_ends}
 use Rattle.f8_asm.proofs.Depth.{operand_mark}
-use Rattle.f8_asm.proofs.OperatorMarks.{is_operator, Ends, ends_operand, all_ends, ends_below, ends_before, ends_closed, none_here}
+use Rattle.f8_asm.proofs.OperatorMarks.{is_operator, Ends, all_ends, ends_below, ends_before, ends_closed, none_here}
 
 module _ {A : Type 0} (acts : Actions A) where
   -- What forms an operand is read whole. What forms an expression of a strength is read up to an operator of that strength, with which the

@@ -22,6 +22,7 @@ pub mod StatementsAlike
 pub mod OperatorMarks
 pub mod ExpressionsFormed
 pub mod ExpressionsRead
+pub mod LongestExpressions
 pub mod ImageRooms
 pub mod ImageBytes
 pub mod ImageIs

@@ -1,5 +1,5 @@
 -- The marks of operators, and what stands behind an expression.
-use Rattle.std.proofs.Common.{◌≡◌, ℕ, zero, suc, ◌<◌, ◌≤◌, List, [], ◌∷◌, Option, Some, None, refl, sym, ap, ◌∙◌, arith}
+use Rattle.std.proofs.Common.{◌≡◌, ℕ, suc, ◌<◌, ◌≤◌, List, [], ◌∷◌, Option, Some, None, refl, sym, ap, ◌∙◌, arith}
 use Rattle.std.specs.Prelude.{◌==◌, if◌then◌else◌}
 use Rattle.std.proofs.lemmas.Bool.Decides.{nat_tests}
 use Rattle.asm_text.specs.declared.answers.Token.{Token}
@@ -87,7 +87,7 @@ pub ends_operand : (ts : List Token) → Ends 0 ts
 ends_operand [] = tt
 ends_operand (t ∷ ts) = λ operator weak is. let some = some_strength operator in absurd (omega arith)
 
--- nor one above 4
+-- and none above 4
 pub ends_all : (ts : List Token) → Ends 4 ts → BeginsWithNoOperator ts
 ends_all [] ends = tt
 ends_all (t ∷ ts) ends = λ operator is. ends operator (most_strength operator) is
@@ -96,12 +96,12 @@ pub all_ends : (ts : List Token) → BeginsWithNoOperator ts → Ends 4 ts
 all_ends [] none = tt
 all_ends (t ∷ ts) none = λ operator weak is. none operator is
 
--- an operator of smaller strength stands first neither
+-- where no operator up to a strength stands first, none up to the strength below does
 pub ends_below : (strength : ℕ) (ts : List Token) → Ends (suc strength) ts → Ends strength ts
 ends_below strength [] ends = tt
 ends_below strength (t ∷ ts) ends = λ operator weak is. ends operator (omega arith) is
 
--- nor one of the next strength, where the token is none
+-- nor one up to the strength above, where the token is none of that
 pub ends_here : (strength : ℕ) (t : Token) (ts : List Token) → Ends strength (t ∷ ts) → None ≡ operator_at (suc strength) t.kind
     → Ends (suc strength) (t ∷ ts)
 ends_here strength t ts ends none = λ operator weak is. goes operator weak is
@@ -122,7 +122,7 @@ none_here strength t ts ends = goes (operator_at strength t.kind) refl
         let found = operator_is strength t.kind operator (sym is) in
         absurd (ends operator (let strong = found.strength_is in omega arith) found.kind_is)
 
--- an operator is no tighter one
+-- an operator is none of the tighter ones
 pub ends_before : (strength : ℕ) (t : Token) (ts : List Token) (operator : Operator) → strength_of operator ≡ suc strength
     → t.kind ≡ kind.Mark (operator_mark operator) → Ends strength (t ∷ ts)
 ends_before strength t ts operator strong is = λ other weak also. let same = one_strength t.kind operator other is also in absurd (omega arith)

@@ -1,10 +1,9 @@
 -- What an expression is, as a grammar gives it: which tokens form one, and its value. Nothing here says how tokens are read.
-use Rattle.std.specs.Prelude.{◌≡◌, ◌↔◌, ℕ, suc, false, List, [], ◌∷◌, ◌++◌, Ok}
+use Rattle.std.specs.Prelude.{◌≡◌, ◌↔◌, ℕ, suc, ◌≤◌, false, List, [], ◌∷◌, ◌++◌, length, Ok}
 use Rattle.asm_text.specs.declared.answers.Token.{Token}
 use Rattle.asm_text.specs.declared.answers.TokenKind.TheVariants as kind
 use Rattle.f8_asm.specs.declared.values.Operator.{Operator}
 use Rattle.f8_asm.specs.declared.values.Operator.TheVariants.{Or, And, Plus, Minus, Times, Divide}
-use Rattle.f8_asm.specs.declared.values.Outcome.{Outcome}
 use Rattle.f8_asm.specs.declared.values.Prefix.{Prefix}
 use Rattle.f8_asm.specs.declared.values.Prefix.TheVariants.{Negative, LowByte, HighByte}
 use Rattle.f8_asm.specs.Grammar.{Actions, expression}
@@ -34,8 +33,8 @@ prefix_mark Negative = 45
 prefix_mark LowByte = 60
 prefix_mark HighByte = 62
 
--- Tokens form an expression whose operators have at most this strength, in which at most so many prefixes and parentheses are open at each
--- token. The value is what the actions make of its parts.
+-- Tokens form an expression whose operators, but for those in parentheses, have at most this strength, and in which at most so many prefixes
+-- and parentheses are open at each token. The value is what the actions make of its parts.
 pub data Forms {A : Type 0} (acts : Actions A) : ℕ → ℕ → List Token → A → Type 0 where
   -- an operand: a number,
   number : {depth n : ℕ} {t : Token} → t.kind ≡ kind.Number n → Forms acts 0 depth (t ∷ []) (acts.number n)
@@ -62,17 +61,21 @@ abbrev pub BeginsWithNoOperator : List Token → Type 0
 BeginsWithNoOperator [] = Unit {0}
 BeginsWithNoOperator (t ∷ ts) = (operator : Operator) → t.kind ≡ kind.Mark (operator_mark operator) → ⊥
 
--- Tokens begin with an expression of this value, behind which these are left, and no operator is the first of them. At most 64 prefixes
--- and parentheses are open.
+-- Tokens begin with an expression of this value, in which at most 64 prefixes and parentheses are open at each token. Behind it these are
+-- left, and no operator is the first of them.
 pub record BeginsWithExpression {A : Type 0} (acts : Actions A) (ts : List Token) (value : A) (rest : List Token) : Type 0 where
   pub front : List Token
   pub whole : ts ≡ front ++ rest
   pub forms : Forms acts 4 64 front value
   pub ends : BeginsWithNoOperator rest
 
--- What is read of tokens is the expression that they begin with, up to where no operator stands: so it has one value, and no longer front
--- of the tokens is an expression. Nothing is read only where they begin with none such. This holds whatever numbers, names, `.`, prefixes
--- and operators stand for.
-abbrev pub ExpressionLaw : Type 0
-ExpressionLaw = (acts : Actions Outcome) (ts : List Token) (value : Outcome) (rest : List Token) →
+-- What is read of tokens is exactly the expression that they begin with: so it has one value, and where they begin with none there is a
+-- fault. The actions say what numbers, names, `.`, prefixes and operators stand for, and this holds of any.
+abbrev pub ExpressionLaw : Type 0 → Type 0
+ExpressionLaw A = (acts : Actions A) (ts : List Token) (value : A) (rest : List Token) →
     (expression acts ts ≡ Ok (value, rest)) ↔ BeginsWithExpression acts ts value rest
+
+-- An expression behind which no operator stands is the longest that the tokens begin with.
+abbrev pub LongestExpressionLaw : Type 0 → Type 0
+LongestExpressionLaw A = (acts : Actions A) (front rest more beyond : List Token) (value other : A) → Forms acts 4 64 front value
+    → BeginsWithNoOperator rest → front ++ rest ≡ more ++ beyond → Forms acts 4 64 more other → length more ≤ length front
