@@ -28,3 +28,4 @@ pub mod ImageBytes
 pub mod ImageIs
 mod Examples
 mod WorkedImages
+mod WorkedExpressions
