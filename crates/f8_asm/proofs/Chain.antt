@@ -14,11 +14,11 @@ pub record ChainOn {A : Type 0} (acts : Actions A) (strength : ℕ) (g : List To
 
 module _ {A : Type 0} (acts : Actions A) (strength : ℕ) (g : List Token → Read A) where
   -- a token's operator decides
-  abbrev turn : ℕ → A → Token → List Token → Option Operator → Read A
+  abbrev pub turn : ℕ → A → Token → List Token → Option Operator → Read A
   turn n left t ts None = Ok (left, t ∷ ts)
   turn n left t ts (Some operator) = g ts >>= λ r. chain acts strength g n (acts.between operator left r.0) r.1
 
-  at_token : (o : Option Operator) (n : ℕ) (left : A) (t : Token) (ts : List Token) → o ≡ operator_at strength t.kind → chain acts strength g (suc n) left (t ∷ ts) ≡ turn n left t ts o
+  pub at_token : (o : Option Operator) (n : ℕ) (left : A) (t : Token) (ts : List Token) → o ≡ operator_at strength t.kind → chain acts strength g (suc n) left (t ∷ ts) ≡ turn n left t ts o
   unfolding chain
   at_token None n left t ts is = rw (← is, chain) refl
   at_token (Some operator) n left t ts is = rw (← is, chain) refl

@@ -1,5 +1,5 @@
 -- How far an expression reads doesn't hang on the values of names.
-use Rattle.std.proofs.Common.{◌≡◌, ℕ, zero, suc, List, [], ◌∷◌, length, Option, Some, None, Ok, refl}
+use Rattle.std.proofs.Common.{◌≡◌, ℕ, zero, suc, List, [], ◌∷◌, length, Option, Some, None, refl}
 use Rattle.std.specs.Prelude.{◌==◌}
 use Rattle.asm_text.specs.declared.answers.Token.{Token}
 use Rattle.asm_text.specs.declared.answers.TokenKind.{TokenKind}
@@ -7,26 +7,14 @@ use Rattle.asm_text.specs.declared.answers.TokenKind.TheVariants as kind
 use Rattle.f8_asm.specs.declared.values.Operator.{Operator}
 use Rattle.f8_asm.specs.declared.values.Prefix.{Prefix}
 use Rattle.f8_asm.specs.declared.values.Prefix.TheVariants.{Negative, LowByte, HighByte}
-use Rattle.f8_asm.specs.Answers.{◌>>=◌}
 use Rattle.f8_asm.specs.Words.{is_reserved}
 use Rattle.f8_asm.specs.Grammar.{Actions, Read, operator_at, chain, level, closed, parenthesised, behind_prefix, opened, operand_of, operand, expression}
 use Rattle.f8_asm.proofs.Alike.{Alike, alike_ok, alike_err, alike_then, alike_if}
+use Rattle.f8_asm.proofs.Chain.{at_token}
 
 -- the same tokens are left
 abbrev pub SameRest : {A B : Type 0} → (A × List Token) → (B × List Token) → Type 0
 SameRest x y = x.1 ≡ y.1
-
-module _ {A : Type 0} (acts : Actions A) (strength : ℕ) (f : List Token → Read A) where
-  -- a token's operator decides
-  abbrev turn : ℕ → A → Token → List Token → Option Operator → Read A
-  turn n left t ts None = Ok (left, t ∷ ts)
-  turn n left t ts (Some operator) = f ts >>= λ r. chain acts strength f n (acts.between operator left r.0) r.1
-
-  at_token : (o : Option Operator) (n : ℕ) (left : A) (t : Token) (ts : List Token) → o ≡ operator_at strength t.kind
-      → chain acts strength f (suc n) left (t ∷ ts) ≡ turn n left t ts o
-  unfolding chain
-  at_token None n left t ts is = rw (← is, chain) refl
-  at_token (Some operator) n left t ts is = rw (← is, chain) refl
 
 module _ {A B : Type 0} (a : Actions A) (b : Actions B) (f : List Token → Read A) (g : List Token → Read B) (each : (ts : List Token) → Alike SameRest (f ts) (g ts)) where
   chain_alike : (strength n : ℕ) (x : A) (y : B) (ts : List Token) → Alike SameRest (chain a strength f n x ts) (chain b strength g n y ts)

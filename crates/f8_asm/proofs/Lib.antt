@@ -19,9 +19,14 @@ pub mod ListingIs
 pub mod Alike
 pub mod ExpressionsAlike
 pub mod StatementsAlike
+pub mod OperatorMarks
+pub mod ExpressionsFormed
+pub mod ExpressionsRead
+pub mod LongestExpressions
 pub mod ImageRooms
 pub mod ImageBytes
 pub mod ImageIs
 pub mod FirstFault
 mod Examples
 mod WorkedImages
+mod WorkedExpressions

@@ -18,3 +18,4 @@ pub mod Listing
 pub mod ListingLaw
 pub mod ImageLaw
 pub mod FirstFault
+pub mod ExpressionForms

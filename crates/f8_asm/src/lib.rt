@@ -9,6 +9,7 @@ mod fields;
 mod grammar;
 mod image;
 mod judging;
+mod laws;
 mod line;
 mod listing;
 mod marks;
@@ -28,6 +29,7 @@ mod words;
 
 pub use answers::{AsmAnswer, AsmCause, AsmFault, Room};
 pub use image::{Image, assemble};
+pub use laws::expression_law;
 pub use listing::{Text, disassemble};
 
 #[cfg(test)]
