@@ -5,6 +5,5 @@ use Rattle.generator.proofs.chips.chip_at.Goals as goal
 pub returns : goal.returns
 returns c =
     let rom = c.in_ok-rom.ensures.items_if_clones_equal (λ x y same. same) in
-    let start : c.from-start.result ≡ 1024 * c.args.number = omega arith in
-    let many : c.from-start.result + c.from.result - c.from-start.result ≡ 1024 = omega arith in
-    rw (c.from-base.ensures, c.from_vec.ensures, rom, many, start) refl
+    let many : 1024 * c.from-start.result + 1024 - 1024 * c.from-start.result ≡ 1024 = omega arith in
+    rw (c.from_vec.ensures, rom, many, c.from-start.ensures) refl
