@@ -1,6 +1,7 @@
 -- What stands at the front of a rest, against the rules of the grammar: each rule is found, and what is found
 -- is by a rule.
 use Rattle.std.proofs.Common.{◌≡◌, ℕ, suc, ◌+◌, ◌^◌, ◌<◌, ◌≤◌, Bool, true, false, cond, ◌&&◌, List, [], ◌∷◌, ◌++◌, length, take, drop, Some, None, refl, sym, ◌∙◌, ap, subst, arith, zero-add, lit<, take-append-drop}
+use Rattle.text_lines.specs.Printable.{is_printable}
 use Rattle.std.specs.Prelude.{◌==◌, nat_lt, nat_le}
 use Rattle.std.proofs.lemmas.List.Folds.{length-prefix_len}
 use Rattle.std.proofs.lemmas.List.Sums.{prefix_len-le-length}
@@ -9,7 +10,7 @@ use Rattle.std.specs.List.{prefix_len}
 use Rattle.std.specs.Char.{is_digit}
 use Rattle.std.proofs.lemmas.Bool.Decides.{nat_tests}
 use Rattle.std.proofs.lemmas.Grind.{common_steps}
-use Rattle.asm_text.specs.Bytes.{is_blank, is_letter, is_name_byte, is_name, is_mark, is_printable, value, narrow, stops}
+use Rattle.asm_text.specs.Bytes.{is_blank, is_letter, is_name_byte, is_name, is_mark, value, narrow, stops}
 use Rattle.asm_text.specs.Lexemes.{name_of, name_lexeme, number_of, sized_number, number_lexeme, quoted_lexeme, lexeme}
 use Rattle.asm_text.specs.Grammar.{AreDigits, Spells, spells_name, spells_decimal, spells_hexadecimal, spells_binary, spells_quoted, spells_mark, BeginsWide, wide_decimal, wide_hexadecimal, wide_binary, BeginsNothing}
 use Rattle.asm_text.specs.declared.front.Lexeme.{Lexeme}

@@ -29,10 +29,6 @@ is_name (b ∷ bs) = is_letter b && list_all is_name_byte bs && nat_le (length b
 abbrev pub is_mark : ℕ → Bool
 is_mark b = list_any (λ mark. mark == b) (codes "+-*/&|()<>,.:")
 
--- a byte that may stand in quotes: printable ASCII
-abbrev pub is_printable : ℕ → Bool
-is_printable b = nat_le 32 b && nat_le b 126
-
 -- bytes that don't begin with one of this class
 abbrev pub stops : (ℕ → Bool) → List ℕ → Bool
 stops p [] = true

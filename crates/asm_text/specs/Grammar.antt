@@ -2,7 +2,8 @@
 use Rattle.std.specs.Prelude.{◌≡◌, ℕ, ◌+◌, ◌^◌, ◌<◌, ◌≤◌, List, [], ◌∷◌, ◌++◌, length, IsTrue, Result, Ok, Err}
 use Rattle.std.specs.List.{list_all}
 use Rattle.std.specs.Char.{is_digit}
-use Rattle.asm_text.specs.Bytes.{is_blank, is_name_byte, is_name, is_mark, is_printable, value, stops}
+use Rattle.text_lines.specs.Printable.{is_printable}
+use Rattle.asm_text.specs.Bytes.{is_blank, is_name_byte, is_name, is_mark, value, stops}
 use Rattle.asm_text.specs.Tokens.{behind}
 use Rattle.asm_text.specs.declared.answers.Token.{Token}
 use Rattle.asm_text.specs.declared.answers.TokenKind.{TokenKind}

@@ -2,7 +2,8 @@
 use Rattle.std.specs.Prelude.{ℕ, ◌+◌, ◌<◌, ◌≤◌, ◌&&◌, ◌==◌, nat_le, Option, Some, None, List, [], ◌∷◌, take, if◌then◌else◌}
 use Rattle.std.specs.List.{prefix_len}
 use Rattle.std.specs.Char.{is_digit}
-use Rattle.asm_text.specs.Bytes.{is_blank, is_letter, is_name_byte, is_mark, is_printable, value, narrow}
+use Rattle.text_lines.specs.Printable.{is_printable}
+use Rattle.asm_text.specs.Bytes.{is_blank, is_letter, is_name_byte, is_mark, value, narrow}
 use Rattle.asm_text.specs.declared.front.Lexeme.{Lexeme}
 use Rattle.asm_text.specs.declared.front.Lexeme.TheVariants.{Blank, End, Bad, Wide, Lexed}
 use Rattle.asm_text.specs.declared.answers.TokenKind.TheVariants as kind

@@ -1,10 +1,8 @@
 // The bytes of a ROM: digits, or the name of the file that they are assembled from.
 ghost use Rattle.std.specs.Prelude.{◌≡◌, ◌≤◌, IfOk, option_map, vec_len, string_bytes, Ok, Err, MatchResult};
-ghost use Rattle.std.specs.List.{list_all};
 ghost use Rattle.std.specs.Result.{result_ok};
 ghost use Rattle.hex.specs.Hex.{decode_of};
 ghost use Rattle.toml.specs.View.{view, table_view};
-ghost use Rattle.asm_text.specs.Bytes.{is_printable as prints};
 ghost use Rattle.cartridge.specs.declared.keys.Key.TheVariants.{Rom, Source};
 ghost use Rattle.cartridge.specs.declared.refusal.TableStop.TheVariants.{Fault};
 ghost use Rattle.cartridge.specs.Faults.{SaysOfTable, at_key};
@@ -17,6 +15,7 @@ use super::values::value_at;
 use chip_face::Bytes;
 use hex::FromHexError;
 use std::alloc::{AllocError, Global};
+use text_lines::all_printable;
 use toml::{Table, Value};
 
 /// So many bytes, of which the first are given, and the rest are FF.
@@ -79,18 +78,11 @@ pub fn mask_at(alloc: Global, table: &Table, room: usize) -> Result<Bytes, Table
     rom_at(alloc, table, room)
 }
 
-/// Every character is a printable one of ASCII.
-fn is_printable(name: &str) -> bool
-    ensures { result ≡ list_all prints name.now }
-{
-    name.bytes().all(|byte| 0x20 <= byte && byte <= 0x7E)
-}
-
 /// The name of a file: 1 to 64 printable characters of ASCII.
 fn is_file_name(name: &str) -> bool
     ensures { result ≡ names_file name.now }
 {
-    1 <= name.len() && name.len() <= 64 && is_printable(name)
+    1 <= name.len() && name.len() <= 64 && all_printable(name.as_bytes())
 }
 
 /// Judges the name of a source for so many bytes, beside which digits may be given.

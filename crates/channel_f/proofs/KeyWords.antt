@@ -1,11 +1,11 @@
 -- The words of a description's keys are short, and print.
 use Rattle.std.proofs.Common.{◌≤◌, length, arith, refl}
+use Rattle.text_lines.specs.Printable.{is_printable}
 use Rattle.std.specs.Prelude.{IsTrue}
 use Rattle.std.specs.List.{list_all}
 use Rattle.cartridge.specs.declared.keys.Key.{Key}
 use Rattle.cartridge.specs.declared.keys.Key.TheVariants.{Format, Split, Chip, Kind, Base, Ports, Vector, RomPage, RomPages, RamPage, RamPages, VoidPage, VoidPages, Interrupt, Rom, Source, Other}
 use Rattle.cartridge.specs.Keys.{key_word}
-use Rattle.report.specs.RefusalLines.{is_printable}
 
 pub word_short : (key : Key) → length (key_word key) ≤ 16
 word_short Format = omega arith

@@ -1,7 +1,7 @@
 // Why a command didn't get what it wants of its files, told by a line.
 ghost use Rattle.std.specs.Prelude.{◌≡◌, ◌≤◌, IsTrue, length};
 ghost use Rattle.std.specs.List.{list_all};
-ghost use Rattle.report.specs.RefusalLines.{is_printable};
+ghost use Rattle.text_lines.specs.Printable.{is_printable};
 ghost use Rattle.channel_f.specs.Refusals.{purpose_word as spelled_word, purpose_number as told_number, unbuilt_line as spelled_unbuilt, refusal_line as spelled_refusal, missing_line as spelled_missing};
 ghost use Rattle.channel_f.specs.Reports.{Stops};
 ghost use Rattle.channel_f.specs.Statuses.{exit_code};

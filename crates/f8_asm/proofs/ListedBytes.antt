@@ -1,9 +1,10 @@
 -- Each statement of a listing is read as the bytes that it was written for.
 use Rattle.std.proofs.Common.{◌≡◌, ℕ, ◌+◌, ◌/◌, ◌%◌, ◌*◌, ◌<◌, arith, pos, ◌-ℤ◌, Option, true, false, List, [], ◌∷◌, ◌++◌, length, None, Some, Ok, Err, refl}
+use Rattle.text_lines.specs.Printable.{is_printable}
 use Rattle.std.specs.Prelude.{nat_lt}
 use Rattle.std.specs.List.{list_all}
 use Rattle.std.proofs.lemmas.Bool.Decides.{nat_tests}
-use Rattle.asm_text.specs.Bytes.{is_printable, value, narrow}
+use Rattle.asm_text.specs.Bytes.{value, narrow}
 use Rattle.asm_text.specs.Lexemes.{name_of, name_lexeme, number_of, number_lexeme, lexeme}
 use Rattle.asm_text.specs.Spelling.{hex_digit, hex2, hex4}
 use Rattle.asm_text.specs.Tokens.{tokens_at, tokens_of}

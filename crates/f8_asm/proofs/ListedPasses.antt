@@ -1,5 +1,6 @@
 -- The three passes over a listing.
 use Rattle.std.proofs.Common.{◌≡◌, ℕ, zero, suc, ◌+◌, ◌-◌, ◌≤◌, Bool, true, false, List, [], ◌∷◌, ◌++◌, length, map, drop, take, set, replicate, Option, Some, None, Ok, refl, sym, ◌∙◌, ap, arith, add-zero, append_assoc, append-nil, length-append, lit<}
+use Rattle.text_lines.specs.Printable.{is_printable}
 use Rattle.std.specs.List.{list_all, list_any}
 use Rattle.std.specs.Str.{IsAscii}
 use Rattle.std.proofs.Math.Seq.{drop-nil}
@@ -7,7 +8,6 @@ use Rattle.std.proofs.lemmas.List.{drop-set-lt}
 use Rattle.std.proofs.lemmas.Str.{IsUtf8-from_ascii}
 use Rattle.std.proofs.lemmas.Bool.Decides.{nat_tests}
 use Rattle.std.proofs.lemmas.Grind.{common_steps}
-use Rattle.asm_text.specs.Bytes.{is_printable}
 use Rattle.asm_text.specs.declared.answers.Token.{Token}
 use Rattle.f8_asm.specs.declared.line.Line.{Line}
 use Rattle.f8_asm.specs.declared.line.PlacedLine.{PlacedLine}

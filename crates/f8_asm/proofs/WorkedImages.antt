@@ -1,10 +1,10 @@
 -- Texts worked by hand, from their bytes to their images or faults, computed from the definitions. The addresses behind those that a text
 -- fills are a variable, so that no list of them is written out.
 use Rattle.std.proofs.Common.{◌≡◌, ℕ, suc, true, pos, List, [], ◌∷◌, ◌++◌, drop, take, Ok, Err, refl, sym, ◌∙◌}
+use Rattle.text_lines.specs.Printable.{is_printable}
 use Rattle.std.specs.Prelude.{codes}
 use Rattle.std.specs.List.{list_all}
 use Rattle.std.proofs.lemmas.Str.{IsUtf8-from_ascii}
-use Rattle.asm_text.specs.Bytes.{is_printable}
 use Rattle.asm_text.specs.Tokens.{tokens_of}
 use Rattle.asm_text.specs.declared.answers.Token.{Token}
 use Rattle.f8_asm.specs.declared.answers.AsmCause.TheVariants.{Twice, Undefined, Range, BranchRange, Overlap}

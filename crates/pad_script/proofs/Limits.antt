@@ -1,5 +1,6 @@
 -- The end of a script is one that a line says, and no line says an end beyond its limit.
 use Rattle.std.proofs.Common.{◌≡◌, ℕ, Bool, true, false, cond, List, [], ◌∷◌, ◌++◌, Option, Some, None, Result, Ok, Err, refl, subst, arith}
+use Rattle.text_lines.specs.Printable.{is_printable}
 use Rattle.std.proofs.lemmas.Bool.Decides.{nat_tests}
 use Rattle.std.specs.Prelude.{◌≤◌, ◌&&◌, nat_le, codes, bytes_eq, IfOk, IfSome}
 use Rattle.std.specs.List.{list_all}
@@ -13,7 +14,7 @@ use Rattle.pad_script.specs.declared.statement.Statement.{Statement}
 use Rattle.pad_script.specs.declared.statement.Statement.TheVariants.{Power, Ends, Comes, Shows}
 use Rattle.pad_script.specs.Answers.{made_of}
 use Rattle.pad_script.specs.Limits.{HasLimits}
-use Rattle.pad_script.specs.Words.{is_skipped, is_printable, lone, words}
+use Rattle.pad_script.specs.Words.{is_skipped, lone, words}
 use Rattle.text_lines.specs.Lines.{lines}
 use Rattle.pad_script.specs.Numbers.{byte_of, number_of, within}
 use Rattle.pad_script.specs.Reading.{SaysOfText, script_of}

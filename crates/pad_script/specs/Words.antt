@@ -11,10 +11,6 @@ is_space b = (b == 32) || (b == 9)
 abbrev pub is_skipped : List ℕ → Bool
 is_skipped line = begins 35 line || list_all is_space line
 
--- printable ASCII
-abbrev pub is_printable : ℕ → Bool
-is_printable b = nat_le 32 b && nat_le b 126
-
 -- single blanks part words; two blanks in a row have a word of no byte between them
 abbrev pub words : List ℕ → List (List ℕ)
 words [] = [] ∷ []

@@ -6,7 +6,8 @@ ghost use Rattle.pad_script.specs.Statements.{keys_at, pulse_at, power, frames, 
 use super::answers::ScriptCause;
 use super::numbers::{byte_of, number_of, number_within};
 use super::script::{At, End, Event};
-use super::words::{all_printable, first_word, is_skipped, only_word};
+use super::words::{first_word, is_skipped, only_word};
+use text_lines::all_printable;
 
 /// The last frame at which a run ends or that is shown.
 const LAST_FRAME: u32 = 600;

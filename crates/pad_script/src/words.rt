@@ -1,6 +1,6 @@
 // The words of a line, and lines that are skipped.
 ghost use Rattle.std.specs.Prelude.{◌≡◌, ◌∷◌, [], option_map, unwrap_or};
-ghost use Rattle.pad_script.specs.Words.{is_printable, is_skipped as is_not_read, is_space, lone, words};
+ghost use Rattle.pad_script.specs.Words.{is_skipped as is_not_read, is_space, lone, words};
 ghost use Rattle.std.specs.List.{list_all};
 
 /// The first word of a text, and what follows the blank behind it.
@@ -37,11 +37,4 @@ pub fn is_skipped(line: &[u8]) -> bool
     ensures { result ≡ is_not_read line.now }
 {
     matches!(line, [b'#', ..]) || is_blank(line)
-}
-
-/// All bytes are printable ASCII.
-pub fn all_printable(line: &[u8]) -> bool
-    ensures { result ≡ list_all is_printable line.now }
-{
-    line.iter().all(|byte| *byte >= b' ' && *byte <= b'~')
 }

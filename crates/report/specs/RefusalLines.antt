@@ -5,10 +5,6 @@ use Rattle.f8_spec.specs.declared.chips.ChipKind.TheVariants.{Psu, Smi}
 use Rattle.report.specs.declared.refusal_lines.Reader.{Reader}
 use Rattle.report.specs.declared.refusal_lines.Reader.TheVariants.{Script, Cert, Debug}
 
--- a printable character of ASCII
-abbrev pub is_printable : ℕ → Bool
-is_printable c = nat_le 32 c && nat_le c 126
-
 -- ---- words, and files as a whole
 
 unfoldable pub words_line : List ℕ

@@ -1,7 +1,8 @@
 // The lines of refusals.
 ghost use Rattle.std.specs.Prelude.{◌≡◌, ◌+◌, ◌≤◌, ◌++◌, length, IsTrue};
 ghost use Rattle.std.specs.List.{list_all};
-ghost use Rattle.report.specs.RefusalLines.{is_printable, words_line as spelled_words, toml_line as spelled_toml, hex_line as spelled_hex, long_line as spelled_long, store_line as spelled_store, number_text, chip_text, cart_line as spelled_cart, source_text, asm_line as spelled_asm, reader_text as spelled_reader_text, reader_line as spelled_reader, rack_line as spelled_rack, sockets_line as spelled_sockets, kind_text as spelled_kind};
+ghost use Rattle.text_lines.specs.Printable.{is_printable};
+ghost use Rattle.report.specs.RefusalLines.{words_line as spelled_words, toml_line as spelled_toml, hex_line as spelled_hex, long_line as spelled_long, store_line as spelled_store, number_text, chip_text, cart_line as spelled_cart, source_text, asm_line as spelled_asm, reader_text as spelled_reader_text, reader_line as spelled_reader, rack_line as spelled_rack, sockets_line as spelled_sockets, kind_text as spelled_kind};
 
 use super::line_buffer::Line;
 use f8_spec::ChipKind;

@@ -1,10 +1,12 @@
-//! Parts a text into its lines (the form is this project's own): LF ends a line, the last may lack it, and a CR right before an LF is
-//! dropped.
+//! What texts are made of (the form is this project's own). LF ends a line, the last may lack it, and a CR right before an LF is dropped.
+//! Printable are the characters of ASCII from the blank to `~`.
 #![tactic(auto)]
 
 mod lines;
+mod printable;
 
 pub use lines::first_line;
+pub use printable::all_printable;
 
 #[cfg(test)]
 mod tests;

@@ -12,3 +12,11 @@ fn line_ends(rt: HostRuntime) -> Result<(), Fail> {
     assert!(rt; rest.is_empty());
     Ok(())
 }
+
+#[test]
+fn printable_characters(rt: HostRuntime) -> Result<(), Fail> {
+    assert!(rt; all_printable(b" ~".as_slice()));
+    assert!(rt; !all_printable(b"\x1F".as_slice()));
+    assert!(rt; !all_printable(b"a\x7F".as_slice()));
+    Ok(())
+}
