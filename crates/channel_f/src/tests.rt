@@ -388,35 +388,39 @@ fn even_file(alloc: Global, name: &str, byte: u8, size: usize) -> Result<FileLis
     }
 }
 
+/// A file of one byte over and over, past its limit: name, byte and size; the words; what is written.
+type PastLimit = (&'static str, u8, usize, &'static [&'static str], &'static str);
+
+const PAST_LIMITS: [PastLimit; 5] = [
+    (
+        "script",
+        b' ',
+        65_536,
+        &["play", "cart", "script"],
+        "error script line 2 cause 6\n",
+    ),
+    (
+        "script",
+        b' ',
+        65_537,
+        &["play", "cart", "script"],
+        "error long script\n",
+    ),
+    (
+        "long",
+        b' ',
+        65_537,
+        &["ref", "long", "script"],
+        "error long cart\n",
+    ),
+    ("file", b' ', 262_145, &["asm", "file"], "error long file\n"),
+    ("file", b'7', 131_074, &["dis", "file"], "error long file\n"),
+];
+
 #[test]
 fn refuses_files_past_their_limit(rt: HostRuntime) -> Result<(), Fail> {
-    let rows: [(&str, u8, usize, &[&str], &str); 5] = [
-        (
-            "script",
-            b' ',
-            65_536,
-            &["play", "cart", "script"],
-            "error script line 2 cause 6\n",
-        ),
-        (
-            "script",
-            b' ',
-            65_537,
-            &["play", "cart", "script"],
-            "error long script\n",
-        ),
-        (
-            "long",
-            b' ',
-            65_537,
-            &["ref", "long", "script"],
-            "error long cart\n",
-        ),
-        ("file", b' ', 262_145, &["asm", "file"], "error long file\n"),
-        ("file", b'7', 131_074, &["dis", "file"], "error long file\n"),
-    ];
     let mut rack = rack_of!(rt, 1, Psu::blank(), 0, Smi::blank());
-    for (name, byte, size, words, text) in rows {
+    for (name, byte, size, words, text) in PAST_LIMITS {
         let words = words_of(rt.alloc(), words)?;
         let mut store = SureStore::new(even_file(rt.alloc(), name, byte, size)?);
         let mut sink = SureSink::new(rt.alloc(), 1024)?;

@@ -148,45 +148,47 @@ fn numbers_refused(rt: HostRuntime) -> Result<(), Fail> {
     Ok(())
 }
 
+/// Lines of words that ask for nothing.
+const REFUSED: [&str; 34] = [
+    "help",
+    "--help",
+    "-h",
+    "--version",
+    "-- play a b",
+    "Play a b",
+    "run a b",
+    "play -a b",
+    "play a b -c",
+    "play a b --trace=x",
+    "play a b --trace=",
+    "play a b --tracex",
+    "play a b --trac",
+    "play a b -trace",
+    "play a b -t",
+    "play a b --Trace",
+    "play --trace a b --trace",
+    "play --trace --trace a b",
+    "play a --trace b --trace --",
+    "play --trace",
+    "play --trace a",
+    "play a b c --trace",
+    "--trace play a b",
+    "ref a b --trace",
+    "ref --trace a b",
+    "asm --trace a",
+    "dis a --trace",
+    "play --help",
+    "ref -h a b",
+    "asm --version",
+    "asm -V",
+    "asm -\u{e9}",
+    "dis --help",
+    "dis -- -a -- b",
+];
+
 #[test]
 fn words_refused(rt: HostRuntime) -> Result<(), Fail> {
-    let lines = [
-        "help",
-        "--help",
-        "-h",
-        "--version",
-        "-- play a b",
-        "Play a b",
-        "run a b",
-        "play -a b",
-        "play a b -c",
-        "play a b --trace=x",
-        "play a b --trace=",
-        "play a b --tracex",
-        "play a b --trac",
-        "play a b -trace",
-        "play a b -t",
-        "play a b --Trace",
-        "play --trace a b --trace",
-        "play --trace --trace a b",
-        "play a --trace b --trace --",
-        "play --trace",
-        "play --trace a",
-        "play a b c --trace",
-        "--trace play a b",
-        "ref a b --trace",
-        "ref --trace a b",
-        "asm --trace a",
-        "dis a --trace",
-        "play --help",
-        "ref -h a b",
-        "asm --version",
-        "asm -V",
-        "asm -\u{e9}",
-        "dis --help",
-        "dis -- -a -- b",
-    ];
-    for line in lines {
+    for line in REFUSED {
         assert!(rt; asks(rt.alloc(), line, None)?, "{line}");
     }
     Ok(())

@@ -64,55 +64,59 @@ fn worked_programs(rt: HostRuntime) -> Result<(), Fail> {
     Ok(())
 }
 
+/// An opcode, whether its branch is taken, and the codes of the steps before the fetch, with whether each is a long one.
+type StepList = (u8, bool, &'static [u8], &'static [bool]);
+
+const LISTS: [StepList; 33] = [
+    (0x00, false, &[], &[]),
+    (0x08, false, &[0x07, 0x0B], &[true, true]),
+    (0x09, false, &[0x15, 0x18], &[true, true]),
+    (0x0C, false, &[0x12, 0x14], &[true, true]),
+    (0x0D, false, &[0x17, 0x14], &[true, true]),
+    (0x0E, false, &[0x06, 0x09], &[true, true]),
+    (0x11, false, &[0x06, 0x09], &[true, true]),
+    (0x0F, false, &[0x16, 0x19], &[true, true]),
+    (0x10, false, &[0x16, 0x19], &[true, true]),
+    (0x16, false, &[0x02], &[true]),
+    (0x17, false, &[0x05], &[true]),
+    (0x1A, false, &[0x1C], &[false]),
+    (0x1C, false, &[0x04], &[false]),
+    (0x1D, false, &[0x1C], &[false]),
+    (0x20, false, &[0x03], &[true]),
+    (0x26, false, &[0x03, 0x1B], &[true, true]),
+    (0x27, false, &[0x03, 0x1A], &[true, true]),
+    (
+        0x28,
+        false,
+        &[0x03, 0x0D, 0x0C, 0x14],
+        &[true, false, true, true],
+    ),
+    (0x29, false, &[0x03, 0x0C, 0x14], &[true, true, true]),
+    (
+        0x2A,
+        false,
+        &[0x11, 0x03, 0x0E, 0x03],
+        &[true, false, true, false],
+    ),
+    (0x2C, false, &[0x1D], &[false]),
+    (0x30, false, &[], &[]),
+    (0x81, true, &[0x1C, 0x01], &[false, true]),
+    (0x81, false, &[0x1C, 0x03], &[false, false]),
+    (0x8D, false, &[0x02], &[true]),
+    (0x8E, false, &[0x0A], &[true]),
+    (0x8F, true, &[0x01], &[true]),
+    (0x8F, false, &[0x03], &[false]),
+    (0x90, true, &[0x1C, 0x01], &[false, true]),
+    (0xB1, false, &[0x1C], &[false]),
+    (0xA4, false, &[0x1C, 0x1B], &[true, true]),
+    (0xB4, false, &[0x1C, 0x1A], &[true, true]),
+    (0xD0, false, &[0x1C], &[false]),
+];
+
 // the codes of the steps before the last fetch, and which of them are long
 #[test]
 fn lists_of_steps(rt: HostRuntime) -> Result<(), Fail> {
-    let lists: [(u8, bool, &[u8], &[bool]); 33] = [
-        (0x00, false, &[], &[]),
-        (0x08, false, &[0x07, 0x0B], &[true, true]),
-        (0x09, false, &[0x15, 0x18], &[true, true]),
-        (0x0C, false, &[0x12, 0x14], &[true, true]),
-        (0x0D, false, &[0x17, 0x14], &[true, true]),
-        (0x0E, false, &[0x06, 0x09], &[true, true]),
-        (0x11, false, &[0x06, 0x09], &[true, true]),
-        (0x0F, false, &[0x16, 0x19], &[true, true]),
-        (0x10, false, &[0x16, 0x19], &[true, true]),
-        (0x16, false, &[0x02], &[true]),
-        (0x17, false, &[0x05], &[true]),
-        (0x1A, false, &[0x1C], &[false]),
-        (0x1C, false, &[0x04], &[false]),
-        (0x1D, false, &[0x1C], &[false]),
-        (0x20, false, &[0x03], &[true]),
-        (0x26, false, &[0x03, 0x1B], &[true, true]),
-        (0x27, false, &[0x03, 0x1A], &[true, true]),
-        (
-            0x28,
-            false,
-            &[0x03, 0x0D, 0x0C, 0x14],
-            &[true, false, true, true],
-        ),
-        (0x29, false, &[0x03, 0x0C, 0x14], &[true, true, true]),
-        (
-            0x2A,
-            false,
-            &[0x11, 0x03, 0x0E, 0x03],
-            &[true, false, true, false],
-        ),
-        (0x2C, false, &[0x1D], &[false]),
-        (0x30, false, &[], &[]),
-        (0x81, true, &[0x1C, 0x01], &[false, true]),
-        (0x81, false, &[0x1C, 0x03], &[false, false]),
-        (0x8D, false, &[0x02], &[true]),
-        (0x8E, false, &[0x0A], &[true]),
-        (0x8F, true, &[0x01], &[true]),
-        (0x8F, false, &[0x03], &[false]),
-        (0x90, true, &[0x1C, 0x01], &[false, true]),
-        (0xB1, false, &[0x1C], &[false]),
-        (0xA4, false, &[0x1C, 0x1B], &[true, true]),
-        (0xB4, false, &[0x1C, 0x1A], &[true, true]),
-        (0xD0, false, &[0x1C], &[false]),
-    ];
-    for (code, taken, codes, longs) in lists {
+    for (code, taken, codes, longs) in LISTS {
         let steps = list(f8_ops::decode(code)?, taken);
         assert!(rt; !steps.is_empty());
         assert_eq!(rt; steps.len().saturating_sub(1), codes.len(), "of {code}");

@@ -93,47 +93,51 @@ fn counters(regs: &Regs) -> [u16; 4] {
     [regs.p, regs.p1, regs.d0, regs.d1]
 }
 
+/// A program, the power-on byte and how many instructions; then the four counters, the accumulator and the clocks, in Φ.
+type CountersRow = (&'static [u8], u8, u32, [u16; 4], u8, u64);
+
+const COUNTERS_AND_LOADS: [CountersRow; 5] = [
+    (&[0x1C], 0x04, 3, [0x0000, 0x0000, 0x0000, 0x0000], 0x04, 38),
+    (
+        &[0x2A, 0x00, 0x05, 0x2C, 0x16],
+        0x00,
+        2,
+        [0x0004, 0x0000, 0x0000, 0x0005],
+        0x00,
+        46,
+    ),
+    (
+        &[
+            0x2A, 0x28, 0x00, 0x2C, 0x2A, 0x28, 0x01, 0x2C, 0x16, 0x90, 0xFF,
+        ],
+        0x5A,
+        6,
+        [0x0009, 0x0000, 0x2801, 0x2801],
+        0x5A,
+        102,
+    ),
+    (
+        &[0x2A, 0x00, 0x00, 0x16, 0x90, 0xFE],
+        0x00,
+        2049,
+        [0x0003, 0x0000, 0x0400, 0x0000],
+        0xFF,
+        24614,
+    ),
+    (
+        &[0x29, 0x03, 0xFE],
+        0x00,
+        1,
+        [0x03FE, 0x0000, 0x0000, 0x0000],
+        0x03,
+        36,
+    ),
+];
+
 // a return to 0, exchanges, a load from RAM, a load of each byte of the ROM, and a jump
 #[test]
 fn counters_and_loads(rt: HostRuntime) -> Result<(), Fail> {
-    let programs: [(&[u8], u8, u32, [u16; 4], u8, u64); 5] = [
-        (&[0x1C], 0x04, 3, [0x0000, 0x0000, 0x0000, 0x0000], 0x04, 38),
-        (
-            &[0x2A, 0x00, 0x05, 0x2C, 0x16],
-            0x00,
-            2,
-            [0x0004, 0x0000, 0x0000, 0x0005],
-            0x00,
-            46,
-        ),
-        (
-            &[
-                0x2A, 0x28, 0x00, 0x2C, 0x2A, 0x28, 0x01, 0x2C, 0x16, 0x90, 0xFF,
-            ],
-            0x5A,
-            6,
-            [0x0009, 0x0000, 0x2801, 0x2801],
-            0x5A,
-            102,
-        ),
-        (
-            &[0x2A, 0x00, 0x00, 0x16, 0x90, 0xFE],
-            0x00,
-            2049,
-            [0x0003, 0x0000, 0x0400, 0x0000],
-            0xFF,
-            24614,
-        ),
-        (
-            &[0x29, 0x03, 0xFE],
-            0x00,
-            1,
-            [0x03FE, 0x0000, 0x0000, 0x0000],
-            0x03,
-            36,
-        ),
-    ];
-    for (bytes, fill, count, places, accumulator, phi) in programs {
+    for (bytes, fill, count, places, accumulator, phi) in COUNTERS_AND_LOADS {
         let isa = after(&rt, rt.alloc(), bytes, fill, count)?;
         let regs = isa.regs();
         assert_eq!(rt; counters(&regs), places, "of {bytes:?}");
@@ -177,48 +181,52 @@ fn shared_and_reserved(rt: HostRuntime) -> Result<(), Fail> {
     Ok(())
 }
 
+/// A program and how many instructions; then the accumulator, the status word, register 0, the next address and the clocks, in Φ.
+type ResultRow = (&'static [u8], u32, u8, u8, u8, u16, u64);
+
+const RESULTS: [ResultRow; 4] = [
+    (
+        &[0x70, 0x50, 0x30, 0x90, 0xFF],
+        3,
+        0x00,
+        0x00,
+        0xFF,
+        0x0003,
+        28,
+    ),
+    (
+        &[0x70, 0x25, 0x00, 0x90, 0xFF],
+        2,
+        0x00,
+        0x07,
+        0x00,
+        0x0003,
+        28,
+    ),
+    (
+        &[0x20, 0x67, 0x50, 0x71, 0xD0, 0x90, 0xFF],
+        4,
+        0x02,
+        0x01,
+        0x67,
+        0x0005,
+        40,
+    ),
+    (
+        &[0x20, 0x6A, 0x50, 0x75, 0xD0, 0x90, 0xFF],
+        4,
+        0x09,
+        0x01,
+        0x6A,
+        0x0005,
+        40,
+    ),
+];
+
 // 0 less 1 in a register, 0 compared with 0, and two decimal sums whose second number has 66 added beforehand
 #[test]
 fn results(rt: HostRuntime) -> Result<(), Fail> {
-    let programs: [(&[u8], u32, u8, u8, u8, u16, u64); 4] = [
-        (
-            &[0x70, 0x50, 0x30, 0x90, 0xFF],
-            3,
-            0x00,
-            0x00,
-            0xFF,
-            0x0003,
-            28,
-        ),
-        (
-            &[0x70, 0x25, 0x00, 0x90, 0xFF],
-            2,
-            0x00,
-            0x07,
-            0x00,
-            0x0003,
-            28,
-        ),
-        (
-            &[0x20, 0x67, 0x50, 0x71, 0xD0, 0x90, 0xFF],
-            4,
-            0x02,
-            0x01,
-            0x67,
-            0x0005,
-            40,
-        ),
-        (
-            &[0x20, 0x6A, 0x50, 0x75, 0xD0, 0x90, 0xFF],
-            4,
-            0x09,
-            0x01,
-            0x6A,
-            0x0005,
-            40,
-        ),
-    ];
-    for (bytes, count, accumulator, status, first, next, phi) in programs {
+    for (bytes, count, accumulator, status, first, next, phi) in RESULTS {
         let isa = after(&rt, rt.alloc(), bytes, 0x00, count)?;
         let regs = isa.regs();
         assert_eq!(rt; regs.a, accumulator, "of {bytes:?}");

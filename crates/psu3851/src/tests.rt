@@ -1,7 +1,26 @@
+ghost use Rattle.std.specs.Prelude.{◌≡◌, ◌%◌, IfOk, length};
+ghost use Rattle.chip_face.specs.Fitting.{IsSpec};
+
 use super::*;
 use chip_face::{Bytes, Chip, ChipKind, ChipSpec, Offer};
 use romc_table::{Counters, Romc};
+use std::alloc::Global;
 use std::test::Fail;
+
+/// A 3851 with this base and ROM, the ports 4 to 7, and the vector 1234.
+fn described(alloc: Global, base: u16, rom: &[u8], wired: bool) -> Result<ChipSpec, Fail>
+    requires boundary { base % 1024 ≡ 0 }
+    requires whole { length rom.now ≡ 1024 }
+    ensures { IfOk result IsSpec }
+{
+    Ok(ChipSpec::Psu {
+        base,
+        rom: Bytes::of(alloc, rom)?,
+        ports: 4,
+        vector: 0x1234,
+        wired,
+    })
+}
 
 /// The low byte of the vector of a chip that asks for an interrupt.
 fn vector_of(chip: &Box<dyn Chip>) -> Option<Offer> {
@@ -29,13 +48,7 @@ fn branches_from_the_displacement_byte(rt: HostRuntime) -> Result<(), Fail> {
     let mut rom = [0xFF; 1024];
     rom[0] = 0x90;
     rom[1] = 0xFD;
-    let spec = ChipSpec::Psu {
-        base: 0,
-        rom: Bytes::of(rt.alloc(), &rom)?,
-        ports: 4,
-        vector: 0,
-        wired: false,
-    };
+    let spec = described(rt.alloc(), 0, &rom, false)?;
     let mut rack: Vec<Box<dyn Chip>> = Vec::new(rt.alloc());
     rack.push(Box::new(rt.alloc(), Psu::blank())?)?;
     let psu = &mut rack[0];
@@ -72,13 +85,7 @@ fn branches_from_the_displacement_byte(rt: HostRuntime) -> Result<(), Fail> {
 // Ports 4 to 7: a latch and a key byte at port 4, and at port 6 the control that lets a pulse in. The vector's bit 7 is then set.
 #[test]
 fn asks_after_a_pulse(rt: HostRuntime) -> Result<(), Fail> {
-    let spec = ChipSpec::Psu {
-        base: 0x0800,
-        rom: Bytes::of(rt.alloc(), &[0x2B; 1024])?,
-        ports: 4,
-        vector: 0x1234,
-        wired: true,
-    };
+    let spec = described(rt.alloc(), 0x0800, &[0x2B; 1024], true)?;
     let mut rack: Vec<Box<dyn Chip>> = Vec::new(rt.alloc());
     rack.push(Box::new(rt.alloc(), Psu::blank())?)?;
     let psu = &mut rack[0];
@@ -117,13 +124,7 @@ fn asks_after_a_pulse(rt: HostRuntime) -> Result<(), Fail> {
 // Under control 1 a pulse is asked for until the high byte of the vector is driven.
 #[test]
 fn ends_its_request(rt: HostRuntime) -> Result<(), Fail> {
-    let spec = ChipSpec::Psu {
-        base: 0x0800,
-        rom: Bytes::of(rt.alloc(), &[0x2B; 1024])?,
-        ports: 4,
-        vector: 0x1234,
-        wired: true,
-    };
+    let spec = described(rt.alloc(), 0x0800, &[0x2B; 1024], true)?;
     let mut rack: Vec<Box<dyn Chip>> = Vec::new(rt.alloc());
     rack.push(Box::new(rt.alloc(), Psu::blank())?)?;
     let psu = &mut rack[0];
