@@ -1,5 +1,5 @@
 // The tokens that a line of assembly is read into, and what is wrong with a line that has none.
-ghost use Rattle.std.specs.Prelude.{◌≡◌, IfOk, IsTrue, length};
+ghost use Rattle.std.specs.Prelude.{◌≡◌, IfOk, IsTrue};
 ghost use Rattle.asm_text.specs.Bytes.{is_name};
 
 use std::alloc::{AllocError, AllocFailed, Global};

@@ -389,7 +389,13 @@ fn even_file(alloc: Global, name: &str, byte: u8, size: usize) -> Result<FileLis
 }
 
 /// A file of one byte over and over, past its limit: name, byte and size; the words; what is written.
-type PastLimit = (&'static str, u8, usize, &'static [&'static str], &'static str);
+type PastLimit = (
+    &'static str,
+    u8,
+    usize,
+    &'static [&'static str],
+    &'static str,
+);
 
 const PAST_LIMITS: [PastLimit; 5] = [
     (

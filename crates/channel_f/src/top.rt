@@ -1,9 +1,8 @@
-ghost use Rattle.std.specs.Prelude.{◌≡◌, map, string_bytes};
+ghost use Rattle.std.specs.Prelude.{map, string_bytes};
 ghost use Rattle.command_line.specs.CommandLine.{command_of};
-ghost use Rattle.channel_f.specs.Answers.{answer_of, words_answer};
+ghost use Rattle.channel_f.specs.Answers.{answer_of};
 ghost use Rattle.channel_f.specs.Commands.{around, Says};
 ghost use Rattle.channel_f.specs.Completeness.{IsComplete};
-ghost use Rattle.channel_f.specs.Reports.{Reports};
 ghost use Rattle.channel_f.specs.Statuses.{exit_code};
 
 use super::commands::{answer_asm, answer_dis, answer_gen, answer_play, answer_ref};

@@ -37,7 +37,6 @@ impl Model for Recorder {
 }
 
 impl Recorder {
-    ghost use Rattle.f8_spec.specs.ChipState.{HeardStep};
     ghost use Rattle.chip_fakes.specs.Recording.{emptied, recorded};
     ghost use Rattle.chip_fakes.specs.RecorderView.{heard_step};
 

@@ -23,7 +23,7 @@ impl Model for OwnPorts {
 
 impl OwnPorts {
     ghost use Rattle.std.specs.Prelude.{◌≡◌, ◌<◌};
-    ghost use Rattle.cpu3850.specs.CpuPorts.{clear_ports, own_byte, with_latch, with_own_key, read_by, put_by};
+    ghost use Rattle.cpu3850.specs.CpuPorts.{clear_ports, own_byte, with_own_key, read_by, put_by};
 
     pub(crate) fn power() -> OwnPorts
         ensures { result ≡ clear_ports }

@@ -31,13 +31,12 @@ impl Model for RegisterFile {
 
 impl RegisterFile {
     ghost use Rattle.std.specs.Prelude.{◌≡◌, ◌+◌, ◌*◌, ◌/◌, ◌%◌, ◌-◌, ◌<◌, false, [], bit_and, bit_xor};
-    ghost use Rattle.f8_spec.specs.Flags.{status_byte};
     ghost use Rattle.f8_spec.specs.Instructions.{InRange};
     ghost use Rattle.f8_words.specs.Sums.{sum_of};
     ghost use Rattle.f8_spec.specs.Flags.{after_sum};
     ghost use Rattle.cpu3850.specs.CpuSteps.{AreInRange, driven_in};
     ghost use Rattle.cpu3850.specs.Keeping.{kept_with, restored_registers};
-    ghost use Rattle.console_spec.specs.Processor.{at_power, scratch_byte, with_scratch, register_of, field_byte, with_isar_stepped, stepped_isar, with_result, with_sum, with_decimal_sum, compared, decremented, effect, any_chosen, is_taken, shown};
+    ghost use Rattle.console_spec.specs.Processor.{at_power, scratch_byte, with_scratch, register_of, field_byte, with_isar_stepped, with_result, with_sum, with_decimal_sum, compared, decremented, effect, any_chosen, is_taken, shown};
 
     pub(crate) fn power(fill: u8) -> RegisterFile
         ensures { result ≡ (at_power fill).registers }

@@ -57,7 +57,7 @@ tokens_line number false r f fault behind told = cc
 read_line-line : (number : ℕ) (s : Reading) (l : List ℕ) (fault : AsmFault) → read_line number s l ≡ Err fault → fault.line ≡ number
 read_line-line number s l fault told =
     unfold read_line in unfold line_tokens in tokens_line number (is_utf8 l) (tokens_of l) _ fault
-      (λ ts. at_line number ts (check s.names ts) _ fault (λ names. no_fault _ fault number)) told
+    (λ ts. at_line number ts (check s.names ts) _ fault (λ names. no_fault _ fault number)) told
 
 place-line : (room : Room) (s : Layout) (l : Line) (fault : AsmFault) → place room s l ≡ Err fault → fault.line ≡ l.number
 place-line room s l fault told = unfold place in at_line l.number l.tokens (settle room s l.tokens) _ fault (λ t. no_fault _ fault l.number) told
@@ -247,7 +247,7 @@ number_of_placed : (room : Room) (read : Reading) (laid : Layout) (ls : List (Li
     AreStatements ls read → ArePlaced room read.lines laid → laid.placed ≡ before ++ p ∷ behind → p.line.number ≡ length before + 1
 number_of_placed room read laid ls before p behind is placed parts =
     let lines_are = sym (placed_lines room (no_layout 65536) laid read.lines placed) ∙ ap lines_in parts
-          ∙ map-append (λ (q : PlacedLine). q.line) before (p ∷ behind) in
+    ∙ map-append (λ (q : PlacedLine). q.line) before (p ∷ behind) in
     let number = number_of_line read ls (lines_in before) p.line (lines_in behind) is lines_are in
     let many = length-map before (λ (q : PlacedLine). q.line) in
     omega arith
@@ -264,22 +264,22 @@ unfolding image_of image_in
 first_fault text room fault h =
     read-err (IsFirstFault text room fault) (read_lines 1 no_reading (lines text)) _ fault h
     (λ told.
-        let first = first_unread 1 no_reading (lines text) fault told in
-        let number : 1 + length first.before ≡ length first.before + 1 = omega arith in
-        let at_fault = rw number at first.at_fault in
-        no_statement first.before first.l first.behind first.read first.parts first.in_order at_fault
-          (read_line-line (length first.before + 1) first.read first.l fault at_fault))
+    let first = first_unread 1 no_reading (lines text) fault told in
+    let number : 1 + length first.before ≡ length first.before + 1 = omega arith in
+    let at_fault = rw number at first.at_fault in
+    no_statement first.before first.l first.behind first.read first.parts first.in_order at_fault
+    (read_line-line (length first.before + 1) first.read first.l fault at_fault))
     (λ read is h. read-err (IsFirstFault text room fault) (place_lines room (no_layout 65536) read.lines) _ fault h
     (λ told.
-        let first = first_unplaced room (no_layout 65536) read.lines fault told in
-        no_place read first.before first.l first.behind first.laid is first.parts first.in_order first.at_fault
-          (place-line room first.laid first.l fault first.at_fault ∙ number_of_line read (lines text) first.before first.l first.behind is first.parts))
+    let first = first_unplaced room (no_layout 65536) read.lines fault told in
+    no_place read first.before first.l first.behind first.laid is first.parts first.in_order first.at_fault
+    (place-line room first.laid first.l fault first.at_fault ∙ number_of_line read (lines text) first.before first.l first.behind is first.parts))
     (λ laid placed h. read-err (IsFirstFault text room fault) (emit_lines laid.names (no_bytes_yet 65536) laid.placed) _ fault h
     (λ told.
-        let first = first_unwritten laid.names (no_bytes_yet 65536) laid.placed fault told in
-        no_bytes read laid first.before first.p first.behind first.given is placed first.parts first.in_order first.at_fault
-          (emit-line laid.names first.given first.p fault first.at_fault
-            ∙ number_of_placed room read laid (lines text) first.before first.p first.behind is placed first.parts))
+    let first = first_unwritten laid.names (no_bytes_yet 65536) laid.placed fault told in
+    no_bytes read laid first.before first.p first.behind first.given is placed first.parts first.in_order first.at_fault
+    (emit-line laid.names first.given first.p fault first.at_fault
+    ∙ number_of_placed room read laid (lines text) first.before first.p first.behind is placed first.parts))
     (λ table given h. cc)))
 
 pub no_fault_at : (text : List ℕ) (room : Room) (picture : Picture) → image_of text room ≡ Ok picture → HasNoFault text room

@@ -1,5 +1,5 @@
 // Operands judged: whether their values fit their places.
-ghost use Rattle.std.specs.Prelude.{◌≡◌, ◌≤◌, ◌<◌, IfOk, IfSome};
+ghost use Rattle.std.specs.Prelude.{◌≡◌, ◌≤◌, ◌<◌, IfOk};
 ghost use Rattle.f8_spec.specs.Instructions.{InRange};
 ghost use Rattle.f8_asm.specs.Fields.{last_of, op_with};
 ghost use Rattle.f8_asm.specs.Judging.{fault_at, taken, unsigned, byte, displacement, with_field};

@@ -1,5 +1,5 @@
 // The first pass: the tokens of each line, whether they make a statement, and whether a name is given twice.
-ghost use Rattle.std.specs.Prelude.{◌≡◌, ◌≤◌, ◌<◌, ◌+◌, ◌^◌, length};
+ghost use Rattle.std.specs.Prelude.{◌≡◌, ◌≤◌, ◌<◌, ◌+◌, length};
 ghost use Rattle.f8_asm.specs.Answers.{SaysOfLine, SaysOfText, StepsOfLine, StepsOfText};
 ghost use Rattle.text_lines.specs.Lines.{lines};
 ghost use Rattle.f8_asm.specs.PassOne.{statement_checked, check, check_labelled, read_line, read_lines, no_reading};

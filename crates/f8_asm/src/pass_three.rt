@@ -1,5 +1,4 @@
 // The third pass: the bytes of each line at its address, with the values of all names.
-ghost use Rattle.std.specs.Prelude.{◌≡◌};
 ghost use Rattle.f8_asm.specs.Answers.{SaysOfBytes, SaysOfText, StepsOfText};
 ghost use Rattle.f8_asm.specs.PassThree.{no_bytes, line_bytes, emit, emit_lines};
 

@@ -1,5 +1,5 @@
 // How a listing writes statements.
-ghost use Rattle.std.specs.Prelude.{◌≡◌, ◌<◌, ◌++◌, ◌∷◌, [], OnOk};
+ghost use Rattle.std.specs.Prelude.{◌≡◌, ◌<◌, ◌++◌, OnOk};
 ghost use Rattle.asm_text.specs.Spelling.{hex_digit, hex2, hex4};
 ghost use Rattle.f8_asm.specs.Listing.{small_decimal, register_text, pair_text, seen_text, gap_of, front_of, field_of, FieldFits, EntryFits, field_text, back_of, with_head, with_entry};
 

@@ -1,6 +1,5 @@
 // The tokens of a line.
 ghost use Rattle.std.specs.Prelude.{◌≡◌, ◌≤◌, length};
-ghost use Rattle.std.specs.Str.{is_utf8};
 ghost use Rattle.f8_asm.specs.Answers.{SaysOfText};
 ghost use Rattle.f8_asm.specs.PassOne.{end_of, line_tokens, told};
 

@@ -32,12 +32,12 @@ impl Model for RegisterFile {
 }
 
 impl RegisterFile {
-    ghost use Rattle.std.specs.Prelude.{◌≡◌, ◌+◌, ◌/◌, ◌%◌, ◌<◌, Bool, false, bit_and, bit_xor};
+    ghost use Rattle.std.specs.Prelude.{◌≡◌, ◌+◌, ◌/◌, ◌%◌, ◌<◌, false, bit_and, bit_xor};
     ghost use Rattle.f8_spec.specs.Words.{word};
     ghost use Rattle.f8_spec.specs.Flags.{status_byte, is_positive, is_zero};
     ghost use Rattle.f8_spec.specs.Instructions.{InRange};
     ghost use Rattle.f8_words.specs.StatusWord.{status_of_flags};
-    ghost use Rattle.console_spec.specs.Processor.{at_power, scratch_byte, with_scratch, with_pair, field_byte, register_of, with_isar_stepped, stepped_isar, with_result, with_sum, with_decimal_sum, compared, decremented, effect, any_chosen, is_taken};
+    ghost use Rattle.console_spec.specs.Processor.{at_power, scratch_byte, with_scratch, with_pair, field_byte, register_of, with_isar_stepped, with_result, with_sum, with_decimal_sum, compared, decremented, effect, any_chosen, is_taken};
 
     /// The registers after power-on with a byte.
     pub fn at_power(fill: u8) -> RegisterFile

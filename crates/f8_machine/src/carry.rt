@@ -1,4 +1,4 @@
-ghost use Rattle.std.specs.Prelude.{◌≡◌, ◌≤◌, [], length, map, IfOk, IfErr, OnOk, OnErr};
+ghost use Rattle.std.specs.Prelude.{◌≡◌, ◌≤◌, [], length, map, IfErr, OnOk, OnErr};
 ghost use Rattle.f8_spec.specs.declared.instructions.Op.{Op};
 ghost use Rattle.console_spec.specs.Run.{Position};
 ghost use Rattle.cpu3850.specs.CpuSteps.{planned};

@@ -54,7 +54,7 @@ impl Machine {
     ghost use Rattle.console_spec.specs.Run.{Position, power_position};
     ghost use Rattle.cpu3850.specs.CpuSteps.{planned};
     ghost use Rattle.probe.specs.ProbeState.{probe_counters};
-    ghost use Rattle.data_bus.specs.Racks.{RackStays, views};
+    ghost use Rattle.data_bus.specs.Racks.{views};
     ghost use Rattle.f8_machine.specs.MachineState.{IsReset, halted, steps_in, powered_machine, probe_after_steps};
     ghost use Rattle.f8_machine.specs.Refinement.{AreWhole, Represents, IsPowered, Refines, ResetRefines};
     ghost use Rattle.f8_machine.specs.Rounds.{RackPowers, RackRuns};

@@ -1,4 +1,4 @@
-ghost use Rattle.std.specs.Prelude.{◌≡◌, ◌≤◌, length, option_map};
+ghost use Rattle.std.specs.Prelude.{◌≡◌, option_map};
 ghost use Rattle.f8_spec.specs.Instructions.{decoded};
 ghost use Rattle.f8_machine.specs.PortWrites.{write_as, chip_write, done_write};
 

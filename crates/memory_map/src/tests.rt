@@ -1,5 +1,5 @@
-ghost use Rattle.std.specs.Prelude.{◌≡◌, All, IfOk, false, ◌≤◌};
-ghost use Rattle.chip_face.specs.Fitting.{IsChipList, IsSpec, is_blank};
+ghost use Rattle.std.specs.Prelude.{◌≡◌, IfOk, false};
+ghost use Rattle.chip_face.specs.Fitting.{IsSpec, is_blank};
 
 use super::*;
 use chip_face::{Bytes, ChipList, ChipSpec, Page, PageList, PageSort};

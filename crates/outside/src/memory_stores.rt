@@ -1,6 +1,6 @@
-ghost use Rattle.std.specs.Prelude.{◌≡◌, ◌≤◌, Some, None, length, IfOk, false, map, if◌then◌else◌};
+ghost use Rattle.std.specs.Prelude.{◌≡◌, ◌≤◌, Some, None, length, IfOk, false};
 ghost use Rattle.outside.specs.Counts.{one_more};
-ghost use Rattle.outside.specs.MemoryStores.{Answer, IsRefused, within_limit, kept_answer, after_fetch, told_files, sure_answer, after_sure_fetch};
+ghost use Rattle.outside.specs.MemoryStores.{IsRefused, within_limit, kept_answer, after_fetch, told_files, sure_answer, after_sure_fetch};
 ghost use Rattle.outside.specs.MemoryStores.{Gives};
 ghost use Rattle.outside.specs.StoreRules.{CountsFault, KeepsTelling, IsFile, IsLong, WhereLong};
 

@@ -1,6 +1,6 @@
 // The six forms of a line.
 ghost use Rattle.std.specs.Prelude.{◌≡◌, bytes_eq};
-ghost use Rattle.pad_script.specs.Words.{lone, words};
+ghost use Rattle.pad_script.specs.Words.{words};
 ghost use Rattle.pad_script.specs.Statements.{keys_at, pulse_at, power, frames, steps, show, event_of as spelled_event, setting as spelled_setting, statement_of as spelled_statement, line_of as spelled_line};
 
 use super::answers::ScriptCause;

@@ -72,11 +72,11 @@ agrees i c copies [] [] ended = record { faults = refl; clocks = λ none. refl }
 agrees i c copies [] (a ∷ behind) pairs = elim pairs [ ]
 agrees i c copies (s ∷ later) accesses (idle e pairs) =
     subst (λ course. Agrees course (first_fault c copies accesses) (s ∷ later)) (sym (idle_course i c copies s later accesses e))
-      (step_agrees i s None (course_of i c copies later accesses) (first_fault c copies accesses) later (agrees i c copies later accesses pairs))
+    (step_agrees i s None (course_of i c copies later accesses) (first_fault c copies accesses) later (agrees i c copies later accesses pairs))
 agrees i c copies (s ∷ later) (a ∷ behind) (accessed e code pairs) =
     subst (λ course. Agrees course (first_fault c copies (a ∷ behind)) (s ∷ later)) (sym (access_course i c copies s later a behind e))
-      (verdict_agrees i s a.romc (access_verdict c copies a) (course_of i c copies later behind) (first_fault c copies behind) later code
-        (agrees i c copies later behind pairs))
+    (verdict_agrees i s a.romc (access_verdict c copies a) (course_of i c copies later behind) (first_fault c copies behind) later code
+    (agrees i c copies later behind pairs))
 
 -- ---- the steps of an instruction
 
@@ -85,7 +85,7 @@ fetch_pairs row i = accessed refl refl ended
 
 branch_pairs : (taken : Bool) (row : Row) (i : Inputs) →
     Pairs ((if taken then long_step 0x01 Operand else short_step 0x03 Operand) ∷ last_fetch row ∷ [])
-      (ahead (if taken then 0x01 else 0x03) 1 ∷ last_access row i ∷ [])
+    (ahead (if taken then 0x01 else 0x03) 1 ∷ last_access row i ∷ [])
 branch_pairs true row i = accessed refl refl (fetch_pairs row i)
 branch_pairs false row i = accessed refl refl (fetch_pairs row i)
 
@@ -122,8 +122,8 @@ instruction_agrees : (op : Op) (x : Position) →
 instruction_agrees op x =
     let i = gets_all op (seats_of x.copies) x.flat in
     subst (λ accesses. Agrees (instruction_course op x) (first_fault x.flat.state.flow x.copies accesses) (steps_of (row_of op) i.taken))
-      (accesses-with_opcode (row_of op) i.opcode (gets op (seats_of x.copies) x.flat))
-      (agrees i x.flat.state.flow x.copies (steps_of (row_of op) i.taken) (accesses_of op i) (pairs_of (row_of op) i))
+    (accesses-with_opcode (row_of op) i.opcode (gets op (seats_of x.copies) x.flat))
+    (agrees i x.flat.state.flow x.copies (steps_of (row_of op) i.taken) (accesses_of op i) (pairs_of (row_of op) i))
 
 -- ---- a turn
 

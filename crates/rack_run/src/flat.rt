@@ -1,5 +1,5 @@
 // A run on the flat instruction set alone.
-ghost use Rattle.std.specs.Prelude.{◌≡◌, ◌≤◌, ◌<◌, ◌+◌, ◌^◌, ℕ, List, IfOk, IfErr, OnOk, OnErr};
+ghost use Rattle.std.specs.Prelude.{◌≡◌, ◌≤◌, ◌<◌, ◌+◌, ◌^◌, List, IfOk, IfErr, OnOk, OnErr};
 ghost use Rattle.console_spec.specs.Processor.{State};
 ghost use Rattle.f8_spec.specs.ChipState.{ChipView};
 ghost use Rattle.console_spec.specs.Run.{Position, power_position, position_after_reset};

@@ -1,4 +1,4 @@
-ghost use Rattle.std.specs.Prelude.{◌≡◌, ◌<◌, ◌^◌};
+ghost use Rattle.std.specs.Prelude.{◌≡◌};
 ghost use Rattle.console_spec.specs.Scripts.{most_instructions as most_of};
 ghost use Rattle.pad_script.specs.Limits.{HasLimits};
 

@@ -1,4 +1,4 @@
-ghost use Rattle.std.specs.Prelude.{◌≡◌, ◌≢◌, ◌≤◌, ◌<◌, ◌+◌, length, map, slice_get, IfSome, OnOk, OnErr, Some, None, All};
+ghost use Rattle.std.specs.Prelude.{◌≡◌, ◌≤◌, ◌<◌, ◌+◌, length, map, slice_get, IfSome, OnOk, OnErr, Some, None, All};
 ghost use Rattle.f8_spec.specs.BusArbitration.{seat_of};
 ghost use Rattle.f8_spec.specs.ChipState.{IsWhole};
 ghost use Rattle.cpu3850.specs.OwnWrites.{LeaveOwnPorts};

@@ -1,5 +1,5 @@
 // A line on a buffer of its own.
-ghost use Rattle.std.specs.Prelude.{◌≡◌, ◌+◌, ◌≤◌, ◌<◌, ◌^◌, ◌++◌, ◌∷◌, [], length, decimal};
+ghost use Rattle.std.specs.Prelude.{◌≡◌, ◌+◌, ◌≤◌, ◌<◌, ◌++◌, ◌∷◌, [], length, decimal};
 ghost use Rattle.std.specs.Fmt.{signed_decimal};
 ghost use Rattle.f8_spec.specs.Spelling.{hex_digit, hex2 as spelled_hex2, hex4 as spelled_hex4, octal2 as spelled_octal2};
 

@@ -32,22 +32,22 @@ pub returns-in_err-reading-clause-fault : goal.returns-in_err-reading-clause-fau
 returns-in_err-reading-clause-fault c =
     let told = err_from_is_err_and c.from_residual.result c.from_residual.ensures.1 in
     fault_answer c.args.text.now c.args.room c.from_residual.result
-      (rw (told.1, told.2) (stops_reading c.args.text.now c.args.room c.in_err-reading.field-0.0 c.in_err-reading.ensures))
+    (rw (told.1, told.2) (stops_reading c.args.text.now c.args.room c.in_err-reading.field-0.0 c.in_err-reading.ensures))
 
 pub returns-in_err-layout-clause-fault : goal.returns-in_err-layout-clause-fault
 returns-in_err-layout-clause-fault c =
     let told = err_from_is_err_and c.from_residual-in_err-layout.result c.from_residual-in_err-layout.ensures.1 in
     fault_answer c.args.text.now c.args.room c.from_residual-in_err-layout.result
-      (rw (told.1, told.2) (stops_placing c.args.text.now c.args.room c.in_err-layout.field-0.0 c.in_ok-reading.reading c.in_ok-reading.ensures
-        (rw c.into_lines.ensures at c.in_err-layout.ensures)))
+    (rw (told.1, told.2) (stops_placing c.args.text.now c.args.room c.in_err-layout.field-0.0 c.in_ok-reading.reading c.in_ok-reading.ensures
+    (rw c.into_lines.ensures at c.in_err-layout.ensures)))
 
 pub returns-in_err-table-clause-fault : goal.returns-in_err-table-clause-fault
 returns-in_err-table-clause-fault c =
     let told = err_from_is_err_and c.from_residual-in_err-table.result c.from_residual-in_err-table.ensures.1 in
     let laid = rw c.into_lines.ensures at c.in_ok-layout.ensures in
     fault_answer c.args.text.now c.args.room c.from_residual-in_err-table.result
-      (rw (told.1, told.2) (stops_emitting c.args.text.now c.args.room c.in_err-table.field-0.0 c.in_ok-reading.reading c.in_ok-layout.layout
-        c.in_ok-reading.ensures laid c.in_err-table.ensures))
+    (rw (told.1, told.2) (stops_emitting c.args.text.now c.args.room c.in_err-table.field-0.0 c.in_ok-reading.reading c.in_ok-layout.layout
+    c.in_ok-reading.ensures laid c.in_err-table.ensures))
 
 pub returns-clause-fault : goal.returns-clause-fault
 returns-clause-fault c =
