@@ -4,7 +4,6 @@ use Rattle.std.specs.Prelude.{ℕ, zero, suc, ◌+◌, ◌-◌, ◌≡◌, ◌�
 use Rattle.toml.specs.Data.{Members}
 use Rattle.chip_face.specs.Fitting.{IsSpec, is_blank, rom_of}
 use Rattle.chip_face.specs.declared.specification.ChipSpec.{ChipSpec}
-use Rattle.chip_face.specs.declared.specification.ChipSpec.TheVariants.{Blank, Psu, Smi}
 use Rattle.cartridge.specs.ChipTables.{DescribedSource, DescribedChip}
 use Rattle.cartridge.specs.declared.refusal.CartFault.{CartFault}
 use Rattle.cartridge.specs.Faults.{◌>>=◌}

@@ -1,9 +1,8 @@
 -- A page of one chip: how it is found, and what it says of the chip that is fitted.
 use Rattle.std.proofs.Common.{◌≡◌, ℕ, ◌+◌, ◌-◌, ◌*◌, ◌/◌, ◌%◌, ◌<◌, ◌≤◌, Bool, true, false, List, [], ◌∷◌, ◌++◌, length, take, drop, refl, ap, ◌∙◌, arith, add-one, length-drop}
-use Rattle.std.specs.Prelude.{if◌then◌else◌, ◌==◌, count_by, slice_get, slice_index, is_some, Option, Some, None, option_map, option_and_then}
-use Rattle.std.proofs.lemmas.List.{take_all, take-append-drop, append-nil, length-take-le, get_or_append_left, get_or-append_right, get_or-replicate, length-replicate}
-use Rattle.std.proofs.lemmas.List.Sums.{sum_by-cons}
-use Rattle.f8_spec.specs.ChipState.{is_rom, place_of, sort_at, held_byte}
+use Rattle.std.specs.Prelude.{if◌then◌else◌, ◌==◌, slice_get, slice_index, is_some, Option, Some, None, option_map, option_and_then}
+use Rattle.std.proofs.lemmas.List.{take_all, take-append-drop, append-nil, length-take-le, get_or_append_left, get_or-append_right, get_or-replicate}
+use Rattle.f8_spec.specs.ChipState.{place_of, sort_at, held_byte}
 use Rattle.f8_spec.specs.declared.chips.Page.{Page}
 use Rattle.f8_spec.specs.declared.chips.PageSort.{PageSort}
 use Rattle.f8_spec.specs.declared.chips.PageSort.TheVariants.{Rom, Ram, Void}

@@ -1,5 +1,5 @@
 -- Which lines of a text are skipped, and the words of a line.
-use Rattle.std.specs.Prelude.{ℕ, Bool, ◌&&◌, ◌||◌, ◌==◌, nat_le, List, [], ◌∷◌, Option, Some, None, if◌then◌else◌}
+use Rattle.std.specs.Prelude.{ℕ, Bool, ◌||◌, ◌==◌, List, [], ◌∷◌, Option, Some, None, if◌then◌else◌}
 use Rattle.std.specs.List.{list_all}
 use Rattle.text_lines.specs.Lines.{begins, with_first}
 
