@@ -1,5 +1,4 @@
-use f8_ops::Op;
-use f8_ops::registers::OWN_PORTS;
+use f8_ops::{OWN_PORTS, Op};
 use std::marker::Model;
 
 /// The ports 0 and 1 of the 3850, which only its own `INS` and `OUTS` reach: the byte that `OUTS` last put into each, and the key byte of

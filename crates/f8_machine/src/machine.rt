@@ -12,8 +12,7 @@ use chip_face::{Chip, Counters};
 use console_spec::Regs;
 use cpu3850::{Cpu, Steps};
 use data_bus::Rack;
-use f8_ops::registers::OWN_PORTS;
-use f8_ops::{RESET_PHI, Reserved};
+use f8_ops::{OWN_PORTS, RESET_PHI, Reserved};
 use probe::Probe;
 use std::marker::Model;
 

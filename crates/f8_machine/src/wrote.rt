@@ -4,8 +4,7 @@ ghost use Rattle.f8_machine.specs.PortWrites.{write_as, chip_write, done_write};
 
 use super::heard::Heard;
 use console_board::PortWrite;
-use f8_ops::registers::OWN_PORTS;
-use f8_ops::{Op, decode};
+use f8_ops::{OWN_PORTS, Op, decode};
 
 /// The code in which a chip takes the byte of a port.
 const PUT: u8 = 0x1A;

@@ -6,6 +6,9 @@ use f8_spec::{Op, Row};
 /// The clocks of reset, in Φ: those of its three bus steps, 4, 6 and 4 (this project's own, after the Fairchild F8 User's Guide).
 pub const RESET_PHI: u64 = 14;
 
+/// How many ports are the processor's own: 0 and 1 (Fairchild F8 User's Guide).
+pub const OWN_PORTS: u8 = 2;
+
 /// The row of the instruction table that an instruction belongs to: by it go length, bus steps and clocks.
 pub fn row_of(op: Op) -> Row
     ensures { result ≡ row_of op }
