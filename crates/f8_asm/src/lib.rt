@@ -31,6 +31,3 @@ pub use answers::{AsmAnswer, AsmCause, AsmFault, Room};
 pub use image::{Image, assemble};
 pub use laws::expression_law;
 pub use listing::{Text, disassemble};
-
-#[cfg(test)]
-mod tests;

@@ -1,4 +1,4 @@
-use super::*;
+use f8_asm::{AsmAnswer, AsmCause, AsmFault, Room, assemble, disassemble};
 use std::alloc::Global;
 use std::test::Fail;
 
