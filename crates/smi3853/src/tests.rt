@@ -20,25 +20,27 @@ fn vector_of(chip: &Box<dyn Chip>) -> Option<Offer> {
     }
 }
 
+/// A page of each sort.
+const PAGES: [Page; 3] = [
+    Page {
+        number: 0x00,
+        sort: PageSort::Rom,
+    },
+    Page {
+        number: 0x28,
+        sort: PageSort::Ram,
+    },
+    Page {
+        number: 0x80,
+        sort: PageSort::Void,
+    },
+];
+
 // A ROM page at 00, a RAM page at 28 and a void page at 80: a store is kept in RAM, and lost in ROM and where there is nothing.
 #[test]
 fn stores_in_ram_alone(rt: HostRuntime) -> Result<(), Fail> {
-    let pages = [
-        Page {
-            number: 0x00,
-            sort: PageSort::Rom,
-        },
-        Page {
-            number: 0x28,
-            sort: PageSort::Ram,
-        },
-        Page {
-            number: 0x80,
-            sort: PageSort::Void,
-        },
-    ];
     let spec = ChipSpec::Smi {
-        pages: PageList::of(rt.alloc(), &pages)?,
+        pages: PageList::of(rt.alloc(), &PAGES)?,
         rom: Bytes::of(rt.alloc(), &[0x2B; 256])?,
         wired: true,
     };
