@@ -33,7 +33,7 @@ impl Model for Board {
 impl Board {
     ghost use Rattle.std.specs.Prelude.{ℕ, ◌≡◌, ◌↔◌, ◌==◌, ◌+◌, ◌*◌, ◌^◌, ◌<◌, ◌≤◌, if◌then◌else◌, List, [], ◌∷◌};
     ghost use Rattle.console_spec.specs.Scripts.{frame_clocks, frames_by};
-    ghost use Rattle.console_spec.specs.Writes.{Write};
+    ghost use Rattle.console_spec.specs.declared.PortWrite.{PortWrite};
     ghost use Rattle.video.specs.ScreenState.{shown, after_write};
     ghost use Rattle.console_board.specs.BoardState.{BoardState};
 
@@ -52,8 +52,8 @@ impl Board {
     /// Takes a write to a port, which may draw a pixel. When it came doesn't matter.
     pub fn write(&mut self, write: PortWrite)
         ensures next { self.new ≡ record self.old { screen = after_write write.port write.byte self.old.screen } }
-        ensures display { (ws : List Write) → self.old.screen ≡ shown ws
-            → self.new.screen ≡ shown (record { phi = write.phi; port = write.port; byte = write.byte } ∷ ws) }
+        ensures display { (ws : List PortWrite) → self.old.screen ≡ shown ws
+            → self.new.screen ≡ shown (write ∷ ws) }
     {
         self.screen.port(write.port, write.byte);
     }

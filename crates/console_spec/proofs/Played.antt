@@ -1,9 +1,9 @@
 -- Runs by a number of instructions alone, without keys and shown frames.
-use Rattle.std.proofs.Common.{ℕ, false, List, []}
+use Rattle.std.proofs.Common.{ℕ, Bool, false, List, []}
 use Rattle.std.specs.Prelude.{flat_map}
 use Rattle.f8_spec.specs.ChipState.{ChipView}
 use Rattle.console_spec.specs.BusTrace.{TracedStep}
-use Rattle.console_spec.specs.Run.{Ending}
+use Rattle.console_spec.specs.Run.{Ending, chain_in_order}
 use Rattle.console_spec.specs.Scripts.{Script}
 use Rattle.console_spec.specs.Telling.{Telling, played_by, referred_by}
 use Rattle.console_spec.specs.declared.End.TheVariants.{Steps}
@@ -11,8 +11,12 @@ use Rattle.console_spec.specs.declared.End.TheVariants.{Steps}
 abbrev pub steps_alone : ℕ → ℕ → Script
 steps_alone fill n = record { power = fill; end = Steps n; events = []; shows = [] }
 
+-- all chips are described, in the order of their sockets
+abbrev pub played_in_order : List ChipView → Bool → Script → Telling
+played_in_order vs traced script = played_by vs (chain_in_order vs) traced script
+
 abbrev pub played_alone : List ChipView → ℕ → ℕ → Telling
-played_alone vs fill n = played_by vs false (steps_alone fill n)
+played_alone vs fill n = played_in_order vs false (steps_alone fill n)
 
 abbrev pub played : List ChipView → ℕ → ℕ → Ending
 played vs fill n = (played_alone vs fill n).ending

@@ -11,12 +11,12 @@ use Rattle.console_spec.specs.Processor.{Inputs, own_inputs, effect}
 use Rattle.console_spec.specs.FlatMemory.{first_memory}
 use Rattle.console_spec.specs.CounterCopies.{fetched, reset_flow}
 use Rattle.console_spec.specs.Run.{Reserved}
-use Rattle.console_spec.specs.Writes.{Write}
+use Rattle.console_spec.specs.declared.PortWrite.{PortWrite}
 use Rattle.console_spec.specs.Telling.{telling, told_in, played_by, referred_by}
 use Rattle.console_spec.specs.RunText.{telling_lines, flat_telling_lines, ending_lines, text_of, lines_of, verdict_line, fault_line, stop_line, regs_line, scratch_line, total_line, out_line, frame_line, picture_row}
 use Rattle.console_spec.specs.declared.Event.TheVariants.{Keys}
 use Rattle.console_spec.specs.declared.End.TheVariants.{Steps}
-use Rattle.console_spec.proofs.Played.{steps_alone, played}
+use Rattle.console_spec.proofs.Played.{steps_alone, played, played_in_order}
 use Rattle.console_spec.proofs.Walks.{moved_along}
 use Rattle.console_spec.proofs.WorkedRacks.{psu, pop_at_once, exchange_alone, psu_and_ram, rom_and_ram, cut_jump}
 use Rattle.console_spec.proofs.WorkedRuns.{rom}
@@ -106,7 +106,7 @@ unfolding played_by telling own_inputs effect decoded first_memory
 patch_stops = refl
 
 -- a key byte is read and written back; then a port is read that no chip has
-keyed_text : text_of (telling_lines (played_by (psu 0 4 (0x20 ∷ 0x0F ∷ 0xB4 ∷ 0xA4 ∷ 0x26 ∷ 0x02 ∷ []) ∷ []) false
+keyed_text : text_of (telling_lines (played_in_order (psu 0 4 (0x20 ∷ 0x0F ∷ 0xB4 ∷ 0xA4 ∷ 0x26 ∷ 0x02 ∷ []) ∷ []) false
     (record { power = 0; end = Steps 4; events = record { frame = 0; event = Keys 4 0x30 } ∷ []; shows = [] }))) ≡
     codes "verdict unchecked\nout 40 04 0F\nstop undriven romc 1B at 0002\nregs P=0004 P1=0000 D0=0000 D1=0000 A=3F IS=00 W=01\n" ++ no_scratch
     ++ codes "total 3 instructions 56 phi\n"
@@ -114,7 +114,7 @@ unfolding played_by telling own_inputs effect decoded first_memory text_of verdi
 keyed_text = refl
 
 -- the writes of two strokes, and the rows that they draw
-abbrev six : List Write
+abbrev six : List PortWrite
 six =
     record { phi = 132; port = 0; byte = 0x20 } ∷ record { phi = 114; port = 4; byte = 0x82 } ∷ record { phi = 88; port = 0; byte = 0x00 }
     ∷ record { phi = 76; port = 0; byte = 0x20 } ∷ record { phi = 58; port = 4; byte = 0x81 } ∷ record { phi = 32; port = 0; byte = 0x20 } ∷ []
@@ -136,7 +136,7 @@ ordinary =
     ++ 0x08 ∷ 0x70 ∷ 0xB4 ∷ 0xB0 ∷ 0xA4 ∷ 0x18 ∷ 0xB4 ∷ 0x20 ∷ 0x37 ∷ 0xB5 ∷ 0x20 ∷ 0x20 ∷ 0xB0 ∷ 0x0C ∷ [])
     ∷ []
 
-ordinary_outs : text_of (flat_map lines_of (told_in (played_by ordinary false
+ordinary_outs : text_of (flat_map lines_of (told_in (played_in_order ordinary false
     (record { power = 0; end = Steps 17; events = record { frame = 0; event = Keys 4 0x05 } ∷ []; shows = [] })).moments))
     ≡ codes "out 154 04 00\nout 162 00 00\nout 198 04 FA\nout 224 05 37\nout 242 00 20\n"
 unfolding played_by telling own_inputs effect decoded first_memory text_of out_line digits

@@ -1,13 +1,13 @@
 -- Pictures worked out by hand, computed from the definitions.
 use Rattle.std.proofs.Common.{◌≡◌, ℕ, List, [], ◌∷◌, ◌++◌, replicate, refl}
-use Rattle.console_spec.specs.Writes.{Write}
+use Rattle.console_spec.specs.declared.PortWrite.{PortWrite}
 use Rattle.console_spec.specs.Display.{pixel_of, palette_of, tone_of, row_of_pixels}
 
-abbrev wrote : ℕ → ℕ → Write
+abbrev wrote : ℕ → ℕ → PortWrite
 wrote port byte = record { phi = 0; port = port; byte = byte }
 
 -- the strobe rises at the latches 0; rises no second time; and falls and rises again behind a write to port 4
-abbrev two_strokes : List Write
+abbrev two_strokes : List PortWrite
 two_strokes = wrote 0 0x20 ∷ wrote 4 0x82 ∷ wrote 0 0x00 ∷ wrote 0 0x20 ∷ wrote 4 0x81 ∷ wrote 0 0x20 ∷ []
 
 last_row : row_of_pixels 63 two_strokes ≡ replicate 125 0 ++ 3 ∷ 0 ∷ 3 ∷ []

@@ -13,7 +13,7 @@ use Rattle.console_spec.specs.FlatMemory.{first_memory}
 use Rattle.console_spec.specs.Services.{Conflict, Undriven, Astray}
 use Rattle.console_spec.specs.Telling.{telling, played_by}
 use Rattle.console_spec.proofs.Played.{played, played_record}
-use Rattle.console_spec.specs.Run.{Done, Unserved, Reserved, power_position, position_after_reset, instruction_course, reset_course}
+use Rattle.console_spec.specs.Run.{Done, Unserved, Reserved, power_position, position_after_reset, instruction_course, reset_course, chain_in_order}
 use Rattle.console_spec.specs.declared.Who.TheVariants.{Cpu, Socket, Nobody}
 
 abbrev pub rom_page : ℕ → Page
@@ -40,7 +40,7 @@ abbrev pub psu_and_ram : List ℕ → List ChipView
 psu_and_ram bytes = psu 0 4 bytes ∷ replicate 11 (blank_view Psu) ++ ram_smi 0x28 ∷ []
 
 -- no chip at all: reset is not served
-no_chip : played [] 0 1 ≡ record { position = power_position [] 0; stop = Unserved (Undriven 0 0) }
+no_chip : played [] 0 1 ≡ record { position = power_position [] [] 0; stop = Unserved (Undriven 0 0) }
 unfolding played_by telling own_inputs effect decoded first_memory
 no_chip = refl
 
@@ -64,7 +64,7 @@ unfolding played_by telling own_inputs effect decoded first_memory
 pop_clocks = refl
 
 pop_astray : played pop_at_once 4 3 ≡ record {
-  position = position_after_reset (power_position pop_at_once 4);
+  position = position_after_reset (power_position pop_at_once (chain_in_order pop_at_once) 4);
   stop = Unserved (Astray 0 1 0x0405 0);
 }
 unfolding played_by telling own_inputs effect decoded first_memory
@@ -162,7 +162,7 @@ reserved = refl
 -- ---- traces
 
 -- the three bus steps of a branch that is taken
-branch_traced : instruction_course (Bf 0) (position_after_reset (power_position (psu 0 4 (0x90 ∷ 0xFE ∷ []) ∷ []) 0)) ≡ record {
+branch_traced : instruction_course (Bf 0) (position_after_reset (power_position (psu 0 4 (0x90 ∷ 0xFE ∷ []) ∷ []) (0 ∷ []) 0)) ≡ record {
   steps =
       record { romc = 0x1C; long = false; byte = 0; who = Nobody; taker = None }
       ∷ record { romc = 0x01; long = true; byte = 0xFE; who = Socket 0; taker = None }
@@ -173,7 +173,7 @@ unfolding own_inputs effect decoded first_memory
 branch_traced = refl
 
 -- the three bus steps of reset
-reset_traced : reset_course (power_position (psu 0 4 (0x71 ∷ []) ∷ []) 0) ≡ record {
+reset_traced : reset_course (power_position (psu 0 4 (0x71 ∷ []) ∷ []) (0 ∷ []) 0) ≡ record {
   steps =
       record { romc = 0x1C; long = false; byte = 0; who = Nobody; taker = None }
       ∷ record { romc = 0x08; long = true; byte = 0; who = Cpu; taker = None }

@@ -14,7 +14,7 @@ use Rattle.console_spec.specs.Telling.{Traced, TracedFault, Wrote, Shown, tellin
 use Rattle.std.specs.Prelude.{flat_map, codes, slice_index, None}
 use Rattle.std.specs.Fmt.{digits}
 use Rattle.console_spec.specs.RunText.{text_of, lines_of, bus_line, out_line}
-use Rattle.console_spec.proofs.Played.{steps_alone, played, played_alone, referred}
+use Rattle.console_spec.proofs.Played.{steps_alone, played, played_alone, referred, played_in_order}
 use Rattle.console_spec.proofs.WorkedRacks.{psu}
 
 -- a key byte is read, written back, and then a port is read that no chip has as a data port
@@ -24,27 +24,27 @@ keyed = 0x20 ∷ 0x0F ∷ 0xB4 ∷ 0xA4 ∷ 0x26 ∷ 0x02 ∷ []
 abbrev keys_then_missing : Script
 keys_then_missing = record { power = 0; end = Steps 4; events = record { frame = 0; event = Keys 4 0x30 } ∷ []; shows = [] }
 
-key_told : told_in (played_by (psu 0 4 keyed ∷ []) false keys_then_missing).moments ≡ Wrote (record { phi = 40; port = 4; byte = 0x0F }) ∷ []
+key_told : told_in (played_in_order (psu 0 4 keyed ∷ []) false keys_then_missing).moments ≡ Wrote (record { phi = 40; port = 4; byte = 0x0F }) ∷ []
 unfolding played_by telling own_inputs effect decoded first_memory
 key_told = refl
 
-key_stop : (played_by (psu 0 4 keyed ∷ []) false keys_then_missing).ending.stop ≡ Unserved (Undriven 0x1B 2)
+key_stop : (played_in_order (psu 0 4 keyed ∷ []) false keys_then_missing).ending.stop ≡ Unserved (Undriven 0x1B 2)
 unfolding played_by telling own_inputs effect decoded first_memory
 key_stop = refl
 
-key_read : (played_by (psu 0 4 keyed ∷ []) false keys_then_missing).ending.position.flat.state.registers.accumulator ≡ 0x3F
+key_read : (played_in_order (psu 0 4 keyed ∷ []) false keys_then_missing).ending.position.flat.state.registers.accumulator ≡ 0x3F
 unfolding played_by telling own_inputs effect decoded first_memory
 key_read = refl
 
-key_clocks : (played_by (psu 0 4 keyed ∷ []) false keys_then_missing).ending.position.flat.state.phi ≡ 56
+key_clocks : (played_in_order (psu 0 4 keyed ∷ []) false keys_then_missing).ending.position.flat.state.phi ≡ 56
 unfolding played_by telling own_inputs effect decoded first_memory
 key_clocks = refl
 
-key_place : (played_by (psu 0 4 keyed ∷ []) false keys_then_missing).ending.position.flat.state.flow.p ≡ 4
+key_place : (played_in_order (psu 0 4 keyed ∷ []) false keys_then_missing).ending.position.flat.state.flow.p ≡ 4
 unfolding played_by telling own_inputs effect decoded first_memory
 key_place = refl
 
-key_status : status_byte (played_by (psu 0 4 keyed ∷ []) false keys_then_missing).ending.position.flat.state.registers.status ≡ 0x01
+key_status : status_byte (played_in_order (psu 0 4 keyed ∷ []) false keys_then_missing).ending.position.flat.state.registers.status ≡ 0x01
 unfolding played_by telling own_inputs effect decoded first_memory
 key_status = refl
 
@@ -52,12 +52,12 @@ key_status = refl
 abbrev branch : List ℕ
 branch = 0x71 ∷ 0x2B ∷ 0x90 ∷ 0xFE ∷ []
 
-traced_count : length (told_in (played_by (psu 0 4 branch ∷ []) true (steps_alone 0 3)).moments) ≡ 8
+traced_count : length (told_in (played_in_order (psu 0 4 branch ∷ []) true (steps_alone 0 3)).moments) ≡ 8
 unfolding played_by telling own_inputs effect decoded first_memory
 traced_count = refl
 
 -- the lines of that trace
-traced_lines : text_of (flat_map lines_of (told_in (played_by (psu 0 4 branch ∷ []) true (steps_alone 0 3)).moments))
+traced_lines : text_of (flat_map lines_of (told_in (played_in_order (psu 0 4 branch ∷ []) true (steps_alone 0 3)).moments))
     ≡ codes "bus 1C S 00 -\nbus 08 L 00 cpu\nbus 00 S 71 0\nbus 00 S 2B 0\nbus 00 S 90 0\nbus 1C S 00 -\nbus 01 L FE 0\nbus 00 S 2B 0\n"
 unfolding played_by telling own_inputs effect decoded first_memory text_of bus_line digits
 traced_lines = refl
@@ -76,7 +76,7 @@ drawn_outs = refl
 -- two bytes as a program, with so many clocks behind it
 abbrev shortly_before : ℕ → List ℕ → Position
 shortly_before phi rom =
-    let x = power_position (psu 0 4 rom ∷ []) 0 in
+    let x = power_position (psu 0 4 rom ∷ []) (0 ∷ []) 0 in
     record x { flat = record x.flat { state = record x.flat.state { phi = phi } } }
 
 -- at 29,826 a NOP of 4 clocks comes to the frame, and at 29,825 the second one does

@@ -11,7 +11,8 @@ use Rattle.f8_spec.specs.declared.instructions.Row.{Row}
 use Rattle.f8_spec.specs.declared.instructions.Row.TheVariants.{StackFromK, CallK, JumpQ, DataFromQ, DataFromH, ReadData, StoreData, Return, Immediate, PortIn, Call, Jump, LoadData, Exchange, AddData, Branch, BranchIsar, ShortIn, Idle}
 use Rattle.f8_spec.specs.BusArbitration.{Seat}
 use Rattle.console_spec.specs.AddressSpace.{byte_at}
-use Rattle.console_spec.specs.Writes.{Write, chip_port_byte, port_value, takers}
+use Rattle.console_spec.specs.Writes.{chip_port_byte, port_value, takers}
+use Rattle.console_spec.specs.declared.PortWrite.{PortWrite}
 use Rattle.console_spec.specs.declared.Regs.{Regs}
 
 -- ---- the state
@@ -36,7 +37,7 @@ pub record State : Type 0 where
   pub flow : Flow
   pub registers : Registers
   pub keys : List ℕ
-  pub writes : List Write
+  pub writes : List PortWrite
   pub count : ℕ
   pub phi : ℕ
 
@@ -331,14 +332,14 @@ own_inputs op memory seats s = record {
 }
 
 -- the write of an instruction, with the clocks at its end
-abbrev pub write_at : ℕ → ℕ → Option ℕ → Option Write
+abbrev pub write_at : ℕ → ℕ → Option ℕ → Option PortWrite
 write_at phi byte None = None
 write_at phi byte (Some port) = Some (record { phi = phi; port = port; byte = byte })
 
-abbrev pub write_of : Op → Inputs → List Seat → ℕ → Option Write
+abbrev pub write_of : Op → Inputs → List Seat → ℕ → Option PortWrite
 write_of op i seats phi = write_at phi i.accumulator (written_port op i.operand seats)
 
-abbrev pub with_write : Option Write → List Write → List Write
+abbrev pub with_write : Option PortWrite → List PortWrite → List PortWrite
 with_write None ws = ws
 with_write (Some w) ws = w ∷ ws
 

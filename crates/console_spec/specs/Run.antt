@@ -1,7 +1,7 @@
 -- The turns of a run: an instruction, power-on and reset of the flat machine, with the copies of the chips beside it. An instruction that
 -- has an access which is not served stops the run.
-use Rattle.std.specs.Prelude.{ℕ, false, List, [], ◌∷◌, map, Option, Some, None}
-use Rattle.std.specs.List.{enumerate_from}
+use Rattle.std.specs.Prelude.{ℕ, false, List, [], ◌∷◌, length, map, Option, Some, None}
+use Rattle.std.specs.List.{enumerate_from, range_with_len}
 use Rattle.f8_spec.specs.Instructions.{decoded, row_of}
 use Rattle.f8_spec.specs.MicroSteps.{steps_of, reset_steps}
 use Rattle.f8_spec.specs.ChipState.{ChipView}
@@ -15,10 +15,11 @@ use Rattle.console_spec.specs.BusAccesses.{Access, accesses_of}
 use Rattle.console_spec.specs.Services.{Fault, first_fault}
 use Rattle.console_spec.specs.BusTrace.{TracedStep, Course, course_of}
 
--- the flat machine, and the copies of the chips by their sockets
+-- the flat machine, the copies of the chips by their sockets, and the sockets of the chips described, in the order of the description
 pub record Position : Type 0 where
   pub flat : FlatState
   pub copies : List Copy
+  pub chain : List ℕ
 
 abbrev pub seats_of : List Copy → List Seat
 seats_of copies = map (λ c. c.seat) copies
@@ -33,6 +34,7 @@ abbrev pub position_after : Op → Position → Position
 position_after op x = record {
   flat = flat_after op (seats_of x.copies) x.flat;
   copies = copies_after (row_of op) (gets op (seats_of x.copies) x.flat) x.copies;
+  chain = x.chain;
 }
 
 -- its bus steps, up to the first that is not served
@@ -43,13 +45,18 @@ instruction_course op x =
 
 -- ---- power-on and reset
 
--- Power-on, on a rack of chips that are fitted. The copies are those that reset will leave: the stack register and the data counters of a
+-- Power-on, on a rack of chips that are fitted and a chain of those described. The copies are those that reset will leave: the stack register and the data counters of a
 -- chip stand where power-on left its counters.
-abbrev pub power_position : List ChipView → ℕ → Position
-power_position vs fill = record {
+abbrev pub power_position : List ChipView → List ℕ → ℕ → Position
+power_position vs chain fill = record {
   flat = flat_at_power vs fill;
   copies = map (reset_copy fill) (enumerate_from 0 (map seat_of vs));
+  chain = chain;
 }
+
+-- the chain of chips that are all described, each in a socket of its own in their order
+abbrev pub chain_in_order : List ChipView → List ℕ
+chain_in_order vs = range_with_len 0 (length vs)
 
 -- reset fetches at 0, on each set of counters
 abbrev pub reset_access : Access

@@ -6,7 +6,7 @@ use Rattle.f8_spec.specs.declared.bus.Party.{Party}
 use Rattle.console_spec.specs.Processor.{shown}
 use Rattle.console_spec.specs.Services.{Fault, Conflict, Undriven, Astray}
 use Rattle.console_spec.specs.Run.{Stop, Done, Unserved, Reserved, Ending}
-use Rattle.console_spec.specs.Writes.{Write}
+use Rattle.console_spec.specs.declared.PortWrite.{PortWrite}
 use Rattle.console_spec.specs.Display.{palette_of, tone_of, row_of_pixels}
 use Rattle.console_spec.specs.BusTrace.{TracedStep}
 use Rattle.console_spec.specs.Telling.{Told, Traced, TracedFault, Wrote, Shown, Telling, told_in}
@@ -98,17 +98,17 @@ bus_line s =
 unfoldable pub bus_fault_line : ℕ → Bool → List ℕ
 bus_fault_line romc long = codes "bus " ++ hex2 romc ++ codes " " ++ length_text long ++ codes " -- fault\n"
 
-unfoldable pub out_line : Write → List ℕ
+unfoldable pub out_line : PortWrite → List ℕ
 out_line w = codes "out " ++ decimal w.phi ++ codes " " ++ hex2 w.port ++ codes " " ++ hex2 w.byte ++ codes "\n"
 
 unfoldable pub frame_line : ℕ → ℕ → ℕ → List ℕ
 frame_line frame phi tone = codes "frame " ++ decimal frame ++ codes " phi " ++ decimal phi ++ codes " tone " ++ decimal tone ++ codes "\n"
 
 -- the digit of the palette, a blank, and a digit for each pixel
-unfoldable pub picture_row : ℕ → List Write → List ℕ
+unfoldable pub picture_row : ℕ → List PortWrite → List ℕ
 picture_row y writes = (48 + palette_of y writes) ∷ 32 ∷ map (λ colour. 48 + colour) (row_of_pixels y writes) ++ codes "\n"
 
-abbrev pub frame_lines : ℕ → ℕ → List Write → List (List ℕ)
+abbrev pub frame_lines : ℕ → ℕ → List PortWrite → List (List ℕ)
 frame_lines frame phi writes = frame_line frame phi (tone_of writes) ∷ map (λ y. picture_row y writes) (range_with_len 0 64)
 
 abbrev pub lines_of : Told → List (List ℕ)

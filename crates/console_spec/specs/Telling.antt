@@ -3,11 +3,11 @@
 use Rattle.std.specs.Prelude.{ℕ, zero, suc, false, ◌==◌, nat_le, Bool, if◌then◌else◌, List, [], ◌∷◌, ◌++◌, length, take, map, flat_map, Option, Some, None}
 use Rattle.std.specs.List.{list_any}
 use Rattle.f8_spec.specs.ChipState.{ChipView}
-use Rattle.console_spec.specs.Writes.{Write}
+use Rattle.console_spec.specs.declared.PortWrite.{PortWrite}
 use Rattle.console_spec.specs.Processor.{State, with_key}
 use Rattle.console_spec.specs.Services.{Fault, Conflict, Undriven, Astray}
 use Rattle.console_spec.specs.BusTrace.{TracedStep, Course}
-use Rattle.console_spec.specs.Run.{Position, Turn, Goes, Stops, Done, Ending, power_position, position_after_reset, reset_fault, reset_course, goes_unless, next, flat_next, turn_course}
+use Rattle.console_spec.specs.Run.{Position, Turn, Goes, Stops, Done, Ending, power_position, chain_in_order, position_after_reset, reset_fault, reset_course, goes_unless, next, flat_next, turn_course}
 use Rattle.console_spec.specs.Scripts.{Script, frames_by, events_at, most_instructions}
 use Rattle.console_spec.specs.declared.Event.{Event}
 use Rattle.console_spec.specs.declared.Event.TheVariants.{Keys, Pulse}
@@ -55,9 +55,9 @@ pub data Told : Type 0 where
   Traced : TracedStep → Told
   TracedFault : ℕ → Bool → Told
   -- a port took a byte
-  Wrote : Write → Told
+  Wrote : PortWrite → Told
   -- a shown frame, with its number, the clocks at the end of its instruction, and the writes so far
-  Shown : ℕ → ℕ → List Write → Told
+  Shown : ℕ → ℕ → List PortWrite → Told
 
 abbrev pub code_of : Fault → ℕ
 code_of (Conflict romc parties) = romc
@@ -141,8 +141,8 @@ on_flat = record { step = flat_next; course = λ x. record { steps = []; fault =
 abbrev pub power_moment : Script → Moment
 power_moment script = record { heard = []; told = []; events = events_at 0 script.events }
 
-abbrev pub begun : List ChipView → Script → Position
-begun vs script = with_events (events_at 0 script.events) (power_position vs script.power)
+abbrev pub begun : List ChipView → List ℕ → Script → Position
+begun vs chain script = with_events (events_at 0 script.events) (power_position vs chain script.power)
 
 abbrev pub reset_moment : Bool → Position → Moment
 reset_moment traced x = record { heard = (reset_course x).steps; told = told_steps traced (reset_course x); events = [] }
@@ -152,13 +152,13 @@ abbrev pub telling_behind : Position → (Position → Telling) → Turn → Tel
 telling_behind x rest (Stops stop) = record { moments = []; ending = record { position = x; stop = stop } }
 telling_behind x rest (Goes y) = rest y
 
--- a whole run on a rack of chips that are fitted
-unfoldable pub played_by : List ChipView → Bool → Script → Telling
-played_by vs traced script =
-    let x = begun vs script in
+-- a whole run on a rack of chips that are fitted, with the chain of those described
+unfoldable pub played_by : List ChipView → List ℕ → Bool → Script → Telling
+played_by vs chain traced script =
+    let x = begun vs chain script in
     let later = telling_behind x (telling (on_rack traced) script (most_instructions script.end)) (goes_unless (reset_fault x) (position_after_reset x)) in
     record { moments = power_moment script ∷ reset_moment traced x ∷ later.moments; ending = later.ending }
 
--- a whole run on the flat instruction set alone
+-- a whole run on the flat instruction set alone, of chips that are all described
 unfoldable pub referred_by : List ChipView → Script → Telling
-referred_by vs script = telling on_flat script (most_instructions script.end) (position_after_reset (begun vs script))
+referred_by vs script = telling on_flat script (most_instructions script.end) (position_after_reset (begun vs (chain_in_order vs) script))

@@ -42,6 +42,15 @@ pub enum Who {
     Nobody,
 }
 
+/// A write to an output port that is taken. `phi` is the count of clocks, in Φ, at the end of the instruction that writes, and `byte`
+/// is as the processor puts it on the data bus (Fairchild F8 User's Guide, `OUT` and `OUTS`).
+#[derive(Clone, Copy, Debug, PartialEq, Eq)]
+pub struct PortWrite {
+    pub phi: u64,
+    pub port: u8,
+    pub byte: u8,
+}
+
 /// What is known of a cartridge before it runs (this project's own).
 #[derive(Clone, Copy, Debug, PartialEq, Eq)]
 pub enum VerdictWord {

@@ -7,7 +7,8 @@ use Rattle.f8_spec.specs.Words.{places_on}
 use Rattle.f8_spec.specs.declared.instructions.Op.{Op}
 use Rattle.f8_spec.specs.declared.instructions.Op.TheVariants.{Out, Ins, Outs}
 use Rattle.console_spec.specs.AddressSpace.{byte_at}
-use Rattle.console_spec.specs.Writes.{Write, latch_of, takers}
+use Rattle.console_spec.specs.Writes.{latch_of, takers}
+use Rattle.console_spec.specs.declared.PortWrite.{PortWrite}
 use Rattle.console_spec.specs.Processor.{State, own_inputs, read_port, if_taken, written_port, write_at, with_write, with_key, after_instruction}
 use Rattle.cpu3850.specs.CpuPorts.{with_own_key, read_by, put_by}
 use Rattle.cpu3850.specs.Reaching.{from_cpu}
@@ -51,29 +52,29 @@ own_ports-with_key port byte s two = ap (λ keys. record (own_ports s) { keys = 
 -- ---- writes
 
 -- the latches of the ports 0 and 1, after these writes
-abbrev latches_of : List Write → List ℕ
+abbrev latches_of : List PortWrite → List ℕ
 latches_of ws = latch_of 0 ws ∷ latch_of 1 ws ∷ []
 
 -- a write of another port leaves both
-latches-other : (port phi byte : ℕ) (ws : List Write) → 2 ≤ port → latches_of (with_write (write_at phi byte (Some port)) ws) ≡ latches_of ws
+latches-other : (port phi byte : ℕ) (ws : List PortWrite) → 2 ≤ port → latches_of (with_write (write_at phi byte (Some port)) ws) ≡ latches_of ws
 latches-other port phi byte ws other =
     let no_zero : (port == 0) ≡ false = ne_eqb port 0 (λ same. omega arith) in
     let no_one : (port == 1) ≡ false = ne_eqb port 1 (λ same. omega arith) in
     rw (no_zero, no_one) refl
 
 -- the same where there may be no write at all
-latches-maybe : (b : Bool) (port phi byte : ℕ) (ws : List Write) → 2 ≤ port → latches_of (with_write (write_at phi byte (if b then Some port else None)) ws) ≡ latches_of ws
+latches-maybe : (b : Bool) (port phi byte : ℕ) (ws : List PortWrite) → 2 ≤ port → latches_of (with_write (write_at phi byte (if b then Some port else None)) ws) ≡ latches_of ws
 latches-maybe true port phi byte ws other = latches-other port phi byte ws other
 latches-maybe false port phi byte ws other = refl
 
 -- a write that goes to chips leaves both, where no chip has them
-latches-taken : (port phi byte : ℕ) (seats : List Seat) (ws : List Write) → LeaveOwnPorts seats → latches_of (with_write (write_at phi byte (if_taken port seats)) ws) ≡ latches_of ws
+latches-taken : (port phi byte : ℕ) (seats : List Seat) (ws : List PortWrite) → LeaveOwnPorts seats → latches_of (with_write (write_at phi byte (if_taken port seats)) ws) ≡ latches_of ws
 latches-taken zero phi byte seats ws leave = rw (leave.port_0) refl
 latches-taken (suc zero) phi byte seats ws leave = rw (leave.port_1) refl
 latches-taken (suc (suc n)) phi byte seats ws leave = latches-maybe (takers (suc (suc n)) seats == 1) (suc (suc n)) phi byte ws (omega arith)
 
 -- a write of `OUTS` is one of the CPU's own ports, or one that goes to chips
-latches-outs : (n phi byte : ℕ) (seats : List Seat) (ws : List Write) (keys : List ℕ) → LeaveOwnPorts seats →
+latches-outs : (n phi byte : ℕ) (seats : List Seat) (ws : List PortWrite) (keys : List ℕ) → LeaveOwnPorts seats →
     record { latches = latches_of (with_write (write_at phi byte (if nat_lt n 2 then Some n else if_taken n seats)) ws); keys = keys } ≡ put_by (Outs n) byte (record { latches = latches_of ws; keys = keys })
 latches-outs zero phi byte seats ws keys leave = refl
 latches-outs (suc zero) phi byte seats ws keys leave = refl
@@ -82,7 +83,7 @@ latches-outs (suc (suc n)) phi byte seats ws keys leave =
     rw others (ap (λ latches. record { latches = latches; keys = keys }) (latches-taken (suc (suc n)) phi byte seats ws leave))
 
 -- the write of any instruction
-written : (op : Op) (operand phi byte : ℕ) (seats : List Seat) (ws : List Write) (keys : List ℕ) → LeaveOwnPorts seats →
+written : (op : Op) (operand phi byte : ℕ) (seats : List Seat) (ws : List PortWrite) (keys : List ℕ) → LeaveOwnPorts seats →
     record { latches = latches_of (with_write (write_at phi byte (written_port op operand seats)) ws); keys = keys } ≡ put_by op byte (record { latches = latches_of ws; keys = keys })
 written Out operand phi byte seats ws keys leave = ap (λ latches. record { latches = latches; keys = keys }) (latches-taken operand phi byte seats ws leave)
 written (Outs n) operand phi byte seats ws keys leave = latches-outs n phi byte seats ws keys leave

@@ -14,16 +14,16 @@ use Rattle.f8_spec.specs.declared.instructions.Op.TheVariants.{In, Out, Ins, Out
 use Rattle.f8_spec.specs.declared.instructions.Row.{Row}
 use Rattle.f8_spec.specs.declared.instructions.Row.TheVariants.{StoreData, PortIn, PortOut}
 use Rattle.console_spec.specs.AddressSpace.{byte_at}
-use Rattle.console_spec.specs.Writes.{Write, latch_of, port_value, chip_port_byte}
+use Rattle.console_spec.specs.Writes.{latch_of, port_value, chip_port_byte}
 use Rattle.console_spec.specs.Processor.{Flow, Inputs, State, at_power, own_inputs, after_instruction, read_port, if_taken, written_port, with_write}
 use Rattle.console_spec.specs.FlatMemory.{first_byte, first_memory, is_ram_sort}
 use Rattle.console_spec.specs.FlatMachine.{FlatState, memory_after}
 use Rattle.console_spec.specs.CounterCopies.{Copy, copies_after, reset_copy}
 use Rattle.console_spec.specs.Run.{seats_of, position_after, position_after_reset, power_position}
-use Rattle.console_board.specs.declared.PortWrite.{PortWrite}
+use Rattle.console_spec.specs.declared.PortWrite.{PortWrite}
 use Rattle.chip_face.specs.declared.specification.ChipSpec.{ChipSpec}
 use Rattle.memory_map.specs.MapOf.{MapTable, IsMapOf, views_of, seats_of as seats_of_chips}
-use Rattle.f8_isa.specs.Ports.{PortState, AreLatches, KnowsPorts, kept_value, chip_value, value_read, if_writable, port_taking, ports_after, told}
+use Rattle.f8_isa.specs.Ports.{PortState, AreLatches, KnowsPorts, kept_value, chip_value, value_read, if_writable, port_taking, ports_after}
 use Rattle.f8_isa.specs.IsaState.{IsaState, KnowsRam, StandsAt, LeadsTo, GoesTo, InReach, state_of, flat_of, memory_by, kept_write, phi_after, isa_after}
 use Rattle.f8_isa.specs.KeptMemory.{KeptMemory, IsFirstMemory}
 use Rattle.f8_isa.specs.KeptPorts.{AreFirstPorts}
@@ -86,7 +86,7 @@ StandsAt-at_power table chips fill memory ports mapped first ports_first = recor
 
 -- ---- ports
 
-pub AreLatches-after : (wrote : Option Write) (p : PortState) (writes : List Write) → AreLatches p.latches writes →
+pub AreLatches-after : (wrote : Option PortWrite) (p : PortState) (writes : List PortWrite) → AreLatches p.latches writes →
     AreLatches (ports_after wrote p).latches (with_write wrote writes)
 AreLatches-after None p writes before = before
 AreLatches-after (Some w) p writes before = record {
@@ -103,20 +103,20 @@ AreLatches-after (Some w) p writes before = record {
     by_port port below (inr other) =
         rw (ne_eqb w.port port (λ e. other (sym e))) (get_or-set_other p.latches w.port port w.byte 0 other ∙ before.latch port below)
 
-KnowsPorts-after : (wrote : Option Write) (p : PortState) (seats : List Seat) → KnowsPorts p seats → KnowsPorts (ports_after wrote p) seats
+KnowsPorts-after : (wrote : Option PortWrite) (p : PortState) (seats : List Seat) → KnowsPorts p seats → KnowsPorts (ports_after wrote p) seats
 KnowsPorts-after None p seats knows = knows
 KnowsPorts-after (Some w) p seats knows = record { readable = knows.readable; writable = knows.writable }
 
-keys_after : (wrote : Option Write) (p : PortState) → (ports_after wrote p).keys ≡ p.keys
+keys_after : (wrote : Option PortWrite) (p : PortState) → (ports_after wrote p).keys ≡ p.keys
 keys_after None p = refl
 keys_after (Some w) p = refl
 
 -- a port of the chips, and one of the processor's own
-chip_value_kept : (p : PortState) (seats : List Seat) (writes : List Write) (port : ℕ) → KnowsPorts p seats → AreLatches p.latches writes → port < 256 →
+chip_value_kept : (p : PortState) (seats : List Seat) (writes : List PortWrite) (port : ℕ) → KnowsPorts p seats → AreLatches p.latches writes → port < 256 →
     chip_port_byte port seats p.keys writes ≡ chip_value p port
 chip_value_kept p seats writes port knows latches below = rw (knows.readable port below, latches.latch port below) refl
 
-value_kept : (p : PortState) (writes : List Write) (port : ℕ) → AreLatches p.latches writes → port < 256 → port_value port p.keys writes ≡ kept_value p port
+value_kept : (p : PortState) (writes : List PortWrite) (port : ℕ) → AreLatches p.latches writes → port < 256 → port_value port p.keys writes ≡ kept_value p port
 value_kept p writes port latches below = rw (latches.latch port below) refl
 
 if_taken_kept : (p : PortState) (seats : List Seat) (port : ℕ) → KnowsPorts p seats → port < 256 → if_taken port seats ≡ if_writable p port
@@ -152,7 +152,7 @@ memory_by-memory_after row ram_pages seats i c memory knows below = refl
 same_flat : (s t : State) (memory other : List ℕ) → s ≡ t → memory ≡ other → ◌≡◌ {A = FlatState} (record { state = s; memory = memory }) (record { state = t; memory = other })
 same_flat s t memory other states memories = cc
 
-state_leads : (op : Op) (isa : IsaState) (count : ℕ) (writes : List Write) (seats : List Seat) → InRange op → InReach op isa → KnowsPorts isa.ports seats →
+state_leads : (op : Op) (isa : IsaState) (count : ℕ) (writes : List PortWrite) (seats : List Seat) → InRange op → InReach op isa → KnowsPorts isa.ports seats →
     AreLatches isa.ports.latches writes →
     after_instruction op isa.memory seats (state_of isa count writes)
     ≡ state_of (isa_after op isa) (count + 1) (with_write (kept_write op isa (phi_after op isa)) writes)
@@ -165,15 +165,15 @@ state_leads op isa count writes seats range reach knows latches =
     )
     refl
 
-memory_leads : (op : Op) (isa : IsaState) (count : ℕ) (writes : List Write) (seats : List Seat) → InReach op isa → KnowsRam isa.ram_pages seats →
+memory_leads : (op : Op) (isa : IsaState) (count : ℕ) (writes : List PortWrite) (seats : List Seat) → InReach op isa → KnowsRam isa.ram_pages seats →
     memory_after (row_of op) seats (own_inputs op isa.memory seats (state_of isa count writes)) isa.flow isa.memory ≡ (isa_after op isa).memory
 unfolding own_inputs
 memory_leads op isa count writes seats reach knows =
     memory_by-memory_after (row_of op) isa.ram_pages seats (own_inputs op isa.memory seats (state_of isa count writes)) isa.flow isa.memory knows reach.address
 
 -- from a position that is written out
-leads_to : (op : Op) (isa : IsaState) (wrote : Option PortWrite) (count : ℕ) (writes : List Write) (copies : List Copy) →
-    decoded (byte_at isa.memory isa.flow.p) ≡ Some op → told wrote ≡ kept_write op isa (phi_after op isa) → InRange op → InReach op isa →
+leads_to : (op : Op) (isa : IsaState) (wrote : Option PortWrite) (count : ℕ) (writes : List PortWrite) (copies : List Copy) →
+    decoded (byte_at isa.memory isa.flow.p) ≡ Some op → wrote ≡ kept_write op isa (phi_after op isa) → InRange op → InReach op isa →
     KnowsRam isa.ram_pages (seats_of copies) → KnowsPorts isa.ports (seats_of copies) → AreLatches isa.ports.latches writes →
     LeadsTo (record { flat = flat_of isa count writes; copies = copies }) (isa_after op isa) (count + 1) wrote
 leads_to op isa wrote count writes copies found tells range reach knows ports latches = record {
@@ -185,17 +185,17 @@ leads_to op isa wrote count writes copies found tells range reach knows ports la
         (state_of (isa_after op isa) (count + 1) (after_instruction op isa.memory (seats_of copies) (state_of isa count writes)).writes)
         (memory_after (row_of op) (seats_of copies) (own_inputs op isa.memory (seats_of copies) (state_of isa count writes)) isa.flow isa.memory)
         (isa_after op isa).memory
-        (states ∙ ap (λ (ws : List Write). state_of (isa_after op isa) (count + 1) ws) (sym gained))
+        (states ∙ ap (λ (ws : List PortWrite). state_of (isa_after op isa) (count + 1) ws) (sym gained))
         (memory_leads op isa count writes (seats_of copies) reach knows);
     ram = rw (seats_of-copies_after (row_of op) (own_inputs op isa.memory (seats_of copies) (state_of isa count writes)) copies) knows;
     ports =
         rw (seats_of-copies_after (row_of op) (own_inputs op isa.memory (seats_of copies) (state_of isa count writes)) copies)
         (KnowsPorts-after (kept_write op isa (phi_after op isa)) isa.ports (seats_of copies) ports);
     latches =
-        subst (λ (ws : List Write). AreLatches (isa_after op isa).ports.latches ws) (sym gained)
+        subst (λ (ws : List PortWrite). AreLatches (isa_after op isa).ports.latches ws) (sym gained)
         (AreLatches-after (kept_write op isa (phi_after op isa)) isa.ports writes latches);
   };
-  gains = gained ∙ ap (λ (w : Option Write). with_write w writes) (sym tells);
+  gains = gained ∙ ap (λ (w : Option PortWrite). with_write w writes) (sym tells);
 }
   where
     states : after_instruction op isa.memory (seats_of copies) (state_of isa count writes)
@@ -206,7 +206,7 @@ leads_to op isa wrote count writes copies found tells range reach knows ports la
     gained = ap (λ (s : State). s.writes) states
 
 pub goes_to : (op : Op) (before after : IsaState) (wrote : Option PortWrite) → decoded (byte_at before.memory before.flow.p) ≡ Some op →
-    after ≡ isa_after op before → told wrote ≡ kept_write op before (phi_after op before) → InRange op → InReach op before → GoesTo before after wrote
+    after ≡ isa_after op before → wrote ≡ kept_write op before (phi_after op before) → InRange op → InReach op before → GoesTo before after wrote
 goes_to op before after wrote found state tells range reach = λ count x stands.
     rw state (
     subst (λ (f : FlatState). LeadsTo (record { flat = f; copies = x.copies }) (isa_after op before) (count + 1) wrote) (sym stands.flat)

@@ -8,13 +8,12 @@ use Rattle.f8_spec.specs.declared.instructions.Op.{Op}
 use Rattle.f8_spec.specs.declared.instructions.Row.{Row}
 use Rattle.f8_spec.specs.declared.instructions.Row.TheVariants.{StoreData, PortIn, PortOut}
 use Rattle.console_spec.specs.AddressSpace.{byte_at}
-use Rattle.console_spec.specs.Writes.{Write}
 use Rattle.console_spec.specs.Processor.{Flow, Registers, Inputs, State, own_inputs, flow_after, result_of, write_at, with_write, with_key}
 use Rattle.console_spec.specs.FlatMachine.{FlatState}
 use Rattle.console_spec.specs.FlatMemory.{sort_of, is_ram_sort}
 use Rattle.console_spec.specs.Run.{Position, Stop, Goes, Stops, flat_next, seats_of}
-use Rattle.console_board.specs.declared.PortWrite.{PortWrite}
-use Rattle.f8_isa.specs.Ports.{PortState, AreLatches, KnowsPorts, value_read, port_taking, ports_after, told}
+use Rattle.console_spec.specs.declared.PortWrite.{PortWrite}
+use Rattle.f8_isa.specs.Ports.{PortState, AreLatches, KnowsPorts, value_read, port_taking, ports_after}
 
 pub record IsaState : Type 0 where
   pub flow : Flow
@@ -42,7 +41,7 @@ memory_by row ram_pages at byte memory = memory
 -- ---- beside the flat machine
 
 -- the state of the flat machine where so many instructions are done and these writes were taken
-abbrev pub state_of : IsaState → ℕ → List Write → State
+abbrev pub state_of : IsaState → ℕ → List PortWrite → State
 state_of isa count writes = record {
   flow = isa.flow;
   registers = isa.registers;
@@ -52,7 +51,7 @@ state_of isa count writes = record {
   phi = isa.phi;
 }
 
-abbrev pub flat_of : IsaState → ℕ → List Write → FlatState
+abbrev pub flat_of : IsaState → ℕ → List PortWrite → FlatState
 flat_of isa count writes = record { state = state_of isa count writes; memory = isa.memory }
 
 -- the pages that are RAM are those of these chips
@@ -75,7 +74,7 @@ kept_inputs op isa = record (own_inputs op isa.memory [] (state_of isa 0 [])) {
 }
 
 -- its write, if a port takes it, with the clocks at its end
-abbrev pub kept_write : Op → IsaState → ℕ → Option Write
+abbrev pub kept_write : Op → IsaState → ℕ → Option PortWrite
 kept_write op isa phi = write_at phi isa.registers.accumulator (port_taking op (byte_at isa.memory (places_on isa.flow.p 1)) isa.ports)
 
 abbrev pub phi_after : Op → IsaState → ℕ
@@ -102,7 +101,7 @@ pub record LeadsTo (x : Position) (isa : IsaState) (count : ℕ) (wrote : Option
   pub next : Position
   pub goes : flat_next x ≡ Goes next
   pub stands : StandsAt isa count next
-  pub gains : next.flat.state.writes ≡ with_write (told wrote) x.flat.state.writes
+  pub gains : next.flat.state.writes ≡ with_write wrote x.flat.state.writes
 
 -- wherever it stood with the flat machine, the next instruction leads both on to where they stand together again, and tells its write
 abbrev pub GoesTo : IsaState → IsaState → Option PortWrite → Type 0

@@ -1,12 +1,12 @@
 -- The ports as the instruction set keeps them: the byte last written to each, the key byte of each, and what the chips make of each.
 -- Ports read and take writes after the Mostek 3851 and 3853 data sheets; that a port of no chip or of several reads as 255, and that a
 -- write to it is lost, is this project's own.
-use Rattle.std.specs.Prelude.{ℕ, ◌≡◌, ◌<◌, Bool, false, ◌==◌, nat_lt, if◌then◌else◌, bit_or, List, length, slice_index, slice_index_or, slice_set, Option, Some, None, option_map}
+use Rattle.std.specs.Prelude.{ℕ, ◌≡◌, ◌<◌, Bool, false, ◌==◌, nat_lt, if◌then◌else◌, bit_or, List, length, slice_index, slice_index_or, slice_set, Option, Some, None}
 use Rattle.f8_spec.specs.BusArbitration.{Seat}
 use Rattle.f8_spec.specs.declared.instructions.Op.{Op}
 use Rattle.f8_spec.specs.declared.instructions.Op.TheVariants.{In, Out, Ins, Outs}
-use Rattle.console_spec.specs.Writes.{Write, latch_of, readers, takers}
-use Rattle.console_board.specs.declared.PortWrite.{PortWrite}
+use Rattle.console_spec.specs.Writes.{latch_of, readers, takers}
+use Rattle.console_spec.specs.declared.PortWrite.{PortWrite}
 
 -- by port: its latch, its key byte, that exactly one chip reads there, and that exactly one chip takes a write there
 pub record PortState : Type 0 where
@@ -40,10 +40,7 @@ port_taking Out operand p = if_writable p operand
 port_taking (Outs n) operand p = if nat_lt n 2 then Some n else if_writable p n
 port_taking op operand p = None
 
-abbrev pub told : Option PortWrite → Option Write
-told wrote = option_map (λ w. record { phi = w.phi; port = w.port; byte = w.byte }) wrote
-
-abbrev pub ports_after : Option Write → PortState → PortState
+abbrev pub ports_after : Option PortWrite → PortState → PortState
 ports_after None p = p
 ports_after (Some w) p = record p { latches = slice_set p.latches w.port w.byte }
 
@@ -53,7 +50,7 @@ with_key_byte port byte p = record p { keys = slice_set p.keys port byte }
 -- ---- beside the flat machine
 
 -- each latch has the byte that was last written to its port
-pub record AreLatches (latches : List ℕ) (writes : List Write) : Type 0 where
+pub record AreLatches (latches : List ℕ) (writes : List PortWrite) : Type 0 where
   pub size : length latches ≡ 256
   pub latch : (port : ℕ) → port < 256 → slice_index latches port ≡ latch_of port writes
 

@@ -56,7 +56,7 @@ impl Isa {
     ghost use Rattle.memory_map.specs.MapOf.{IsMapOf, views_of};
     ghost use Rattle.f8_isa.specs.Counters.{flow_of};
     ghost use Rattle.f8_isa.specs.InstructionRows.{IsInstruction};
-    ghost use Rattle.f8_isa.specs.Ports.{told, value_read, with_key_byte};
+    ghost use Rattle.f8_isa.specs.Ports.{value_read, with_key_byte};
     ghost use Rattle.f8_isa.specs.IsaState.{state_of, kept_inputs, kept_write, isa_after, phi_after, GoesTo, StopsBy, StandsAt, InReach, TakesKey};
 
     /// A program on some chips, after power-on with a byte and reset, or want of memory. The map is that of the chips; what it tells is
@@ -114,7 +114,7 @@ impl Isa {
         requires right { IsInstruction instruction }
         requires phi { self.old.phi < 2 ^ 62 }
         ensures state { self.new ≡ isa_after instruction.op self.old }
-        ensures wrote { told result ≡ kept_write instruction.op self.old (phi_after instruction.op self.old) }
+        ensures wrote { result ≡ kept_write instruction.op self.old (phi_after instruction.op self.old) }
         ensures clocks { self.new.phi ≤ self.old.phi + 26 }
         ensures onward { self.old.phi ≤ self.new.phi }
         ensures ranges { InReach instruction.op self.old }
@@ -152,7 +152,7 @@ impl Isa {
         requires right { IsInstruction instruction }
         requires phi { self.old.phi < 2 ^ 62 }
         ensures state { self.new ≡ isa_after instruction.op self.old }
-        ensures wrote { told result ≡ kept_write instruction.op self.old (phi_after instruction.op self.old) }
+        ensures wrote { result ≡ kept_write instruction.op self.old (phi_after instruction.op self.old) }
         ensures clocks { self.new.phi ≤ self.old.phi + 26 }
         ensures onward { self.old.phi ≤ self.new.phi }
         ensures ranges { InReach instruction.op self.old }
@@ -203,7 +203,7 @@ impl Isa {
     #[inline]
     fn write(&self, op: Op, operand: u8, phi: u64) -> Option<PortWrite>
         requires { operand ≡ byte_at self.now.memory (places_on self.now.flow.p 1) }
-        ensures { told result ≡ kept_write op self.now phi }
+        ensures { result ≡ kept_write op self.now phi }
     {
         let port = match op {
             Op::Out => self.ports.if_writable(operand)?,

@@ -26,7 +26,7 @@ impl Model for Ports {
 
 impl Ports {
     ghost use Rattle.std.specs.Prelude.{◌≡◌};
-    ghost use Rattle.f8_isa.specs.Ports.{kept_value, chip_value, if_writable, told, ports_after, with_key_byte};
+    ghost use Rattle.f8_isa.specs.Ports.{kept_value, chip_value, if_writable, ports_after, with_key_byte};
     ghost use Rattle.f8_isa.specs.KeptPorts.{AreFirstPorts};
 
     /// The ports at power-on, with each latch and each key byte 0.
@@ -76,7 +76,7 @@ impl Ports {
     /// Keeps the byte of a write that was taken.
     #[inline]
     pub fn take(&mut self, wrote: Option<PortWrite>)
-        ensures { self.new ≡ ports_after (told wrote) self.old }
+        ensures { self.new ≡ ports_after wrote self.old }
     {
         if let Some(write) = wrote {
             self.latches[usize::from(write.port)] = write.byte;

@@ -11,7 +11,7 @@ use Rattle.f8_spec.specs.MicroSteps.{Step}
 use Rattle.f8_spec.specs.declared.bus.Driver.{Driver}
 use Rattle.f8_spec.specs.declared.bus.Driver.TheVariants.{Memory, CounterByte, Vector as VectorDriver, Port, Cpu, Nobody}
 use Rattle.f8_spec.specs.declared.bus.BusRule.{BusRule}
-use Rattle.f8_spec.specs.declared.bus.BusRule.TheVariants.{Read, Store, PortRead, PortWrite, Vector, NoChip}
+use Rattle.f8_spec.specs.declared.bus.BusRule.TheVariants.{Read, Store, PortRead, PortWrite as WriteRule, Vector, NoChip}
 use Rattle.console_spec.specs.Processor.{Flow, Inputs, byte_of}
 use Rattle.console_spec.specs.FlatMemory.{stored_at}
 use Rattle.console_spec.specs.CounterCopies.{Copy}
@@ -25,7 +25,7 @@ use Rattle.cpu3850.specs.Reaching.{is_placed_by, Places}
 use Rattle.probe.specs.ProbeState.{ProbeState}
 use Rattle.f8_machine.specs.FlatViews.{HoldsFlat}
 use Rattle.f8_machine.specs.PortViews.{HoldsPorts}
-use Rattle.console_spec.specs.Writes.{Write}
+use Rattle.console_spec.specs.declared.PortWrite.{PortWrite}
 use Rattle.f8_machine.proofs.PortValues.{PortValues, writes_along}
 use Rattle.f8_machine.specs.Traces.{told_who}
 use Rattle.f8_machine.proofs.Places.{places_along, named_place}
@@ -51,7 +51,7 @@ pub record Aim : Type 0 where
   pub fault : Option Fault
   pub course : Course
   pub memory : List ℕ
-  pub writes : List Write
+  pub writes : List PortWrite
   pub phi : ℕ
   pub flow : Bool → Flow → Flow
 
@@ -59,7 +59,7 @@ pub record Along (i : Inputs) (x : Position) (aim : Aim) (rest : List Step) (pro
   -- the counters after the steps so far, as a function of a set; the memory and the writes after them; and the accesses that are left
   pub now : Bool → Flow → Count
   pub memory : List ℕ
-  pub writes : List Write
+  pub writes : List PortWrite
   pub accesses : List Access
   pub places : (second : Bool) (c : Flow) → places_along second i rest (now second c) probe.last ≡ map (named_place second c) accesses
   pub moves : (second : Bool) (c : Flow) → moved_along second i rest (now second c) ≡ fetched (aim.flow second c)
@@ -124,7 +124,7 @@ pub no_access : (rule : BusRule) (romc reference : ℕ) (xs : List (ℕ × Place
 no_access Read romc reference xs e = cc
 no_access Store romc reference xs e = cc
 no_access PortRead romc reference xs e = cc
-no_access PortWrite romc reference xs e = cc
+no_access WriteRule romc reference xs e = cc
 no_access Vector romc reference xs e = refl
 no_access NoChip romc reference xs e = refl
 

@@ -10,17 +10,16 @@ use Rattle.f8_spec.specs.declared.instructions.Op.TheVariants.{Outs}
 use Rattle.f8_spec.specs.declared.instructions.Row.{Row}
 use Rattle.f8_spec.specs.declared.instructions.Row.TheVariants.{StoreData, Branch, BranchIsar}
 use Rattle.console_spec.specs.Processor.{Flow, Registers, Inputs, is_taken, result_of, own_inputs, with_write, write_of}
-use Rattle.console_spec.specs.Writes.{Write}
 use Rattle.cpu3850.specs.CpuPorts.{PortBytes, put_by, with_latch}
 use Rattle.cpu3850.proofs.PortLaws.{own_ports-after_instruction}
 use Rattle.f8_machine.proofs.PortEnds.{port_gets}
 use Rattle.f8_machine.proofs.Written.{OwnLatch, op_write}
 use Rattle.std.proofs.lemmas.List.{get_or-set_same}
 use Rattle.std.proofs.lemmas.Bool.{ltb-true}
-use Rattle.console_board.specs.declared.PortWrite.{PortWrite}
+use Rattle.console_spec.specs.declared.PortWrite.{PortWrite}
 use Rattle.cpu3850.specs.OwnWrites.{own_ports, LeaveOwnPorts}
 use Rattle.cpu3850.specs.Reaching.{done}
-use Rattle.f8_machine.specs.PortWrites.{write_as, done_write}
+use Rattle.f8_machine.specs.PortWrites.{done_write}
 use Rattle.console_spec.specs.CounterCopies.{Copy, fetched, copies_after}
 use Rattle.console_spec.specs.FlatMachine.{FlatState, memory_after, gets, gets_all}
 use Rattle.console_spec.specs.Services.{Fault}
@@ -121,21 +120,21 @@ own_latch (Outs n) accumulator p latches are two = λ own.
 own_latch op accumulator p latches are two = tt
 
 -- the write that is told, by the processor and the record of the machine
-pub told_of : (told : Option Write) (found : Option Op) (op : Op) (phi : ℕ) (latches own : List ℕ) (steps steps_told : List Heard) →
+pub told_of : (told : Option PortWrite) (found : Option Op) (op : Op) (phi : ℕ) (latches own : List ℕ) (steps steps_told : List Heard) →
     told ≡ done_write found phi latches steps → found ≡ Some op → latches ≡ own → steps ≡ steps_told → told ≡ done_write (Some op) phi own steps_told
 told_of told found op phi latches own steps steps_told e held same same_steps =
     e ∙ ap (λ (o : Option Op). done_write o phi latches steps) held ∙ ap (λ (l : List ℕ). done_write (Some op) phi l steps) same ∙ ap (done_write (Some op) phi own) same_steps
 
 -- the write that is told is the flat machine's
 written_done : (op : Op) (x : Position) (start cpu : CpuState) (steps : List Heard) (wrote : Option PortWrite) (phi : ℕ) → phi ≡ (position_after op x).flat.state.phi → start.ports ≡ own_ports x.flat.state →
-    {probe : ProbeState} {news : List ChipState} → IsCarriedOut start cpu probe news steps op x → option_map write_as wrote ≡ done_write (Some op) phi cpu.ports.latches steps →
-    (position_after op x).flat.state.writes ≡ with_write (option_map write_as wrote) x.flat.state.writes
+    {probe : ProbeState} {news : List ChipState} → IsCarriedOut start cpu probe news steps op x → wrote ≡ done_write (Some op) phi cpu.ports.latches steps →
+    (position_after op x).flat.state.writes ≡ with_write wrote x.flat.state.writes
 written_done op x start cpu steps wrote phi spent own carried told =
     let seats = seats_of x.copies in
     let i = gets_all op seats x.flat in
     let latch : OwnLatch op i.accumulator cpu.ports.latches =
     own_latch op i.accumulator start.ports cpu.ports.latches (ap (λ (k : CpuState). k.ports.latches) carried.processor) (ap (λ (p : PortBytes). length p.latches) own) in
-    ap (λ (o : Option Write). with_write o x.flat.state.writes) (sym (told
+    ap (λ (o : Option PortWrite). with_write o x.flat.state.writes) (sym (told
     ∙ ap (done_write (Some op) phi cpu.ports.latches) carried.recorded
     ∙ op_write op i x.flat.state.flow x.copies phi cpu.ports.latches carried.so_far (port_gets op seats x.flat) latch carried.trace
     ∙ ap (write_of op i seats) spent))
@@ -159,7 +158,7 @@ holds_of m states op x held range r = record {
 module _ (m : MachineState) (states news : List ChipState) (op : Op) (x : Position) (held : decoded m.cpu.opcode ≡ Some op) (r : Represents m states x) where
   pub done_of : (cpu : CpuState) (probe : ProbeState) (flow : Flow) (clocks : ℕ) (wrote : Option PortWrite) (steps : List Heard) → AreInRange m.cpu.registers →
       IsCarriedOut m.cpu cpu probe news steps op x → flow ≡ unfetched probe.count → clocks ≡ row_clocks (row_of op) (is_taken op m.cpu.registers) →
-      option_map write_as wrote ≡ done_write (Some op) (m.phi + clocks) cpu.ports.latches steps →
+      wrote ≡ done_write (Some op) (m.phi + clocks) cpu.ports.latches steps →
       IsDone (record m { probe = probe; cpu = cpu; flow = flow; phi = m.phi + clocks }) news (next x) (turn_course x) x.flat.state.writes wrote steps
   done_of cpu probe flow clocks wrote steps range carried moved spent told =
       let seats = seats_of x.copies in
@@ -222,7 +221,7 @@ module _ (m : MachineState) (states news : List ChipState) (op : Op) (x : Positi
 pub done_from : (m k : MachineState) → k ≡ m → (states news : List ChipState) (op : Op) (x : Position) → decoded k.cpu.opcode ≡ Some op → Represents m states x →
     (cpu : CpuState) (probe : ProbeState) (flow : Flow) (clocks : ℕ) (wrote : Option PortWrite) (steps : List Heard) → AreInRange k.cpu.registers →
     (Holds k.cpu k.probe states op x → IsCarriedOut k.cpu cpu probe news steps op x) → flow ≡ unfetched probe.count → clocks ≡ row_clocks (row_of op) (is_taken op k.cpu.registers) →
-    option_map write_as wrote ≡ done_write (Some op) (k.phi + clocks) cpu.ports.latches steps →
+    wrote ≡ done_write (Some op) (k.phi + clocks) cpu.ports.latches steps →
     IsDone (record k { probe = probe; cpu = cpu; flow = flow; phi = k.phi + clocks }) news (next x) (turn_course x) x.flat.state.writes wrote steps
 done_from m k same states news op x held r cpu probe flow clocks wrote steps range carried moved spent told =
     let there : Represents k states x = subst (λ (y : MachineState). Represents y states x) (sym same) r in

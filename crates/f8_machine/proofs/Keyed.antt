@@ -13,7 +13,8 @@ use Rattle.console_spec.specs.CounterCopies.{Copy}
 use Rattle.console_spec.specs.Run.{Position, seats_of}
 use Rattle.console_spec.specs.declared.Event.TheVariants.{Keys}
 use Rattle.console_spec.specs.Telling.{with_event}
-use Rattle.console_spec.specs.Writes.{Write, takers}
+use Rattle.console_spec.specs.Writes.{takers}
+use Rattle.console_spec.specs.declared.PortWrite.{PortWrite}
 use Rattle.cpu3850.specs.CpuPorts.{PortBytes, with_own_key}
 use Rattle.cpu3850.specs.CpuSteps.{CpuState}
 use Rattle.cpu3850.specs.OwnWrites.{own_ports}
@@ -84,7 +85,7 @@ flat_keyed memory port byte vs flat = holds_flat_by vs (map (keyed port byte) vs
 -- ---- the ports
 
 -- the key byte of the port, and of another one
-key_here : (keys : List ℕ) (writes : List Write) (port latch byte : ℕ) (v : ChipView) → port < length keys → data_port v port ≡ Some latch → IsPort keys writes port latch v →
+key_here : (keys : List ℕ) (writes : List PortWrite) (port latch byte : ℕ) (v : ChipView) → port < length keys → data_port v port ≡ Some latch → IsPort keys writes port latch v →
     IsPort (slice_set keys port byte) writes port latch (keyed port byte v)
 key_here keys writes port latch byte v small found is =
     let set : (keyed port byte v).key_bytes ≡ slice_set v.key_bytes latch byte = ap (λ (o : Option ℕ). (keyed_at o byte v).key_bytes) found in
@@ -105,7 +106,7 @@ leaves_key : (place : Option ℕ) (latch byte : ℕ) (v : ChipView) → ((other 
 leaves_key None latch byte v apart = record { count = refl; same = refl }
 leaves_key (Some other) latch byte v apart = record { count = length-set v.key_bytes other byte; same = get_or-set_other v.key_bytes other latch byte 0 (apart other refl) }
 
-key_other : (keys : List ℕ) (writes : List Write) (port other latch byte : ℕ) (v : ChipView) → (other ≡ port → ⊥) → data_port v other ≡ Some latch → IsPort keys writes other latch v →
+key_other : (keys : List ℕ) (writes : List PortWrite) (port other latch byte : ℕ) (v : ChipView) → (other ≡ port → ⊥) → data_port v other ≡ Some latch → IsPort keys writes other latch v →
     IsPort (slice_set keys port byte) writes other latch (keyed port byte v)
 key_other keys writes port other latch byte v apart found is =
     let left = leaves_key (data_port v port) latch byte v different in
@@ -122,7 +123,7 @@ key_other keys writes port other latch byte v apart found is =
         let same_latch : data_port v port ≡ Some latch = there ∙ ap Some (sym same) in
         apart (apart_by v.ports other port latch (behind v v.ports other latch found) (behind v v.ports port latch same_latch))
 
-ports_keyed : (keys : List ℕ) (writes : List Write) (port byte : ℕ) (vs : List ChipView) → port < length keys → HoldsPorts keys writes vs → HoldsPorts (slice_set keys port byte) writes (map (keyed port byte) vs)
+ports_keyed : (keys : List ℕ) (writes : List PortWrite) (port byte : ℕ) (vs : List ChipView) → port < length keys → HoldsPorts keys writes vs → HoldsPorts (slice_set keys port byte) writes (map (keyed port byte) vs)
 ports_keyed keys writes port byte vs small holds_ports place w other latch lies found once =
     let old : Comes (keyed port byte) (slice_get vs place) w = comes (keyed port byte) (slice_get vs place) w (sym (slice_get-map (keyed port byte) vs place) ∙ lies) in
     let seat : seat_of w ≡ seat_of old.from = ap seat_of old.gives ∙ (keyed_leaves (data_port old.from port) byte old.from).seat in
@@ -144,7 +145,7 @@ ports_keyed keys writes port byte vs small holds_ports place w other latch lies 
     by false here v before is = key_other keys writes port other latch byte v (λ same. (let yes : (other == port) ≡ true = eq-eqb other port same in cc)) before is
 
 -- a key byte of the processor's own ports
-ports_own : (keys : List ℕ) (writes : List Write) (port byte : ℕ) (vs : List ChipView) → takers port (map seat_of vs) ≡ 0 → HoldsPorts keys writes vs → HoldsPorts (slice_set keys port byte) writes vs
+ports_own : (keys : List ℕ) (writes : List PortWrite) (port byte : ℕ) (vs : List ChipView) → takers port (map seat_of vs) ≡ 0 → HoldsPorts keys writes vs → HoldsPorts (slice_set keys port byte) writes vs
 ports_own keys writes port byte vs none holds_ports place v other latch lies found once =
     let is = holds_ports place v other latch lies found once in
     let apart : other ≡ port → ⊥ = λ same. let has : seat_has_port (seat_of v) port ≡ true = has_port (port_role v port) latch (ap (data_port v) (sym same) ∙ found) in

@@ -10,7 +10,8 @@ use Rattle.f8_spec.specs.declared.instructions.Op.TheVariants.{Ins, Outs}
 use Rattle.f8_spec.specs.declared.instructions.Row.TheVariants.{Idle, ShortIn, ShortOut}
 use Rattle.console_spec.specs.FlatMachine.{FlatState, gets_all}
 use Rattle.console_spec.specs.Processor.{Inputs, if_taken, write_at, write_of, with_write, port_field, own_inputs}
-use Rattle.console_spec.specs.Writes.{Write, latch_of, takers}
+use Rattle.console_spec.specs.Writes.{latch_of, takers}
+use Rattle.console_spec.specs.declared.PortWrite.{PortWrite}
 use Rattle.cpu3850.specs.OwnWrites.{LeaveOwnPorts}
 use Rattle.f8_machine.specs.PortViews.{HoldsPorts}
 use Rattle.f8_machine.proofs.PortSteps.{counts_one, has_port}
@@ -27,11 +28,11 @@ free_of zero seats free small = free.port_0
 free_of (suc zero) seats free small = free.port_1
 free_of (suc (suc n)) seats free small = absurd (omega (arith, ltb-true (suc (suc n)) 2 small))
 
-latch_other : (phi byte n port : ℕ) (writes : List Write) (b : Bool) → (n == port) ≡ b → (b ≡ true → ⊥) → latch_of port (record { phi = phi; port = n; byte = byte } ∷ writes) ≡ latch_of port writes
+latch_other : (phi byte n port : ℕ) (writes : List PortWrite) (b : Bool) → (n == port) ≡ b → (b ≡ true → ⊥) → latch_of port (record { phi = phi; port = n; byte = byte } ∷ writes) ≡ latch_of port writes
 latch_other phi byte n port writes true is other = absurd (other refl)
 latch_other phi byte n port writes false is other = rw is refl
 
-own_write : (n phi byte : ℕ) (keys : List ℕ) (writes : List Write) (vs : List ChipView) → takers n (map seat_of vs) ≡ 0 → HoldsPorts keys writes vs →
+own_write : (n phi byte : ℕ) (keys : List ℕ) (writes : List PortWrite) (vs : List ChipView) → takers n (map seat_of vs) ≡ 0 → HoldsPorts keys writes vs →
     HoldsPorts keys (record { phi = phi; port = n; byte = byte } ∷ writes) vs
 own_write n phi byte keys writes vs none holds place v port latch lies found once =
     let is = holds place v port latch lies found once in
@@ -44,19 +45,19 @@ own_write n phi byte keys writes vs none holds place v port latch lies found onc
       key = is.key;
     }
 
-ins_none : (b : Bool) (i : Inputs) (seats : List Seat) (phi : ℕ) (keys : List ℕ) (writes : List Write) (vs : List ChipView) →
+ins_none : (b : Bool) (i : Inputs) (seats : List Seat) (phi : ℕ) (keys : List ℕ) (writes : List PortWrite) (vs : List ChipView) →
     HoldsPorts keys (with_write (write_at phi i.accumulator (bus_port (if b then Idle else ShortIn) i seats)) writes) vs → HoldsPorts keys writes vs
 ins_none true i seats phi keys writes vs holds = holds
 ins_none false i seats phi keys writes vs holds = holds
 
-outs_write : (b : Bool) (n : ℕ) (i : Inputs) (seats : List Seat) (phi : ℕ) (keys : List ℕ) (writes : List Write) (vs : List ChipView) → nat_lt n 2 ≡ b → i.port ≡ n → LeaveOwnPorts (map seat_of vs) →
+outs_write : (b : Bool) (n : ℕ) (i : Inputs) (seats : List Seat) (phi : ℕ) (keys : List ℕ) (writes : List PortWrite) (vs : List ChipView) → nat_lt n 2 ≡ b → i.port ≡ n → LeaveOwnPorts (map seat_of vs) →
     HoldsPorts keys (with_write (write_at phi i.accumulator (bus_port (if b then Idle else ShortOut) i seats)) writes) vs →
     HoldsPorts keys (with_write (write_at phi i.accumulator (if b then Some n else if_taken n seats)) writes) vs
 outs_write true n i seats phi keys writes vs own port free holds = own_write n phi i.accumulator keys writes vs (free_of n (map seat_of vs) free own) holds
 outs_write false n i seats phi keys writes vs own port free holds =
     subst (λ (p : ℕ). HoldsPorts keys (with_write (write_at phi i.accumulator (if_taken p seats)) writes) vs) port holds
 
-pub flat_writes : (op : Op) (i : Inputs) (seats : List Seat) (phi : ℕ) (keys : List ℕ) (writes : List Write) (vs : List ChipView) → i.port ≡ port_field op → LeaveOwnPorts (map seat_of vs) →
+pub flat_writes : (op : Op) (i : Inputs) (seats : List Seat) (phi : ℕ) (keys : List ℕ) (writes : List PortWrite) (vs : List ChipView) → i.port ≡ port_field op → LeaveOwnPorts (map seat_of vs) →
     HoldsPorts keys (with_write (write_at phi i.accumulator (bus_port (row_of op) i seats)) writes) vs →
     HoldsPorts keys (with_write (write_of op i seats phi) writes) vs
 flat_writes (Ins n) i seats phi keys writes vs port free holds = ins_none (nat_lt n 2) i seats phi keys writes vs holds

@@ -10,7 +10,8 @@ use Rattle.f8_spec.specs.declared.bus.BusRule.{BusRule}
 use Rattle.f8_spec.specs.declared.bus.BusRule.TheVariants.{PortRead}
 use Rattle.f8_spec.specs.declared.bus.Driver.TheVariants.{Memory, CounterByte, Vector, Port, Cpu, Nobody}
 use Rattle.f8_spec.specs.declared.bus.Party.{Party}
-use Rattle.console_spec.specs.Writes.{Write, port_value, readers, chip_port_byte}
+use Rattle.console_spec.specs.Writes.{port_value, readers, chip_port_byte}
+use Rattle.console_spec.specs.declared.PortWrite.{PortWrite}
 use Rattle.f8_machine.specs.PortViews.{ReadOnce, IsPort, HoldsPorts}
 use Rattle.f8_machine.proofs.Kept.{keeps_one, slice_get-enumerate_from, Comes, comes}
 use Rattle.f8_machine.proofs.ServedSteps.{OneAnswers, named_seats, one_answers}
@@ -89,7 +90,7 @@ module _ (last : ℕ) (vs : List ChipView) (heard : (k : ℕ) (v : ChipView) →
           ap (offer_of 0x1B None) chip.gives
           ∙ ap (option_map (λ place. byte_offer chip.from.last (read_port chip.from place))) (no_latch (data_port chip.from chip.from.last) silent)
 
-  read_by_one : (placed_byte : ℕ) (keys : List ℕ) (writes : List Write) (socket : Option ℕ) (p : Party) → parties PortRead (named_seats 0x1B vs) ≡ p ∷ [] → HoldsPorts keys writes vs →
+  read_by_one : (placed_byte : ℕ) (keys : List ℕ) (writes : List PortWrite) (socket : Option ℕ) (p : Party) → parties PortRead (named_seats 0x1B vs) ≡ p ∷ [] → HoldsPorts keys writes vs →
       bus_byte 0x1B None placed_byte (enumerate_from 0 vs) ≡ chip_port_byte last (map seat_of vs) keys writes
   read_by_one placed_byte keys writes socket p only holds =
       let one = one_answers PortRead 0x1B 0 vs p only in
@@ -100,7 +101,7 @@ module _ (last : ℕ) (vs : List ChipView) (heard : (k : ℕ) (v : ChipView) →
       let alone : (readers last (map seat_of vs) == 1) ≡ true = ap (λ (n : ℕ). n == 1) count in
       ap only_byte (only_port one here.0 here.1) ∙ ap₂ bit_or is.written is.key ∙ sym (ap (λ b. if b then port_value last keys writes else 255) alone)
 
-  pub served_port : (romc placed_byte reference : ℕ) (socket : Option ℕ) (keys : List ℕ) (writes : List Write) → driver_of romc ≡ Port → HoldsPorts keys writes vs →
+  pub served_port : (romc placed_byte reference : ℕ) (socket : Option ℕ) (keys : List ℕ) (writes : List PortWrite) → driver_of romc ≡ Port → HoldsPorts keys writes vs →
       view_verdict romc None reference (enumerate_from 0 vs) ≡ Served socket →
       bus_byte romc None placed_byte (enumerate_from 0 vs) ≡ chip_port_byte last (map seat_of vs) keys writes
   served_port romc placed_byte reference socket keys writes driver holds served =

@@ -9,13 +9,14 @@ use Rattle.std.proofs.lemmas.Option.{slice_get-map}
 use Rattle.f8_spec.specs.BusCodes.{Count}
 use Rattle.f8_spec.specs.ChipState.{ChipView, PortRole, DataPort, VectorHigh, VectorLow, ControlPort, TimerPort, has_ram_at, bytes_with, stored, has_data_ports, clear_data_ports, data_port, port_role, role_at, offset_from, latch_place, port_written_if, effect, after_step}
 use Rattle.f8_spec.specs.BusArbitration.{Seat, Served, seat_of, seat_has_port, seat_has_data_port, parties, port_write_verdict, view_verdict}
-use Rattle.f8_spec.specs.declared.bus.BusRule.TheVariants.{PortWrite}
+use Rattle.f8_spec.specs.declared.bus.BusRule.TheVariants.{PortWrite as WriteRule}
 use Rattle.f8_spec.specs.declared.bus.Party.{Party}
 use Rattle.f8_spec.specs.declared.chips.ChipKind.{ChipKind}
 use Rattle.f8_spec.specs.declared.chips.ChipKind.TheVariants.{Psu, Smi}
 use Rattle.console_spec.specs.Processor.{Flow, if_taken, write_at, with_write}
 use Rattle.console_spec.specs.CounterCopies.{Copy}
-use Rattle.console_spec.specs.Writes.{Write, latch_of, takers}
+use Rattle.console_spec.specs.Writes.{latch_of, takers}
+use Rattle.console_spec.specs.declared.PortWrite.{PortWrite}
 use Rattle.console_spec.specs.Run.{seats_of}
 use Rattle.f8_machine.specs.ChipCopies.{AreCopies}
 use Rattle.f8_machine.specs.PortViews.{ReadOnce, IsPort, HoldsPorts}
@@ -36,7 +37,7 @@ module _ (romc byte clocks : ℕ) (vs : List ChipView) where
   read_once_back port place once j v lies has =
       once j (step v) (slice_get-map step vs j ∙ ap (option_map step) lies) (ap (λ (s : Seat). seat_has_data_port s port) (seat_of-after romc byte clocks v) ∙ has)
 
-  ports_by : (keys : List ℕ) (writes writes_now : List Write) → HoldsPorts keys writes vs →
+  ports_by : (keys : List ℕ) (writes writes_now : List PortWrite) → HoldsPorts keys writes vs →
       ((place : ℕ) (v : ChipView) (port latch : ℕ) → slice_get vs place ≡ Some v → data_port v port ≡ Some latch → IsPort keys writes port latch v → IsPort keys writes_now port latch (step v)) →
       HoldsPorts keys writes_now (map step vs)
   ports_by keys writes writes_now holds goes place w port latch lies found once =
@@ -64,7 +65,7 @@ effect_leaves romc byte v other = rw other (by (romc == 0x05) (romc == 0x13))
     by false true = record { latches = refl; key_bytes = refl }
     by false false = record { latches = refl; key_bytes = refl }
 
-is_port_left : (keys : List ℕ) (writes : List Write) (port latch : ℕ) (old new : ChipView) → new.latches ≡ old.latches → new.key_bytes ≡ old.key_bytes → IsPort keys writes port latch old → IsPort keys writes port latch new
+is_port_left : (keys : List ℕ) (writes : List PortWrite) (port latch : ℕ) (old new : ChipView) → new.latches ≡ old.latches → new.key_bytes ≡ old.key_bytes → IsPort keys writes port latch old → IsPort keys writes port latch new
 is_port_left keys writes port latch old new latches key_bytes is = record {
   latches = rw latches is.latches;
   key_bytes = rw key_bytes is.key_bytes;
@@ -72,7 +73,7 @@ is_port_left keys writes port latch old new latches key_bytes is = record {
   key = rw key_bytes is.key;
 }
 
-ports_stay : (romc byte clocks : ℕ) (vs : List ChipView) (keys : List ℕ) (writes : List Write) → (romc == 0x1A) ≡ false → HoldsPorts keys writes vs →
+ports_stay : (romc byte clocks : ℕ) (vs : List ChipView) (keys : List ℕ) (writes : List PortWrite) → (romc == 0x1A) ≡ false → HoldsPorts keys writes vs →
     HoldsPorts keys writes (map (after_step 0 (plain_step romc byte clocks)) vs)
 ports_stay romc byte clocks vs keys writes other holds = ports_by romc byte clocks vs keys writes writes holds
     (λ place v port latch lies found is. let left = effect_leaves romc byte v other in is_port_left keys writes port latch v (after_step 0 (plain_step romc byte clocks) v) left.latches left.key_bytes is)
@@ -182,7 +183,7 @@ apart_by ports a b latch p q =
     omega arith
 
 -- the writes that others have more
-latch_of-other : (phi byte last port : ℕ) (taken : Bool) (writes : List Write) → (last == port) ≡ false → latch_of port (with_write (write_at phi byte (if taken then Some last else None)) writes) ≡ latch_of port writes
+latch_of-other : (phi byte last port : ℕ) (taken : Bool) (writes : List PortWrite) → (last == port) ≡ false → latch_of port (with_write (write_at phi byte (if taken then Some last else None)) writes) ≡ latch_of port writes
 latch_of-other phi byte last port true writes other = rw other refl
 latch_of-other phi byte last port false writes other = refl
 
@@ -212,14 +213,14 @@ module _ (byte clocks phi last : ℕ) (vs : List ChipView) (heard : (k : ℕ) (v
   -- a port that a chip has, one has
   one_takes : (k : ℕ) (v : ChipView) → slice_get vs k ≡ Some v → seat_has_port (seat_of v) last ≡ true → (takers last (map seat_of vs) == 1) ≡ true
   one_takes k v lies has =
-      let count = parties_count PortWrite 0x1A (λ s. seat_has_port s last) 0 vs (λ j w at. ap (seat_has_port (seat_of w)) (heard j w at)) in
-      let few : length (parties PortWrite (named_seats 0x1A vs)) ≤ 1 = served_few (parties PortWrite (named_seats 0x1A vs)) socket served in
+      let count = parties_count WriteRule 0x1A (λ s. seat_has_port s last) 0 vs (λ j w at. ap (seat_has_port (seat_of w)) (heard j w at)) in
+      let few : length (parties WriteRule (named_seats 0x1A vs)) ≤ 1 = served_few (parties WriteRule (named_seats 0x1A vs)) socket served in
       let some = counts_one (λ s. seat_has_port s last) vs k v lies has in
       let one : takers last (map seat_of vs) ≡ 1 = omega (arith, count, few, some) in
       ap (λ (n : ℕ). n == 1) one
 
   -- the port that is written, and another one
-  written_here : (keys : List ℕ) (writes : List Write) (k : ℕ) (v : ChipView) (latch : ℕ) → slice_get vs k ≡ Some v → data_port v last ≡ Some latch → IsPort keys writes last latch v →
+  written_here : (keys : List ℕ) (writes : List PortWrite) (k : ℕ) (v : ChipView) (latch : ℕ) → slice_get vs k ≡ Some v → data_port v last ≡ Some latch → IsPort keys writes last latch v →
       IsPort keys (with_write (write_at phi byte (if_taken last (map seat_of vs))) writes) last latch (after_step 0 (plain_step 0x1A byte clocks) v)
   written_here keys writes k v latch lies found is =
       let role : port_role v v.last ≡ Some (DataPort latch) = role_of (port_role v v.last) latch (ap (data_port v) (heard k v lies) ∙ found) in
@@ -234,7 +235,7 @@ module _ (byte clocks phi last : ℕ) (vs : List ChipView) (heard : (k : ℕ) (v
         key = ap (λ (l : List ℕ). slice_index l latch) key_bytes ∙ is.key;
       }
 
-  written_other : (keys : List ℕ) (writes : List Write) (k : ℕ) (v : ChipView) (port latch : ℕ) → slice_get vs k ≡ Some v → (last == port) ≡ false → data_port v port ≡ Some latch → IsPort keys writes port latch v →
+  written_other : (keys : List ℕ) (writes : List PortWrite) (k : ℕ) (v : ChipView) (port latch : ℕ) → slice_get vs k ≡ Some v → (last == port) ≡ false → data_port v port ≡ Some latch → IsPort keys writes port latch v →
       IsPort keys (with_write (write_at phi byte (if_taken last (map seat_of vs))) writes) port latch (after_step 0 (plain_step 0x1A byte clocks) v)
   written_other keys writes k v port latch lies other found is =
       let left : LeavesLatch latch v (port_written_if (port_role v v.last) byte v) = leaves_latch (port_role v v.last) latch byte v apart in
@@ -253,7 +254,7 @@ module _ (byte clocks phi last : ℕ) (vs : List ChipView) (heard : (k : ℕ) (v
           let is_there : (last == port) ≡ true = eq-eqb last port same_port in
           cc
 
-  ports_written : (keys : List ℕ) (writes : List Write) → HoldsPorts keys writes vs →
+  ports_written : (keys : List ℕ) (writes : List PortWrite) → HoldsPorts keys writes vs →
       HoldsPorts keys (with_write (write_at phi byte (if_taken last (map seat_of vs))) writes) (map (after_step 0 (plain_step 0x1A byte clocks)) vs)
   ports_written keys writes holds = ports_by 0x1A byte clocks vs keys writes _ holds by
     where
@@ -272,7 +273,7 @@ module _ (byte clocks phi last : ℕ) (vs : List ChipView) (heard : (k : ℕ) (v
 
 -- ---- any step
 
-pub ports_more : (romc byte clocks phi reference : ℕ) (now : Bool → Flow → Count) (last : ℕ) (socket : Option ℕ) (cs : List Copy) (vs : List ChipView) (keys : List ℕ) (writes : List Write) →
+pub ports_more : (romc byte clocks phi reference : ℕ) (now : Bool → Flow → Count) (last : ℕ) (socket : Option ℕ) (cs : List Copy) (vs : List ChipView) (keys : List ℕ) (writes : List PortWrite) →
     AreCopies now last cs vs → HoldsPorts keys writes vs → view_verdict romc None reference (enumerate_from 0 vs) ≡ Served socket →
     HoldsPorts keys (writes_by romc (seats_of cs) phi last byte writes) (map (after_step 0 (plain_step romc byte clocks)) vs)
 ports_more romc byte clocks phi reference now last socket cs vs keys writes copies holds served = by (romc == 0x1A) refl

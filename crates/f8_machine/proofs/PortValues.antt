@@ -13,16 +13,17 @@ use Rattle.f8_spec.specs.declared.instructions.Row.{Row}
 use Rattle.f8_spec.specs.declared.instructions.Row.TheVariants.{Idle, StackToK, StackFromK, CallK, JumpQ, DataToPair, DataFromQ, DataFromH, ReadData, StoreData, Return, Immediate, PortIn, PortOut, Call, Jump, LoadData, Exchange, AddData, Branch, BranchIsar, ShortIn, ShortOut}
 use Rattle.console_spec.specs.FlatMachine.{FlatState, gets_all}
 use Rattle.console_spec.specs.Processor.{Inputs, byte_of, if_taken, write_at, with_write, own_inputs}
-use Rattle.console_spec.specs.Writes.{Write, chip_port_byte}
+use Rattle.console_spec.specs.Writes.{chip_port_byte}
+use Rattle.console_spec.specs.declared.PortWrite.{PortWrite}
 
 -- ---- the writes along the steps
 
 -- a port write is one of the run where one chip has the port
-abbrev pub writes_by : ℕ → List Seat → ℕ → ℕ → ℕ → List Write → List Write
+abbrev pub writes_by : ℕ → List Seat → ℕ → ℕ → ℕ → List PortWrite → List PortWrite
 writes_by romc seats phi port byte writes = if romc == 0x1A then with_write (write_at phi byte (if_taken port seats)) writes else writes
 
 -- the byte of the step before it names the port
-abbrev pub writes_along : List Seat → ℕ → Inputs → List Step → ℕ → List Write → List Write
+abbrev pub writes_along : List Seat → ℕ → Inputs → List Step → ℕ → List PortWrite → List PortWrite
 writes_along seats phi i [] last writes = writes
 writes_along seats phi i (s ∷ later) last writes =
     writes_along seats phi i later (byte_of i s.source) (writes_by s.romc seats phi last (byte_of i s.source) writes)
@@ -33,15 +34,15 @@ bus_port PortOut i seats = if_taken i.operand seats
 bus_port ShortOut i seats = if_taken i.port seats
 bus_port row i seats = None
 
-branch_writes : (seats : List Seat) (phi : ℕ) (i : Inputs) (taken : Bool) (last : ℕ) (writes : List Write) → writes_along seats phi i (steps_of Branch taken) last writes ≡ writes
+branch_writes : (seats : List Seat) (phi : ℕ) (i : Inputs) (taken : Bool) (last : ℕ) (writes : List PortWrite) → writes_along seats phi i (steps_of Branch taken) last writes ≡ writes
 branch_writes seats phi i true last writes = refl
 branch_writes seats phi i false last writes = refl
 
-branch_isar_writes : (seats : List Seat) (phi : ℕ) (i : Inputs) (taken : Bool) (last : ℕ) (writes : List Write) → writes_along seats phi i (steps_of BranchIsar taken) last writes ≡ writes
+branch_isar_writes : (seats : List Seat) (phi : ℕ) (i : Inputs) (taken : Bool) (last : ℕ) (writes : List PortWrite) → writes_along seats phi i (steps_of BranchIsar taken) last writes ≡ writes
 branch_isar_writes seats phi i true last writes = refl
 branch_isar_writes seats phi i false last writes = refl
 
-pub writes_go : (seats : List Seat) (phi : ℕ) (row : Row) (i : Inputs) (last : ℕ) (writes : List Write) →
+pub writes_go : (seats : List Seat) (phi : ℕ) (row : Row) (i : Inputs) (last : ℕ) (writes : List PortWrite) →
     writes_along seats phi i (steps_of row i.taken) last writes ≡ with_write (write_at phi i.accumulator (bus_port row i seats)) writes
 writes_go seats phi PortOut i last writes = refl
 writes_go seats phi ShortOut i last writes = refl
@@ -52,32 +53,32 @@ writes_go seats phi row i last writes = refl
 -- ---- the bytes along the steps
 
 -- what the byte of a step has to be where a port drives it
-abbrev pub PortIs : Driver → List Seat → List ℕ → List Write → ℕ → ℕ → Type 0
+abbrev pub PortIs : Driver → List Seat → List ℕ → List PortWrite → ℕ → ℕ → Type 0
 PortIs Port seats keys writes port value = value ≡ chip_port_byte port seats keys writes
 PortIs driver seats keys writes port value = Unit {0}
 
-abbrev pub PortValues : List Seat → List ℕ → ℕ → Inputs → List Step → ℕ → List Write → Type 0
+abbrev pub PortValues : List Seat → List ℕ → ℕ → Inputs → List Step → ℕ → List PortWrite → Type 0
 PortValues seats keys phi i [] last writes = Unit {0}
 PortValues seats keys phi i (s ∷ later) last writes =
     PortIs (driver_of s.romc) seats keys writes last (byte_of i s.source)
     × PortValues seats keys phi i later (byte_of i s.source) (writes_by s.romc seats phi last (byte_of i s.source) writes)
 
 -- what an instruction gets from a chip's port
-abbrev pub FromPort : Row → Inputs → List Seat → List ℕ → List Write → Type 0
+abbrev pub FromPort : Row → Inputs → List Seat → List ℕ → List PortWrite → Type 0
 FromPort PortIn i seats keys writes = i.port_byte ≡ chip_port_byte i.operand seats keys writes
 FromPort ShortIn i seats keys writes = i.port_byte ≡ chip_port_byte i.port seats keys writes
 FromPort row i seats keys writes = Unit {0}
 
-branch_ports : (seats : List Seat) (keys : List ℕ) (phi : ℕ) (i : Inputs) (taken : Bool) (last : ℕ) (writes : List Write) → PortValues seats keys phi i (steps_of Branch taken) last writes
+branch_ports : (seats : List Seat) (keys : List ℕ) (phi : ℕ) (i : Inputs) (taken : Bool) (last : ℕ) (writes : List PortWrite) → PortValues seats keys phi i (steps_of Branch taken) last writes
 branch_ports seats keys phi i true last writes = (tt, (tt, (tt, tt)))
 branch_ports seats keys phi i false last writes = (tt, (tt, (tt, tt)))
 
-branch_isar_ports : (seats : List Seat) (keys : List ℕ) (phi : ℕ) (i : Inputs) (taken : Bool) (last : ℕ) (writes : List Write) → PortValues seats keys phi i (steps_of BranchIsar taken) last writes
+branch_isar_ports : (seats : List Seat) (keys : List ℕ) (phi : ℕ) (i : Inputs) (taken : Bool) (last : ℕ) (writes : List PortWrite) → PortValues seats keys phi i (steps_of BranchIsar taken) last writes
 branch_isar_ports seats keys phi i true last writes = (tt, (tt, tt))
 branch_isar_ports seats keys phi i false last writes = (tt, (tt, tt))
 
 -- all steps of an instruction
-pub port_values_of : (seats : List Seat) (keys : List ℕ) (phi : ℕ) (row : Row) (i : Inputs) (last : ℕ) (writes : List Write) →
+pub port_values_of : (seats : List Seat) (keys : List ℕ) (phi : ℕ) (row : Row) (i : Inputs) (last : ℕ) (writes : List PortWrite) →
     FromPort row i seats keys writes → PortValues seats keys phi i (steps_of row i.taken) last writes
 port_values_of seats keys phi StackToK i last writes f = (tt, (tt, (tt, tt)))
 port_values_of seats keys phi StackFromK i last writes f = (tt, (tt, (tt, tt)))
@@ -105,12 +106,12 @@ port_values_of seats keys phi Idle i last writes f = (tt, (tt, tt))
 port_values_of seats keys phi row i last writes f = (tt, tt)
 
 -- `INS`, of a port of the CPU's own or of a chip's
-from_short : (own : Bool) (n : ℕ) (i : Inputs) (seats : List Seat) (keys : List ℕ) (writes : List Write) (value : ℕ) →
+from_short : (own : Bool) (n : ℕ) (i : Inputs) (seats : List Seat) (keys : List ℕ) (writes : List PortWrite) (value : ℕ) →
     i.port ≡ n → i.port_byte ≡ (if own then value else chip_port_byte n seats keys writes) → FromPort (if own then Idle else ShortIn) i seats keys writes
 from_short true n i seats keys writes value port byte = tt
 from_short false n i seats keys writes value port byte = rw port byte
 
-out_short : (own : Bool) (i : Inputs) (seats : List Seat) (keys : List ℕ) (writes : List Write) → FromPort (if own then Idle else ShortOut) i seats keys writes
+out_short : (own : Bool) (i : Inputs) (seats : List Seat) (keys : List ℕ) (writes : List PortWrite) → FromPort (if own then Idle else ShortOut) i seats keys writes
 out_short true i seats keys writes = tt
 out_short false i seats keys writes = tt
 

@@ -3,7 +3,7 @@ use Rattle.std.proofs.Common.{◌≡◌, ℕ, ◌+◌, Bool, true, false, List, 
 use Rattle.std.specs.Prelude.{◌==◌, nat_lt, if◌then◌else◌, option_map, slice_index}
 use Rattle.std.specs.List.{enumerate_from}
 use Rattle.f8_spec.specs.BusArbitration.{Seat, Verdict, Served, Conflict, Undriven, Astray, seat_has_port, parties, port_write_verdict, rule_of}
-use Rattle.f8_spec.specs.declared.bus.BusRule.TheVariants.{PortWrite}
+use Rattle.f8_spec.specs.declared.bus.BusRule.TheVariants.{PortWrite as WriteRule}
 use Rattle.f8_spec.specs.declared.bus.Party.{Party}
 use Rattle.f8_spec.specs.Instructions.{row_of}
 use Rattle.f8_spec.specs.MicroSteps.{Operand, Accumulator, PortNumber, Step, long_step, last_fetch, steps_of}
@@ -17,7 +17,8 @@ use Rattle.console_spec.specs.BusAccesses.{Access, ahead, at_port, accesses_befo
 use Rattle.console_spec.specs.Services.{placed_copy, access_verdict}
 use Rattle.console_spec.specs.BusTrace.{TracedStep, Course, traced, with_step, course_by, course_of, is_access}
 use Rattle.console_spec.specs.Run.{seats_of}
-use Rattle.console_spec.specs.Writes.{Write, takers}
+use Rattle.console_spec.specs.Writes.{takers}
+use Rattle.console_spec.specs.declared.PortWrite.{PortWrite}
 use Rattle.f8_machine.specs.PortWrites.{chip_write, done_write}
 use Rattle.f8_machine.specs.Rounds.{heard_of}
 use Rattle.f8_machine.proofs.PortReads.{counted}
@@ -119,7 +120,7 @@ branch_isar_puts false = refl
 -- ---- a port write
 
 -- as many copies take the byte as have the port
-copies_count : (port n : ℕ) (cs : List Copy) → length (parties PortWrite (enumerate_from n (map (placed_copy (at_port 0x1A port)) cs))) ≡ takers port (seats_of cs)
+copies_count : (port n : ℕ) (cs : List Copy) → length (parties WriteRule (enumerate_from n (map (placed_copy (at_port 0x1A port)) cs))) ≡ takers port (seats_of cs)
 copies_count port n [] = refl
 copies_count port n (c ∷ cs) = counted (seat_has_port c.seat port) (seat_has_port c.seat port) refl n port _ c.seat _ (copies_count port (n + 1) cs)
 
@@ -145,7 +146,7 @@ written_by phi i names port c copies socket rest so_far are put named =
     first_by i (long_step 0x1A Accumulator) (access_verdict c copies (at_port 0x1A port)) rest (course_by i (long_step 0x1A Accumulator) (access_verdict c copies (at_port 0x1A port)) rest).steps put in
     ap (λ (l : List TracedStep). chip_write phi (map heard_of l)) (are ∙ ap (λ (l : List TracedStep). traced i names socket ∷ l) second.are)
     ∙ ap (λ (n : ℕ). option_map (λ (k : ℕ). record { phi = phi; port = n; byte = i.accumulator }) second.socket) named
-    ∙ taken_by_one phi port i.accumulator (parties PortWrite (enumerate_from 0 (map (placed_copy (at_port 0x1A port)) copies))) second.socket (seats_of copies) second.served (copies_count port 0 copies)
+    ∙ taken_by_one phi port i.accumulator (parties WriteRule (enumerate_from 0 (map (placed_copy (at_port 0x1A port)) copies))) second.socket (seats_of copies) second.served (copies_count port 0 copies)
 
 row_none : (row : Row) (i : Inputs) (c : Flow) (copies : List Copy) (phi : ℕ) (so_far : List TracedStep) →
     course_of i c copies (steps_of row i.taken) (accesses_before_fetch row i ++ last_access row i ∷ []) ≡ ends so_far → PutsNothing (steps_of row i.taken) →
@@ -201,7 +202,7 @@ ins_nothing : (b : Bool) (i : Inputs) (seats : List Seat) (phi : ℕ) → write_
 ins_nothing true i seats phi = refl
 ins_nothing false i seats phi = refl
 
-outs_done : (b : Bool) (n : ℕ) (i : Inputs) (seats : List Seat) (phi : ℕ) (latches : List ℕ) (found : Option Write) → i.port ≡ n → (b ≡ true → slice_index latches n ≡ i.accumulator) →
+outs_done : (b : Bool) (n : ℕ) (i : Inputs) (seats : List Seat) (phi : ℕ) (latches : List ℕ) (found : Option PortWrite) → i.port ≡ n → (b ≡ true → slice_index latches n ≡ i.accumulator) →
     found ≡ write_at phi i.accumulator (bus_port (if b then Idle else ShortOut) i seats) →
     (if b then Some (record { phi = phi; port = n; byte = slice_index latches n }) else found) ≡ write_at phi i.accumulator (if b then Some n else if_taken n seats)
 outs_done true n i seats phi latches found port latch e = ap (λ (k : ℕ). Some (record { phi = phi; port = n; byte = k })) (latch refl)

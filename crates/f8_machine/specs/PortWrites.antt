@@ -3,23 +3,18 @@
 use Rattle.std.specs.Prelude.{ℕ, ◌==◌, nat_lt, if◌then◌else◌, List, [], ◌∷◌, slice_index, Option, Some, None, option_map}
 use Rattle.f8_spec.specs.declared.instructions.Op.{Op}
 use Rattle.f8_spec.specs.declared.instructions.Op.TheVariants.{Outs}
-use Rattle.console_board.specs.declared.PortWrite.{PortWrite}
-use Rattle.console_spec.specs.Writes.{Write}
+use Rattle.console_spec.specs.declared.PortWrite.{PortWrite}
 use Rattle.f8_machine.specs.declared.heard.Heard.{Heard}
 
--- a write that a machine tells, as the definitions have it
-abbrev pub write_as : PortWrite → Write
-write_as w = record { phi = w.phi; port = w.port; byte = w.byte }
-
 -- the step before a port write has named the port
-abbrev pub chip_write : ℕ → List Heard → Option Write
+abbrev pub chip_write : ℕ → List Heard → Option PortWrite
 chip_write phi [] = None
 chip_write phi (named ∷ []) = None
 chip_write phi (named ∷ (put ∷ later)) =
     if put.romc == 0x1A then option_map (λ socket. record { phi = phi; port = named.byte; byte = put.byte }) put.taker else None
 
 -- by the instruction, the clocks at its end, the processor's latches then, and the steps
-abbrev pub done_write : Option Op → ℕ → List ℕ → List Heard → Option Write
+abbrev pub done_write : Option Op → ℕ → List ℕ → List Heard → Option PortWrite
 done_write (Some (Outs n)) phi latches steps =
     if nat_lt n 2 then Some (record { phi = phi; port = n; byte = slice_index latches n }) else chip_write phi steps
 done_write found phi latches steps = chip_write phi steps

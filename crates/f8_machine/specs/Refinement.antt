@@ -4,8 +4,7 @@ use Rattle.f8_spec.specs.BusCodes.{Count}
 use Rattle.f8_spec.specs.ChipState.{ChipState, IsWhole}
 use Rattle.console_spec.specs.AddressSpace.{byte_at}
 use Rattle.console_spec.specs.Processor.{Flow, with_write}
-use Rattle.console_spec.specs.Writes.{Write}
-use Rattle.console_board.specs.declared.PortWrite.{PortWrite}
+use Rattle.console_spec.specs.declared.PortWrite.{PortWrite}
 use Rattle.console_spec.specs.CounterCopies.{Copy, fetched, unreset}
 use Rattle.console_spec.specs.BusTrace.{Course}
 use Rattle.console_spec.specs.Run.{Position, Stop, Unserved as UnservedStop, Reserved as ReservedStop, Turn, Goes, Stops, goes_unless, next, opcode_at, seats_of, turn_course, reset_fault, reset_course, position_after_reset}
@@ -14,7 +13,6 @@ use Rattle.data_bus.specs.declared.fault.BusFault.{BusFault}
 use Rattle.cpu3850.specs.OwnWrites.{own_ports, LeaveOwnPorts}
 use Rattle.f8_machine.specs.FlatViews.{HoldsFlat}
 use Rattle.f8_machine.specs.PortViews.{HoldsPorts}
-use Rattle.f8_machine.specs.PortWrites.{write_as}
 use Rattle.f8_machine.specs.ChipCopies.{AreCopies}
 use Rattle.f8_machine.specs.Faults.{fault_of}
 use Rattle.f8_machine.specs.Rounds.{heard_of}
@@ -77,11 +75,11 @@ pub record IsPowered (m : MachineState) (states : List ChipState) (x : Position)
 
 -- done: the machine stands for the next position, the write told is the one that the flat machine has more, with the clocks at the end,
 -- and the steps are those of the definitions
-pub record IsDone (m : MachineState) (states : List ChipState) (turn : Turn) (course : Course) (writes : List Write) (wrote : Option PortWrite) (steps : List Heard) : Type 0 where
+pub record IsDone (m : MachineState) (states : List ChipState) (turn : Turn) (course : Course) (writes : List PortWrite) (wrote : Option PortWrite) (steps : List Heard) : Type 0 where
   pub after : Position
   pub turns : turn ≡ Goes after
   pub represents : Represents m states after
-  pub written : after.flat.state.writes ≡ with_write (option_map write_as wrote) writes
+  pub written : after.flat.state.writes ≡ with_write wrote writes
   pub trace : course ≡ record { steps = course.steps; fault = None }
   pub recorded : steps ≡ map heard_of course.steps
 

@@ -1,6 +1,6 @@
-ghost use Rattle.std.specs.Prelude.{◌≡◌, option_map};
+ghost use Rattle.std.specs.Prelude.{◌≡◌};
 ghost use Rattle.f8_spec.specs.Instructions.{decoded};
-ghost use Rattle.f8_machine.specs.PortWrites.{write_as, chip_write, done_write};
+ghost use Rattle.f8_machine.specs.PortWrites.{chip_write, done_write};
 
 use super::heard::Heard;
 use console_board::PortWrite;
@@ -11,7 +11,7 @@ const PUT: u8 = 0x1A;
 
 /// The write that a chip took, in the steps of an instruction that is done: the step before it has named the port.
 fn chip_write(phi: u64, steps: &[Heard]) -> Option<PortWrite>
-    ensures { option_map write_as result ≡ chip_write phi steps.now }
+    ensures { result ≡ chip_write phi steps.now }
 {
     match steps {
         [named, put, ..] if put.romc.number() == PUT => put.taker.map(|_| PortWrite {
@@ -25,7 +25,7 @@ fn chip_write(phi: u64, steps: &[Heard]) -> Option<PortWrite>
 
 /// The write of an instruction that is done, by its opcode, the clocks at its end, the processor's own latches then, and its steps.
 pub(crate) fn done_write(code: u8, phi: u64, latches: [u8; 2], steps: &[Heard]) -> Option<PortWrite>
-    ensures { option_map write_as result ≡ done_write (decoded code) phi latches steps.now }
+    ensures { result ≡ done_write (decoded code) phi latches steps.now }
 {
     match decode(code) {
         Ok(Op::Outs { n }) if n < OWN_PORTS => Some(PortWrite {

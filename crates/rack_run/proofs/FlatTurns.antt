@@ -1,7 +1,7 @@
 -- An instruction of the flat instruction set, an event more, and a run from reset on, from what their parts say.
 use Rattle.std.proofs.Common.{◌≡◌, ℕ, ◌+◌, List, Result, Ok, Err, sym, ap, ◌∙◌, subst}
 use Rattle.std.specs.Prelude.{Option, option_map, IfOk, OnErr}
-use Rattle.console_board.specs.declared.PortWrite.{PortWrite}
+use Rattle.console_spec.specs.declared.PortWrite.{PortWrite}
 use Rattle.console_spec.specs.FlatMachine.{FlatState}
 use Rattle.console_spec.specs.Processor.{State, with_write}
 use Rattle.console_spec.specs.Run.{Position, position_after_reset, power_position}
@@ -9,7 +9,6 @@ use Rattle.console_spec.specs.Scripts.{Script, events_at}
 use Rattle.console_spec.specs.Telling.{Telling, with_events, told_in, referred_by}
 use Rattle.console_spec.specs.declared.At.{At}
 use Rattle.f8_isa.specs.IsaState.{IsaState, StandsAt}
-use Rattle.f8_machine.specs.PortWrites.{write_as}
 use Rattle.f8_spec.specs.ChipState.{ChipView}
 use Rattle.outside.specs.SinkRules.{Adds, AddsPart}
 use Rattle.outside.specs.declared.sink.SinkFault.{SinkFault}
@@ -35,7 +34,7 @@ count_there isa count y stands = ap (λ (f : FlatState). f.state.count) stands.f
 
 -- what is kept goes along with the state after it
 pub keeps_there : (wrote : Option PortWrite) (p q : ProgressState) (phi : ℕ) (s t : State) → Keeps p s →
-    t.writes ≡ with_write (option_map write_as wrote) s.writes →
+    t.writes ≡ with_write wrote s.writes →
     t.count ≡ p.count + 1 → phi ≡ t.phi → q ≡ progress_with wrote phi p → Keeps q t
 keeps_there wrote p q phi s t keeps writes count same is =
     subst (λ (r : ProgressState). Keeps r t) (sym (is ∙ ap (λ (n : ℕ). progress_with wrote n p) same))

@@ -3,15 +3,13 @@ use Rattle.std.proofs.Common.{◌≡◌, ℕ, zero, suc, ◌+◌, true, false, L
 use Rattle.std.specs.Prelude.{Option, Some, None, option_map, nat_eq}
 use Rattle.std.proofs.Math.Dec.{eqb-suc-suc}
 use Rattle.std.proofs.lemmas.List.Sums.{sum_by-cons}
-use Rattle.console_board.specs.declared.PortWrite.{PortWrite}
+use Rattle.console_spec.specs.declared.PortWrite.{PortWrite}
 use Rattle.console_spec.specs.Processor.{State, with_write}
 use Rattle.console_spec.specs.Run.{Position, Goes}
 use Rattle.console_spec.specs.Scripts.{Script}
 use Rattle.console_spec.specs.Telling.{Told, fallen, is_over_at, told_write, told_frame, told_turn}
-use Rattle.console_spec.specs.Writes.{Write}
 use Rattle.console_spec.specs.declared.End.{End}
 use Rattle.console_spec.specs.declared.End.TheVariants.{Frames, Steps}
-use Rattle.f8_machine.specs.PortWrites.{write_as}
 use Rattle.video.specs.ScreenState.{shown}
 use Rattle.video.proofs.ShownLaws.{after_write-shown}
 use Rattle.rack_run.specs.Endings.{bytes_written}
@@ -20,24 +18,24 @@ use Rattle.rack_run.specs.Texts.{write_told, frame_told}
 
 -- ---- one more instruction
 
-screen_more : (wrote : Option PortWrite) (ws : List Write) → screen_with wrote (shown ws) ≡ shown (with_write (option_map write_as wrote) ws)
+screen_more : (wrote : Option PortWrite) (ws : List PortWrite) → screen_with wrote (shown ws) ≡ shown (with_write wrote ws)
 screen_more None ws = refl
-screen_more (Some w) ws = after_write-shown (write_as w) ws
+screen_more (Some w) ws = after_write-shown w ws
 
-writes_more : (wrote : Option PortWrite) (ws : List Write) →
-    writes_with wrote (length ws) ≡ length (with_write (option_map write_as wrote) ws)
+writes_more : (wrote : Option PortWrite) (ws : List PortWrite) →
+    writes_with wrote (length ws) ≡ length (with_write wrote ws)
 writes_more None ws = refl
 writes_more (Some w) ws = add-one (length ws)
 
-bytes_more : (wrote : Option PortWrite) (ws : List Write) →
-    bytes_with wrote (bytes_written ws) ≡ bytes_written (with_write (option_map write_as wrote) ws)
+bytes_more : (wrote : Option PortWrite) (ws : List PortWrite) →
+    bytes_with wrote (bytes_written ws) ≡ bytes_written (with_write wrote ws)
 bytes_more None ws = refl
 bytes_more (Some w) ws =
-    let more : bytes_written (write_as w ∷ ws) ≡ w.byte + bytes_written ws = sum_by-cons (λ (v : Write). v.byte) (write_as w) ws in
+    let more : bytes_written (w ∷ ws) ≡ w.byte + bytes_written ws = sum_by-cons (λ (v : PortWrite). v.byte) w ws in
     omega (arith, more)
 
 pub keeps_more : (wrote : Option PortWrite) (p : ProgressState) (s t : State) → Keeps p s →
-    t.writes ≡ with_write (option_map write_as wrote) s.writes → t.count ≡ s.count + 1 →
+    t.writes ≡ with_write wrote s.writes → t.count ≡ s.count + 1 →
     Keeps (progress_with wrote t.phi p) t
 keeps_more wrote p s t keeps writes count = record {
   screen = ap (screen_with wrote) keeps.screen ∙ screen_more wrote s.writes ∙ ap shown (sym writes);
@@ -65,7 +63,7 @@ not_one_more (suc n) = eqb-suc-suc (suc n) n ∙ not_one_more n
 same_number : (n : ℕ) → nat_eq n n ≡ true
 same_number n = eq-eqb n n refl
 
-write_is : (wrote : Option PortWrite) (s t : State) → t.writes ≡ with_write (option_map write_as wrote) s.writes →
+write_is : (wrote : Option PortWrite) (s t : State) → t.writes ≡ with_write wrote s.writes →
     told_write s t ≡ write_told wrote
 write_is None s t writes = rw (writes, same_number (length s.writes)) refl
 write_is (Some w) s t writes = rw (writes, not_one_more (length s.writes)) refl
@@ -75,7 +73,7 @@ frame_is script t None = refl
 frame_is script t (Some frame) = refl
 
 pub told_is : (script : Script) (wrote : Option PortWrite) (x y : Position) →
-    y.flat.state.writes ≡ with_write (option_map write_as wrote) x.flat.state.writes →
+    y.flat.state.writes ≡ with_write wrote x.flat.state.writes →
     write_told wrote ++ frame_told script.shows (fallen x.flat.state y.flat.state) y.flat.state.phi y.flat.state.writes
     ≡ told_turn script x (Goes y)
 told_is script wrote x y writes =

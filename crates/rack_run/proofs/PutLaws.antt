@@ -4,7 +4,7 @@ use Rattle.std.specs.Prelude.{if◌then◌else◌, Option, Result, Ok, Err, OnOk
 use Rattle.outside.specs.SinkRules.{Adds, AddsPart, HasCause}
 use Rattle.console_spec.specs.BusTrace.{TracedStep}
 use Rattle.console_spec.specs.RunText.{bus_line, bus_fault_line, out_line, frame_line, picture_row}
-use Rattle.console_spec.specs.Writes.{Write}
+use Rattle.console_spec.specs.declared.PortWrite.{PortWrite}
 use Rattle.outside.specs.Counts.{Rose}
 use Rattle.outside.proofs.SinkLaws.{Taken, taken_more, taken_all, taken_part, adds_none, adds_then, adds_part_behind, adds_part_first}
 use Rattle.console_spec.specs.Telling.{Told}
@@ -68,7 +68,7 @@ pub bus_fault_some : (romc : ℕ) (long : Bool) → bus_fault_line romc long ≢
 unfolding bus_fault_line
 bus_fault_some romc long e = cc
 
-pub out_some : (w : Write) → out_line w ≢ []
+pub out_some : (w : PortWrite) → out_line w ≢ []
 unfolding out_line
 out_some w e = cc
 
@@ -76,7 +76,7 @@ pub frame_some : (frame phi tone : ℕ) → frame_line frame phi tone ≢ []
 unfolding frame_line
 frame_some frame phi tone e = cc
 
-pub row_some : (y : ℕ) (writes : List Write) → picture_row y writes ≢ []
+pub row_some : (y : ℕ) (writes : List PortWrite) → picture_row y writes ≢ []
 unfolding picture_row
 row_some y writes e = cc
 

@@ -5,15 +5,13 @@ use Rattle.std.specs.List.{list_any}
 use Rattle.std.proofs.lemmas.List.{append-nil, at_drop_more, at_drop_all}
 use Rattle.std.proofs.lemmas.List.FromFn.{length-map-range_with_len, get_or-map-range_with_len}
 use Rattle.outside.specs.SinkRules.{Adds, AddsPart, HasCause}
-use Rattle.console_board.specs.declared.PortWrite.{PortWrite}
+use Rattle.console_spec.specs.declared.PortWrite.{PortWrite}
 use Rattle.console_spec.specs.Processor.{with_write}
 use Rattle.console_spec.specs.Run.{Position, Goes}
 use Rattle.console_spec.specs.RunText.{text_of, bus_line, bus_fault_line, out_line, frame_line, frame_lines, picture_row}
 use Rattle.console_spec.specs.Display.{tone_of}
 use Rattle.console_spec.specs.Scripts.{Script}
 use Rattle.console_spec.specs.Telling.{Told, Traced, TracedFault, Wrote, Shown, fallen, told_turn}
-use Rattle.console_spec.specs.Writes.{Write}
-use Rattle.f8_machine.specs.PortWrites.{write_as}
 use Rattle.f8_machine.specs.declared.heard.Heard.{Heard}
 use Rattle.report.proofs.TextLaws.{text_of-cons, text_of-drop, text_of-drop_all}
 use Rattle.video.specs.ScreenState.{Shown as ShownScreen, shown}
@@ -34,7 +32,7 @@ text_of-one line = append-nil line
 pub fault_text : (romc : ℕ) (long : Bool) → text_told (TracedFault romc long ∷ []) ≡ bus_fault_line romc long
 fault_text romc long = text_told-one (TracedFault romc long) ∙ text_of-one (bus_fault_line romc long)
 
-pub write_text : (w : Write) → text_told (Wrote w ∷ []) ≡ out_line w
+pub write_text : (w : PortWrite) → text_told (Wrote w ∷ []) ≡ out_line w
 write_text w = text_told-one (Wrote w) ∙ text_of-one (out_line w)
 
 -- ---- pieces that are put
@@ -91,7 +89,7 @@ steps_all steps i past =
 
 -- ---- the rows of a picture
 
-pub rows_more : (ws : List Write) (y : ℕ) → y < 64 →
+pub rows_more : (ws : List PortWrite) (y : ℕ) → y < 64 →
     text_of (drop y (rows_told ws)) ≡ picture_row y ws ++ text_of (drop (y + 1) (rows_told ws))
 rows_more ws y within =
     let long : length (rows_told ws) ≡ 64 = length-map-range_with_len (λ (k : ℕ). picture_row k ws) 0 64 in
@@ -100,22 +98,22 @@ rows_more ws y within =
     get_or-map-range_with_len (λ (k : ℕ). picture_row k ws) 0 64 y y (picture_row y ws) within from_none in
     text_of-drop (rows_told ws) y (picture_row y ws) (omega (arith, within, long)) (sym here)
 
-pub rows_all : (ws : List Write) (y : ℕ) → 64 ≤ y → text_of (drop y (rows_told ws)) ≡ []
+pub rows_all : (ws : List PortWrite) (y : ℕ) → 64 ≤ y → text_of (drop y (rows_told ws)) ≡ []
 rows_all ws y past =
     let long : length (rows_told ws) ≡ 64 = length-map-range_with_len (λ (k : ℕ). picture_row k ws) 0 64 in
     text_of-drop_all (rows_told ws) y (omega (arith, past, long))
 
 -- ---- frames
 
-pub frame_text : (frame phi : ℕ) (ws : List Write) →
+pub frame_text : (frame phi : ℕ) (ws : List PortWrite) →
     frame_line frame phi (tone_of ws) ++ text_of (rows_told ws) ≡ text_of (frame_lines frame phi ws)
 frame_text frame phi ws = sym (text_of-cons (frame_line frame phi (tone_of ws)) (rows_told ws))
 
-pub frame_unshown : (shows : List ℕ) (frame phi : ℕ) (ws : List Write) → list_any (λ f. f == frame) shows ≡ false →
+pub frame_unshown : (shows : List ℕ) (frame phi : ℕ) (ws : List PortWrite) → list_any (λ f. f == frame) shows ≡ false →
     frame_told shows (Some frame) phi ws ≡ []
 frame_unshown shows frame phi ws off = rw off refl
 
-pub frame_shown : (shows : List ℕ) (frame phi : ℕ) (ws : List Write) → list_any (λ f. f == frame) shows ≡ true →
+pub frame_shown : (shows : List ℕ) (frame phi : ℕ) (ws : List PortWrite) → list_any (λ f. f == frame) shows ≡ true →
     text_of (frame_lines frame phi ws) ≡ text_told (frame_told shows (Some frame) phi ws)
 frame_shown shows frame phi ws on = rw on (sym (text_told-one (Shown frame phi ws)))
 
@@ -123,14 +121,14 @@ frame_shown shows frame phi ws on = rw on (sym (text_told-one (Shown frame phi w
 
 pub end_screen : (screen : ShownScreen) (wrote : Option PortWrite) (p : ProgressState) (x y : Position) →
     screen ≡ screen_with wrote p.screen → Keeps p x.flat.state →
-    y.flat.state.writes ≡ with_write (option_map write_as wrote) x.flat.state.writes → screen ≡ shown y.flat.state.writes
+    y.flat.state.writes ≡ with_write wrote x.flat.state.writes → screen ≡ shown y.flat.state.writes
 end_screen screen wrote p x y is keeps writes =
     is ∙ (keeps_more wrote p x.flat.state (record y.flat.state { count = x.flat.state.count + 1 }) keeps writes refl).screen
 
 pub end_told : (detail : Detail) (script : Script) (shows : List ℕ) (wrote : Option PortWrite) (frame : Option ℕ) (phi : ℕ)
     (p : ProgressState)
     (x y : Position) → Keeps p x.flat.state → y.flat.state.phi ≡ phi →
-    y.flat.state.writes ≡ with_write (option_map write_as wrote) x.flat.state.writes → frame ≡ frame_at p phi → shows ≡ script.shows →
+    y.flat.state.writes ≡ with_write wrote x.flat.state.writes → frame ≡ frame_at p phi → shows ≡ script.shows →
     text_in detail (write_told wrote ++ frame_told shows frame phi y.flat.state.writes) ≡ text_in detail (told_turn script x (Goes y))
 end_told detail script shows wrote frame phi p x y keeps clocks writes falls same =
     let fell : frame ≡ fallen x.flat.state y.flat.state = falls ∙ frame_falls p x.flat.state y.flat.state phi keeps (sym clocks) in

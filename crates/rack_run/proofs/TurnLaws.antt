@@ -12,9 +12,8 @@ use Rattle.console_spec.specs.declared.Event.TheVariants.{Keys, Pulse}
 use Rattle.video.specs.ScreenState.{shown}
 use Rattle.cpu3850.specs.CpuSteps.{CpuState}
 use Rattle.f8_machine.specs.MachineState.{MachineState, steps_in}
-use Rattle.f8_machine.specs.PortWrites.{write_as}
 use Rattle.f8_machine.specs.declared.outcome.Outcome.{Outcome}
-use Rattle.console_board.specs.declared.PortWrite.{PortWrite}
+use Rattle.console_spec.specs.declared.PortWrite.{PortWrite}
 use Rattle.console_spec.specs.Services.{Fault}
 use Rattle.f8_spec.specs.Instructions.{decoded}
 use Rattle.f8_spec.specs.declared.instructions.Op.{Op}
@@ -224,7 +223,7 @@ next_count x y e = decided_count x y x.flat.state.flow.p (opcode_at x) (decoded 
 
 -- what is kept of the progress behind it
 pub progress_kept : (wrote : Option PortWrite) (p q : ProgressState) (x y : Position) (phi : ℕ) → Keeps p x.flat.state → next x ≡ Goes y →
-    y.flat.state.writes ≡ with_write (option_map write_as wrote) x.flat.state.writes →
+    y.flat.state.writes ≡ with_write wrote x.flat.state.writes →
     phi ≡ y.flat.state.phi → q ≡ progress_with wrote phi p → Keeps q y.flat.state
 progress_kept wrote p q x y phi keeps turns writes same is =
     rw (is, same) (keeps_more wrote p x.flat.state y.flat.state keeps writes (next_count x y turns))

@@ -2,7 +2,7 @@
 use Rattle.std.specs.Prelude.{◌≡◌, ◌≢◌, ℕ, ◌≤◌, ◌<◌, List, [], ◌∷◌, ◌++◌, length, map, Option, Some, None}
 use Rattle.std.specs.List.{sum_by}
 use Rattle.f8_spec.specs.ChipState.{ChipState}
-use Rattle.console_spec.specs.Writes.{Write}
+use Rattle.console_spec.specs.declared.PortWrite.{PortWrite}
 use Rattle.console_spec.specs.Processor.{State, shown}
 use Rattle.console_spec.specs.Run.{Stop, Done, Unserved, Reserved as ReservedStop, Ending as FlatEnding}
 use Rattle.console_spec.specs.Scripts.{Script}
@@ -33,7 +33,7 @@ stop_at None = Done
 stop_at (Some halt) = stop_of halt
 
 -- the sum of the bytes that ports took
-abbrev pub bytes_written : List Write → ℕ
+abbrev pub bytes_written : List PortWrite → ℕ
 bytes_written writes = sum_by (λ w. w.byte) writes
 
 -- a state and a stop are told with registers, instructions, clocks and writes

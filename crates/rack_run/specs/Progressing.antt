@@ -1,6 +1,6 @@
 -- What a run keeps beside its machine: what is shown, and what was counted so far.
 use Rattle.std.specs.Prelude.{◌≡◌, ℕ, ◌+◌, ◌==◌, nat_le, Bool, if◌then◌else◌, length, Option, Some, None}
-use Rattle.console_board.specs.declared.PortWrite.{PortWrite}
+use Rattle.console_spec.specs.declared.PortWrite.{PortWrite}
 use Rattle.console_spec.specs.Processor.{State}
 use Rattle.console_spec.specs.Scripts.{frames_by}
 use Rattle.console_spec.specs.declared.End.{End}

@@ -1,13 +1,11 @@
 -- How much of a run is told on its way, as the bytes of its lines.
 use Rattle.std.specs.Prelude.{◌≢◌, ℕ, ◌==◌, Bool, true, false, if◌then◌else◌, List, [], ◌∷◌, ◌++◌, map, flat_map, Option, Some, None, Result, OnOk, OnErr}
 use Rattle.std.specs.List.{list_any, range_with_len}
-use Rattle.console_board.specs.declared.PortWrite.{PortWrite}
+use Rattle.console_spec.specs.declared.PortWrite.{PortWrite}
 use Rattle.console_spec.specs.RunText.{lines_of, picture_row, text_of}
 use Rattle.console_spec.specs.Telling.{Told, Traced, TracedFault, Wrote, Shown, code_of}
-use Rattle.console_spec.specs.Writes.{Write}
 use Rattle.f8_machine.specs.Faults.{fault_of}
 use Rattle.f8_machine.specs.HeardSteps.{step_of}
-use Rattle.f8_machine.specs.PortWrites.{write_as}
 use Rattle.f8_machine.specs.declared.heard.Heard.{Heard}
 use Rattle.f8_machine.specs.declared.outcome.Outcome.{Outcome}
 use Rattle.f8_machine.specs.declared.outcome.Outcome.TheVariants.{Done, Fault, Reserved}
@@ -55,13 +53,13 @@ outcome_told detail (Reserved at code) = []
 -- a write that was taken
 abbrev pub write_told : Option PortWrite → List Told
 write_told None = []
-write_told (Some w) = Wrote (write_as w) ∷ []
+write_told (Some w) = Wrote w ∷ []
 
 -- a frame that falls, where it is shown
-abbrev pub frame_told : List ℕ → Option ℕ → ℕ → List Write → List Told
+abbrev pub frame_told : List ℕ → Option ℕ → ℕ → List PortWrite → List Told
 frame_told shows None phi writes = []
 frame_told shows (Some frame) phi writes = if list_any (λ f. f == frame) shows then Shown frame phi writes ∷ [] else []
 
 -- the rows of a picture
-abbrev pub rows_told : List Write → List (List ℕ)
+abbrev pub rows_told : List PortWrite → List (List ℕ)
 rows_told writes = map (λ y. picture_row y writes) (range_with_len 0 64)

@@ -4,10 +4,9 @@ ghost use Rattle.console_spec.specs.Processor.{with_write};
 ghost use Rattle.console_spec.specs.Run.{Position, Goes};
 ghost use Rattle.console_spec.specs.RunText.{frame_lines, text_of};
 ghost use Rattle.console_spec.specs.Telling.{Traced, told_turn};
-ghost use Rattle.console_spec.specs.Writes.{Write};
+ghost use Rattle.console_spec.specs.declared.PortWrite.{PortWrite};
 ghost use Rattle.video.specs.ScreenState.{shown};
 ghost use Rattle.f8_machine.specs.HeardSteps.{step_of};
-ghost use Rattle.f8_machine.specs.PortWrites.{write_as};
 ghost use Rattle.outside.specs.SinkRules.{HasCause};
 ghost use Rattle.pad_script.specs.Reading.{seen};
 ghost use Rattle.rack_run.specs.Progressing.{Keeps, frame_at, progress_with};
@@ -81,7 +80,7 @@ fn tell_write<K: Sink>(
 }
 
 fn put_rows<K: Sink>(sink: &mut K, screen: &Screen) -> Result<(), SinkFault>
-    ensures puts { (ws : List Write) → screen.now ≡ shown ws → Puts result (K.written sink.old) (K.written sink.new) (K.faults sink.old) (K.faults sink.new) (text_of (rows_told ws)) }
+    ensures puts { (ws : List PortWrite) → screen.now ≡ shown ws → Puts result (K.written sink.old) (K.written sink.new) (K.faults sink.old) (K.faults sink.new) (text_of (rows_told ws)) }
     ensures cause { HasCause (K.faults sink.old) (K.faults sink.new) result }
 {
     for y in 0..ROWS {
@@ -92,7 +91,7 @@ fn put_rows<K: Sink>(sink: &mut K, screen: &Screen) -> Result<(), SinkFault>
 
 /// A frame, with the clocks at its end.
 fn put_frame<K: Sink>(sink: &mut K, screen: &Screen, frame: u32, phi: u64) -> Result<(), SinkFault>
-    ensures puts { (ws : List Write) → screen.now ≡ shown ws → Puts result (K.written sink.old) (K.written sink.new) (K.faults sink.old) (K.faults sink.new) (text_of (frame_lines frame phi ws)) }
+    ensures puts { (ws : List PortWrite) → screen.now ≡ shown ws → Puts result (K.written sink.old) (K.written sink.new) (K.faults sink.old) (K.faults sink.new) (text_of (frame_lines frame phi ws)) }
     ensures cause { HasCause (K.faults sink.old) (K.faults sink.new) result }
 {
     sink.put(frame_line(frame, phi, screen.tone()).as_bytes())?;
@@ -108,7 +107,7 @@ fn tell_frame<K: Sink>(
     fallen: Option<u32>,
     phi: u64,
 ) -> Result<(), SinkFault>
-    ensures puts { (ws : List Write) → screen.now ≡ shown ws → Puts result (K.written sink.old) (K.written sink.new) (K.faults sink.old) (K.faults sink.new) (text_in detail (frame_told shows.now fallen phi ws)) }
+    ensures puts { (ws : List PortWrite) → screen.now ≡ shown ws → Puts result (K.written sink.old) (K.written sink.new) (K.faults sink.old) (K.faults sink.new) (text_in detail (frame_told shows.now fallen phi ws)) }
     ensures cause { HasCause (K.faults sink.old) (K.faults sink.new) result }
 {
     let Some(frame) = fallen else {
@@ -133,7 +132,7 @@ fn tell_turn<K: Sink>(
     fallen: Option<u32>,
     phi: u64,
 ) -> Result<(), SinkFault>
-    ensures puts { (ws : List Write) → screen.now ≡ shown ws → Puts result (K.written sink.old) (K.written sink.new) (K.faults sink.old) (K.faults sink.new) (text_in detail (write_told wrote ++ frame_told shows.now fallen phi ws)) }
+    ensures puts { (ws : List PortWrite) → screen.now ≡ shown ws → Puts result (K.written sink.old) (K.written sink.new) (K.faults sink.old) (K.faults sink.new) (text_in detail (write_told wrote ++ frame_told shows.now fallen phi ws)) }
     ensures cause { HasCause (K.faults sink.old) (K.faults sink.new) result }
 {
     tell_write(sink, detail, wrote)?;
@@ -153,7 +152,7 @@ pub(crate) fn tell_end<K: Sink>(
     requires near { phi ≤ progress.old.phi + 26 }
     requires bounded { phi < 2 ^ 46 }
     requires few { progress.old.count + 1 < 2 ^ 32 }
-    ensures puts { (x y : Position) → Keeps progress.old x.flat.state → y.flat.state.phi ≡ phi → y.flat.state.writes ≡ with_write (option_map write_as wrote) x.flat.state.writes
+    ensures puts { (x y : Position) → Keeps progress.old x.flat.state → y.flat.state.phi ≡ phi → y.flat.state.writes ≡ with_write wrote x.flat.state.writes
         → Puts result (K.written sink.old) (K.written sink.new) (K.faults sink.old) (K.faults sink.new) (text_in detail (told_turn (seen script.now) x (Goes y))) }
     ensures fallen { IfOk result (λ frame. frame ≡ frame_at progress.old phi) }
     ensures after { progress.new ≡ progress_with wrote phi progress.old }

@@ -1,9 +1,8 @@
 // The lines that are told as a run goes: bus steps, writes to ports, and frames.
 ghost use Rattle.std.specs.Prelude.{◌≡◌, ◌≤◌, ◌<◌, ◌+◌, ◌++◌, List, codes, length};
 ghost use Rattle.console_spec.specs.RunText.{length_text as spelled_length, who_text as spelled_who, bus_line as spelled_bus, bus_fault_line as spelled_bus_fault, out_line as spelled_out, frame_line as spelled_frame, picture_row};
-ghost use Rattle.console_spec.specs.Writes.{Write};
+ghost use Rattle.console_spec.specs.declared.PortWrite.{PortWrite};
 ghost use Rattle.f8_machine.specs.HeardSteps.{step_of};
-ghost use Rattle.f8_machine.specs.PortWrites.{write_as};
 ghost use Rattle.video.specs.ScreenState.{pixel_in, digits_in, shown};
 
 use super::line_buffer::Line;
@@ -68,7 +67,7 @@ pub fn bus_fault_line(romc: Romc, long: bool) -> Line
 /// `out`: a port took a byte, with the clock at the end of the instruction, in Φ.
 #[tactic(auto, unfolding(console_spec::specs::RunText::out_line))]
 pub fn out_line(wrote: &PortWrite) -> Line
-    ensures { result ≡ spelled_out (write_as wrote.now) }
+    ensures { result ≡ spelled_out wrote.now }
 {
     let mut line = Line::new();
     line.text(b"out ");
@@ -102,7 +101,7 @@ pub fn frame_line(frame: u32, phi: u64, tone: u8) -> Line
 pub fn row_line(screen: &Screen, y: u8) -> Line
     requires { y < 64 }
     ensures value { result ≡ digits_in (pixel_in screen.now.rows) y ++ codes "\n" }
-    ensures display { (ws : List Write) → screen.now ≡ shown ws → result ≡ picture_row y ws }
+    ensures display { (ws : List PortWrite) → screen.now ≡ shown ws → result ≡ picture_row y ws }
 {
     let mut line = Line::new();
     line.text(&screen.row_text(y));

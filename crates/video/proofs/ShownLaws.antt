@@ -7,7 +7,8 @@ use Rattle.std.proofs.lemmas.List.{length-set, get_or-set_same, get_or-set_other
 use Rattle.std.proofs.lemmas.Bool.{cases_eq}
 use Rattle.std.proofs.lemmas.Grind.{common_steps}
 use Rattle.std.proofs.lemmas.List.FromFn.{length-map-range_with_len, get_or-map-range_with_len, fill_by_all}
-use Rattle.console_spec.specs.Writes.{Write, latch_of}
+use Rattle.console_spec.specs.Writes.{latch_of}
+use Rattle.console_spec.specs.declared.PortWrite.{PortWrite}
 use Rattle.console_spec.specs.Display.{is_raised, is_rise, pixel_of, palette_of}
 use Rattle.console_spec.specs.RunText.{picture_row}
 use Rattle.video.specs.ScreenState.{Latches, Shown, rows_of, latches_of, shown, row_in, pixel_in, digits_in, colour_drawn, x_drawn, y_drawn, drawn, after_write}
@@ -77,10 +78,10 @@ drawn-rows_of l p =
 
 -- ---- one more write
 
-abbrev pixels_of : List Write → ℕ → ℕ → ℕ
+abbrev pixels_of : List PortWrite → ℕ → ℕ → ℕ
 pixels_of ws x y = pixel_of x y ws
 
-rows-next : (w : Write) (ws : List Write) →
+rows-next : (w : PortWrite) (ws : List PortWrite) →
     (if is_rise w ws then drawn (latches_of ws) (rows_of (pixels_of ws)) else rows_of (pixels_of ws)) ≡ rows_of (pixels_of (w ∷ ws))
 rows-next w ws =
     elim (is_rise w ws) as (λ b. (if b then drawn (latches_of ws) (rows_of (pixels_of ws)) else rows_of (pixels_of ws))
@@ -90,7 +91,7 @@ rows-next w ws =
     ]
     ∙ rows_of-same _ (pixels_of (w ∷ ws)) (λ x y h k. sym (pixel_of-next w ws x y))
 
-strobe-next : (w : Write) (ws : List Write) → (if w.port == 0 then is_raised w.byte else is_raised (latch_of 0 ws)) ≡ is_raised (latch_of 0 (w ∷ ws))
+strobe-next : (w : PortWrite) (ws : List PortWrite) → (if w.port == 0 then is_raised w.byte else is_raised (latch_of 0 ws)) ≡ is_raised (latch_of 0 (w ∷ ws))
 strobe-next w ws =
     elim (w.port == 0) as (λ b. (if b then is_raised w.byte else is_raised (latch_of 0 ws)) ≡ is_raised (if b then w.byte else latch_of 0 ws)) [
       | true ↦ refl
@@ -98,7 +99,7 @@ strobe-next w ws =
     ]
 
 -- what is shown after one more write is by what was shown before
-pub after_write-shown : (w : Write) (ws : List Write) → after_write w.port w.byte (shown ws) ≡ shown (w ∷ ws)
+pub after_write-shown : (w : PortWrite) (ws : List PortWrite) → after_write w.port w.byte (shown ws) ≡ shown (w ∷ ws)
 unfolding after_write
 after_write-shown w ws =
     let strobe : (if w.port == 0 then is_raised w.byte else is_raised (latch_of 0 ws)) ≡ is_raised (latch_of 0 (w ∷ ws)) = strobe-next w ws in
@@ -106,15 +107,15 @@ after_write-shown w ws =
     ap (λ b. record { latches = latches_of (w ∷ ws); strobe = b; rows = (after_write w.port w.byte (shown ws)).rows }) strobe
     ∙ ap (λ r. record { latches = latches_of (w ∷ ws); strobe = is_raised (latch_of 0 (w ∷ ws)); rows = r }) rows
 
-pub goes_on : (now after : Shown) (w : Write) (ws : List Write) → after ≡ after_write w.port w.byte now → now ≡ shown ws → after ≡ shown (w ∷ ws)
+pub goes_on : (now after : Shown) (w : PortWrite) (ws : List PortWrite) → after ≡ after_write w.port w.byte now → now ≡ shown ws → after ≡ shown (w ∷ ws)
 goes_on now after w ws next before = next ∙ ap (after_write w.port w.byte) before ∙ after_write-shown w ws
 
 -- ---- what is told of it
 
-pub shown_pixel : (s : Shown) (ws : List Write) (x y : ℕ) → s ≡ shown ws → x < 128 → y < 64 → pixel_in s.rows x y ≡ pixel_of x y ws
+pub shown_pixel : (s : Shown) (ws : List PortWrite) (x y : ℕ) → s ≡ shown ws → x < 128 → y < 64 → pixel_in s.rows x y ≡ pixel_of x y ws
 shown_pixel s ws x y e inside below = ap (λ t. pixel_in t.rows x y) e ∙ pixel_in-rows_of (pixels_of ws) x y inside below
 
-digits_in-row : (ws : List Write) (y : ℕ) → digits_in (pixels_of ws) y ++ codes "\n" ≡ picture_row y ws
+digits_in-row : (ws : List PortWrite) (y : ℕ) → digits_in (pixels_of ws) y ++ codes "\n" ≡ picture_row y ws
 unfolding digits_in picture_row
 digits_in-row ws y =
     ap (λ ds. ((48 + palette_of y ws) ∷ 32 ∷ ds) ++ codes "\n") (sym (map-map (λ colour. 48 + colour) (λ x. pixel_of x y ws) (range_with_len 0 128)))
@@ -129,7 +130,7 @@ digits_in-same p q y same =
     cc
 
 -- a row's text with a line feed is its line
-pub shown_digits : (s : Shown) (ws : List Write) (y : ℕ) (text : List ℕ) →
+pub shown_digits : (s : Shown) (ws : List PortWrite) (y : ℕ) (text : List ℕ) →
     s ≡ shown ws → y < 64 → text ≡ digits_in (pixel_in s.rows) y → text ++ codes "\n" ≡ picture_row y ws
 shown_digits s ws y text e below told =
     ap (λ t. t ++ codes "\n") (told ∙ digits_in-same (pixel_in s.rows) (pixels_of ws) y (λ x h. shown_pixel s ws x y e h below)) ∙ digits_in-row ws y

@@ -2,7 +2,8 @@
 -- list stand as in console_spec, the last one first.
 use Rattle.std.specs.Prelude.{ℕ, ◌+◌, ◌-◌, ◌*◌, ◌/◌, ◌%◌, Bool, not, ◌&&◌, ◌==◌, if◌then◌else◌, List, [], ◌∷◌, map, slice_index, slice_index_or, slice_set}
 use Rattle.std.specs.List.{range_with_len}
-use Rattle.console_spec.specs.Writes.{Write, latch_of}
+use Rattle.console_spec.specs.Writes.{latch_of}
+use Rattle.console_spec.specs.declared.PortWrite.{PortWrite}
 use Rattle.console_spec.specs.Display.{is_raised, pixel_of}
 
 -- the latches that say what is drawn, and where: ports 1, 4 and 5
@@ -21,11 +22,11 @@ pub record Shown : Type 0 where
 unfoldable pub rows_of : (ℕ → ℕ → ℕ) → List (List ℕ)
 rows_of pixels = map (λ y. map (λ x. pixels x y) (range_with_len 0 128)) (range_with_len 0 64)
 
-abbrev pub latches_of : List Write → Latches
+abbrev pub latches_of : List PortWrite → Latches
 latches_of ws = record { colour = latch_of 1 ws; column = latch_of 4 ws; row = latch_of 5 ws }
 
 -- what is shown after some writes
-abbrev pub shown : List Write → Shown
+abbrev pub shown : List PortWrite → Shown
 shown ws = record { latches = latches_of ws; strobe = is_raised (latch_of 0 ws); rows = rows_of (λ x y. pixel_of x y ws) }
 
 -- a row, and the colour at x and y, in rows of pixels

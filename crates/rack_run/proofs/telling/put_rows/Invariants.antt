@@ -1,7 +1,7 @@
 -- The rows so far are put, and no fault was met.
 use Rattle.std.proofs.Common.{◌≡◌, drop, List}
 use Rattle.console_spec.specs.RunText.{text_of}
-use Rattle.console_spec.specs.Writes.{Write}
+use Rattle.console_spec.specs.declared.PortWrite.{PortWrite}
 use Rattle.video.specs.ScreenState.{shown}
 use Rattle.rack_run.specs.Texts.{rows_told}
 use Rattle.rack_run.proofs.PutLaws.{PutSoFar}
@@ -9,7 +9,7 @@ use Rattle.rack_run.proofs.telling.put_rows.Given as goal
 
 abbrev pub invariant-loop-y : goal.invariant-loop-y
 invariant-loop-y g l = record {
-  so_far : (ws : List Write) → l.screen ≡ shown ws →
+  so_far : (ws : List PortWrite) → l.screen ≡ shown ws →
       PutSoFar (g.K.Sink.written l.fn.sink) (g.K.Sink.written l.sink) (g.K.Sink.faults l.fn.sink) (g.K.Sink.faults l.sink)
       (text_of (rows_told ws)) (text_of (drop l.y (rows_told ws)));
   faults : g.K.Sink.faults l.sink ≡ g.K.Sink.faults l.fn.sink;
