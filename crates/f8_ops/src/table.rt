@@ -6,6 +6,9 @@ use f8_spec::{Op, Row};
 /// The clocks of reset, in Φ: those of its three bus steps, 4, 6 and 4 (this project's own, after the Fairchild F8 User's Guide).
 pub const RESET_PHI: u64 = 14;
 
+/// The most clocks of an instruction, in Φ: those of `PI` (Fairchild F8 User's Guide).
+pub const MOST_PHI: u64 = 26;
+
 /// How many ports are the processor's own: 0 and 1 (Fairchild F8 User's Guide).
 pub const OWN_PORTS: u8 = 2;
 
