@@ -1,5 +1,6 @@
 -- The instruction set beside the flat machine.
-use Rattle.std.proofs.Common.{◌≡◌, ◌≢◌, ℕ, ◌+◌, ◌<◌, ◌≤◌, List, [], ◌∷◌, length, map, refl, sym, ap, subst, ◌∙◌, get_or, arith, inl, inr, get_or-set_other, get_or-set_same, eq-eqb}
+use Rattle.std.proofs.Common.{◌≡◌, ◌≢◌, ℕ, ◌+◌, ◌<◌, ◌≤◌, List, [], ◌∷◌, length, map, refl, sym, ap, subst, ◌∙◌, get_or}
+use Rattle.std.proofs.Common.{arith, inl, inr, get_or-set_other, get_or-set_same, eq-eqb}
 use Rattle.std.specs.Prelude.{Bool, Option, Some, None, ◌⊎◌, ◌==◌, if◌then◌else◌, slice_index, slice_set}
 use Rattle.std.specs.List.{enumerate_from}
 use Rattle.std.proofs.lemmas.List.{get_or-replicate, length-replicate, length-set}
@@ -149,7 +150,8 @@ memory_by-memory_after : (row : Row) (ram_pages : List Bool) (seats : List Seat)
 memory_by-memory_after StoreData ram_pages seats i c memory knows below = rw (knows.page c.d0 (below refl)) refl
 memory_by-memory_after row ram_pages seats i c memory knows below = refl
 
-same_flat : (s t : State) (memory other : List ℕ) → s ≡ t → memory ≡ other → ◌≡◌ {A = FlatState} (record { state = s; memory = memory }) (record { state = t; memory = other })
+same_flat : (s t : State) (memory other : List ℕ) → s ≡ t → memory ≡ other →
+    ◌≡◌ {A = FlatState} (record { state = s; memory = memory }) (record { state = t; memory = other })
 same_flat s t memory other states memories = cc
 
 state_leads : (op : Op) (isa : IsaState) (count : ℕ) (writes : List PortWrite) (seats : List Seat) → InRange op → InReach op isa → KnowsPorts isa.ports seats →
