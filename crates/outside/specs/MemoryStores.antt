@@ -1,8 +1,9 @@
 -- The stores in memory, as contracts see them.
-use Rattle.std.specs.Prelude.{◌≡◌, ⊤, ℕ, Bool, true, not, ◌&&◌, ◌||◌, ◌==◌, nat_le, if◌then◌else◌, List, [], ◌∷◌, length, Option, Some, None, is_some, Result, Ok, Err, bytes_eq}
+use Rattle.std.specs.Prelude.{◌≡◌, ⊤, ℕ, Bool, true, not, ◌&&◌, ◌||◌, ◌==◌, nat_le, if◌then◌else◌, List, [], ◌∷◌}
+use Rattle.std.specs.Prelude.{length, Option, Some, None, is_some, Result, Ok, Err, bytes_eq}
 use Rattle.std.specs.List.{list_any}
 use Rattle.outside.specs.Counts.{one_more}
-use Rattle.outside.specs.StoreRules.{NamedBytes, bytes_of}
+use Rattle.outside.specs.StoreRules.{NamedBytes, Input, bytes_of}
 use Rattle.outside.specs.declared.store.FetchFault.{FetchFault}
 use Rattle.outside.specs.declared.store.FetchFault.TheVariants.{Failed, TooLong, Memory}
 
@@ -43,6 +44,9 @@ pub record KeptFiles : Type 0 where
   pub calls : ℕ
   pub faults : ℕ
 
+abbrev pub kept_input : KeptFiles → Input
+kept_input s = record { files = Some s.files; faults = s.faults; fetches = s.calls }
+
 -- the call that comes is to fail
 abbrev pub call_fails : KeptFiles → Bool
 call_fails s = list_any (λ call. call == one_more s.calls) s.failing
@@ -70,8 +74,8 @@ pub record SureFiles : Type 0 where
   pub strayed : Bool
   pub calls : ℕ
 
-abbrev pub told_files : SureFiles → Option (List NamedBytes)
-told_files s = if s.strayed then None else Some s.files
+abbrev pub sure_input : SureFiles → Input
+sure_input s = record { files = (if s.strayed then None else Some s.files); faults = 0; fetches = s.calls }
 
 -- A missing file is taken as an empty one.
 abbrev pub sure_found : ℕ → Option (List ℕ) → Answer

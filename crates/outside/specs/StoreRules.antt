@@ -1,7 +1,8 @@
 -- What is said of a store: the files that it has, where it tells them, and its counts of faults and of fetches.
-use Rattle.std.specs.Prelude.{◌≡◌, ⊤, ℕ, ◌<◌, List, length, Option, Some, None, option_map, Result, Ok, Err, bytes_eq, IsSome}
+use Rattle.std.specs.Prelude.{◌≡◌, ⊤, ℕ, ◌≤◌, ◌<◌, List, length, Option, Some, None, option_map, bytes_eq, IsSome}
+use Rattle.std.specs.Prelude.{Result, Ok, Err}
 use Rattle.std.specs.List.{find}
-use Rattle.outside.specs.Counts.{Rose}
+use Rattle.outside.specs.Counts.{one_more, Rose}
 use Rattle.outside.specs.declared.store.FetchFault.{FetchFault}
 use Rattle.outside.specs.declared.store.FetchFault.TheVariants.{Failed, TooLong, Memory}
 
@@ -9,6 +10,12 @@ use Rattle.outside.specs.declared.store.FetchFault.TheVariants.{Failed, TooLong,
 pub record NamedBytes : Type 0 where
   pub name : List ℕ
   pub bytes : List ℕ
+
+-- What contracts see of a store: its files, where it tells them, and its counts of faults and of fetches.
+pub record Input : Type 0 where
+  pub files : Option (List NamedBytes)
+  pub faults : ℕ
+  pub fetches : ℕ
 
 -- the bytes of the file of this name
 abbrev pub bytes_of : List NamedBytes → List ℕ → Option (List ℕ)
@@ -21,11 +28,17 @@ CountsFault before now (Err Failed) = Rose before now
 CountsFault before now (Err TooLong) = now ≡ before
 CountsFault before now (Err Memory) = now ≡ before
 
--- What a store tells never changes: it tells after a call what it told before it, or nothing. After a fetch of a file that it has, it
--- still tells.
-pub record KeepsTelling (old new : Option (List NamedBytes)) (name : List ℕ) : Type 0 where
-  pub same : (files : List NamedBytes) → new ≡ Some files → old ≡ Some files
-  pub here : (files : List NamedBytes) → old ≡ Some files → IsSome (bytes_of files name) → new ≡ Some files
+-- What a fetch of a file does to a store.
+pub record Fetches {T : Type 0} (old new : Input) (name : List ℕ) (outcome : Result T FetchFault) : Type 0 where
+  pub counted : new.fetches ≡ one_more old.fetches
+  -- the count of faults never falls
+  pub later : old.faults ≤ new.faults
+  pub cause : CountsFault old.faults new.faults outcome
+  -- What a store tells never changes: it tells after a call what it told before it, or nothing.
+  pub same : (files : List NamedBytes) → new.files ≡ Some files → old.files ≡ Some files
+  -- after a fetch of a file that it has, it still tells
+  pub here : (files : List NamedBytes) → old.files ≡ Some files → IsSome (bytes_of files name) →
+      new.files ≡ Some files
 
 -- Where files are told after the call, these are the bytes of the file of this name.
 abbrev pub IsFile : Option (List NamedBytes) → List ℕ → List ℕ → Type 0

@@ -1,3 +1,4 @@
+// A list of the calls that are to fail.
 ghost use Rattle.std.specs.Prelude.{◌≡◌, ◌==◌};
 ghost use Rattle.std.specs.List.{list_any};
 

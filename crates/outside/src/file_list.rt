@@ -1,3 +1,4 @@
+// Files in memory, by their names.
 ghost use Rattle.std.specs.Prelude.{◌≡◌, if◌then◌else◌, option_map, Some, None, bytes_eq, string_bytes};
 ghost use Rattle.outside.specs.StoreRules.{bytes_of};
 ghost use Rattle.outside.specs.MemoryStores.{has_name, names_differ};

@@ -86,11 +86,7 @@ impl<R: Files + Drop> FileStore<R> {
 impl<R: Files + Drop> Store for FileStore<R> {
     ghost use Rattle.std.specs.Prelude.{None};
 
-    ghost files = { λ _. None };
-
-    ghost faults = { λ s. s.faults };
-
-    ghost fetches = { λ s. s.fetches };
+    ghost input = { λ s. record { files = None; faults = s.faults; fetches = s.fetches } };
 
     fn fetch(&mut self, alloc: Global, name: &str, limit: u32) -> Result<Vec<u8>, FetchFault> {
         self.fetches = self.fetches.saturating_add(1);

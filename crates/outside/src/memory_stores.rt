@@ -1,8 +1,10 @@
-ghost use Rattle.std.specs.Prelude.{◌≡◌, ◌≤◌, Some, None, length, IfOk, false};
+// The stores in memory: one that can fail, and one that never does.
+ghost use Rattle.std.specs.Prelude.{◌≡◌, ◌≤◌, length, IfOk, false};
 ghost use Rattle.outside.specs.Counts.{one_more};
-ghost use Rattle.outside.specs.MemoryStores.{IsRefused, within_limit, kept_answer, after_fetch, told_files, sure_answer, after_sure_fetch};
-ghost use Rattle.outside.specs.MemoryStores.{Gives};
-ghost use Rattle.outside.specs.StoreRules.{CountsFault, KeepsTelling, IsFile, IsLong, WhereLong};
+ghost use Rattle.outside.specs.MemoryStores.{Gives, IsRefused, within_limit};
+ghost use Rattle.outside.specs.MemoryStores.{kept_input, kept_answer, after_fetch};
+ghost use Rattle.outside.specs.MemoryStores.{sure_input, sure_answer, after_sure_fetch};
+ghost use Rattle.outside.specs.StoreRules.{Fetches, IsFile, IsLong, WhereLong};
 
 use super::call_list::CallList;
 use super::file_list::FileList;
@@ -67,20 +69,13 @@ impl MemStore {
 }
 
 impl Store for MemStore {
-    ghost files = { λ s. Some s.files };
-
-    ghost faults = { λ s. s.faults };
-
-    ghost fetches = { λ s. s.calls };
+    ghost input = { λ s. kept_input s };
 
     fn fetch(&mut self, alloc: Global, name: &str, limit: u32) -> Result<Vec<u8>, FetchFault>
-        ensures fetched { self.new.calls ≡ one_more self.old.calls }
-        ensures later { self.old.faults ≤ self.new.faults }
-        ensures cause { CountsFault self.old.faults self.new.faults result }
-        ensures telling { KeepsTelling (Some self.old.files) (Some self.new.files) name.now }
+        ensures fetched { Fetches (kept_input self.old) (kept_input self.new) name.now result }
         ensures within { IfOk result (λ bytes. length bytes.items ≤ limit) }
-        ensures file { IfOk result (λ bytes. IsFile (Some self.new.files) name.now bytes.items) }
-        ensures long { WhereLong result (IsLong (Some self.new.files) name.now limit) }
+        ensures file { IfOk result (λ bytes. IsFile (kept_input self.new).files name.now bytes.items) }
+        ensures long { WhereLong result (IsLong (kept_input self.new).files name.now limit) }
         ensures given { IfOk result (λ bytes. kept_answer self.old name.now limit ≡ Gives bytes.items) }
         ensures refused { IsRefused (kept_answer self.old name.now limit) result }
         ensures after { self.new ≡ after_fetch self.old name.now limit }
@@ -128,19 +123,13 @@ impl SureStore {
 }
 
 impl Store for SureStore {
-    ghost files = { λ s. told_files s };
-
-    ghost faults = { λ _. 0 };
-
-    ghost fetches = { λ s. s.calls };
+    ghost input = { λ s. sure_input s };
 
     fn fetch(&mut self, alloc: Global, name: &str, limit: u32) -> Result<Vec<u8>, FetchFault>
-        ensures fetched { self.new.calls ≡ one_more self.old.calls }
-        ensures cause { CountsFault 0 0 result }
-        ensures telling { KeepsTelling (told_files self.old) (told_files self.new) name.now }
+        ensures fetched { Fetches (sure_input self.old) (sure_input self.new) name.now result }
         ensures within { IfOk result (λ bytes. length bytes.items ≤ limit) }
-        ensures file { IfOk result (λ bytes. IsFile (told_files self.new) name.now bytes.items) }
-        ensures long { WhereLong result (IsLong (told_files self.new) name.now limit) }
+        ensures file { IfOk result (λ bytes. IsFile (sure_input self.new).files name.now bytes.items) }
+        ensures long { WhereLong result (IsLong (sure_input self.new).files name.now limit) }
         ensures given { IfOk result (λ bytes. sure_answer self.old name.now limit ≡ Gives bytes.items) }
         ensures refused { IsRefused (sure_answer self.old name.now limit) result }
         ensures after { self.new ≡ after_sure_fetch self.old name.now }

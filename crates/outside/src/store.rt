@@ -1,6 +1,6 @@
-ghost use Rattle.std.specs.Prelude.{◌≡◌, ◌≤◌, ℕ, List, Option, length, IfOk};
-ghost use Rattle.outside.specs.Counts.{one_more};
-ghost use Rattle.outside.specs.StoreRules.{NamedBytes, CountsFault, KeepsTelling, IsFile, IsLong, WhereLong};
+// The trait of a store: where the program's files come from.
+ghost use Rattle.std.specs.Prelude.{◌≤◌, length, IfOk};
+ghost use Rattle.outside.specs.StoreRules.{Input, Fetches, IsFile, IsLong, WhereLong};
 
 use std::alloc::Global;
 use thiserror::Error;
@@ -23,25 +23,18 @@ pub enum FetchFault {
 
 /// Where files come from.
 ///
-/// Contracts see the files of a store, where it tells them, its count of faults, and its count of fetches. A store may stop telling in a
-/// call, and then tells nothing from there on.
+/// Contracts see a store by its `input`: its files, where it tells them, its count of faults, and its count of fetches. A store may stop
+/// telling in a call, and then tells nothing from there on.
 pub trait Store {
-    ghost files: { Self → Option (List NamedBytes) };
-
-    ghost faults: { Self → ℕ };
-
-    ghost fetches: { Self → ℕ };
+    ghost input: { Self → Input };
 
     /// The bytes of a file, all of them and at most `limit`.
     ///
     /// `Failed` comes only where the count of faults rose in this call. Where files are told after the call, `TooLong` comes only where
     /// the file has more than `limit` bytes, and a name that isn't among them is answered neither by bytes nor by `TooLong`.
     fn fetch(&mut self, alloc: Global, name: &str, limit: u32) -> Result<Vec<u8>, FetchFault>
-        ensures fetched { fetches self.new ≡ one_more (fetches self.old) }
-        ensures later { faults self.old ≤ faults self.new }
-        ensures cause { CountsFault (faults self.old) (faults self.new) result }
-        ensures telling { KeepsTelling (files self.old) (files self.new) name.now }
+        ensures fetched { Fetches (input self.old) (input self.new) name.now result }
         ensures within { IfOk result (λ bytes. length bytes.items ≤ limit) }
-        ensures file { IfOk result (λ bytes. IsFile (files self.new) name.now bytes.items) }
-        ensures long { WhereLong result (IsLong (files self.new) name.now limit) };
+        ensures file { IfOk result (λ bytes. IsFile (input self.new).files name.now bytes.items) }
+        ensures long { WhereLong result (IsLong (input self.new).files name.now limit) };
 }
