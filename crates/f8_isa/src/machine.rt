@@ -7,7 +7,7 @@ use chip_face::ChipList;
 use console_board::PortWrite;
 use console_spec::Regs;
 use f8_ops::registers::{H, K, Q};
-use f8_ops::{OWN_PORTS, Op, RESET_PHI, Reserved, Row};
+use f8_ops::{MOST_PHI, OWN_PORTS, Op, RESET_PHI, Reserved, Row};
 use f8_spec::Memory;
 use f8_words::wrap_add;
 use memory_map::Map;
@@ -52,19 +52,20 @@ impl Isa {
     ghost use Rattle.f8_spec.specs.declared.instructions.Op.{Op};
     ghost use Rattle.console_spec.specs.AddressSpace.{byte_at};
     ghost use Rattle.console_spec.specs.Processor.{used_byte, result_of, is_taken, flow_after, shown};
-    ghost use Rattle.console_spec.specs.Run.{Reserved as StopReserved, power_position, position_after_reset};
+    ghost use Rattle.console_spec.specs.Run.{Reserved as StopReserved, power_position, chain_in_order, position_after_reset};
     ghost use Rattle.memory_map.specs.MapOf.{IsMapOf, views_of};
     ghost use Rattle.f8_isa.specs.Counters.{flow_of};
     ghost use Rattle.f8_isa.specs.InstructionRows.{IsInstruction};
     ghost use Rattle.f8_isa.specs.Ports.{value_read, with_key_byte};
-    ghost use Rattle.f8_isa.specs.IsaState.{state_of, kept_inputs, kept_write, isa_after, phi_after, GoesTo, StopsBy, StandsAt, InReach, TakesKey};
+    ghost use Rattle.f8_isa.specs.IsaState.{state_of, kept_inputs, kept_write, isa_after, phi_after};
+    ghost use Rattle.f8_isa.specs.IsaState.{GoesTo, StopsBy, StandsAt, InReach, TakesKey};
 
     /// A program on some chips, after power-on with a byte and reset, or want of memory. The map is that of the chips; what it tells is
     /// copied.
     pub fn new(alloc: Global, map: &Map, chips: &ChipList, fill: u8) -> Result<Isa, Memory>
         requires { IsMapOf map.now chips.now }
-        ensures { IfOk result (λ isa. StandsAt isa 0
-            (position_after_reset (power_position (views_of chips.now) fill))) }
+        ensures { let vs = views_of chips.now in IfOk result (λ isa. StandsAt isa 0
+            (position_after_reset (power_position vs (chain_in_order vs) fill))) }
     {
         let _chips = chips;
         let memory = FlatMemory::new(alloc, map, fill)?;
@@ -85,7 +86,7 @@ impl Isa {
         requires { self.old.phi < 2 ^ 62 }
         ensures goes { IfOk result (λ done. GoesTo self.old self.new done.wrote) }
         ensures uninterrupted { IfOk result (λ done. done.vectored ≡ false) }
-        ensures clocks { self.new.phi ≤ self.old.phi + 26 }
+        ensures clocks { self.new.phi ≤ self.old.phi + MOST_PHI }
         ensures onward { self.old.phi ≤ self.new.phi }
         ensures stops { IfErr result (λ error. StopsBy self.old
             (StopReserved self.old.flow.p error.code)) }
@@ -121,7 +122,7 @@ impl Isa {
         ensures state { self.new ≡ isa_after instruction.op self.old }
         ensures wrote { result ≡ kept_write instruction.op self.old
             (phi_after instruction.op self.old) }
-        ensures clocks { self.new.phi ≤ self.old.phi + 26 }
+        ensures clocks { self.new.phi ≤ self.old.phi + MOST_PHI }
         ensures onward { self.old.phi ≤ self.new.phi }
         ensures ranges { InReach instruction.op self.old }
     {
@@ -143,7 +144,7 @@ impl Isa {
         ensures state { self.new ≡ isa_after instruction.op self.old }
         ensures wrote { kept_write instruction.op self.old (phi_after instruction.op self.old)
             ≡ None }
-        ensures clocks { self.new.phi ≤ self.old.phi + 26 }
+        ensures clocks { self.new.phi ≤ self.old.phi + MOST_PHI }
         ensures onward { self.old.phi ≤ self.new.phi }
         ensures ranges { InReach instruction.op self.old }
     {
@@ -161,7 +162,7 @@ impl Isa {
         ensures state { self.new ≡ isa_after instruction.op self.old }
         ensures wrote { result ≡ kept_write instruction.op self.old
             (phi_after instruction.op self.old) }
-        ensures clocks { self.new.phi ≤ self.old.phi + 26 }
+        ensures clocks { self.new.phi ≤ self.old.phi + MOST_PHI }
         ensures onward { self.old.phi ≤ self.new.phi }
         ensures ranges { InReach instruction.op self.old }
     {
