@@ -30,7 +30,8 @@ cons_planned : (count : ℕ) (chip : PlannedChip) (chips : List PlannedChip) →
 cons_planned count chip chips one more =
     let rest = more.size in record { size = omega (arith, rest); each = All-cons IsPlannedChip chip chips one more.each }
 
-chips-whole : (i : ℕ) (tables : List Members) (chips : List DescribedChip) → chips_from i tables ≡ Ok chips → ArePlanned (length tables) (map planned_chip chips)
+chips-whole : (i : ℕ) (tables : List Members) (chips : List DescribedChip) → chips_from i tables ≡ Ok chips →
+    ArePlanned (length tables) (map planned_chip chips)
 unfolding chips_from
 chips-whole i [] chips h =
     let e : [] ≡ chips = cc h in

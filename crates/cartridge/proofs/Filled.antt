@@ -31,7 +31,9 @@ byte-written room [] rom address inside above below = refl
 byte-written room (b ∷ bs) rom address inside above below =
     let head = All-head (λ (b : ℕ × ℕ). (room.first ≤ b.0) × (b.0 ≤ room.last)) b bs inside in
     let size = length-set rom (b.0 - room.first) b.1 in
-    byte-written room bs (set rom (b.0 - room.first) b.1) address (All-tail (λ (b : ℕ × ℕ). (room.first ≤ b.0) × (b.0 ≤ room.last)) b bs inside) above (omega (arith, size, below))
+    byte-written room bs (set rom (b.0 - room.first) b.1) address
+        (All-tail (λ (b : ℕ × ℕ). (room.first ≤ b.0) × (b.0 ≤ room.last)) b bs inside) above
+        (omega (arith, size, below))
     ∙ byte_before (b.0 == address) (image_byte bs address) rom (b.0 - room.first) (address - room.first) b.1
     (λ t. same_place b.0 t) (λ t. other_place b.0 head.0 t) (omega (arith, above, below))
   where
@@ -56,7 +58,8 @@ length-changed_at change place [] = refl
 length-changed_at change zero (x ∷ xs) = refl
 length-changed_at change (suc place) (x ∷ xs) = let rest = length-changed_at change place xs in omega (arith, rest)
 
-changed_other : {A : Type 0} (change : A → A) (place other : ℕ) (xs : List A) → other ≢ place → slice_get (changed_at change place xs) other ≡ slice_get xs other
+changed_other : {A : Type 0} (change : A → A) (place other : ℕ) (xs : List A) → other ≢ place →
+    slice_get (changed_at change place xs) other ≡ slice_get xs other
 changed_other change place other [] differs = refl
 changed_other change zero zero (x ∷ xs) differs = absurd (differs refl)
 changed_other change zero (suc other) (x ∷ xs) differs = refl
@@ -64,7 +67,8 @@ changed_other change (suc place) zero (x ∷ xs) differs = refl
 changed_other change (suc place) (suc other) (x ∷ xs) differs = changed_other change place other xs (λ same. differs (omega arith))
 
 own_changed : (bytes : List (ℕ × ℕ)) (place : ℕ) (chips : List PlannedChip)
-    → IsSomeAnd (option_and_then (λ (c : PlannedChip). option_map (λ (s : PlannedSource). s.source) c.source) (slice_get chips place)) (λ s. LiesIn s.room bytes)
+    → IsSomeAnd (option_and_then (λ (c : PlannedChip). option_map (λ (s : PlannedSource). s.source) c.source)
+        (slice_get chips place)) (λ s. LiesIn s.room bytes)
     → IsSomeAnd (slice_get chips place) (λ c. IsSomeAnd (slice_get (changed_at (filled_chip bytes) place chips) place) (λ d. IsFilledChip bytes c d))
 own_changed bytes place [] room = room
 own_changed bytes (suc place) (c ∷ chips) room = own_changed bytes place chips room

@@ -1,5 +1,6 @@
 -- The chips of a plan are finished, one after another.
-use Rattle.std.proofs.Common.{◌≡◌, ℕ, ◌+◌, ◌<◌, ◌≤◌, true, false, cond, List, [], ◌∷◌, ◌++◌, length, map, get_or, set, take, drop, Option, Some, None, refl, sym, ap, ◌∙◌, arith, subst, length-set}
+use Rattle.std.proofs.Common.{◌≡◌, ℕ, ◌+◌, ◌<◌, ◌≤◌, true, false, cond, List, [], ◌∷◌, ◌++◌, length, map, get_or, set}
+use Rattle.std.proofs.Common.{take, drop, Option, Some, None, refl, sym, ap, ◌∙◌, arith, subst, length-set}
 use Rattle.std.specs.Prelude.{position, nat_lt, not}
 use Rattle.std.specs.List.{position_or_len}
 use Rattle.std.proofs.lemmas.Bool.Decides.{nat_tests}
@@ -49,8 +50,10 @@ here : (all : List PlannedChip) (i : ℕ) (specs : List ChipSpec) (roms : List (
 here all i specs roms spec rom so_far within at_spec at_rom =
     let size = so_far.size in
     let paired = so_far.paired in
-    let of_specs : drop i specs ≡ spec ∷ drop (i + 1) specs = drop_more specs i spec (omega (arith, size)) ∙ ap (λ (s : ChipSpec). s ∷ drop (i + 1) specs) at_spec in
-    let of_roms : drop i roms ≡ rom ∷ drop (i + 1) roms = drop_more roms i rom (omega (arith, paired)) ∙ ap (λ (r : Option SourceRom). r ∷ drop (i + 1) roms) at_rom in
+    let of_specs : drop i specs ≡ spec ∷ drop (i + 1) specs =
+        drop_more specs i spec (omega (arith, size)) ∙ ap (λ (s : ChipSpec). s ∷ drop (i + 1) specs) at_spec in
+    let of_roms : drop i roms ≡ rom ∷ drop (i + 1) roms =
+        drop_more roms i rom (omega (arith, paired)) ∙ ap (λ (r : Option SourceRom). r ∷ drop (i + 1) roms) at_rom in
     let both : seen_pair spec rom ∷ seen_chips (drop (i + 1) specs) (drop (i + 1) roms) ≡ drop i all = rw (of_specs, of_roms) at so_far.rest in
     record {
       chip = λ d. sym (heads _ _ _ _ (both ∙ drop_more all i d within)).0;

@@ -1,5 +1,6 @@
 -- The chips of a plan, as lists of specifications and of the bytes of sources beside them.
-use Rattle.std.proofs.Common.{◌≡◌, ℕ, zero, suc, ◌+◌, ◌-◌, ◌<◌, ◌≤◌, List, [], ◌∷◌, ◌++◌, length, map, get_or, set, Option, Some, None, refl, sym, ap, ◌∙◌, arith, subst}
+use Rattle.std.proofs.Common.{◌≡◌, ℕ, zero, suc, ◌+◌, ◌-◌, ◌<◌, ◌≤◌, List, [], ◌∷◌, ◌++◌, length, map, get_or, set}
+use Rattle.std.proofs.Common.{Option, Some, None, refl, sym, ap, ◌∙◌, arith, subst}
 use Rattle.std.specs.Prelude.{All, option_map, option_and_then, slice_get, IsSomeAnd, false}
 use Rattle.std.proofs.lemmas.List.{length_push, length-set, map_push, map-id}
 use Rattle.std.proofs.lemmas.List.Elements.{All-nil, All-cons, All-head, All-tail}
@@ -9,7 +10,8 @@ use Rattle.chip_face.specs.declared.specification.ChipSpec.TheVariants.{Blank, P
 use Rattle.cartridge.specs.declared.chip_table.ChipPlan.{ChipPlan}
 use Rattle.cartridge.specs.declared.rom_source.SourceRom.{SourceRom}
 use Rattle.cartridge.specs.ChipTables.{DescribedSource}
-use Rattle.cartridge.specs.Filling.{PlannedSource, PlannedChip, IsPlannedChip, IsPlan, IsRomOf, HasRom, written, filled_source, filled_chip, changed_at, planned_chip, unfilled}
+use Rattle.cartridge.specs.Filling.{PlannedSource, PlannedChip, IsPlannedChip, IsPlan, IsRomOf, HasRom, written}
+use Rattle.cartridge.specs.Filling.{filled_source, filled_chip, changed_at, planned_chip, unfilled}
 use Rattle.cartridge.specs.Carts.{with_rom, spec_from, finished}
 use Rattle.cartridge.specs.Plans.{seen_chip, seen_rom, seen_chips, seen_source}
 
@@ -167,7 +169,9 @@ pub still_plan : (bytes : List (ℕ × ℕ)) (specs : List ChipSpec) (roms : Lis
     → i < length roms → get_or roms i (Some old) ≡ Some old → seen_rom new ≡ filled_source bytes (seen_rom old) → IsPlan (seen_chips specs roms)
     → (length specs ≡ length (set roms i (Some new))) × IsPlan (seen_chips specs (set roms i (Some new)))
 still_plan bytes specs roms i old new same within at is plan =
-    (same ∙ sym (length-set roms i (Some new)), rw (seen-filled bytes specs roms i old new same within at is) (filled-plan bytes i (seen_chips specs roms) plan))
+    (same ∙ sym (length-set roms i (Some new)),
+        rw (seen-filled bytes specs roms i old new same within at is)
+        (filled-plan bytes i (seen_chips specs roms) plan))
 
 -- ---- the chips of a plan can be fitted, with the bytes of their sources too
 

@@ -1,5 +1,7 @@
 -- A table that describes a chip gives one that is as a specification has to be, not blank, and with a room for each byte of its source.
-use Rattle.std.proofs.Common.{◌≡◌, ℕ, ◌+◌, ◌*◌, ◌-◌, ◌%◌, ◌≤◌, Bool, true, false, ◌&&◌, ◌||◌, ◌==◌, List, [], ◌∷◌, length, replicate, Option, Some, None, is_some, Result, Ok, Err, refl, sym, ap, ◌∙◌, arith, length-append}
+use Rattle.std.proofs.Common.{◌≡◌, ℕ, ◌+◌, ◌*◌, ◌-◌, ◌%◌, ◌≤◌, Bool, true, false, ◌&&◌, ◌||◌, ◌==◌, List, [], ◌∷◌}
+use Rattle.std.proofs.Common.{length, replicate, Option, Some, None, is_some, Result, Ok, Err, refl, sym, ap, ◌∙◌}
+use Rattle.std.proofs.Common.{arith, length-append}
 use Rattle.std.specs.Prelude.{nat_le, not, option_map, if◌then◌else◌, pos, negsuc, ℤ}
 use Rattle.std.specs.List.{list_all}
 use Rattle.std.proofs.lemmas.Bool.{and_parts, eqb-true, leb-true}
@@ -24,7 +26,8 @@ use Rattle.cartridge.specs.declared.refusal.KeyFault.{KeyFault}
 use Rattle.cartridge.specs.Faults.{◌>>=◌, at_key}
 use Rattle.cartridge.specs.Keys.{value_at, known, chip_keys}
 use Rattle.cartridge.specs.Pages.{lies_within, lie_apart, placed, run_at, pages_of}
-use Rattle.cartridge.specs.Values.{required, optional, needed, usually, typed, text, within, number_in, multiple_of, multiple_in, kind_in, filled, fitting, rom_in, is_file_name, source_named, source_in}
+use Rattle.cartridge.specs.Values.{required, optional, needed, usually, typed, text, within, number_in, multiple_of}
+use Rattle.cartridge.specs.Values.{multiple_in, kind_in, filled, fitting, rom_in, is_file_name, source_named, source_in}
 use Rattle.cartridge.specs.Rooms.{room_size, psu_room, run_room}
 use Rattle.cartridge.specs.Filling.{HasRom, IsPlannedChip, planned_chip, unfilled}
 use Rattle.cartridge.specs.ChipTables.{DescribedChip, named_source, rom_of, mask_of, source_of, wired_of, psu_of, smi_of, chip_of_kind, chip_of}
@@ -82,7 +85,8 @@ multiple-ok first last step d n h =
     let between = number-ok first last d m read in
     rw (← same) (record { above = between.0; below = between.1; even = eqb-true (m % step) 0 t }))
 
-pub needed-multiple : (key : Key) (first last step : ℕ) (table : Members) (n : ℕ) → needed key (multiple_in first last step) table ≡ Ok n → IsMultiple first last step n
+pub needed-multiple : (key : Key) (first last step : ℕ) (table : Members) (n : ℕ) →
+    needed key (multiple_in first last step) table ≡ Ok n → IsMultiple first last step n
 needed-multiple key first last step table n h =
     required-ok (IsMultiple first last step n) (multiple_in first last step) (value_at key table) n
     (at_key-ok key (required (multiple_in first last step) (value_at key table)) n h) (λ d e. multiple-ok first last step d n e)

@@ -8,7 +8,8 @@ use Rattle.f8_spec.specs.declared.chips.PageSort.TheVariants as sort
 use Rattle.f8_asm.specs.declared.answers.Room.{Room}
 use Rattle.chip_face.specs.declared.specification.ChipSpec.{ChipSpec}
 use Rattle.chip_face.specs.declared.specification.ChipSpec.TheVariants.{Psu, Smi}
-use Rattle.cartridge.specs.declared.keys.Key.TheVariants.{Kind, Base, Ports, Vector, RomPage, RomPages, RamPage, RamPages, VoidPage, VoidPages, Interrupt, Rom, Source}
+use Rattle.cartridge.specs.declared.keys.Key.TheVariants.{Kind, Base, Ports, Vector, RomPage, RomPages, RamPage}
+use Rattle.cartridge.specs.declared.keys.Key.TheVariants.{RamPages, VoidPage, VoidPages, Interrupt, Rom, Source}
 use Rattle.cartridge.specs.declared.refusal.CartCause.TheVariants.{Missing}
 use Rattle.cartridge.specs.declared.refusal.KeyFault.{KeyFault}
 use Rattle.cartridge.specs.Faults.{◌>>=◌}

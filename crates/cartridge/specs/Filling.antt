@@ -1,6 +1,8 @@
 -- A plan: what a description says, with the bytes of its sources as they stand. They are FF until an image is put there. All of it is this
 -- project's own.
-use Rattle.std.specs.Prelude.{ℕ, zero, suc, ◌+◌, ◌-◌, ◌≡◌, ◌≤◌, Bool, true, false, All, List, [], ◌∷◌, length, map, replicate, slice_get, slice_set, Option, Some, None, option_map, option_and_then, IsSomeAnd, Result, Ok}
+use Rattle.std.specs.Prelude.{ℕ, zero, suc, ◌+◌, ◌-◌, ◌≡◌, ◌≤◌, Bool, true, false, All, List, [], ◌∷◌, length, map}
+use Rattle.std.specs.Prelude.{replicate, slice_get, slice_set, Option, Some, None, option_map, option_and_then}
+use Rattle.std.specs.Prelude.{IsSomeAnd, Result, Ok}
 use Rattle.toml.specs.Data.{Members}
 use Rattle.chip_face.specs.Fitting.{IsSpec, is_blank, rom_of}
 use Rattle.chip_face.specs.declared.specification.ChipSpec.{ChipSpec}

@@ -38,7 +38,8 @@ pub struct Described {
 
 /// The tables of the chips at their key, and none where it is left out.
 fn tables_at<'a>(alloc: Global, table: &'a Table) -> Result<Vec<&'a Table>, TableStop>
-    ensures says { SaysOfTable (λ ts. map seen_table ts.items) result (usually ChipKey [] tables_told (table_view table.now)) }
+    ensures says { SaysOfTable (λ ts. map seen_table ts.items) result
+        (usually ChipKey [] tables_told (table_view table.now)) }
     ensures few { IfOk result (λ ts. vec_len ts ≤ 16) }
 {
     let key = Key::Chip;
@@ -90,7 +91,8 @@ fn answer_at(chip: Option<u8>, stop: TableStop) -> CartAnswer
 #[tactic(auto, using(crate::proofs::ChipsRead::chips_none, crate::proofs::ChipsRead::chips_more, crate::proofs::ChipsRead::chips_bad, crate::proofs::ChipsRead::chips_all))]
 fn chips_of(alloc: Global, tables: &[&Table]) -> Result<Vec<ChipPlan>, CartAnswer>
     requires { length tables.now ≤ 16 }
-    ensures { SaysOfDescription (λ chips. map seen_chip chips.items) result (chips_from 0 (map seen_table tables.now)) }
+    ensures { SaysOfDescription (λ chips. map seen_chip chips.items) result
+        (chips_from 0 (map seen_table tables.now)) }
 {
     let mut chips = Vec::new(alloc);
     for index in 0..tables.len() {

@@ -49,7 +49,8 @@ impl SourceRom {
     /// Puts the bytes of an image there.
     pub fn fill(&mut self, bytes: &[(u16, u8)])
         requires inside { LiesIn self.old.source.room bytes.now }
-        requires whole { self.old.source.room.first + length self.old.bytes.items ≡ self.old.source.room.last + 1 }
+        requires whole { self.old.source.room.first + length self.old.bytes.items
+            ≡ self.old.source.room.last + 1 }
         ensures { seen_rom self.new ≡ filled_source bytes.now (seen_rom self.old) }
     {
         put(self.bytes.as_mut_slice(), self.source.room.first, bytes);
@@ -62,7 +63,8 @@ pub fn unfilled_rom(
     alloc: Global,
     source: Option<ChipSource>,
 ) -> Result<Option<SourceRom>, AllocError>
-    ensures { IfOk result (λ rom. option_map seen_rom rom ≡ option_map unfilled (option_map seen_source source)) }
+    ensures { IfOk result (λ rom. option_map seen_rom rom
+        ≡ option_map unfilled (option_map seen_source source)) }
 {
     match source {
         Some(source) => Ok(Some(SourceRom::new(alloc, source)?)),

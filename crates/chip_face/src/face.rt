@@ -8,9 +8,9 @@ use std::alloc::Global;
 ///
 /// Contracts see a chip as its `state`: the view, the steps heard where it tells them, and its patch.
 pub trait Chip: Drop {
-    ghost use Rattle.std.specs.Prelude.{◌≡◌, ◌≢◌, ◌↔◌, false, OnOk, OnErr, IsErrOf};
+    ghost use Rattle.std.specs.Prelude.{◌≡◌, ◌≢◌, ◌↔◌, OnOk, OnErr, IsErrOf};
     ghost use Rattle.f8_spec.specs.ChipState.{ChipState, IsWhole, MayHear, PowersOn, Settles, TakesKeys, TakesPulse, has_ram_at, held_byte, is_asking, latch_at, offered, told_counters};
-    ghost use Rattle.chip_face.specs.Fitting.{Fits, IsSpec, is_blank, kind_of};
+    ghost use Rattle.chip_face.specs.Fitting.{Fits, IsSpec, kind_of};
     ghost use Rattle.chip_face.specs.Steps.{IsStepLength};
 
     ghost state: { Self → ChipState };
@@ -20,13 +20,12 @@ pub trait Chip: Drop {
         ensures { result ≡ (state self.now).view.kind };
 
     /// Makes the chip the specified one, before power-on. `WrongKind` comes exactly where the specification is for another kind of
-    /// chip, and `Memory` never where it is to be blank. After any fault the chip is as it was.
+    /// chip; whether and when `Memory` comes, each kind of chip says. After any fault the chip is as it was.
     fn fit(&mut self, alloc: Global, spec: &ChipSpec) -> Result<(), FitFault>
         requires { IsSpec spec.now }
         ensures ok { OnOk result (Fits spec.now (state self.old) (state self.new)) }
         ensures whole { OnOk result (IsWhole (state self.new).view) }
         ensures wrong_kind { IsErrOf result FitFault.WrongKind ↔ (kind_of spec.now ≢ (state self.old).view.kind) }
-        ensures memory { IsErrOf result FitFault.Memory → is_blank spec.now ≡ false }
         ensures err { OnErr result (state self.new ≡ state self.old) };
 
     /// Power-on: every counter at `start`, every RAM byte `fill`.

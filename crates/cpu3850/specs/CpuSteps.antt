@@ -7,7 +7,9 @@ use Rattle.f8_spec.specs.MicroSteps.{Step as MicroStep, steps_before_fetch, step
 use Rattle.f8_spec.specs.declared.instructions.Op.{Op}
 use Rattle.f8_spec.specs.declared.instructions.Op.TheVariants.{LrQDc, LrHDc}
 use Rattle.f8_spec.specs.declared.instructions.Row.{Row}
-use Rattle.f8_spec.specs.declared.instructions.Row.TheVariants.{Idle, StackToK, StackFromK, CallK, JumpQ, DataToPair, DataFromQ, DataFromH, ReadData, StoreData, Immediate, PortIn, PortOut, Call, Jump, AddData, ShortIn, ShortOut}
+use Rattle.f8_spec.specs.declared.instructions.Row.TheVariants.{Idle, StackToK, StackFromK, CallK, JumpQ, DataToPair}
+use Rattle.f8_spec.specs.declared.instructions.Row.TheVariants.{DataFromQ, DataFromH, ReadData, StoreData, Immediate}
+use Rattle.f8_spec.specs.declared.instructions.Row.TheVariants.{PortIn, PortOut, Call, Jump, AddData, ShortIn, ShortOut}
 use Rattle.console_spec.specs.Processor.{Registers, at_power, scratch_byte, with_scratch, effect, is_taken, port_field}
 use Rattle.cpu3850.specs.CpuPorts.{PortBytes, clear_ports, read_by, put_by}
 use Rattle.cpu3850.specs.declared.steps.Step.{Step}

@@ -204,7 +204,10 @@ fn before_fetch(row: Row, taken: bool) -> Steps
 /// The step at the displacement byte of a branch, after others.
 fn displacement(steps: Steps, taken: bool) -> Steps
     requires { length steps < 5 }
-    ensures { result ≡ steps ++ (if taken then record { romc = 0x01; long = true } else record { romc = 0x03; long = false }) ∷ [] }
+    ensures { result ≡ steps ++ (if taken then record {
+      romc = 0x01;
+      long = true;
+    } else record { romc = 0x03; long = false }) ∷ [] }
 {
     if taken {
         steps.long(0x01)

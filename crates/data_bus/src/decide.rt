@@ -35,7 +35,8 @@ impl Pending {
     }
 
     fn astray(self, party: Party) -> Result<Served, BusFault>
-        ensures { result ≡ answered self.romc self.byte (Astray party.socket party.at self.reference) }
+        ensures { result ≡ answered self.romc self.byte
+            (Astray party.socket party.at self.reference) }
     {
         Err(BusFault::Astray {
             romc: self.romc,
@@ -51,7 +52,8 @@ impl Pending {
         socket: Option<u8>,
         bystander: Option<Party>,
     ) -> Result<Served, BusFault>
-        ensures { result ≡ answered self.romc self.byte (unless_bystander self.reference socket bystander) }
+        ensures { result ≡ answered self.romc self.byte
+            (unless_bystander self.reference socket bystander) }
     {
         match bystander {
             None => self.served(socket),
@@ -72,7 +74,8 @@ impl Pending {
 
     /// A chip has to drive the byte.
     fn read(self, parties: Parties, bystander: Option<Party>) -> Result<Served, BusFault>
-        ensures { result ≡ answered self.romc self.byte (read_verdict self.reference parties bystander) }
+        ensures { result ≡ answered self.romc self.byte
+            (read_verdict self.reference parties bystander) }
     {
         let romc = self.romc;
         match parties.as_slice() {
@@ -84,7 +87,8 @@ impl Pending {
 
     /// A chip may take the byte. One that none takes is lost.
     fn store(self, parties: Parties, bystander: Option<Party>) -> Result<Served, BusFault>
-        ensures { result ≡ answered self.romc self.byte (store_verdict self.reference parties bystander) }
+        ensures { result ≡ answered self.romc self.byte
+            (store_verdict self.reference parties bystander) }
     {
         let romc = self.romc;
         match parties.as_slice() {

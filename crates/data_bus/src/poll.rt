@@ -63,7 +63,8 @@ impl Poll {
 fn ask_all(rack: &Rack, question: &Question) -> Poll
     requires few { length rack.now.items ≤ 16 }
     requires chosen { AllMayHear question.now.romc question.now.first (map state rack.now.items) }
-    ensures { result ≡ polled question.now.rule question.now.romc question.now.reference question.now.first 0 (views (map state rack.now.items)) no_poll }
+    ensures { result ≡ polled question.now.rule question.now.romc question.now.reference
+        question.now.first 0 (views (map state rack.now.items)) no_poll }
 {
     let mut poll = Poll::new();
     for (i, chip) in rack.iter().enumerate() {
@@ -79,7 +80,8 @@ fn ask_all(rack: &Rack, question: &Question) -> Poll
 pub(crate) fn gather(rack: &Rack, question: &Question) -> Poll
     requires few { length rack.now.items ≤ 16 }
     requires chosen { AllMayHear question.now.romc question.now.first (map state rack.now.items) }
-    ensures { result ≡ polled question.now.rule question.now.romc question.now.reference question.now.first 0 (views (map state rack.now.items)) no_poll }
+    ensures { result ≡ polled question.now.rule question.now.romc question.now.reference
+        question.now.first 0 (views (map state rack.now.items)) no_poll }
 {
     match question.rule {
         BusRule::NoChip => Poll::new(),

@@ -17,8 +17,10 @@ fn clocks(long: bool) -> u8
 
 /// The chip in a socket hears a served step.
 fn settle_at(chip: &mut Box<dyn Chip>, socket: u8, cycle: &Cycle, byte: u8)
-    requires { MayHear cycle.now.romc (is_first_socket cycle.now.first socket) (state chip.old).view }
-    ensures { SettlesStep cycle.now.romc cycle.now.long cycle.now.first byte socket (state chip.old) (state chip.new) }
+    requires { MayHear cycle.now.romc (is_first_socket cycle.now.first socket)
+        (state chip.old).view }
+    ensures { SettlesStep cycle.now.romc cycle.now.long cycle.now.first byte socket (state chip.old)
+        (state chip.new) }
 {
     let mark = is_first(cycle.first, socket);
     chip.settle(cycle.romc, byte, clocks(cycle.long), mark);
@@ -28,7 +30,8 @@ fn settle_at(chip: &mut Box<dyn Chip>, socket: u8, cycle: &Cycle, byte: u8)
 pub(crate) fn settle_all(rack: &mut Rack, cycle: &Cycle, byte: u8)
     requires few { length rack.old.items ≤ 16 }
     requires chosen { AllMayHear cycle.now.romc cycle.now.first (map state rack.old.items) }
-    ensures settled { RackSettles cycle.now.romc cycle.now.long cycle.now.first byte (map state rack.old.items) (map state rack.new.items) }
+    ensures settled { RackSettles cycle.now.romc cycle.now.long cycle.now.first byte
+        (map state rack.old.items) (map state rack.new.items) }
     ensures chips { length rack.new.items ≡ length rack.old.items }
 {
     for (i, chip) in rack.iter_mut().enumerate() {

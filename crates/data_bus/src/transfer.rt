@@ -54,8 +54,10 @@ pub fn step(rack: &mut Rack, probe: &mut Probe, cycle: Cycle) -> Result<Served, 
     ensures answer { result ≡ step_answer cycle probe.old (map state rack.old.items) }
 
     // Served: every chip and the probe hear the step.
-    ensures settled { IfOk result (λ served. RackSettles cycle.romc cycle.long cycle.first served.byte (map state rack.old.items) (map state rack.new.items)) }
-    ensures heard { IfOk result (λ served. probe.new ≡ probe_after cycle.romc served.byte probe.old) }
+    ensures settled { IfOk result (λ served. RackSettles cycle.romc cycle.long cycle.first
+        served.byte (map state rack.old.items) (map state rack.new.items)) }
+    ensures heard { IfOk result (λ served. probe.new
+        ≡ probe_after cycle.romc served.byte probe.old) }
 
     // Not served: nothing changes.
     ensures stays { OnErr result (RackStays (map state rack.old.items) (map state rack.new.items)) }

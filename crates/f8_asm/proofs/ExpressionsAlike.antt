@@ -16,7 +16,8 @@ use Rattle.f8_asm.proofs.Chain.{at_token}
 abbrev pub SameRest : {A B : Type 0} → (A × List Token) → (B × List Token) → Type 0
 SameRest x y = x.1 ≡ y.1
 
-module _ {A B : Type 0} (a : Actions A) (b : Actions B) (f : List Token → Read A) (g : List Token → Read B) (each : (ts : List Token) → Alike SameRest (f ts) (g ts)) where
+module _ {A B : Type 0} (a : Actions A) (b : Actions B) (f : List Token → Read A) (g : List Token → Read B)
+    (each : (ts : List Token) → Alike SameRest (f ts) (g ts)) where
   chain_alike : (strength n : ℕ) (x : A) (y : B) (ts : List Token) → Alike SameRest (chain a strength f n x ts) (chain b strength g n y ts)
   unfolding chain
   chain_alike strength zero x y ts = alike_ok refl
@@ -30,7 +31,8 @@ module _ {A B : Type 0} (a : Actions A) (b : Actions B) (f : List Token → Read
           rw (at_token a strength f (Some operator) n x t ts is, at_token b strength g (Some operator) n y t ts is)
           (alike_then (each ts) (λ r s same. rw same (further (a.between operator x r.0) (b.between operator y s.0) s.1)))
 
-module _ {A B : Type 0} (a : Actions A) (b : Actions B) (f : List Token → Read A) (g : List Token → Read B) (each : (ts : List Token) → Alike SameRest (f ts) (g ts)) where
+module _ {A B : Type 0} (a : Actions A) (b : Actions B) (f : List Token → Read A) (g : List Token → Read B)
+    (each : (ts : List Token) → Alike SameRest (f ts) (g ts)) where
   level_alike : (k : ℕ) (ts : List Token) → Alike SameRest (level a f k ts) (level b g k ts)
   unfolding level
   level_alike zero ts = each ts
@@ -47,7 +49,8 @@ closed_alike {A} {B} x y (t ∷ ts) = goes t.kind refl
     goes (kind.Name name) is = rw (← is) alike_err
     goes (kind.Number number) is = rw (← is) alike_err
 
-module _ {A B : Type 0} (a : Actions A) (b : Actions B) (f : List Token → Read A) (g : List Token → Read B) (each : (ts : List Token) → Alike SameRest (f ts) (g ts)) where
+module _ {A B : Type 0} (a : Actions A) (b : Actions B) (f : List Token → Read A) (g : List Token → Read B)
+    (each : (ts : List Token) → Alike SameRest (f ts) (g ts)) where
   parenthesised_alike : (ts : List Token) → Alike SameRest (parenthesised a f ts) (parenthesised b g ts)
   unfolding parenthesised
   parenthesised_alike ts = alike_then (level_alike a b f g each 4 ts) (λ r s same. rw same (closed_alike r.0 s.0 s.1))
@@ -64,7 +67,8 @@ module _ {A B : Type 0} (a : Actions A) (b : Actions B) (f : List Token → Read
       (alike_if (mark == 62) (prefix_alike HighByte ts)
       (alike_if (mark == 40) (parenthesised_alike ts) alike_err))))
 
-unopened_alike : {A B : Type 0} (a : Actions A) (b : Actions B) (column mark : ℕ) (ts : List Token) → Alike SameRest (opened a None column mark ts) (opened b None column mark ts)
+unopened_alike : {A B : Type 0} (a : Actions A) (b : Actions B) (column mark : ℕ) (ts : List Token) →
+    Alike SameRest (opened a None column mark ts) (opened b None column mark ts)
 unfolding opened
 unopened_alike a b column mark ts = alike_if (mark == 46) (alike_ok refl) alike_err
 

@@ -1,5 +1,6 @@
 -- What is read of tokens is an expression.
-use Rattle.std.proofs.Common.{◌≡◌, ℕ, zero, suc, ◌≤◌, Bool, true, false, List, [], ◌∷◌, ◌++◌, length, Option, Some, None, Ok, refl, sym, ap, ◌∙◌, subst, arith, append_assoc, length-append, le_refl}
+use Rattle.std.proofs.Common.{◌≡◌, ℕ, zero, suc, ◌≤◌, Bool, true, false, List, [], ◌∷◌, ◌++◌, length, Option, Some}
+use Rattle.std.proofs.Common.{None, Ok, refl, sym, ap, ◌∙◌, subst, arith, append_assoc, length-append, le_refl}
 use Rattle.std.specs.Prelude.{◌==◌, if◌then◌else◌}
 use Rattle.std.proofs.lemmas.Bool.Decides.{nat_tests}
 use Rattle.asm_text.specs.declared.answers.Token.{Token}
@@ -86,7 +87,8 @@ closed_is {A} x (u ∷ us) v rest h = goes u.kind refl
     closes : (mark : ℕ) → u.kind ≡ kind.Mark mark → mark ≡ 41 → ◌≡◌ {A = Read A} (Ok (x, us)) (Ok (v, rest)) → Closed x (u ∷ us) v rest
     closes mark is closing h =
         let same : ◌≡◌ {A = A × List Token} (x, us) (v, rest) = cc h in
-        record { mark = u; whole = ap (λ (r : A × List Token). u ∷ r.1) same; mark_is = is ∙ ap kind.Mark closing; same = ap (λ (r : A × List Token). r.0) same }
+        record { mark = u; whole = ap (λ (r : A × List Token). u ∷ r.1) same; mark_is = is ∙ ap kind.Mark closing;
+            same = ap (λ (r : A × List Token). r.0) same }
 
     goes : (k : TokenKind) → u.kind ≡ k → Closed x (u ∷ us) v rest
     goes (kind.Name name) is = cc (rw is at h)
@@ -113,7 +115,8 @@ module _ {A : Type 0} (acts : Actions A) (depth : ℕ) (f : List Token → Read 
   behind_formed prefix t ts v rest is h =
       read-ok (Formed acts 0 (suc depth) (t ∷ ts) v rest) (f ts) _ (v, rest) h (λ r at_r h.
       let inner = each ts r.0 r.1 at_r in
-      formed_as acts (record { front = t ∷ inner.front; whole = ap (λ us. t ∷ us) inner.whole; forms = Forms.prefixed prefix is inner.forms; ends = inner.ends }) h)
+      formed_as acts (record { front = t ∷ inner.front; whole = ap (λ us. t ∷ us) inner.whole;
+          forms = Forms.prefixed prefix is inner.forms; ends = inner.ends }) h)
 
   parenthesised_formed : (t : Token) (ts : List Token) (v : A) (rest : List Token) → t.kind ≡ kind.Mark 40
       → parenthesised acts f ts ≡ Ok (v, rest) → Formed acts 0 (suc depth) (t ∷ ts) v rest
@@ -138,7 +141,8 @@ module _ {A : Type 0} (acts : Actions A) (depth : ℕ) (f : List Token → Read 
   opened_formed t mark ts v rest is h =
       let P = Formed acts 0 (suc depth) (t ∷ ts) v rest in
       by_test P (mark == 46) _ _ (v, rest) h
-      (λ dot h. formed_as acts (record { front = t ∷ []; whole = refl; forms = Forms.here (is ∙ ap kind.Mark (grind (arith, nat_tests))); ends = ends_operand ts }) h)
+      (λ dot h. formed_as acts (record { front = t ∷ []; whole = refl;
+          forms = Forms.here (is ∙ ap kind.Mark (grind (arith, nat_tests))); ends = ends_operand ts }) h)
       (λ other h. by_test P (mark == 45) _ _ (v, rest) h
       (λ minus h. behind_formed Negative t ts v rest (is ∙ ap kind.Mark (grind (arith, nat_tests))) h)
       (λ other h. by_test P (mark == 60) _ _ (v, rest) h
@@ -154,7 +158,8 @@ unopened_formed : {A : Type 0} (acts : Actions A) (t : Token) (mark : ℕ) (ts :
 unfolding opened
 unopened_formed acts t mark ts v rest is h =
     by_test (Formed acts 0 0 (t ∷ ts) v rest) (mark == 46) _ _ (v, rest) h
-    (λ dot h. formed_as acts (record { front = t ∷ []; whole = refl; forms = Forms.here (is ∙ ap kind.Mark (grind (arith, nat_tests))); ends = ends_operand ts }) h)
+    (λ dot h. formed_as acts (record { front = t ∷ []; whole = refl;
+        forms = Forms.here (is ∙ ap kind.Mark (grind (arith, nat_tests))); ends = ends_operand ts }) h)
     (λ other h. cc h)
 
 module _ {A : Type 0} (acts : Actions A) (depth : ℕ) (inner : Option (List Token → Read A)) where
@@ -165,7 +170,8 @@ module _ {A : Type 0} (acts : Actions A) (depth : ℕ) (inner : Option (List Tok
   operand_of_formed opens [] v rest h = cc h
   operand_of_formed opens (t ∷ ts) v rest h = goes t.kind refl
     where
-      named : (name_bytes : List ℕ) → t.kind ≡ kind.Name name_bytes → is_reserved name_bytes ≡ false → Formed acts 0 depth (t ∷ ts) (acts.name t.column name_bytes) ts
+      named : (name_bytes : List ℕ) → t.kind ≡ kind.Name name_bytes → is_reserved name_bytes ≡ false →
+          Formed acts 0 depth (t ∷ ts) (acts.name t.column name_bytes) ts
       named name_bytes is free = record { front = t ∷ []; whole = refl; forms = Forms.name is free; ends = ends_operand ts }
 
       goes : (k : TokenKind) → t.kind ≡ k → Formed acts 0 depth (t ∷ ts) v rest

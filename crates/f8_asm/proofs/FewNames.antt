@@ -1,5 +1,6 @@
 -- A text names no more than it has lines, and has no more lines than bytes.
-use Rattle.std.proofs.Common.{◌≡◌, ℕ, ℤ, pos, ◌+◌, ◌≤◌, Bool, true, false, cond, List, [], ◌∷◌, length, length-append, Option, Some, None, Result, Ok, Err, bytes_eq, arith}
+use Rattle.std.proofs.Common.{◌≡◌, ℕ, ℤ, pos, ◌+◌, ◌≤◌, Bool, true, false, cond, List, [], ◌∷◌, length, length-append}
+use Rattle.std.proofs.Common.{Option, Some, None, Result, Ok, Err, bytes_eq, arith}
 use Rattle.std.specs.Prelude.{IfOk, ◌&&◌, ◌==◌}
 use Rattle.asm_text.specs.declared.answers.Token.{Token}
 use Rattle.f8_asm.specs.declared.answers.AsmFault.{AsmFault}
@@ -51,7 +52,8 @@ with_label_adds (Some name) v s = with_name_adds s.names name v
 abbrev AddsOne : Layout → Layout → Type 0
 AddsOne s t = length t.names ≤ length s.names + 1
 
-settled_adds : (room : Room) (label : Option (List ℕ)) (column : Option ℕ) (s : Layout) (effect : Effect) → IfOk (settled room label column s effect) (AddsOne s)
+settled_adds : (room : Room) (label : Option (List ℕ)) (column : Option ℕ) (s : Layout) (effect : Effect) →
+    IfOk (settled room label column s effect) (AddsOne s)
 settled_adds room label column s (Names o) =
     then (taken o) (λ v. Ok (with_label label v s)) (λ v. Unit {0}) (AddsOne s) (any (taken o)) (λ v _. with_label_adds label v s)
 settled_adds room label column s (Moves o) =
@@ -68,7 +70,9 @@ settle_adds room s ts =
 place_adds : (room : Room) (s : Layout) (l : Line) → IfOk (place room s l) (AddsOne s)
 unfolding place
 place_adds room s l =
-    then (in_line l.number l.tokens (settle room s l.tokens)) _ (AddsOne s) (AddsOne s) (placed_in_line l.number l.tokens (settle room s l.tokens) (AddsOne s) (settle_adds room s l.tokens)) (λ t adds. adds)
+    then (in_line l.number l.tokens (settle room s l.tokens)) _ (AddsOne s) (AddsOne s)
+        (placed_in_line l.number l.tokens (settle room s l.tokens) (AddsOne s) (settle_adds room s l.tokens))
+        (λ t adds. adds)
 
 place_lines_adds : (room : Room) (s : Layout) (ls : List Line) → IfOk (place_lines room s ls) (λ t. length t.names ≤ length s.names + length ls)
 unfolding place_lines
@@ -77,7 +81,9 @@ place_lines_adds room s (l ∷ ls) =
     then (place room s l) _ (AddsOne s) (λ t. length t.names ≤ length s.names + length (l ∷ ls)) (place_adds room s l)
     (λ t adds. more t adds (place_lines room t ls) (place_lines_adds room t ls))
   where
-    more : (t : Layout) → AddsOne s t → (r : Result Layout AsmFault) → IfOk r (λ u. length u.names ≤ length t.names + length ls) → IfOk r (λ u. length u.names ≤ length s.names + length (l ∷ ls))
+    more : (t : Layout) → AddsOne s t → (r : Result Layout AsmFault) →
+        IfOk r (λ u. length u.names ≤ length t.names + length ls) →
+        IfOk r (λ u. length u.names ≤ length s.names + length (l ∷ ls))
     more t adds (Ok u) h = omega arith
     more t adds (Err e) h = tt
 
@@ -100,7 +106,9 @@ read_lines_adds number s (l ∷ ls) =
     then (read_line number s l) _ (OneLine s) (λ t. length t.lines ≤ length s.lines + length (l ∷ ls)) (read_line_adds number s l)
     (λ t adds. more t adds (read_lines (number + 1) t ls) (read_lines_adds (number + 1) t ls))
   where
-    more : (t : Reading) → OneLine s t → (r : Result Reading AsmFault) → IfOk r (λ u. length u.lines ≤ length t.lines + length ls) → IfOk r (λ u. length u.lines ≤ length s.lines + length (l ∷ ls))
+    more : (t : Reading) → OneLine s t → (r : Result Reading AsmFault) →
+        IfOk r (λ u. length u.lines ≤ length t.lines + length ls) →
+        IfOk r (λ u. length u.lines ≤ length s.lines + length (l ∷ ls))
     more t adds (Ok u) h = omega arith
     more t adds (Err e) h = tt
 
@@ -113,10 +121,13 @@ few_lines : (text : List ℕ) → length (lines text) ≤ length text
 few_lines [] = omega arith
 few_lines (b ∷ bs) =
     let behind = few_lines bs in
-    let others = one_of ((b == 13) && begins 10 bs) (lines bs) (with_first b (lines bs)) (length (b ∷ bs)) (omega arith) (omega (arith, with_first_adds b (lines bs))) in
+    let others = one_of ((b == 13) && begins 10 bs) (lines bs) (with_first b (lines bs)) (length (b ∷ bs)) (omega arith)
+        (omega (arith, with_first_adds b (lines bs))) in
     one_of (b == 10) ([] ∷ lines bs) (cond ((b == 13) && begins 10 bs) (lines bs) (with_first b (lines bs))) (length (b ∷ bs)) (omega arith) others
 
-pub few_names : (size : ℕ) (text : List ℕ) (room : Room) (read : Reading) (laid : Layout) → read_lines 1 no_reading (lines text) ≡ Ok read → place_lines room (no_layout size) read.lines ≡ Ok laid → length laid.names ≤ length text
+pub few_names : (size : ℕ) (text : List ℕ) (room : Room) (read : Reading) (laid : Layout) →
+    read_lines 1 no_reading (lines text) ≡ Ok read → place_lines room (no_layout size) read.lines ≡ Ok laid →
+    length laid.names ≤ length text
 unfolding no_reading
 few_names size text room read laid reads places =
     let lines_read : length read.lines ≤ 0 + length (lines text) = rw reads at (read_lines_adds 1 no_reading (lines text)) in

@@ -1,5 +1,6 @@
 -- The fault that three passes tell is the first in the earliest of them.
-use Rattle.std.proofs.Common.{◌≡◌, ℕ, ◌+◌, ℤ, List, [], ◌∷◌, ◌++◌, length, length-append, Option, Result, Ok, Err, refl, sym, ap, ◌∙◌, subst, arith, append_assoc, append-nil}
+use Rattle.std.proofs.Common.{◌≡◌, ℕ, ◌+◌, ℤ, List, [], ◌∷◌, ◌++◌, length, length-append, Option, Result, Ok, Err, refl}
+use Rattle.std.proofs.Common.{sym, ap, ◌∙◌, subst, arith, append_assoc, append-nil}
 use Rattle.std.specs.Prelude.{map, is_some, Bool, true, false, if◌then◌else◌}
 use Rattle.std.proofs.lemmas.List.{map-append, length-map}
 use Rattle.std.specs.Str.{is_utf8}
@@ -62,7 +63,8 @@ read_line-line number s l fault told =
 place-line : (room : Room) (s : Layout) (l : Line) (fault : AsmFault) → place room s l ≡ Err fault → fault.line ≡ l.number
 place-line room s l fault told = unfold place in at_line l.number l.tokens (settle room s l.tokens) _ fault (λ t. no_fault _ fault l.number) told
 
-emit-line : (names : List (List ℕ × ℤ)) (table : List (Option ℕ)) (p : PlacedLine) (fault : AsmFault) → emit names table p ≡ Err fault → fault.line ≡ p.line.number
+emit-line : (names : List (List ℕ × ℤ)) (table : List (Option ℕ)) (p : PlacedLine) (fault : AsmFault) →
+    emit names table p ≡ Err fault → fault.line ≡ p.line.number
 emit-line names table p fault told =
     unfold emit in at_line p.line.number p.line.tokens (line_bytes names p.address p.line.tokens) _ fault (λ bs. no_fault _ fault p.line.number) told
 
@@ -81,7 +83,8 @@ first_unread : (number : ℕ) (s : Reading) (ls : List (List ℕ)) (fault : AsmF
 first_unread number s [] fault told = unfold read_lines in cc
 first_unread number s (l ∷ ls) fault told = by (λ t told. first_unread (number + 1) t ls fault told) (read_line number s l) refl (unfold read_lines in told)
   where
-    by : ((t : Reading) → read_lines (number + 1) t ls ≡ Err fault → FirstUnread (number + 1) t ls fault) → (r : Result Reading AsmFault) → read_line number s l ≡ r →
+    by : ((t : Reading) → read_lines (number + 1) t ls ≡ Err fault → FirstUnread (number + 1) t ls fault) →
+        (r : Result Reading AsmFault) → read_line number s l ≡ r →
         (r >>= λ t. read_lines (number + 1) t ls) ≡ Err fault → FirstUnread number s (l ∷ ls) fault
     by later (Ok t) is told =
         let first = later t told in
@@ -147,7 +150,8 @@ first_unwritten : (names : List (List ℕ × ℤ)) (table : List (Option ℕ)) (
 first_unwritten names table [] fault told = unfold emit_lines in cc
 first_unwritten names table (p ∷ ps) fault told = by (λ t told. first_unwritten names t ps fault told) (emit names table p) refl (unfold emit_lines in told)
   where
-    by : ((t : List (Option ℕ)) → emit_lines names t ps ≡ Err fault → FirstUnwritten names t ps fault) → (r : Result (List (Option ℕ)) AsmFault) → emit names table p ≡ r →
+    by : ((t : List (Option ℕ)) → emit_lines names t ps ≡ Err fault → FirstUnwritten names t ps fault) →
+        (r : Result (List (Option ℕ)) AsmFault) → emit names table p ≡ r →
         (r >>= λ t. emit_lines names t ps) ≡ Err fault → FirstUnwritten names table (p ∷ ps) fault
     by later (Ok t) is told =
         let first = later t told in
@@ -160,7 +164,8 @@ first_unwritten names table (p ∷ ps) fault told = by (λ t told. first_unwritt
           in_order = unfold emit_lines in rw is first.in_order;
           at_fault = first.at_fault;
         }
-    by later (Err own) is told = record { before = []; p = p; behind = ps; given = table; parts = refl; in_order = unfold emit_lines in refl; at_fault = is ∙ told }
+    by later (Err own) is told = record { before = []; p = p; behind = ps; given = table; parts = refl;
+        in_order = unfold emit_lines in refl; at_fault = is ∙ told }
 
 -- ---- lines are numbered from 1
 
@@ -198,7 +203,8 @@ read_line_numbered number s t l is told = by (line_tokens number l) (unfold read
     checked ts (Err own) told = cc
 
     by : (r : Result (List Token) AsmFault)
-        → (r >>= λ ts. in_line number ts (check s.names ts) >>= λ names. Ok (record { names = names; lines = s.lines ++ new ts ∷ [] })) ≡ Ok t → IsNumbered (number + 1) t
+        → (r >>= λ ts. in_line number ts (check s.names ts) >>= λ names. Ok
+            (record { names = names; lines = s.lines ++ new ts ∷ [] })) ≡ Ok t → IsNumbered (number + 1) t
     by (Ok ts) told = checked ts (check s.names ts) told
     by (Err own) told = cc
 

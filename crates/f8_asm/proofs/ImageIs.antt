@@ -1,5 +1,7 @@
 -- The image that three passes give is the image of the text.
-use Rattle.std.proofs.Common.{◌≡◌, ℕ, ◌+◌, ◌<◌, ◌≤◌, ℤ, pos, Bool, true, false, List, [], ◌∷◌, ◌++◌, length, get_or, Option, Some, None, is_some, Result, Ok, Err, refl, sym, ap, ◌∙◌, subst, arith, append_assoc, append-nil}
+use Rattle.std.proofs.Common.{◌≡◌, ℕ, ◌+◌, ◌<◌, ◌≤◌, ℤ, pos, Bool, true, false, List, [], ◌∷◌, ◌++◌, length, get_or}
+use Rattle.std.proofs.Common.{Option, Some, None, is_some, Result, Ok, Err, refl, sym, ap, ◌∙◌, subst, arith}
+use Rattle.std.proofs.Common.{append_assoc, append-nil}
 use Rattle.std.specs.Prelude.{if◌then◌else◌, bytes_eq}
 use Rattle.std.proofs.lemmas.List.{length-replicate, nil_from_length}
 use Rattle.asm_text.specs.Tokens.{tokens_of}
@@ -16,19 +18,22 @@ use Rattle.f8_asm.specs.declared.operands.Statement.{Statement}
 use Rattle.f8_asm.specs.Evaluation.{values}
 use Rattle.f8_asm.specs.Grammar.{column_of}
 use Rattle.f8_asm.specs.Image.{Picture, ascending, bytes_from, image_in, image_of}
-use Rattle.f8_asm.specs.ImageLaw.{Standing, named, IsNew, stated, LineStands, equ, org, filling, LinesStand, no_line, one_line, standing_bytes, byte_at, Apart, IsImage}
+use Rattle.f8_asm.specs.ImageLaw.{Standing, named, IsNew, stated, LineStands, equ, org, filling, LinesStand, no_line}
+use Rattle.f8_asm.specs.ImageLaw.{one_line, standing_bytes, byte_at, Apart, IsImage}
 use Rattle.f8_asm.specs.Judging.{taken, unsigned}
 use Rattle.text_lines.specs.Lines.{lines}
 use Rattle.f8_asm.specs.Marks.{no_marks, marked, is_free}
 use Rattle.f8_asm.specs.Names.{value_of, with_name}
 use Rattle.f8_asm.specs.PassOne.{in_line, tokens_in, line_tokens, statement_checked, check_with, check, Reading, read_line, read_lines, no_reading}
-use Rattle.f8_asm.specs.PassTwo.{Layout, no_layout, is_inside, with_label, moved_to, filled_by as filled_from, fits, settled, settle, with_placed, place, place_lines}
+use Rattle.f8_asm.specs.PassTwo.{Layout, no_layout, is_inside, with_label, moved_to, filled_by as filled_from, fits}
+use Rattle.f8_asm.specs.PassTwo.{settled, settle, with_placed, place, place_lines}
 use Rattle.f8_asm.specs.PassThree.{no_bytes, written, line_bytes, emit, emit_lines}
 use Rattle.f8_asm.specs.Statements.{statement, label_of, unlabelled, effect_of}
 use Rattle.f8_asm.proofs.Alike.{read-ok}
 use Rattle.f8_asm.proofs.StatementsAlike.{filled_by, statement_alike, bytes_of-length}
 use Rattle.f8_asm.proofs.ImageRooms.{in_line-ok, fits-inside, settled-inside, inside-at, blank}
-use Rattle.f8_asm.proofs.ImageBytes.{first, byte_at-append, outside, ascending_at, all_written, Below, all_written_at, free_at, marked-length, marked_keeps, marked_at}
+use Rattle.f8_asm.proofs.ImageBytes.{first, byte_at-append, outside, ascending_at, all_written, Below, all_written_at}
+use Rattle.f8_asm.proofs.ImageBytes.{free_at, marked-length, marked_keeps, marked_at}
 
 -- ---- names
 

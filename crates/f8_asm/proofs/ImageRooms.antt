@@ -1,5 +1,7 @@
 -- The image of a text lies in its room.
-use Rattle.std.proofs.Common.{◌≡◌, ℕ, zero, suc, ◌+◌, ◌<◌, ◌≤◌, ℤ, Bool, true, false, List, [], ◌∷◌, ◌++◌, length, get_or, set, replicate, Option, Some, None, is_some, Result, Ok, Err, refl, sym, ap, ◌∙◌, subst, arith, inl, inr}
+use Rattle.std.proofs.Common.{◌≡◌, ℕ, zero, suc, ◌+◌, ◌<◌, ◌≤◌, ℤ, Bool, true, false, List, [], ◌∷◌, ◌++◌, length}
+use Rattle.std.proofs.Common.{get_or, set, replicate, Option, Some, None, is_some, Result, Ok, Err, refl, sym, ap, ◌∙◌}
+use Rattle.std.proofs.Common.{subst, arith, inl, inr}
 use Rattle.std.specs.Prelude.{All, ◌==◌, nat_le, pos, if◌then◌else◌}
 use Rattle.std.proofs.lemmas.Bool.{cases_eq, and_parts, leb-true}
 use Rattle.std.proofs.lemmas.Bool.Decides.{nat_tests}
@@ -52,7 +54,8 @@ both-fit false free e f x h = cc h
 pub fits-inside : (room : Room) (column : Option ℕ) (size : ℕ) (s : Layout) → fits room column size s ≡ Ok tt → is_inside room s.here size ≡ true
 fits-inside room column size s h = both-fit (is_inside room s.here size) (is_free s.filled s.here size) _ _ tt h
 
-pub settled-inside : (room : Room) (label : Option (List ℕ)) (column : Option ℕ) (s t : Layout) (effect : Effect) → settled room label column s effect ≡ Ok t → Settled room s t effect
+pub settled-inside : (room : Room) (label : Option (List ℕ)) (column : Option ℕ) (s t : Layout) (effect : Effect) →
+    settled room label column s effect ≡ Ok t → Settled room s t effect
 settled-inside room label column s t (Names o) h =
     read-ok (Settled room s t (Names o)) (taken o) _ t h (λ v at_v h.
     let e : with_label label v s ≡ t = cc h in
@@ -83,7 +86,8 @@ place-placed room s l t h so_far =
     subst (λ (ps : List PlacedLine). All (IsPlaced room) ps) placed
     (All-push (IsPlaced room) u.placed p (subst (λ (ps : List PlacedLine). All (IsPlaced room) ps) (sym did.placed) so_far) one)))
 
-all-placed : (room : Room) (s : Layout) (ls : List Line) (t : Layout) → place_lines room s ls ≡ Ok t → All (IsPlaced room) s.placed → All (IsPlaced room) t.placed
+all-placed : (room : Room) (s : Layout) (ls : List Line) (t : Layout) → place_lines room s ls ≡ Ok t →
+    All (IsPlaced room) s.placed → All (IsPlaced room) t.placed
 unfolding place_lines
 all-placed room s [] t h so_far =
     let e : s ≡ t = cc h in
@@ -122,7 +126,8 @@ inside-at room here size k inside below =
     let end = leb-true (here + size) (room.last + 1) both.1 in
     (omega (arith, above), omega (arith, end))
 
-emit-in : (room : Room) (names : List (List ℕ × ℤ)) (table : List (Option ℕ)) (p : PlacedLine) (t : List (Option ℕ)) → emit names table p ≡ Ok t → IsPlaced room p
+emit-in : (room : Room) (names : List (List ℕ × ℤ)) (table : List (Option ℕ)) (p : PlacedLine) (t : List (Option ℕ)) →
+    emit names table p ≡ Ok t → IsPlaced room p
     → InRoom room table → InRoom room t
 unfolding emit line_bytes
 emit-in room names table p t h placed is =
@@ -159,7 +164,8 @@ none-in room n = record { at = λ i b h. let nothing = blank n i in cc (nothing,
 
 -- ---- the bytes of the image
 
-ascending-in : (room : Room) (place : ℕ) (table : List (Option ℕ)) → ((i b : ℕ) → get_or table i None ≡ Some b → (room.first ≤ place + i) × (place + i ≤ room.last))
+ascending-in : (room : Room) (place : ℕ) (table : List (Option ℕ)) →
+    ((i b : ℕ) → get_or table i None ≡ Some b → (room.first ≤ place + i) × (place + i ≤ room.last))
     → LiesIn room (ascending place table)
 ascending-in room place [] inside = All-nil (λ (b : ℕ × ℕ). (room.first ≤ b.0) × (b.0 ≤ room.last))
 ascending-in room place (None ∷ table) inside =
@@ -174,12 +180,16 @@ ascending-in room place (Some b ∷ table) inside =
 ascending-from : (place low : ℕ) (table : List (Option ℕ)) → low < place → All (λ b. low < b.0) (ascending place table)
 ascending-from place low [] under = All-nil (λ (b : ℕ × ℕ). low < b.0)
 ascending-from place low (None ∷ table) under = ascending-from (place + 1) low table (omega arith)
-ascending-from place low (Some b ∷ table) under = All-cons (λ (b : ℕ × ℕ). low < b.0) (place, b) (ascending (place + 1) table) under (ascending-from (place + 1) low table (omega arith))
+ascending-from place low (Some b ∷ table) under =
+    All-cons (λ (b : ℕ × ℕ). low < b.0) (place, b) (ascending (place + 1) table) under
+    (ascending-from (place + 1) low table (omega arith))
 
 pub ascending_ascends : (place : ℕ) (table : List (Option ℕ)) → Ascends (ascending place table)
 ascending_ascends place [] = λ i j d lower within. absurd (omega arith)
 ascending_ascends place (None ∷ table) = ascending_ascends (place + 1) table
-ascending_ascends place (Some b ∷ table) = AllPairs-cons (λ (b c : ℕ × ℕ). b.0 < c.0) (place, b) (ascending (place + 1) table) (ascending-from (place + 1) place table (omega arith)) (ascending_ascends (place + 1) table)
+ascending_ascends place (Some b ∷ table) =
+    AllPairs-cons (λ (b c : ℕ × ℕ). b.0 < c.0) (place, b) (ascending (place + 1) table)
+    (ascending-from (place + 1) place table (omega arith)) (ascending_ascends (place + 1) table)
 
 -- what the passes give is the image
 pub image_whole : (text : List ℕ) (room : Room) (read : Reading) (laid : Layout) (table : List (Option ℕ)) → read_lines 1 no_reading (lines text) ≡ Ok read

@@ -26,7 +26,9 @@ use Rattle.f8_asm.specs.Grammar.{chain, level, parenthesised, opened, operand_of
 use Rattle.f8_asm.specs.Listing.{pair_text, gap_of, front_of, op_piece}
 use Rattle.f8_asm.specs.Registers.{same_word, one_letter_register, two_letter_register, register_of, pair_op}
 use Rattle.f8_asm.specs.Statements.{items, operands, statement, label_of, effect_of}
-use Rattle.f8_asm.specs.Words.{two_letter_op_a_to_b, two_letter_op_c_to_l, two_letter_op_n_to_x, two_letter_op, three_letter_op_a_to_c, three_letter_op_d_to_x, three_letter_op, two_letter_shape, longer_shape, op_of, shape_of, is_reserved}
+use Rattle.f8_asm.specs.Words.{two_letter_op_a_to_b, two_letter_op_c_to_l, two_letter_op_n_to_x, two_letter_op}
+use Rattle.f8_asm.specs.Words.{three_letter_op_a_to_c, three_letter_op_d_to_x, three_letter_op, two_letter_shape}
+use Rattle.f8_asm.specs.Words.{longer_shape, op_of, shape_of, is_reserved}
 use Rattle.f8_asm.proofs.ListedLines.{head_text, line_of, Says}
 
 -- the tokens and the statement of a line that has them
@@ -38,7 +40,11 @@ statement_in ts = elim (statement (values [] 0) false ts) [ Ok st ↦ st | Err f
 
 -- what lines and statements are made of is open under `unfolding all_open`, and under `numbers_open` numbers too
 unfoldable pub all_open : Unit {0}
-unfolding values_below tokens_at lexeme name_lexeme name_of statement label_of operands items chain level parenthesised opened operand_of operand expression same_word one_letter_register two_letter_register register_of pair_op two_letter_op_a_to_b two_letter_op_c_to_l two_letter_op_n_to_x two_letter_op three_letter_op_a_to_c three_letter_op_d_to_x three_letter_op two_letter_shape longer_shape op_of shape_of is_reserved list_bytes mnemonic_of pair_text gap_of front_of decoded
+unfolding values_below tokens_at lexeme name_lexeme name_of statement label_of operands items chain level parenthesised
+    opened operand_of operand expression same_word one_letter_register two_letter_register register_of pair_op
+    two_letter_op_a_to_b two_letter_op_c_to_l two_letter_op_n_to_x two_letter_op three_letter_op_a_to_c
+    three_letter_op_d_to_x three_letter_op two_letter_shape longer_shape op_of shape_of is_reserved list_bytes
+    mnemonic_of pair_text gap_of front_of decoded
 all_open = tt
 
 unfoldable pub numbers_open : Unit {0}
@@ -55,7 +61,8 @@ record Computes (line : ℕ → List ℕ) (ts : ℕ → List Token) (front : ℕ
   fills : values_below (λ k. effect_of (statement_in (ts k))) n ≡ values_below (λ k. Fills (length (front k))) n
   coded : values_below (λ k. bytes_of at (statement_in (ts k))) n ≡ values_below (λ k. Ok (front k)) n
 
-says_below : {line : ℕ → List ℕ} {ts : ℕ → List Token} {front : ℕ → List ℕ} {n at : ℕ} → Computes line ts front n at → (k : ℕ) → k < n → Says at (line k) (front k)
+says_below : {line : ℕ → List ℕ} {ts : ℕ → List Token} {front : ℕ → List ℕ} {n at : ℕ} → Computes line ts front n at →
+    (k : ℕ) → k < n → Says at (line k) (front k)
 says_below {line} {ts} {front} {n} {at} all k below =
     let short = same_below (λ k. nat_lt (length (line k)) (8 * length (front k))) (λ k. true) n k all.short below in
     record {
@@ -106,7 +113,9 @@ hex2_printable b h = rw (hex_digit_printable (b / 16) (omega arith), hex_digit_p
 
 hex4_printable : (w : ℕ) → w < 65536 → list_all is_printable (hex4 w) ≡ true
 unfolding hex4 hex2
-hex4_printable w h = rw (hex_digit_printable (w / 256 / 16) (omega arith), hex_digit_printable (w / 256 % 16) (omega arith), hex_digit_printable (w % 256 / 16) (omega arith), hex_digit_printable (w % 256 % 16) (omega arith)) refl
+hex4_printable w h = rw (hex_digit_printable (w / 256 / 16) (omega arith),
+    hex_digit_printable (w / 256 % 16) (omega arith), hex_digit_printable (w % 256 / 16) (omega arith),
+    hex_digit_printable (w % 256 % 16) (omega arith)) refl
 
 -- a byte and a word fit
 octet_byte : (b : ℕ) → b < 256 → octet 255 (pos b) ≡ Some b
@@ -129,7 +138,9 @@ found None = Nop
 
 -- a number of so many hex digits behind a `$` at the end of an instruction
 abbrev with_number : Op → ℕ → ℕ → List Token
-with_number what n digits = tokens_in (head_text what) ++ (record { column = length (head_text what) + 1; end = length (head_text what) + 2 + digits; kind = kind.Number n }) ∷ []
+with_number what n digits = tokens_in (head_text what)
+    ++ (record { column = length (head_text what) + 1; end = length (head_text what) + 2 + digits;
+    kind = kind.Number n }) ∷ []
 
 -- instructions with a byte
 module _ (c : ℕ) (is_byte : c < 256) where

@@ -1,5 +1,6 @@
 -- The statements of bytes list them.
-use Rattle.std.proofs.Common.{◌≡◌, ℕ, zero, suc, ◌+◌, ◌-◌, ◌<◌, ◌≤◌, Bool, true, false, cond, List, [], ◌∷◌, length, drop, Option, Some, None, refl, ap, ◌∙◌, subst, arith, add-zero}
+use Rattle.std.proofs.Common.{◌≡◌, ℕ, zero, suc, ◌+◌, ◌-◌, ◌<◌, ◌≤◌, Bool, true, false, cond, List, [], ◌∷◌, length}
+use Rattle.std.proofs.Common.{drop, Option, Some, None, refl, ap, ◌∙◌, subst, arith, add-zero}
 use Rattle.std.specs.Prelude.{nat_lt, nat_le}
 use Rattle.std.proofs.lemmas.Bool.Decides.{nat_tests}
 use Rattle.f8_spec.specs.Instructions.{decoded, row_of, row_length, length_of}
@@ -11,7 +12,9 @@ use Rattle.f8_asm.specs.declared.pieces.Tail.{Tail}
 use Rattle.f8_asm.specs.declared.pieces.Tail.TheVariants as tail
 use Rattle.f8_asm.specs.declared.spelling.Entry.{Entry}
 use Rattle.f8_asm.specs.Listing.{target, data_piece, byte_piece, reaching, place_piece, word_piece, tail_piece, tail_of, op_piece, piece, entries, listing}
-use Rattle.f8_asm.specs.ListingLaw.{is_branch_row, is_branch, LeadsTo, IsListing, nothing_left, instruction_alone, instruction_with_byte, instruction_with_word, branch, branch_astray, reserved, cut_instruction, IsListingText}
+use Rattle.f8_asm.specs.ListingLaw.{is_branch_row, is_branch, LeadsTo, IsListing, nothing_left, instruction_alone}
+use Rattle.f8_asm.specs.ListingLaw.{instruction_with_byte, instruction_with_word, branch, branch_astray, reserved}
+use Rattle.f8_asm.specs.ListingLaw.{cut_instruction, IsListingText}
 use Rattle.f8_asm.proofs.ListedPieces.{AreBytes}
 
 -- ---- what stands behind an opcode

@@ -1,5 +1,6 @@
 -- How many bytes a statement fills doesn't hang on the values of names.
-use Rattle.std.proofs.Common.{◌≡◌, ℕ, zero, suc, ◌*◌, List, [], ◌∷◌, ◌++◌, length, drop, Bool, Option, Some, None, Result, Ok, refl, sym, ap, ◌∙◌, arith, length-append}
+use Rattle.std.proofs.Common.{◌≡◌, ℕ, zero, suc, ◌*◌, List, [], ◌∷◌, ◌++◌, length, drop, Bool, Option, Some, None}
+use Rattle.std.proofs.Common.{Result, Ok, refl, sym, ap, ◌∙◌, arith, length-append}
 use Rattle.std.specs.Prelude.{not, ◌&&◌}
 use Rattle.asm_text.specs.declared.answers.Token.{Token}
 use Rattle.asm_text.specs.declared.answers.TokenKind.{TokenKind}
@@ -26,7 +27,10 @@ use Rattle.f8_asm.specs.Fields.{op_with}
 use Rattle.f8_asm.specs.Grammar.{Actions}
 use Rattle.f8_asm.specs.Judging.{unsigned, byte, displacement, with_field}
 use Rattle.f8_asm.specs.Registers.{is_accumulator}
-use Rattle.f8_asm.specs.Statements.{operand_at, comma, done, coded, one, two, register_operand, numbered_at, register_at, accumulator, load_from, load, item_before, items, item_list, operands, wants_label, statement_of, statement_in, statement, single_effect, item_size, effect_of}
+use Rattle.f8_asm.specs.Statements.{operand_at, comma, done, coded, one, two, register_operand, numbered_at}
+use Rattle.f8_asm.specs.Statements.{register_at, accumulator, load_from, load, item_before, items, item_list, operands}
+use Rattle.f8_asm.specs.Statements.{wants_label, statement_of, statement_in, statement, single_effect, item_size}
+use Rattle.f8_asm.specs.Statements.{effect_of}
 use Rattle.f8_asm.specs.Words.{shape_of}
 use Rattle.f8_spec.specs.Instructions.{encoded}
 use Rattle.f8_asm.proofs.Alike.{Alike, alike_ok, alike_err, alike_self, alike_then, alike_if, read-ok}
@@ -96,7 +100,8 @@ module _ (a b : Actions Outcome) where
   abbrev SameLength : List Operand → List Operand → Type 0
   SameLength os others = length os ≡ length others
 
-  before_alike : (f g : List Token → Result (List Operand) LineFault) (o other : Operand) (ts : List Token) → ((us : List Token) → Alike SameLength (f us) (g us))
+  before_alike : (f g : List Token → Result (List Operand) LineFault) (o other : Operand) (ts : List Token) →
+      ((us : List Token) → Alike SameLength (f us) (g us))
       → Alike SameLength (item_before f o ts) (item_before g other ts)
   before_alike f g o other [] each = alike_ok refl
   before_alike f g o other (t ∷ ts) each =
@@ -144,7 +149,8 @@ bytes-read : {A : Type 0} (r : Result A LineFault) (f : A → List ℕ) (n : ℕ
 bytes-read r f n bs h size =
     read-ok (length bs ≡ n) r (λ x. Ok (f x)) bs h (λ x at_x e. let same : f x ≡ bs = cc e in sym (ap length same) ∙ size x)
 
-single_bytes-length : (address : ℕ) (what : Single) (o : Operand) (bs : List ℕ) → single_bytes address what o ≡ Ok bs → length bs ≡ filled_by (single_effect what o)
+single_bytes-length : (address : ℕ) (what : Single) (o : Operand) (bs : List ℕ) → single_bytes address what o ≡ Ok bs →
+    length bs ≡ filled_by (single_effect what o)
 single_bytes-length address (single.Byte code) o bs h = bytes-read (byte o) (λ b. code ∷ b ∷ []) 2 bs h (λ b. refl)
 single_bytes-length address (single.Port code) o bs h = bytes-read (unsigned 255 o) (λ b. code ∷ b ∷ []) 2 bs h (λ b. refl)
 single_bytes-length address (single.Word code) o bs h = bytes-read (unsigned 65535 o) (λ w. code ∷ word_bytes w) 3 bs h (λ w. refl)

@@ -1,5 +1,6 @@
 -- The first pass: the tokens of each line, whether they make a statement, and whether a name is given twice.
-use Rattle.std.specs.Prelude.{ℕ, ℤ, pos, ◌+◌, ◌-◌, Bool, true, false, List, [], ◌∷◌, ◌++◌, length, slice_get, Option, Some, None, is_some, Result, Ok, Err, if◌then◌else◌}
+use Rattle.std.specs.Prelude.{ℕ, ℤ, pos, ◌+◌, ◌-◌, Bool, true, false, List, [], ◌∷◌, ◌++◌, length, slice_get, Option}
+use Rattle.std.specs.Prelude.{Some, None, is_some, Result, Ok, Err, if◌then◌else◌}
 use Rattle.std.specs.Str.{is_utf8}
 use Rattle.asm_text.specs.Tokens.{tokens_of}
 use Rattle.asm_text.specs.declared.answers.Token.{Token}
@@ -81,7 +82,8 @@ pub record Reading : Type 0 where
 
 unfoldable pub read_line : ℕ → Reading → List ℕ → Result Reading AsmFault
 read_line number s bytes =
-    line_tokens number bytes >>= λ ts. in_line number ts (check s.names ts) >>= λ names. Ok (record { names = names; lines = s.lines ++ (record { number = number; tokens = ts }) ∷ [] })
+    line_tokens number bytes >>= λ ts. in_line number ts (check s.names ts) >>= λ names. Ok
+        (record { names = names; lines = s.lines ++ (record { number = number; tokens = ts }) ∷ [] })
 
 -- lines from this number on
 unfoldable pub read_lines : ℕ → Reading → List (List ℕ) → Result Reading AsmFault

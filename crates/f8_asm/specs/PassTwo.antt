@@ -60,7 +60,8 @@ settled room label column s (Fills size) = fits room column size s >>= λ _. Ok 
 
 -- the tokens of a line
 unfoldable pub settle : Room → Layout → List Token → Result Layout LineFault
-settle room s ts = statement (values s.names s.here) (is_some (label_of ts)) (unlabelled ts) >>= λ st. settled room (label_of ts) (column_of (unlabelled ts)) s (effect_of st)
+settle room s ts = statement (values s.names s.here) (is_some (label_of ts)) (unlabelled ts) >>= λ st. settled room
+    (label_of ts) (column_of (unlabelled ts)) s (effect_of st)
 
 abbrev pub with_placed : PlacedLine → Layout → Layout
 with_placed p s = record { here = s.here; names = s.names; filled = s.filled; placed = s.placed ++ p ∷ [] }

@@ -87,7 +87,8 @@ fn closed(value: Outcome, tokens: &[Token]) -> Read<'_>
 #[cycle(expression)]
 #[tactic(auto, unfolding(crate::specs::Grammar::parenthesised))]
 fn parenthesised<'a>(scope: &Scope, depth: u32, tokens: &'a [Token]) -> Read<'a>
-    ensures value { let acts = values scope.now.symbols.now scope.now.address in seen result ≡ parenthesised acts (operand acts depth) tokens.now }
+    ensures value { let acts = values scope.now.symbols.now scope.now.address in
+        seen result ≡ parenthesised acts (operand acts depth) tokens.now }
     ensures consumes { ReadsSome (length tokens.now) result }
 {
     let (value, rest) = level(scope, depth, WEAKEST, tokens)?;
@@ -98,7 +99,8 @@ fn parenthesised<'a>(scope: &Scope, depth: u32, tokens: &'a [Token]) -> Read<'a>
 #[cycle(expression)]
 #[tactic(auto, unfolding(crate::specs::Grammar::opened))]
 fn opened<'a>(scope: &Scope, depth: u32, column: u32, mark: u8, tokens: &'a [Token]) -> Read<'a>
-    ensures value { let acts = values scope.now.symbols.now scope.now.address in seen result ≡ opened acts (deeper acts depth) column mark tokens.now }
+    ensures value { let acts = values scope.now.symbols.now scope.now.address in
+        seen result ≡ opened acts (deeper acts depth) column mark tokens.now }
     ensures consumes { ReadsSome (length tokens.now + 1) result }
 {
     if mark == b'.' {
@@ -119,7 +121,8 @@ fn opened<'a>(scope: &Scope, depth: u32, column: u32, mark: u8, tokens: &'a [Tok
 /// An operand behind a prefix.
 #[cycle(expression)]
 fn behind_prefix<'a>(scope: &Scope, depth: u32, prefix: Prefix, tokens: &'a [Token]) -> Read<'a>
-    ensures value { let acts = values scope.now.symbols.now scope.now.address in seen result ≡ behind_prefix acts prefix (operand acts depth) tokens.now }
+    ensures value { let acts = values scope.now.symbols.now scope.now.address in
+        seen result ≡ behind_prefix acts prefix (operand acts depth) tokens.now }
     ensures consumes { ReadsSome (length tokens.now) result }
 {
     let (value, rest) = operand(scope, depth, tokens)?;
@@ -130,7 +133,8 @@ fn behind_prefix<'a>(scope: &Scope, depth: u32, prefix: Prefix, tokens: &'a [Tok
 #[cycle(expression)]
 #[tactic(auto, unfolding(crate::specs::Grammar::operand, crate::specs::Grammar::operand_of))]
 fn operand<'a>(scope: &Scope, depth: u32, tokens: &'a [Token]) -> Read<'a>
-    ensures value { let acts = values scope.now.symbols.now scope.now.address in seen result ≡ operand acts depth tokens.now }
+    ensures value { let acts = values scope.now.symbols.now scope.now.address in
+        seen result ≡ operand acts depth tokens.now }
     ensures consumes { ReadsSome (length tokens.now) result }
 {
     let Some((first, behind)) = tokens.split_first() else {
@@ -151,7 +155,8 @@ fn operand<'a>(scope: &Scope, depth: u32, tokens: &'a [Token]) -> Read<'a>
 #[tactic(auto, unfolding(crate::specs::Grammar::level))]
 fn level<'a>(scope: &Scope, depth: u32, strength: u8, tokens: &'a [Token]) -> Read<'a>
     requires { strength ≤ 4 }
-    ensures value { let acts = values scope.now.symbols.now scope.now.address in seen result ≡ level acts (operand acts depth) strength tokens.now }
+    ensures value { let acts = values scope.now.symbols.now scope.now.address in
+        seen result ≡ level acts (operand acts depth) strength tokens.now }
     ensures consumes { ReadsSome (length tokens.now) result }
 {
     if strength == 0 {
@@ -173,7 +178,8 @@ fn level<'a>(scope: &Scope, depth: u32, strength: u8, tokens: &'a [Token]) -> Re
 /// that fits nothing.
 #[tactic(auto, unfolding(crate::specs::Grammar::expression))]
 pub fn expression<'a>(scope: &Scope, tokens: &'a [Token]) -> Read<'a>
-    ensures value { let acts = values scope.now.symbols.now scope.now.address in seen result ≡ expression acts tokens.now }
+    ensures value { let acts = values scope.now.symbols.now scope.now.address in
+        seen result ≡ expression acts tokens.now }
     ensures consumes { ReadsSome (length tokens.now) result }
 {
     level(scope, DEPTH, WEAKEST, tokens)

@@ -62,7 +62,8 @@ impl Layout {
 
     /// Gives a label's name its value.
     fn name(&mut self, alloc: Global, label: Option<&Name>, value: i64) -> Result<(), AllocError>
-        ensures value { OnOk result (self.new ≡ with_label (option_copied label.entry) value self.old) }
+        ensures value { OnOk result (self.new
+            ≡ with_label (option_copied label.entry) value self.old) }
         ensures here { self.new.here ≡ self.old.here }
     {
         match label {
@@ -109,7 +110,8 @@ impl Layout {
         column: Option<u32>,
         effect: Effect,
     ) -> Result<(), LineStop>
-        ensures { StepsOfLine result self.new (settled room (option_copied label.entry) column self.old effect) }
+        ensures { StepsOfLine result self.new
+            (settled room (option_copied label.entry) column self.old effect) }
     {
         match effect {
             Effect::Names(operand) => {

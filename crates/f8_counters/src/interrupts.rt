@@ -21,7 +21,8 @@ pub struct Interrupts {
 impl Interrupts {
     /// As at power-on: control 00, the timer at FF, and no request. `wired` says that the chip can interrupt.
     pub fn new(wired: bool) -> Interrupts
-        ensures { result ≡ record { control = 0; timer = 255; phase = 0; wired = wired; request = false } }
+        ensures { result ≡ record { control = 0; timer = 255; phase = 0; wired = wired;
+            request = false } }
     {
         Interrupts {
             control: 0,
@@ -34,7 +35,8 @@ impl Interrupts {
 
     /// Power-on, which leaves the wiring.
     pub fn power(&mut self)
-        ensures { self.new ≡ record { control = 0; timer = 255; phase = 0; wired = self.old.wired; request = false } }
+        ensures { self.new ≡ record { control = 0; timer = 255; phase = 0; wired = self.old.wired;
+            request = false } }
     {
         *self = Interrupts::new(self.wired);
     }
@@ -60,7 +62,8 @@ impl Interrupts {
     /// An external pulse: a request is latched where the low two bits of control are 1, and else nothing changes.
     #[inline]
     pub fn pulse(&mut self)
-        ensures { self.new ≡ (if self.old.control % 4 == 1 then record self.old { request = true } else self.old) }
+        ensures { self.new ≡ (if self.old.control %
+            4 == 1 then record self.old { request = true } else self.old) }
     {
         if self.control % 4 == 1 {
             self.request = true;
@@ -86,7 +89,8 @@ impl Interrupts {
     /// The vector given for a request: bit 7 of its low byte is clear for the timer, and set for a pulse.
     #[inline]
     pub fn given_vector(&self, vector: u16) -> u16
-        ensures { result ≡ vector / 256 * 256 + (if self.now.control % 4 == 3 then 0 else 128) + vector % 128 }
+        ensures { result ≡ vector / 256 * 256 + (if self.now.control % 4 == 3 then 0 else 128)
+            + vector % 128 }
     {
         let source = if self.control % 4 == 3 { 0 } else { 128 };
         vector / 256 * 256 + source + vector % 128

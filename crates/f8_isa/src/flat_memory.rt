@@ -56,7 +56,10 @@ impl FlatMemory {
     /// A byte stored at an address, which is lost where it is no RAM.
     #[inline]
     pub fn store(&mut self, at: u16, byte: u8)
-        ensures { self.new ≡ record self.old { bytes = stored_in self.old.ram_pages at byte self.old.bytes } }
+        ensures { self.new ≡ record self.old {
+          bytes = stored_in self.old.ram_pages at byte
+              self.old.bytes;
+        } }
     {
         if self.ram_pages[usize::from(at / 256)] {
             self.bytes[usize::from(at)] = byte;

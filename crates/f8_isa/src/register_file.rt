@@ -272,7 +272,8 @@ impl RegisterFile {
 
     #[inline]
     fn load(&mut self, field: u8)
-        ensures { self.new ≡ with_isar_stepped field (record self.old { accumulator = field_byte field self.old }) }
+        ensures { self.new ≡ with_isar_stepped field
+            (record self.old { accumulator = field_byte field self.old }) }
     {
         self.accumulator = self.field(field);
         self.step_isar(field);
@@ -280,7 +281,8 @@ impl RegisterFile {
 
     #[inline]
     fn store(&mut self, field: u8)
-        ensures { self.new ≡ with_isar_stepped field (with_scratch (register_of field self.old) self.old.accumulator self.old) }
+        ensures { self.new ≡ with_isar_stepped field
+            (with_scratch (register_of field self.old) self.old.accumulator self.old) }
     {
         self.set_register(self.named_by(field), self.accumulator);
         self.step_isar(field);
@@ -288,7 +290,8 @@ impl RegisterFile {
 
     #[inline]
     fn add_field(&mut self, field: u8)
-        ensures { self.new ≡ with_isar_stepped field (with_sum (field_byte field self.old) false self.old) }
+        ensures { self.new ≡ with_isar_stepped field
+            (with_sum (field_byte field self.old) false self.old) }
     {
         self.add(self.field(field), false);
         self.step_isar(field);
@@ -296,7 +299,8 @@ impl RegisterFile {
 
     #[inline]
     fn add_decimal_field(&mut self, field: u8)
-        ensures { self.new ≡ with_isar_stepped field (with_decimal_sum (field_byte field self.old) self.old) }
+        ensures { self.new ≡ with_isar_stepped field
+            (with_decimal_sum (field_byte field self.old) self.old) }
     {
         self.add_decimal(self.field(field));
         self.step_isar(field);
@@ -304,7 +308,8 @@ impl RegisterFile {
 
     #[inline]
     fn xor_field(&mut self, field: u8)
-        ensures { self.new ≡ with_isar_stepped field (with_result (bit_xor self.old.accumulator (field_byte field self.old)) self.old) }
+        ensures { self.new ≡ with_isar_stepped field
+            (with_result (bit_xor self.old.accumulator (field_byte field self.old)) self.old) }
     {
         self.set_result(self.accumulator ^ self.field(field));
         self.step_isar(field);
@@ -312,7 +317,8 @@ impl RegisterFile {
 
     #[inline]
     fn and_field(&mut self, field: u8)
-        ensures { self.new ≡ with_isar_stepped field (with_result (bit_and self.old.accumulator (field_byte field self.old)) self.old) }
+        ensures { self.new ≡ with_isar_stepped field
+            (with_result (bit_and self.old.accumulator (field_byte field self.old)) self.old) }
     {
         self.set_result(self.accumulator & self.field(field));
         self.step_isar(field);
@@ -320,7 +326,15 @@ impl RegisterFile {
 
     #[inline]
     fn set_flags(&mut self, sum: Sum)
-        ensures { self.new ≡ record self.old { status = record self.old.status { sign = is_positive sum.value; carry = sum.carry; zero = is_zero sum.value; overflow = sum.overflow } } }
+        ensures { self.new ≡ record self.old {
+          status = record self.old.status {
+            sign = is_positive
+                sum.value;
+            carry = sum.carry;
+            zero = is_zero sum.value;
+            overflow = sum.overflow;
+          };
+        } }
     {
         self.status = Flags {
             sign: sum.value < 0x80,

@@ -186,6 +186,7 @@ module _ (m : MachineState) (states news : List ChipState) (op : Op) (x : Positi
             own = own_done op x m.cpu cpu r.stands.own r.stands.free carried.processor;
             flow = same_flow;
             phi = same_clocks;
+            chain = r.stands.chain;
             reference = carried.reference;
             copies = carried.copies;
             flat = carried.flat;

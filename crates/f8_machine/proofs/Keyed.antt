@@ -173,6 +173,7 @@ module _ (now : Flow → Count) (m : MachineState) (olds news : List ChipState) 
         own = ap (with_own_key port byte) stands.own ∙ sym (own_ports-with_key port byte x.flat.state two);
         flow = stands.flow;
         phi = stands.phi;
+        chain = stands.chain;
         reference = stands.reference;
         copies = subst (λ (ws : List ChipView). AreCopies (λ second c. now c) m.probe.last x.copies ws) (sym vs) stands.copies;
         flat = subst (λ (ws : List ChipView). HoldsFlat x.flat.memory ws) (sym vs) stands.flat;
@@ -191,6 +192,7 @@ module _ (now : Flow → Count) (m : MachineState) (olds news : List ChipState) 
         own = stands.own ∙ sym (own_ports_other port byte x.flat.state two other);
         flow = stands.flow;
         phi = stands.phi;
+        chain = stands.chain;
         reference = stands.reference;
         copies = subst (λ (ws : List ChipView). AreCopies (λ second c. now c) m.probe.last x.copies ws) (sym vs) (copies_keyed (λ second c. now c) m.probe.last port byte x.copies (views olds) stands.copies);
         flat = subst (λ (ws : List ChipView). HoldsFlat x.flat.memory ws) (sym vs) (flat_keyed x.flat.memory port byte (views olds) stands.flat);

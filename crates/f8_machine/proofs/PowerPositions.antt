@@ -82,7 +82,7 @@ powered_ports fill vs place w port latch lies found once =
     }
 
 pub powers_pair : (fill : ℕ) (chain : List ℕ) (olds news : List ChipState) → fill < 256 → AreWhole olds → LeaveOwnPorts (map seat_of (views olds)) → RackPowers fill olds news →
-    IsPowered (powered_machine fill chain) news (power_position (views olds) fill)
+    IsPowered (powered_machine fill chain) news (power_position (views olds) chain fill)
 powers_pair fill chain olds news small whole free powers =
     let vs = views olds in
     let filled : (k : ℕ) (v : ChipView) → slice_get vs k ≡ Some v → IsFilled v = λ k v lies. (view_whole olds whole k v lies).filled in
@@ -93,12 +93,13 @@ powers_pair fill chain olds news small whole free powers =
         own = refl;
         flow = refl;
         phi = refl;
+        chain = refl;
         reference = refl;
         copies = subst (λ ws. AreCopies (λ second c. unreset c) 0 (map (reset_copy fill) (enumerate_from 0 (map seat_of vs))) ws) (sym same) (copies_powered fill 0 vs filled);
         ports = subst (λ (ws : List ChipView). HoldsPorts (replicate 256 0) [] ws) (sym same) (powered_ports fill vs);
         keys = refl;
         free = subst LeaveOwnPorts (sym (seats_reset fill 0 (map seat_of vs))) free;
-        flat = subst (λ ws. HoldsFlat (power_position vs fill).flat.memory ws) (sym same) (first_flat fill vs filled);
+        flat = subst (λ ws. HoldsFlat (power_position vs chain fill).flat.memory ws) (sym same) (first_flat fill vs filled);
         memory = record {
           whole = length-first_memory vs fill;
           bytes = first_bytes vs fill small (λ k v lies i. (view_whole olds whole k v lies).bytes i);

@@ -53,6 +53,7 @@ reset_done_of m states news x opcode probe cpu flow steps p is holds moved =
           own = ap (λ (k : CpuState). k.ports) holds ∙ p.stands.own;
           flow = moved ∙ ap unfetched reference ∙ unfetched-fetched c p.stands.addresses;
           phi = ap (λ (n : ℕ). n + 14) p.stands.phi;
+          chain = p.stands.chain;
           reference = reference;
           copies = copies_at_zero probe.last x.copies (views news) p.copies_at_zero is.copies;
           flat = is.flat;

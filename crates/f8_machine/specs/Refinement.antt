@@ -44,6 +44,7 @@ pub record Stands (now : Flow → Count) (m : MachineState) (states : List ChipS
   pub own : m.cpu.ports ≡ own_ports x.flat.state
   pub flow : m.flow ≡ x.flat.state.flow
   pub phi : m.phi ≡ x.flat.state.phi
+  pub chain : m.chain ≡ x.chain
   pub reference : m.probe.count ≡ now x.flat.state.flow
   pub copies : AreCopies (λ second c. now c) m.probe.last x.copies (views states)
   pub flat : HoldsFlat x.flat.memory (views states)

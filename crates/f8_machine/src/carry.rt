@@ -10,7 +10,7 @@ ghost use Rattle.f8_machine.specs.Rounds.{RackRuns};
 use super::bus_step::bus_step;
 use super::mode::Halt;
 use super::record::Record;
-use chip_face::Chip;
+use chip_face::{Chip, MOST_CHIPS};
 use cpu3850::{Cpu, Step};
 use data_bus::{BusFault, Rack};
 use probe::Probe;
@@ -43,7 +43,7 @@ pub(crate) fn carry_out(
     plan: &[Step],
     steps: &mut Record,
 ) -> Result<(), Unserved>
-    requires few { length rack.old.items ≤ 16 }
+    requires few { length rack.old.items ≤ MOST_CHIPS }
     requires plan { plan.now ≡ planned cpu.old }
     requires short { length plan.now ≤ 5 }
     requires none { steps.old ≡ [] }

@@ -1,9 +1,11 @@
-ghost use Rattle.std.specs.Prelude.{◌≡◌, ◌<◌, ◌≤◌, ◌++◌, [], ◌∷◌, length};
+//! The chips described, by the sockets in which they stand.
+ghost use Rattle.std.specs.Prelude.{◌≡◌, ◌≢◌, ◌<◌, ◌≤◌, ◌==◌, false, ◌++◌, [], ◌∷◌, length, AllPairs};
+ghost use Rattle.std.specs.List.{list_any};
 
 use chip_face::MOST_CHIPS;
 use std::marker::Model;
 
-/// The sockets of the chips of a description, in its order, at most 16. Contracts see the list.
+/// The sockets of the chips of a description, in its order: no socket stands twice, and there are at most 16. Contracts see the list.
 #[derive(Debug, Drop)]
 pub struct Chain {
     sockets: [u8; MOST_CHIPS],
@@ -11,13 +13,15 @@ pub struct Chain {
 }
 
 impl Model for Chain {
-    ghost use Rattle.std.specs.Prelude.{ℕ, List, ◌≤◌, ◌≡◌, length, take};
+    ghost use Rattle.std.specs.Prelude.{ℕ, List, ◌≤◌, ◌≡◌, ◌≢◌, length, take, AllPairs};
+    ghost use Rattle.chip_face.specs.declared.sizes.TheConstants.{MOST_CHIPS};
 
     ghost Value = { List ℕ };
 
     ghost view = { λ c. take c.len c.sockets };
 
-    ghost invariant = { λ c. (c.len ≤ 16) × (length c.sockets ≡ 16) };
+    ghost invariant = { λ c.
+        (c.len ≤ MOST_CHIPS) × (length c.sockets ≡ MOST_CHIPS) × AllPairs (λ one other. one ≢ other) (take c.len c.sockets) };
 }
 
 impl Chain {
@@ -31,9 +35,10 @@ impl Chain {
         }
     }
 
-    /// Adds a socket behind the others.
+    /// Adds a socket that isn't among them, behind the others.
     pub fn push(&mut self, socket: u8)
-        requires { length self.old < 16 }
+        requires room { length self.old < MOST_CHIPS }
+        requires fresh { list_any (λ held. held == socket) self.old ≡ false }
         ensures { self.new ≡ self.old ++ socket ∷ [] }
     {
         let len = self.len;
@@ -41,10 +46,18 @@ impl Chain {
         self.len = len + 1;
     }
 
+    /// The socket is among them.
+    pub fn contains(&self, socket: u8) -> bool
+        ensures { result ≡ list_any (λ held. held == socket) self.now }
+    {
+        self.as_slice().contains(&socket)
+    }
+
     /// All of them.
     pub fn as_slice(&self) -> &[u8]
         ensures value { result.now ≡ self.now }
-        ensures few { length result.now ≤ 16 }
+        ensures few { length result.now ≤ MOST_CHIPS }
+        ensures distinct { AllPairs (λ one other. one ≢ other) result.now }
     {
         let len = self.len;
         &self.sockets[..len]

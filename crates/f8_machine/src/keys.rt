@@ -1,7 +1,7 @@
 ghost use Rattle.std.specs.Prelude.{◌≡◌, ◌≤◌, length, map};
 ghost use Rattle.f8_machine.specs.Keying.{KeysInSocket, RackTakesKeys};
 
-use chip_face::Chip;
+use chip_face::{Chip, MOST_CHIPS};
 use data_bus::Rack;
 
 /// A key byte at one chip. Where it doesn't have the port as a data port nothing changes.
@@ -13,7 +13,7 @@ fn key_at(chip: &mut Box<dyn Chip>, port: u8, byte: u8)
 
 /// A key byte at every chip.
 pub(crate) fn key_all(rack: &mut Rack, port: u8, byte: u8)
-    requires few { length rack.old.items ≤ 16 }
+    requires few { length rack.old.items ≤ MOST_CHIPS }
     ensures keyed { RackTakesKeys port byte (map state rack.old.items) (map state rack.new.items) }
     ensures chips { length rack.new.items ≡ length rack.old.items }
 {

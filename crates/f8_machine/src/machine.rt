@@ -8,11 +8,11 @@ use super::power::power_all;
 use super::record::Record;
 use super::reset::fetch_first;
 use super::wrote::done_write;
-use chip_face::{Chip, Counters};
+use chip_face::{Chip, Counters, MOST_CHIPS};
 use console_spec::Regs;
 use cpu3850::{Cpu, Steps};
 use data_bus::Rack;
-use f8_ops::{OWN_PORTS, RESET_PHI, Reserved};
+use f8_ops::{MOST_PHI, OWN_PORTS, RESET_PHI, Reserved};
 use probe::Probe;
 use std::marker::Model;
 
@@ -66,10 +66,10 @@ impl Machine {
     /// halves, and the socket added; the probe's stand at 0. `chain` has the sockets of the chips described. Power-on contents are this
     /// project's own.
     pub fn power(fill: u8, chain: Chain, rack: &mut Rack) -> Machine
-        requires few { length rack.old.items ≤ 16 }
+        requires few { length rack.old.items ≤ MOST_CHIPS }
         ensures machine { result ≡ powered_machine fill chain }
         ensures powered { RackPowers fill (map state rack.old.items) (map state rack.new.items) }
-        ensures pair { AreWhole (map state rack.old.items) → LeaveOwnPorts (map seat_of (views (map state rack.old.items))) → IsPowered result (map state rack.new.items) (power_position (views (map state rack.old.items)) fill) }
+        ensures pair { AreWhole (map state rack.old.items) → LeaveOwnPorts (map seat_of (views (map state rack.old.items))) → IsPowered result (map state rack.new.items) (power_position (views (map state rack.old.items)) chain fill) }
         ensures chips { length rack.new.items ≡ length rack.old.items }
     {
         power_all(rack, fill);
@@ -85,7 +85,7 @@ impl Machine {
 
     /// Reset, once after power-on: the opcode at 0 is fetched. Where that isn't served the machine is stopped. It takes 14 Φ.
     pub fn reset(&mut self, rack: &mut Rack) -> Outcome
-        requires few { length rack.old.items ≤ 16 }
+        requires few { length rack.old.items ≤ MOST_CHIPS }
         requires mode { self.old.mode ≡ Mode.Powered }
         requires phi { self.old.phi < 2 ^ 62 }
         ensures refines { (x : Position) → IsPowered self.old (map state rack.old.items) x → ResetRefines result self.old self.new (map state rack.new.items) x }
@@ -119,7 +119,7 @@ impl Machine {
     // Not inlined, so that an outcome is built in its caller's place, and isn't copied there piece by piece.
     #[inline(never)]
     pub fn instr(&mut self, rack: &mut Rack) -> Outcome
-        requires few { length rack.old.items ≤ 16 }
+        requires few { length rack.old.items ≤ MOST_CHIPS }
         requires mode { IsReset self.old.mode }
         requires phi { self.old.phi < 2 ^ 62 }
         ensures refines { (x : Position) → Represents self.old (map state rack.old.items) x → Refines result self.old self.new (map state rack.new.items) x }
@@ -127,7 +127,7 @@ impl Machine {
         ensures same { (halt : Halt) → self.old.mode ≡ Mode.Stopped halt → self.new ≡ self.old }
         ensures ran { RackRuns (steps_in result) (map state rack.old.items) (map state rack.new.items) }
         ensures reference { self.new.probe ≡ probe_after_steps (steps_in result) self.old.probe }
-        ensures clocks { self.new.phi ≤ self.old.phi + 26 }
+        ensures clocks { self.new.phi ≤ self.old.phi + MOST_PHI }
         ensures onward { self.old.phi ≤ self.new.phi }
         ensures mode { IsReset self.new.mode }
         ensures chain { self.new.chain ≡ self.old.chain }
@@ -141,13 +141,13 @@ impl Machine {
 
     /// The next instruction of a machine that isn't stopped.
     fn next(&mut self, rack: &mut Rack) -> Outcome
-        requires few { length rack.old.items ≤ 16 }
+        requires few { length rack.old.items ≤ MOST_CHIPS }
         requires mode { IsReset self.old.mode }
         requires phi { self.old.phi < 2 ^ 62 }
         ensures refines { (x : Position) → Represents self.old (map state rack.old.items) x → Refines result self.old self.new (map state rack.new.items) x }
         ensures ran { RackRuns (steps_in result) (map state rack.old.items) (map state rack.new.items) }
         ensures reference { self.new.probe ≡ probe_after_steps (steps_in result) self.old.probe }
-        ensures clocks { self.new.phi ≤ self.old.phi + 26 }
+        ensures clocks { self.new.phi ≤ self.old.phi + MOST_PHI }
         ensures onward { self.old.phi ≤ self.new.phi }
         ensures mode { IsReset self.new.mode }
         ensures chain { self.new.chain ≡ self.old.chain }
@@ -170,7 +170,7 @@ impl Machine {
 
     /// The steps of the instruction that is held. Where one isn't served, what they changed of the processor is put back.
     fn carry_plan(&mut self, rack: &mut Rack, plan: Steps) -> Outcome
-        requires few { length rack.old.items ≤ 16 }
+        requires few { length rack.old.items ≤ MOST_CHIPS }
         requires plan { plan ≡ planned self.old.cpu }
         requires instruction { IsSome (decoded self.old.cpu.opcode) }
         requires mode { IsReset self.old.mode }
@@ -178,7 +178,7 @@ impl Machine {
         ensures refines { (x : Position) → Represents self.old (map state rack.old.items) x → Refines result self.old self.new (map state rack.new.items) x }
         ensures ran { RackRuns (steps_in result) (map state rack.old.items) (map state rack.new.items) }
         ensures reference { self.new.probe ≡ probe_after_steps (steps_in result) self.old.probe }
-        ensures clocks { self.new.phi ≤ self.old.phi + 26 }
+        ensures clocks { self.new.phi ≤ self.old.phi + MOST_PHI }
         ensures onward { self.old.phi ≤ self.new.phi }
         ensures mode { IsReset self.new.mode }
         ensures chain { self.new.chain ≡ self.old.chain }
@@ -213,7 +213,7 @@ impl Machine {
     /// A key byte from outside: at port 0 or 1 it is the processor's own, and at any other port it comes to every chip. The port then reads
     /// as its latch OR this byte. On a port that is no chip's data port nothing changes.
     pub fn keys(&mut self, rack: &mut Rack, port: u8, byte: u8)
-        requires few { length rack.old.items ≤ 16 }
+        requires few { length rack.old.items ≤ MOST_CHIPS }
         ensures machine { self.new ≡ keyed_machine port byte self.old }
         ensures keyed { RackKeyed port byte (map state rack.old.items) (map state rack.new.items) }
         ensures powered { (x : Position) → IsPowered self.old (map state rack.old.items) x → IsPowered self.new (map state rack.new.items) (with_event (Keys port byte) x) }

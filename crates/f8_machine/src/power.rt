@@ -1,7 +1,7 @@
 ghost use Rattle.std.specs.Prelude.{◌≡◌, ◌≤◌, length, map};
 ghost use Rattle.f8_machine.specs.Rounds.{PowersInSocket, RackPowers};
 
-use chip_face::Chip;
+use chip_face::{Chip, MOST_CHIPS};
 use data_bus::Rack;
 
 /// Power-on of the chip in a socket: its counters stand at the power byte in both halves, and the socket added.
@@ -14,7 +14,7 @@ fn power_at(chip: &mut Box<dyn Chip>, socket: u8, fill: u8)
 
 /// Power-on of every chip.
 pub(crate) fn power_all(rack: &mut Rack, fill: u8)
-    requires few { length rack.old.items ≤ 16 }
+    requires few { length rack.old.items ≤ MOST_CHIPS }
     ensures powered { RackPowers fill (map state rack.old.items) (map state rack.new.items) }
     ensures chips { length rack.new.items ≡ length rack.old.items }
 {

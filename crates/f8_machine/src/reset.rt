@@ -8,7 +8,7 @@ ghost use Rattle.f8_machine.specs.Rounds.{RackRuns};
 use super::bus_step::bus_step;
 use super::carry::Unserved;
 use super::record::Record;
-use chip_face::Chip;
+use chip_face::{Chip, MOST_CHIPS};
 use cpu3850::{Romc, Step};
 use data_bus::Rack;
 use probe::Probe;
@@ -36,7 +36,7 @@ fn quiet_step(
     step: Step,
     steps: &mut Record,
 ) -> Result<u8, Unserved>
-    requires few { length rack.old.items ≤ 16 }
+    requires few { length rack.old.items ≤ MOST_CHIPS }
     requires room { length steps.old < 9 }
     requires plain { IsPlain step.romc }
     ensures served { IfOk result (λ byte. IsServed step 0 probe.old probe.new (map state rack.old.items) (map state rack.new.items) steps.old steps.new byte) }
@@ -58,7 +58,7 @@ pub(crate) fn fetch_first(
     probe: &mut Probe,
     steps: &mut Record,
 ) -> Result<u8, Unserved>
-    requires few { length rack.old.items ≤ 16 }
+    requires few { length rack.old.items ≤ MOST_CHIPS }
     requires none { steps.old ≡ [] }
     ensures fetched { (x : Position) → IsAtPower probe.old (map state rack.old.items) x → IfOk result (λ opcode. IsFetched opcode probe.new (map state rack.new.items) steps.new x) }
     ensures cut { (x : Position) → IsAtPower probe.old (map state rack.old.items) x → IfErr result (λ unserved. IsNotFetched steps.new unserved.fault unserved.long x) }

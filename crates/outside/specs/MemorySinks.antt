@@ -1,7 +1,8 @@
 -- The sinks in memory, as contracts see them.
-use Rattle.std.specs.Prelude.{ℕ, ◌+◌, ◌-◌, ◌^◌, Bool, not, ◌&&◌, ◌==◌, nat_le, if◌then◌else◌, min, List, ◌++◌, length, take}
+use Rattle.std.specs.Prelude.{ℕ, ◌+◌, ◌-◌, ◌^◌, Bool, not, ◌&&◌, ◌==◌, nat_le, if◌then◌else◌, min, List, ◌++◌, length, take, Some, None}
 use Rattle.std.specs.List.{list_any}
 use Rattle.outside.specs.Counts.{one_more}
+use Rattle.outside.specs.SinkRules.{Output}
 
 -- A sink that can fail: the bytes kept, how many bytes it has room for, the numbers of the calls that are to fail, how many calls there
 -- were, and its count of faults.
@@ -11,6 +12,10 @@ pub record KeptBytes : Type 0 where
   pub failing : List ℕ
   pub calls : ℕ
   pub faults : ℕ
+
+-- it tells all that it kept
+abbrev pub output_of : KeptBytes → Output
+output_of s = record { written = Some s.bytes; faults = s.faults }
 
 -- the call that comes is to fail
 abbrev pub fails_next : KeptBytes → Bool
@@ -35,6 +40,10 @@ pub record SureBytes : Type 0 where
   pub bytes : List ℕ
   pub room : ℕ
   pub lost : ℕ
+
+-- it tells what it kept while nothing is lost, and has no fault
+abbrev pub sure_output_of : SureBytes → Output
+sure_output_of s = record { written = if s.lost == 0 then Some s.bytes else None; faults = 0 }
 
 -- the sink after a put: once a piece is past the room, it and all later ones are only counted, up to the greatest u64
 abbrev pub after_sure_put : SureBytes → List ℕ → SureBytes

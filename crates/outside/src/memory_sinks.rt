@@ -1,6 +1,7 @@
-ghost use Rattle.std.specs.Prelude.{◌≡◌, ◌==◌, [], IfOk, OnOk, OnErr, Some, None, is_ok, IsOk, if◌then◌else◌};
-ghost use Rattle.outside.specs.MemorySinks.{takes_whole, after_put, after_sure_put};
-ghost use Rattle.outside.specs.SinkRules.{Adds, AddsPart, HasCause};
+// The sinks in memory.
+ghost use Rattle.std.specs.Prelude.{◌≡◌, [], IfOk, OnOk, OnErr, is_ok, IsOk};
+ghost use Rattle.outside.specs.MemorySinks.{output_of, takes_whole, after_put, sure_output_of, after_sure_put};
+ghost use Rattle.outside.specs.SinkRules.{Adds, AddsPart};
 
 use super::call_list::CallList;
 use super::sink::{Sink, SinkFault};
@@ -58,14 +59,11 @@ impl MemSink {
 }
 
 impl Sink for MemSink {
-    ghost written = { λ s. Some s.bytes };
-
-    ghost faults = { λ s. s.faults };
+    ghost output = { λ s. output_of s };
 
     fn put(&mut self, piece: &[u8]) -> Result<(), SinkFault>
-        ensures ok { OnOk result (Adds (Some self.old.bytes) (Some self.new.bytes) piece.now) }
-        ensures err { OnErr result (AddsPart (Some self.old.bytes) (Some self.new.bytes) piece.now) }
-        ensures cause { HasCause self.old.faults self.new.faults result }
+        ensures ok { OnOk result (Adds (output_of self.old) (output_of self.new) piece.now) }
+        ensures err { OnErr result (AddsPart (output_of self.old) (output_of self.new) piece.now) }
         ensures outcome { is_ok result ≡ takes_whole self.old piece.now }
         ensures after { self.new ≡ after_put self.old piece.now }
     {
@@ -131,14 +129,11 @@ impl SureSink {
 }
 
 impl Sink for SureSink {
-    ghost written = { λ s. if s.lost == 0 then Some s.bytes else None };
-
-    ghost faults = { λ _. 0 };
+    ghost output = { λ s. sure_output_of s };
 
     fn put(&mut self, piece: &[u8]) -> Result<(), SinkFault>
-        ensures ok { OnOk result (Adds (if self.old.lost == 0 then Some self.old.bytes else None) (if self.new.lost == 0 then Some self.new.bytes else None) piece.now) }
-        ensures err { OnErr result (AddsPart (if self.old.lost == 0 then Some self.old.bytes else None) (if self.new.lost == 0 then Some self.new.bytes else None) piece.now) }
-        ensures cause { HasCause 0 0 result }
+        ensures ok { OnOk result (Adds (sure_output_of self.old) (sure_output_of self.new) piece.now) }
+        ensures err { OnErr result (AddsPart (sure_output_of self.old) (sure_output_of self.new) piece.now) }
         ensures outcome { IsOk result }
         ensures after { self.new ≡ after_sure_put self.old piece.now }
     {

@@ -1,6 +1,7 @@
-ghost use Rattle.std.specs.Prelude.{◌≡◌, None, OnOk, OnErr};
+// The sink over a writer of the system.
+ghost use Rattle.std.specs.Prelude.{◌≡◌, OnOk, OnErr};
 ghost use Rattle.std.specs.Io.KnownBytes.{Appends};
-ghost use Rattle.outside.specs.SinkRules.{Adds, AddsPart, HasCause};
+ghost use Rattle.outside.specs.SinkRules.{untold_output, Adds, AddsPart};
 ghost use Rattle.outside.specs.Writing.{AppendsPart};
 
 use super::sink::{Sink, SinkFault};
@@ -38,16 +39,11 @@ impl<W: Write + Drop> OutSink<W> {
 }
 
 impl<W: Write + Drop> Sink for OutSink<W> {
-    ghost use Rattle.std.specs.Prelude.{None};
-
-    ghost written = { λ _. None };
-
-    ghost faults = { λ s. s.faults };
+    ghost output = { λ s. untold_output s.faults };
 
     fn put(&mut self, piece: &[u8]) -> Result<(), SinkFault>
-        ensures ok { OnOk result (Adds None None piece.now) }
-        ensures err { OnErr result (AddsPart None None piece.now) }
-        ensures cause { HasCause self.old.faults self.new.faults result }
+        ensures ok { OnOk result (Adds (untold_output self.old.faults) (untold_output self.new.faults) piece.now) }
+        ensures err { OnErr result (AddsPart (untold_output self.old.faults) (untold_output self.new.faults) piece.now) }
         ensures whole { OnOk result (Appends (W.contents self.old.out) (W.contents self.new.out) piece.now) }
         ensures part { OnErr result (AppendsPart (W.contents self.old.out) (W.contents self.new.out) piece.now) }
     {

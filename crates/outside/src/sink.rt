@@ -1,5 +1,6 @@
-ghost use Rattle.std.specs.Prelude.{ℕ, List, Option, OnOk, OnErr};
-ghost use Rattle.outside.specs.SinkRules.{Adds, AddsPart, HasCause};
+// Where lines go: the trait, and the fault that a put may have.
+ghost use Rattle.std.specs.Prelude.{OnOk, OnErr};
+ghost use Rattle.outside.specs.SinkRules.{Output, Adds, AddsPart};
 
 use thiserror::Error;
 
@@ -12,14 +13,11 @@ pub struct SinkFault;
 ///
 /// Contracts see what a sink was given, where it tells that, and its count of faults. Such an object may stop telling in a call.
 pub trait Sink {
-    ghost written: { Self → Option (List ℕ) };
-
-    ghost faults: { Self → ℕ };
+    ghost output: { Self → Output };
 
     /// Writes a piece at the end, whole. A fault comes only where the count of faults rose in this call, and then a first part of the
     /// piece was written.
     fn put(&mut self, piece: &[u8]) -> Result<(), SinkFault>
-        ensures ok { OnOk result (Adds (written self.old) (written self.new) piece.now) }
-        ensures err { OnErr result (AddsPart (written self.old) (written self.new) piece.now) }
-        ensures cause { HasCause (faults self.old) (faults self.new) result };
+        ensures ok { OnOk result (Adds (output self.old) (output self.new) piece.now) }
+        ensures err { OnErr result (AddsPart (output self.old) (output self.new) piece.now) };
 }

@@ -84,7 +84,8 @@ impl Psu {
     /// The high byte of one of the chip's counters, where the chip holds that address.
     #[inline]
     fn high_of(&self, at: u16) -> Option<Offer>
-        ensures { result ≡ (if holds (psu_view self.now) at then Some (byte_offer at (at / 256)) else None) }
+        ensures { result ≡ (if holds (psu_view self.now) at then Some
+            (byte_offer at (at / 256)) else None) }
     {
         if self.holds(at) {
             Some(Offer {
@@ -99,7 +100,8 @@ impl Psu {
     /// The low byte of one of the chip's counters, where the chip holds that address.
     #[inline]
     fn low_of(&self, at: u16) -> Option<Offer>
-        ensures { result ≡ (if holds (psu_view self.now) at then Some (byte_offer at (at % 256)) else None) }
+        ensures { result ≡ (if holds (psu_view self.now) at then Some
+            (byte_offer at (at % 256)) else None) }
     {
         if self.holds(at) {
             Some(Offer {
@@ -141,7 +143,8 @@ impl Psu {
 
     /// A byte for a port, which is lost where the chip doesn't have it. A write to control ends a latched request.
     fn write_port(&mut self, port: u8, byte: u8)
-        ensures { psu_view self.new ≡ port_written_if (port_role (psu_view self.old) port) byte (psu_view self.old) }
+        ensures { psu_view self.new ≡ port_written_if (port_role (psu_view self.old) port) byte
+            (psu_view self.old) }
     {
         match self.port_offset(port) {
             Some(0) => self.latches[0] = byte,
@@ -154,6 +157,9 @@ impl Psu {
 }
 
 impl Chip for Psu {
+    ghost use Rattle.std.specs.Prelude.{◌≢◌, ◌↔◌, OnOk, OnErr, IsErrOf};
+    ghost use Rattle.f8_spec.specs.ChipState.{IsWhole};
+    ghost use Rattle.chip_face.specs.Fitting.{Fits, IsSpec, kind_of};
     ghost use Rattle.psu3851.specs.PsuState.{psu_state};
 
     ghost state = { psu_state };
@@ -162,7 +168,16 @@ impl Chip for Psu {
         ChipKind::Psu
     }
 
-    fn fit(&mut self, _alloc: Global, spec: &ChipSpec) -> Result<(), FitFault> {
+    /// A 3851 has the room for its ROM, so that memory is never wanting.
+    fn fit(&mut self, _alloc: Global, spec: &ChipSpec) -> Result<(), FitFault>
+        requires { IsSpec spec.now }
+        ensures ok { OnOk result (Fits spec.now (psu_state self.old) (psu_state self.new)) }
+        ensures whole { OnOk result (IsWhole (psu_state self.new).view) }
+        ensures wrong_kind { IsErrOf result FitFault.WrongKind
+            ↔ (kind_of spec.now ≢ (psu_state self.old).view.kind) }
+        ensures memory { IsErrOf result FitFault.Memory → ⊥ }
+        ensures err { OnErr result (psu_state self.new ≡ psu_state self.old) }
+    {
         match spec {
             ChipSpec::Blank(ChipKind::Psu) => {
                 *self = Psu::blank();

@@ -68,7 +68,8 @@ impl Smi {
     /// The high byte of one of the chip's counters, where the chip holds that address.
     #[inline]
     fn high_of(&self, at: u16) -> Option<Offer>
-        ensures { result ≡ (if holds (smi_view self.now) at then Some (byte_offer at (at / 256)) else None) }
+        ensures { result ≡ (if holds (smi_view self.now) at then Some
+            (byte_offer at (at / 256)) else None) }
     {
         if self.holds(at) {
             Some(Offer {
@@ -83,7 +84,8 @@ impl Smi {
     /// The low byte of one of the chip's counters, where the chip holds that address.
     #[inline]
     fn low_of(&self, at: u16) -> Option<Offer>
-        ensures { result ≡ (if holds (smi_view self.now) at then Some (byte_offer at (at % 256)) else None) }
+        ensures { result ≡ (if holds (smi_view self.now) at then Some
+            (byte_offer at (at % 256)) else None) }
     {
         if self.holds(at) {
             Some(Offer {
@@ -98,7 +100,8 @@ impl Smi {
     /// A store at one of the chip's counters, which the chip takes in RAM.
     #[inline]
     fn taken_at(&self, at: u16) -> Option<Offer>
-        ensures { result ≡ (if has_ram_at (smi_view self.now) at then Some (byte_offer at 0) else None) }
+        ensures { result ≡ (if has_ram_at (smi_view self.now) at then Some
+            (byte_offer at 0) else None) }
     {
         if self.takes(at) {
             Some(Offer { byte: 0, at })
@@ -125,7 +128,8 @@ impl Smi {
 
     /// A byte for a port, which is lost where the chip doesn't have it. A write to control ends a latched request.
     fn write_port(&mut self, port: u8, byte: u8)
-        ensures { smi_view self.new ≡ port_written_if (port_role (smi_view self.old) port) byte (smi_view self.old) }
+        ensures { smi_view self.new ≡ port_written_if (port_role (smi_view self.old) port) byte
+            (smi_view self.old) }
     {
         match self.port_offset(port) {
             Some(0) => self.vector = with_high(self.vector, byte),
@@ -148,6 +152,9 @@ impl Smi {
 }
 
 impl Chip for Smi {
+    ghost use Rattle.std.specs.Prelude.{◌≢◌, ◌↔◌, false, OnOk, OnErr, IsErrOf};
+    ghost use Rattle.f8_spec.specs.ChipState.{IsWhole};
+    ghost use Rattle.chip_face.specs.Fitting.{Fits, IsSpec, is_blank, kind_of};
     ghost use Rattle.smi3853.specs.SmiState.{smi_state};
 
     ghost state = { smi_state };
@@ -156,7 +163,16 @@ impl Chip for Smi {
         ChipKind::Smi
     }
 
-    fn fit(&mut self, alloc: Global, spec: &ChipSpec) -> Result<(), FitFault> {
+    /// The pages' bytes take memory, which is never wanting where the chip is to be blank.
+    fn fit(&mut self, alloc: Global, spec: &ChipSpec) -> Result<(), FitFault>
+        requires { IsSpec spec.now }
+        ensures ok { OnOk result (Fits spec.now (smi_state self.old) (smi_state self.new)) }
+        ensures whole { OnOk result (IsWhole (smi_state self.new).view) }
+        ensures wrong_kind { IsErrOf result FitFault.WrongKind
+            ↔ (kind_of spec.now ≢ (smi_state self.old).view.kind) }
+        ensures memory { IsErrOf result FitFault.Memory → is_blank spec.now ≡ false }
+        ensures err { OnErr result (smi_state self.new ≡ smi_state self.old) }
+    {
         match spec {
             ChipSpec::Blank(ChipKind::Smi) => {
                 *self = Smi::blank();
