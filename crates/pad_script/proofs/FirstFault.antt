@@ -1,8 +1,10 @@
 -- The fault that is read is the first one of the lines.
-use Rattle.std.proofs.Common.{◌≡◌, ℕ, ◌+◌, ◌<◌, ◌≤◌, Bool, true, false, cond, List, [], ◌∷◌, ◌++◌, length, length-append, Option, Some, None, Result, Ok, Err, refl, sym, ap, subst, arith}
+use Rattle.std.proofs.Common.{◌≡◌, ℕ, ◌+◌, ◌<◌, ◌≤◌, Bool, true, false, cond, List, [], ◌∷◌, ◌++◌, length, length-append}
+use Rattle.std.proofs.Common.{Option, Some, None, Result, Ok, Err, refl, sym, ap, ◌∙◌, subst, arith}
 use Rattle.std.specs.Prelude.{◌==◌, IsOk}
 use Rattle.std.specs.List.{All}
 use Rattle.std.proofs.lemmas.Bool.Decides.{nat_tests}
+use Rattle.std.proofs.lemmas.List.{append-nil}
 use Rattle.std.proofs.lemmas.List.Elements.{All-nil, All-cons}
 use Rattle.pad_script.specs.declared.answers.ScriptAnswer.{ScriptAnswer}
 use Rattle.pad_script.specs.declared.answers.ScriptAnswer.TheVariants as answer
@@ -14,11 +16,15 @@ use Rattle.console_spec.specs.declared.End.{End}
 use Rattle.pad_script.specs.declared.script.Script.{Script as KeptScript}
 use Rattle.pad_script.specs.declared.statement.Statement.{Statement}
 use Rattle.pad_script.specs.declared.statement.Statement.TheVariants.{Power, Ends, Comes, Shows}
-use Rattle.pad_script.specs.FirstFault.{HasNoFault, IsFirstFault, AtLine, BehindLast, IsLineFault, TellsFault, counted_lines}
+use Rattle.pad_script.specs.Answers.{answer_as, OnMemory}
+use Rattle.pad_script.specs.FirstFault.{HasNoFault, IsFirstFault, AtLine, BehindLast, IsLineFault, TakesMemory, TellsFault}
+use Rattle.pad_script.specs.FirstFault.{counted_lines}
 use Rattle.text_lines.specs.Lines.{lines}
-use Rattle.pad_script.specs.Reading.{Draft, Script, SaysOfText, and_then, finished, no_draft, read_line, read_lines, said, said_by, script_of, told}
+use Rattle.pad_script.specs.Reading.{Draft, Script, SaysOfText, and_then, ended, finished, no_draft, read_line, read_lines}
+use Rattle.pad_script.specs.Reading.{said, said_by, script_of, told}
 use Rattle.pad_script.specs.Statements.{line_of}
 use Rattle.pad_script.specs.Telling.{ends, powers, said_in, statements}
+use Rattle.pad_script.proofs.LineSteps.{Reaches, read_to_end}
 
 -- ---- how many power-on bytes, ends, and events and shown frames some lines have said
 
@@ -226,12 +232,51 @@ first_fault ls fault (At_line before l behind parts clean line cause) =
 first_fault ls fault (Behind_last clean none line cause) =
     BehindLast (no_fault ls clean) (none_ends (ends (statements ls)) (omega (arith, none))) (omega arith) cause
 
-found_text : (text : List ℕ) → IsFoundFrom nothing 1 (lines text) (script_of text)
+found_all : (ls : List (List ℕ)) → IsFoundFrom nothing 1 ls (read_lines 1 no_draft ls)
 unfolding no_draft
-found_text text = found_lines (lines text) 1 nothing None None [] [] (record { powers = refl; ends = refl; counted = refl; few = omega arith })
+found_all ls =
+    found_lines ls 1 nothing None None [] [] (record { powers = refl; ends = refl; counted = refl; few = omega arith })
 
--- an answer that says what a text says
-pub fault_answer : (text : List ℕ) (result : Result KeptScript ScriptAnswer) → SaysOfText result (script_of text) → TellsFault result (lines text)
-fault_answer text (Ok script) is = no_fault (lines text) (subst (λ (said : Result Script ScriptFault). IsFoundFrom nothing 1 (lines text) said) is (found_text text))
-fault_answer text (Err (answer.Fault fault)) is = first_fault (lines text) fault (subst (λ (said : Result Script ScriptFault). IsFoundFrom nothing 1 (lines text) said) is (found_text text))
-fault_answer text (Err answer.Memory) is = tt
+-- lines that were read to a draft have no fault: were the text to end there, a missing end at most would be told
+reached_end : (before : List (List ℕ)) (number : ℕ) (d : Draft) (end : Option End) → number ≡ length before + 1 →
+    IsFoundFrom nothing 1 before (ended number d end) → HasNoFault before
+reached_end before number d (Some end) counted clean = no_fault before clean
+reached_end before number d None counted (Behind_last clean none line cause) = no_fault before clean
+reached_end before number d None counted (At_line first l behind parts clean line cause) =
+    let size = ap length parts in
+    let sum = length-append first (l ∷ behind) in
+    absurd (omega (arith, counted, line, size, sum))
+
+reached_clean : (before : List (List ℕ)) (number : ℕ) (d : Draft) → Reaches before number d → HasNoFault before
+unfolding finished
+reached_clean before number d reaches =
+    let whole : read_lines 1 no_draft before ≡ ended number d d.end =
+        ap (read_lines 1 no_draft) (sym (append-nil before)) ∙ reaches.behind [] ∙ read_to_end number d in
+    reached_end before number d d.end reaches.counted
+    (subst (λ (said : Result Script ScriptFault). IsFoundFrom nothing 1 before said) whole (found_all before))
+
+-- an answer that says what a text says, unless it is that memory is missing
+pub fault_answer : (text : List ℕ) (result : Result KeptScript ScriptFault) →
+    SaysOfText (answer_as result) (script_of text) → TellsFault (answer_as result) (lines text)
+fault_answer text (Ok script) is =
+    no_fault (lines text)
+    (subst (λ (said : Result Script ScriptFault). IsFoundFrom nothing 1 (lines text) said) is (found_all (lines text)))
+fault_answer text (Err fault) is =
+    first_fault (lines text) fault
+    (subst (λ (said : Result Script ScriptFault). IsFoundFrom nothing 1 (lines text) said) is (found_all (lines text)))
+
+-- an answer at a line that is reached
+pub stop_answer : (text : List ℕ) (before : List (List ℕ)) (number : ℕ) (d : Draft) (l : List ℕ) (behind : List (List ℕ))
+    (e : ScriptAnswer) → Reaches before number d → lines text ≡ before ++ l ∷ behind →
+    SaysOfText (Err e) (script_of text) → OnMemory {A = KeptScript} (Err e) (0 < counted_lines (said_in (line_of l))) →
+    TellsFault (Err e) (lines text)
+stop_answer text before number d l behind (answer.Fault fault) reaches parts says memory =
+    fault_answer text (Err fault) says
+stop_answer text before number d l behind answer.Memory reaches parts says memory = record {
+  before = before;
+  line = l;
+  behind = behind;
+  parts = parts;
+  clean = reached_clean before number d reaches;
+  counted = memory;
+}
