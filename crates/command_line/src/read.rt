@@ -18,7 +18,8 @@ fn asked_for<'a>(alloc: Global, words: &'a [String]) -> Result<Option<Command<'a
     ensures asked { IfOk result (λ asked.
         option_map seen_command asked ≡ command_of (map string_bytes words.now)) }
     ensures refused { IfErr result (λ error.
-        (kind_of error ≡ ErrorKind.OutOfMemory) ⊎ (command_of (map string_bytes words.now) ≡ None)) }
+        (kind_of error ≡ ErrorKind.OutOfMemory)
+        ⊎ (command_of (map string_bytes words.now) ≡ None)) }
     ensures memory { OnErr result (IsTrue (has_command (map string_bytes words.now))) }
 {
     let Some(name) = words.first() else {

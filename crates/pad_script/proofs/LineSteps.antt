@@ -55,7 +55,10 @@ pub reads_more : (text rest behind l : List ℕ) (number : ℕ) (d next : Draft)
     lines rest ≡ l ∷ lines behind → read_line number d l ≡ Ok next → Reads text behind (number + 1) next
 reads_more text rest behind l number d next reads split step = record {
   before = reads.before ++ l ∷ [];
-  parts = reads.parts ∙ ap (λ (ls : List (List ℕ)). reads.before ++ ls) split ∙ sym (append_assoc reads.before (l ∷ []) (lines behind));
+  parts =
+      reads.parts
+      ∙ ap (λ (ls : List (List ℕ)). reads.before ++ ls) split
+      ∙ sym (append_assoc reads.before (l ∷ []) (lines behind));
   reaches = reaches_more reads.before number d next l reads.reaches step;
 }
 

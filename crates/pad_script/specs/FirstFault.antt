@@ -39,7 +39,8 @@ IsLineFault before (Ok (Some statement)) cause = IsTooMuch before statement caus
 
 pub data IsFirstFault (ls : List (List ℕ)) (fault : ScriptFault) : Type 0 where
   -- at a line, with no fault before it
-  AtLine : (before : List (List ℕ)) (l : List ℕ) (behind : List (List ℕ)) → ls ≡ before ++ l ∷ behind → HasNoFault before →
+  AtLine : (before : List (List ℕ)) (l : List ℕ) (behind : List (List ℕ)) → ls ≡ before ++ l ∷ behind →
+      HasNoFault before →
       fault.line ≡ length before + 1 → IsLineFault (statements before) (line_of l) fault.cause → IsFirstFault ls fault
   -- behind the last line, where no line is at fault and none is an end
   BehindLast : HasNoFault ls → ends (statements ls) ≡ [] → fault.line ≡ length ls + 1 → fault.cause ≡ NoEnd →

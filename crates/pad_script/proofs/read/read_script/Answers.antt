@@ -30,7 +30,8 @@ returns-in_err-read_line-clause-fault c =
     (lines c.first_line.result.1.now) c.in_err-read_line.field-0.0 reads.reaches
     (reads.parts ∙ ap (λ (ls : List (List ℕ)). reads.before ++ ls) split)
     (read_stops c.loop-rest.number c.loop-rest.draft c.read_line.new.self c.first_line.result.0.now
-    (lines c.first_line.result.1.now) c.in_err-read_line.field-0.0 _ (rw split at whole) c.in_err-read_line.ensures.steps)
+    (lines c.first_line.result.1.now) c.in_err-read_line.field-0.0 _ (rw split at whole)
+    c.in_err-read_line.ensures.steps)
     c.in_err-read_line.ensures.memory)
 
 pub loop-rest-preserved : goal.loop-rest-preserved
@@ -58,7 +59,8 @@ returns-in-Ok-clause-ends c = limited_answer c.args.text.now (Ok c.in-Ok.script)
 pub returns-in-Err-clause-script : goal.returns-in-Err-clause-script
 returns-in-Err-clause-script c =
     says_at_end c.args.text.now c.loop-rest.rest.now c.loop-rest.number c.loop-rest.draft (Err c.in-Err.fault)
-    c.loop-rest.invariant.reads (nil_from_length c.loop-rest.rest.now (grind (arith, nat_tests))) c.in-Err.ensures.script
+    c.loop-rest.invariant.reads (nil_from_length c.loop-rest.rest.now (grind (arith, nat_tests)))
+    c.in-Err.ensures.script
 
 pub returns-in-Err-clause-fault : goal.returns-in-Err-clause-fault
 returns-in-Err-clause-fault c = fault_answer c.args.text.now (Err c.in-Err.fault) (returns-in-Err-clause-script c)
