@@ -9,7 +9,7 @@ use Rattle.console_spec.specs.declared.End.TheVariants.{Frames}
 use Rattle.generator.specs.GeneratedChips.{chips_of_seed}
 use Rattle.memory_map.specs.MapOf.{views_of}
 use Rattle.rack_run.specs.Seating.{kinds_of, fitted_views}
-use Rattle.rack_run.specs.Sockets.{shortage_of}
+use Rattle.rack_run.specs.Sockets.{chain_of, shortage_of}
 use Rattle.rack_run.specs.declared.sockets.Shortage.{Shortage}
 use Rattle.report.specs.RefusalLines.{words_line, rack_line, sockets_line}
 use Rattle.f8_asm.specs.Image.{Picture}
@@ -52,7 +52,7 @@ status_of (Reserved at code) = 8
 
 -- the sockets of the chips of a game, in the order of its description
 abbrev pub game_chain : Game → List ChipState → List ℕ
-game_chain game rack = []
+game_chain game rack = chain_of game.chips (kinds_of rack)
 
 -- the run of a game on the chips of a rack, fitted for it, each with its own patch in its bytes
 abbrev pub game_run : Manner → Game → List ChipState → Telling

@@ -39,8 +39,8 @@ pub record FailedDuring (old new : Output) (manner : Manner) (power : ℕ) (run 
   pub cut : CutShort (detail_of manner) run.moments powered news between new
 
 -- it failed at a line behind the run
-pub record FailedAfter (old new : Output) (manner : Manner) (power : ℕ) (run : Telling) (fitted news : List ChipState) :
-    Type 0 where
+pub record FailedAfter (old new : Output) (manner : Manner) (power : ℕ) (run : Telling)
+    (fitted news : List ChipState) : Type 0 where
   pub ran : RanOn power run fitted news
   pub between : Output
   pub told : Adds old between (text_of (opening_lines manner) ++ text_in (detail_of manner) (told_in run.moments))
@@ -48,8 +48,7 @@ pub record FailedAfter (old new : Output) (manner : Manner) (power : ℕ) (run :
 
 -- What a run on chips that are fitted makes of them.
 pub record OnFitted (old new : Output) (said : ℕ) (manner : Manner) (power : ℕ) (run : Telling)
-(fitted news : List ChipState) :
-    Type 0 where
+    (fitted news : List ChipState) : Type 0 where
   pub ran : said ≢ 5 → RanOn power run fitted news
   pub failed : said ≡ 5 →
       FailedBefore old new manner fitted news

@@ -21,7 +21,7 @@ use f8_machine::{Chain, Rack};
 use f8_spec::Memory;
 use loader::Game;
 use outside::{Sink, SinkFault};
-use rack_run::{ReferFault, first_shortage, fit_all, play, refer};
+use rack_run::{ReferFault, chain_of, first_shortage, fit_all, play, refer};
 use report::Line;
 use std::alloc::Global;
 
@@ -81,8 +81,9 @@ fn fit_and_play<K: Sink>(
     ensures rack { Plays (K.output sink.old) (K.output sink.new) (exit_code result)
         manner (seen_game game.now) (map state rack.old.items) (map state rack.new.items) }
 {
+    let chain = chain_of(&game.chips, rack);
     match fit_all(alloc, &game.chips, rack) {
-        Ok(()) => play_fitted(game, manner, Chain::new(), sink, rack),
+        Ok(()) => play_fitted(game, manner, chain, sink, rack),
         Err(Memory) => Status::Memory,
     }
 }

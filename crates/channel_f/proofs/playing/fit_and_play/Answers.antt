@@ -6,12 +6,12 @@ use Rattle.channel_f.proofs.playing.fit_and_play.Goals as goal
 
 pub returns-in-Ok-clause-answers : goal.returns-in-Ok-clause-answers
 returns-in-Ok-clause-answers g c =
-    answers_fitted _ _ _ c.args.manner (seen_game c.args.game.now) _ _ _ c.in-Ok.ensures.views c.new.ensures
+    answers_fitted _ _ _ c.args.manner (seen_game c.args.game.now) _ _ _ c.in-Ok.ensures.views c.chain_of-chain.ensures
     c.play_fitted.ensures.reports
 
 pub returns-in-Ok-clause-rack : goal.returns-in-Ok-clause-rack
 returns-in-Ok-clause-rack g c =
-    plays_fitted _ _ _ c.args.manner (seen_game c.args.game.now) _ _ _ c.in-Ok.ensures.views c.new.ensures _
+    plays_fitted _ _ _ c.args.manner (seen_game c.args.game.now) _ _ _ c.in-Ok.ensures.views c.chain_of-chain.ensures _
     c.in-Ok.ensures.fitted (no_memory_from _ _ (status_not_memory _) c.play_fitted.ensures.reports.which)
     c.play_fitted.ensures.rack
 
