@@ -1,3 +1,4 @@
+// Descriptions and what is answered to them.
 use super::*;
 use chip_face::ChipSpec;
 use f8_asm::{Room, assemble};

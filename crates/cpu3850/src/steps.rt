@@ -1,3 +1,4 @@
+// The bus steps of each instruction.
 ghost use Rattle.std.specs.Prelude.{◌≡◌, ◌==◌, ◌<◌, ◌≤◌, ◌++◌, [], ◌∷◌, true, false, if◌then◌else◌, map, sum_by, length};
 ghost use Rattle.f8_spec.specs.MicroSteps.{step_clocks, steps_before_fetch};
 ghost use Rattle.f8_spec.specs.Instructions.{clocks_of};
