@@ -27,7 +27,7 @@ use Rattle.f8_machine.specs.FlatViews.{HoldsFlat}
 use Rattle.f8_machine.specs.PortViews.{HoldsPorts}
 use Rattle.console_spec.specs.declared.PortWrite.{PortWrite}
 use Rattle.f8_machine.proofs.PortValues.{PortValues, writes_along}
-use Rattle.f8_machine.specs.Traces.{told_who}
+use Rattle.f8_machine.specs.Traces.{who_drove}
 use Rattle.f8_machine.proofs.Places.{places_along, named_place}
 use Rattle.f8_machine.proofs.Values.{Values, ValueIs, memory_along}
 use Rattle.f8_machine.proofs.Bounds.{AreAt}
@@ -40,7 +40,7 @@ use Rattle.f8_machine.proofs.Copies.{seats_same, all_filled}
 -- the trace of each step tells who drives by the code
 abbrev pub Quiet : List Step → Type 0
 Quiet [] = Unit {0}
-Quiet (s ∷ later) = ((socket : Option ℕ) → who_of s socket ≡ told_who s.romc s.long socket) × Quiet later
+Quiet (s ∷ later) = ((socket : Option ℕ) → who_of s socket ≡ who_drove s.romc s.long socket) × Quiet later
 
 -- steps before others in a course
 abbrev pub with_steps : List TracedStep → Course → Course

@@ -10,7 +10,7 @@ use Rattle.data_bus.specs.Racks.{ChosenAsks, RackSettles, RackStays}
 use Rattle.data_bus.specs.Steps.{answered, step_answer}
 use Rattle.data_bus.specs.declared.cycle.Served.{Served}
 use Rattle.data_bus.specs.declared.fault.BusFault.{BusFault}
-use Rattle.f8_machine.specs.BusSteps.{IsPlain, IsServed, IsRefused, told}
+use Rattle.f8_machine.specs.BusSteps.{IsPlain, IsServed, IsRefused, heard_served}
 use Rattle.f8_machine.specs.Faults.{fault_of}
 use Rattle.f8_machine.specs.declared.heard.Heard.{Heard}
 
@@ -36,7 +36,7 @@ answered_fault romc byte (Astray socket at reference) fault e = let same : fault
 pub served_by : (step : Step) (placed : ℕ) (before after : ProbeState) (olds news : List ChipState) (earlier now : List Heard) (served : Served) →
     Ok served ≡ step_answer (record { romc = step.romc; long = step.long; byte = placed; first = None }) before olds →
     RackSettles step.romc step.long None served.byte olds news → after ≡ probe_after step.romc served.byte before →
-    now ≡ earlier ++ told step served.byte served.socket ∷ [] →
+    now ≡ earlier ++ heard_served step served.byte served.socket ∷ [] →
     IsServed step placed before after olds news earlier now served.byte
 served_by step placed before after olds news earlier now served answer settled heard recorded = record {
   socket = served.socket;

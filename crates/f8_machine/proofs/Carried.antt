@@ -21,7 +21,7 @@ use Rattle.cpu3850.proofs.PortLaws.{from_cpu-own_inputs}
 use Rattle.cpu3850.proofs.ReachingLaws.{reaches}
 use Rattle.probe.specs.ProbeState.{ProbeState}
 use Rattle.data_bus.specs.Racks.{views}
-use Rattle.f8_machine.specs.Carrying.{Holds, IsCarriedOut}
+use Rattle.f8_machine.specs.Carrying.{HoldsInstruction, IsCarriedOut}
 use Rattle.f8_machine.specs.ChipCopies.{AreCopies}
 use Rattle.f8_machine.specs.declared.heard.Heard.{Heard}
 use Rattle.f8_machine.proofs.Along.{Along}
@@ -51,15 +51,15 @@ copies_after-with_opcode row code i (c ∷ cs) =
     ∙ ap (λ l. copy_after row i c ∷ l) (copies_after-with_opcode row code i cs)
 
 -- all steps are left
-pub remaining_first : (cpu : CpuState) (probe : ProbeState) (states : List ChipState) (op : Op) (x : Position) (plan : List Step) → plan ≡ planned cpu → Holds cpu probe states op x →
+pub remaining_first : (cpu : CpuState) (probe : ProbeState) (states : List ChipState) (op : Op) (x : Position) (plan : List Step) → plan ≡ planned cpu → HoldsInstruction cpu probe states op x →
     Remaining op x (gets_all op (seats_of x.copies) x.flat) (instruction_aim op x) (done op (gets_all op (seats_of x.copies) x.flat) cpu) plan 0 cpu probe states []
 remaining_first cpu probe states op x plan is holds =
     let i = gets_all op (seats_of x.copies) x.flat in
-    let same_taken : i.taken ≡ is_taken op cpu.registers = taken-gets op (seats_of x.copies) x.flat ∙ ap (is_taken op) (sym holds.registers) in
-    let same_inputs : from_cpu op cpu i ≡ i = from_cpu-gets op (seats_of x.copies) x.flat cpu holds.registers holds.own in
-    let range : AreInRange x.flat.state.registers = subst AreInRange holds.registers holds.range in
+    let same_taken : i.taken ≡ is_taken op cpu.registers = taken-gets op (seats_of x.copies) x.flat ∙ ap (is_taken op) (sym holds.holds.registers) in
+    let same_inputs : from_cpu op cpu i ≡ i = from_cpu-gets op (seats_of x.copies) x.flat cpu holds.holds.registers holds.holds.own in
+    let range : AreInRange x.flat.state.registers = subst AreInRange holds.holds.registers holds.range in
     let start : Along i x (instruction_aim op x) (steps_of (row_of op) i.taken) probe (views states) [] =
-    along-starts op x probe (views states) (gets_bytes op (seats_of x.copies) x.flat range holds.memory.bytes) holds.addresses holds.reference holds.copies holds.flat holds.ports holds.memory.whole in
+    along-starts op x probe states (gets_bytes op (seats_of x.copies) x.flat range holds.holds.memory.bytes) holds.holds.addresses holds.holds.rack holds.holds.memory.whole in
     record {
       rest = steps_of (row_of op) (is_taken op cpu.registers);
       planned_are = ap (λ (found : Option Op). planned_as found cpu.registers) (sym holds.instruction) ∙ sym is;
@@ -81,12 +81,14 @@ ends_by start cpu probe states steps op x index [] none bus reaches free =
     let ended = along-ends i x (instruction_aim op x) probe (views states) bus.so_far bus.along in
     record {
       processor = reaches;
-      reference = ended.reference ∙ ap fetched (flow_after-with_opcode (row_of op) i.opcode (gets op (seats_of x.copies) x.flat) true x.flat.state.flow);
-      copies = subst (λ cs. AreCopies (λ second c. fetched c) probe.last cs (views states)) (copies_after-with_opcode (row_of op) i.opcode (gets op (seats_of x.copies) x.flat) x.copies)
-          (copies_end ended.now probe.last (row_of op) i x.copies (views states) ended.moves ended.copies);
-      flat = ended.flat;
-      ports = flat_writes op (gets_all op (seats_of x.copies) x.flat) (seats_of x.copies) (flat_after op (seats_of x.copies) x.flat).state.phi x.flat.state.keys x.flat.state.writes (views states) (port_gets op (seats_of x.copies) x.flat)
-          (subst (λ (ss : List Seat). LeaveOwnPorts ss) (sym (seats_same ended.now probe.last x.copies (views states) ended.copies)) free) ended.ports;
+      rack = record {
+        reference = ended.reference ∙ ap fetched (flow_after-with_opcode (row_of op) i.opcode (gets op (seats_of x.copies) x.flat) true x.flat.state.flow);
+        copies = subst (λ cs. AreCopies (λ second c. fetched c) probe.last cs (views states)) (copies_after-with_opcode (row_of op) i.opcode (gets op (seats_of x.copies) x.flat) x.copies)
+            (copies_end ended.now probe.last (row_of op) i x.copies (views states) ended.moves ended.copies);
+        flat = ended.flat;
+        ports = flat_writes op (gets_all op (seats_of x.copies) x.flat) (seats_of x.copies) (flat_after op (seats_of x.copies) x.flat).state.phi x.flat.state.keys x.flat.state.writes (views states) (port_gets op (seats_of x.copies) x.flat)
+            (subst (λ (ss : List Seat). LeaveOwnPorts ss) (sym (seats_same ended.now probe.last x.copies (views states) ended.copies)) free) ended.ports;
+      };
       served = ended.fault;
       so_far = bus.so_far;
       recorded = bus.told_so_far;

@@ -31,15 +31,15 @@ use Rattle.cpu3850.specs.CpuSteps.{CpuState, AreInRange, bus_step, planned_as, p
 use Rattle.cpu3850.specs.Keeping.{KeptRegisters, kept_of, restored, IsRestorable}
 use Rattle.probe.specs.ProbeState.{ProbeState}
 use Rattle.data_bus.specs.declared.fault.BusFault.{BusFault}
-use Rattle.f8_machine.specs.Carrying.{Holds, IsCarriedOut, IsCutShort}
+use Rattle.f8_machine.specs.Carrying.{HoldsInstruction, IsCarriedOut, IsCutShort}
 use Rattle.f8_machine.specs.Faults.{fault_of}
-use Rattle.f8_machine.specs.MachineState.{MachineState, unfetched, halted, steps_in}
+use Rattle.f8_machine.specs.MachineState.{MachineState, flow_before_fetch, outcome_again, steps_in}
 use Rattle.f8_machine.specs.Refinement.{AreAddresses, IsMemory, Represents, IsDone, IsFaulted}
 use Rattle.f8_machine.specs.Rounds.{heard_of}
 use Rattle.f8_machine.specs.declared.heard.Heard.{Heard}
-use Rattle.f8_machine.specs.declared.mode.Mode.TheVariants.{Stopped}
-use Rattle.f8_machine.specs.declared.mode.Halt.{Halt}
-use Rattle.f8_machine.specs.declared.mode.Halt.TheVariants.{Fault as FaultHalt, Reserved as ReservedHalt}
+use Rattle.f8_machine.specs.declared.outcome.Mode.TheVariants.{Stopped}
+use Rattle.f8_machine.specs.declared.outcome.StoppedBy.{StoppedBy}
+use Rattle.f8_machine.specs.declared.outcome.StoppedBy.TheVariants.{Fault as ByFault, Reserved as ByOpcode}
 use Rattle.f8_machine.proofs.Bounds.{GetsBytes, gets_bytes, flow_small}
 use Rattle.f8_machine.proofs.Stores.{stored_long, stored_bytes}
 
@@ -80,8 +80,8 @@ unfolding own_inputs
 own_taken op seats f = refl
 
 -- the counters, from the probe's
-pub unfetched-fetched : (c : Flow) → AreAddresses c → unfetched (fetched c) ≡ c
-unfetched-fetched c small =
+pub flow_before_fetch-fetched : (c : Flow) → AreAddresses c → flow_before_fetch (fetched c) ≡ c
+flow_before_fetch-fetched c small =
     let back : ((c.p + 1) % 65536 + 65535) % 65536 ≡ c.p = (let p : c.p < 65536 = small.p in omega arith) in
     ap (λ (n : ℕ). record c { p = n }) back
 
@@ -140,66 +140,54 @@ written_done op x start cpu steps wrote phi spent own carried told =
     ∙ ap (write_of op i seats) spent))
 
 pub holds_of : (m : MachineState) (states : List ChipState) (op : Op) (x : Position) → decoded m.cpu.opcode ≡ Some op → AreInRange m.cpu.registers →
-    Represents m states x → Holds m.cpu m.probe states op x
-holds_of m states op x held range r = record {
-  instruction = held;
-  registers = r.stands.registers;
-  own = r.stands.own;
-  range = range;
-  reference = r.stands.reference;
-  copies = r.stands.copies;
-  flat = r.stands.flat;
-  ports = r.stands.ports;
-  free = r.stands.free;
-  memory = r.stands.memory;
-  addresses = r.stands.addresses;
-}
+    Represents m states x → HoldsInstruction m.cpu m.probe states op x
+holds_of m states op x held range r = record { instruction = held; range = range; holds = r.stands.holds }
 
 module _ (m : MachineState) (states news : List ChipState) (op : Op) (x : Position) (held : decoded m.cpu.opcode ≡ Some op) (r : Represents m states x) where
   pub done_of : (cpu : CpuState) (probe : ProbeState) (flow : Flow) (clocks : ℕ) (wrote : Option PortWrite) (steps : List Heard) → AreInRange m.cpu.registers →
-      IsCarriedOut m.cpu cpu probe news steps op x → flow ≡ unfetched probe.count → clocks ≡ row_clocks (row_of op) (is_taken op m.cpu.registers) →
+      IsCarriedOut m.cpu cpu probe news steps op x → flow ≡ flow_before_fetch probe.count → clocks ≡ row_clocks (row_of op) (is_taken op m.cpu.registers) →
       wrote ≡ done_write (Some op) (m.phi + clocks) cpu.ports.latches steps →
       IsDone (record m { probe = probe; cpu = cpu; flow = flow; phi = m.phi + clocks }) news (next x) (turn_course x) x.flat.state.writes wrote steps
   done_of cpu probe flow clocks wrote steps range carried moved spent told =
+      let there = r.stands.holds in
       let seats = seats_of x.copies in
       let i = gets_all op seats x.flat in
       let y = position_after op x in
-      let registers_in_range : AreInRange x.flat.state.registers = subst AreInRange r.stands.registers range in
-      let bytes : GetsBytes i = gets_bytes op seats x.flat registers_in_range r.stands.memory.bytes in
+      let registers_in_range : AreInRange x.flat.state.registers = subst AreInRange there.registers range in
+      let bytes : GetsBytes i = gets_bytes op seats x.flat registers_in_range there.memory.bytes in
       let small : AreAddresses y.flat.state.flow =
-      subst AreAddresses (flow_after-with_opcode (row_of op) i.opcode (gets op seats x.flat) true x.flat.state.flow) (flow_small (row_of op) i true x.flat.state.flow bytes r.stands.addresses) in
-      let same_flow : flow ≡ y.flat.state.flow = moved ∙ ap unfetched carried.reference ∙ unfetched-fetched y.flat.state.flow small in
+      subst AreAddresses (flow_after-with_opcode (row_of op) i.opcode (gets op seats x.flat) true x.flat.state.flow) (flow_small (row_of op) i true x.flat.state.flow bytes there.addresses) in
+      let same_flow : flow ≡ y.flat.state.flow = moved ∙ ap flow_before_fetch carried.rack.reference ∙ flow_before_fetch-fetched y.flat.state.flow small in
       let same_registers : cpu.registers ≡ y.flat.state.registers =
       ap (λ (k : CpuState). k.registers) carried.processor
-      ∙ ap (λ (regs : Registers). result_of op i regs) r.stands.registers
+      ∙ ap (λ (regs : Registers). result_of op i regs) there.registers
       ∙ result_of-with_opcode op i.opcode (gets op seats x.flat) x.flat.state.registers in
       let same_clocks : m.phi + clocks ≡ y.flat.state.phi =
       ap (λ (n : ℕ). n + clocks) r.stands.phi
-      ∙ ap (λ (n : ℕ). x.flat.state.phi + n) (spent ∙ ap (λ (regs : Registers). row_clocks (row_of op) (is_taken op regs)) r.stands.registers ∙ ap (row_clocks (row_of op)) (sym (own_taken op seats x.flat))) in
+      ∙ ap (λ (n : ℕ). x.flat.state.phi + n) (spent ∙ ap (λ (regs : Registers). row_clocks (row_of op) (is_taken op regs)) there.registers ∙ ap (row_clocks (row_of op)) (sym (own_taken op seats x.flat))) in
       let trace = course_with x m.cpu.opcode (Some op) r.opcode held ∙ carried.trace in
       record {
         after = y;
         turns = turn_with x m.cpu.opcode (Some op) r.opcode held ∙ ap (λ (f : Option Fault). goes_unless f y) carried.served;
         represents = record {
           stands = record {
-            registers = same_registers;
-            own = own_done op x m.cpu cpu r.stands.own r.stands.free carried.processor;
+            holds = record {
+              registers = same_registers;
+              own = own_done op x m.cpu cpu there.own there.free carried.processor;
+              rack = carried.rack;
+              free = subst LeaveOwnPorts (sym (seats_after (row_of op) (gets op seats x.flat) x.copies)) there.free;
+              memory = stored_memory (row_of op) seats (gets op seats x.flat) x.flat.state.flow x.flat.memory bytes.accumulator there.memory;
+              addresses = small;
+            };
             flow = same_flow;
             phi = same_clocks;
             chain = r.stands.chain;
-            reference = carried.reference;
-            copies = carried.copies;
-            flat = carried.flat;
-            ports = carried.ports;
             keys = r.stands.keys;
-            free = subst LeaveOwnPorts (sym (seats_after (row_of op) (gets op seats x.flat) x.copies)) r.stands.free;
-            memory = stored_memory (row_of op) seats (gets op seats x.flat) x.flat.state.flow x.flat.memory bytes.accumulator r.stands.memory;
-            addresses = small;
           };
           opcode = ap (λ (k : CpuState). k.opcode) carried.processor;
           running = r.running;
         };
-        written = written_done op x m.cpu cpu steps wrote (m.phi + clocks) same_clocks r.stands.own carried told;
+        written = written_done op x m.cpu cpu steps wrote (m.phi + clocks) same_clocks there.own carried told;
         trace = trace ∙ ap (λ (c : Course). record { steps = c.steps; fault = None }) (sym trace);
         recorded = carried.recorded ∙ ap (λ (c : Course). map heard_of c.steps) (sym trace);
       }
@@ -207,7 +195,7 @@ module _ (m : MachineState) (states news : List ChipState) (op : Op) (x : Positi
   -- ---- and one that is not
 
   pub faulted_of : (after : MachineState) (fault : BusFault) (long : Bool) (steps : List Heard) → IsCutShort steps fault long op x →
-      after ≡ record m { probe = after.probe; mode = Stopped (FaultHalt fault long) } → IsFaulted m after (next x) (turn_course x) fault long steps
+      after ≡ record m { probe = after.probe; mode = Stopped (ByFault fault long) } → IsFaulted m after (next x) (turn_course x) fault long steps
   faulted_of after fault long steps cut kept =
       let trace = course_with x m.cpu.opcode (Some op) r.opcode held ∙ cut.trace in
       record {
@@ -221,7 +209,7 @@ module _ (m : MachineState) (states news : List ChipState) (op : Op) (x : Positi
 
 pub done_from : (m k : MachineState) → k ≡ m → (states news : List ChipState) (op : Op) (x : Position) → decoded k.cpu.opcode ≡ Some op → Represents m states x →
     (cpu : CpuState) (probe : ProbeState) (flow : Flow) (clocks : ℕ) (wrote : Option PortWrite) (steps : List Heard) → AreInRange k.cpu.registers →
-    (Holds k.cpu k.probe states op x → IsCarriedOut k.cpu cpu probe news steps op x) → flow ≡ unfetched probe.count → clocks ≡ row_clocks (row_of op) (is_taken op k.cpu.registers) →
+    (HoldsInstruction k.cpu k.probe states op x → IsCarriedOut k.cpu cpu probe news steps op x) → flow ≡ flow_before_fetch probe.count → clocks ≡ row_clocks (row_of op) (is_taken op k.cpu.registers) →
     wrote ≡ done_write (Some op) (k.phi + clocks) cpu.ports.latches steps →
     IsDone (record k { probe = probe; cpu = cpu; flow = flow; phi = k.phi + clocks }) news (next x) (turn_course x) x.flat.state.writes wrote steps
 done_from m k same states news op x held r cpu probe flow clocks wrote steps range carried moved spent told =
@@ -233,19 +221,19 @@ restored_same : (start cpu now : CpuState) (kept : KeptRegisters) → kept ≡ k
 restored_same start cpu now kept kept_is now_is restorable = now_is ∙ ap (λ (k : KeptRegisters). restored k cpu) kept_is ∙ restorable
 
 pub faulted_from : (m k : MachineState) → k ≡ m → (states : List ChipState) (op : Op) (x : Position) → decoded k.cpu.opcode ≡ Some op → Represents m states x →
-    (cpu now : CpuState) (probe : ProbeState) (kept : KeptRegisters) (fault : BusFault) (halt : Halt) (long : Bool) (steps : List Heard) → AreInRange k.cpu.registers →
-    (Holds k.cpu k.probe states op x → IsCutShort steps fault long op x) → kept ≡ kept_of k.cpu → now ≡ restored kept cpu → IsRestorable k.cpu cpu → halt ≡ FaultHalt fault long →
-    IsFaulted m (record k { probe = probe; cpu = now; mode = Stopped halt }) (next x) (turn_course x) fault long steps
-faulted_from m k same states op x held r cpu now probe kept fault halt long steps range cut kept_is now_is restorable stopped =
+    (cpu now : CpuState) (probe : ProbeState) (kept : KeptRegisters) (fault : BusFault) (why : StoppedBy) (long : Bool) (steps : List Heard) → AreInRange k.cpu.registers →
+    (HoldsInstruction k.cpu k.probe states op x → IsCutShort steps fault long op x) → kept ≡ kept_of k.cpu → now ≡ restored kept cpu → IsRestorable k.cpu cpu → why ≡ ByFault fault long →
+    IsFaulted m (record k { probe = probe; cpu = now; mode = Stopped why }) (next x) (turn_course x) fault long steps
+faulted_from m k same states op x held r cpu now probe kept fault why long steps range cut kept_is now_is restorable stopped =
     let there : Represents k states x = subst (λ (y : MachineState). Represents y states x) (sym same) r in
-    let after : MachineState = record k { probe = probe; cpu = now; mode = Stopped halt } in
-    let put_back : after ≡ record k { probe = probe; mode = Stopped (FaultHalt fault long) } =
-    ap (λ (c : CpuState). record k { probe = probe; cpu = c; mode = Stopped halt }) (restored_same k.cpu cpu now kept kept_is now_is restorable)
-    ∙ ap (λ (h : Halt). record k { probe = probe; mode = Stopped h }) stopped in
+    let after : MachineState = record k { probe = probe; cpu = now; mode = Stopped why } in
+    let put_back : after ≡ record k { probe = probe; mode = Stopped (ByFault fault long) } =
+    ap (λ (c : CpuState). record k { probe = probe; cpu = c; mode = Stopped why }) (restored_same k.cpu cpu now kept kept_is now_is restorable)
+    ∙ ap (λ (h : StoppedBy). record k { probe = probe; mode = Stopped h }) stopped in
     subst (λ (y : MachineState). IsFaulted y after (next x) (turn_course x) fault long steps) same
     (faulted_of k states states op x held there after fault long steps (cut (holds_of k states op x held range there)) put_back)
 
 -- a stopped machine tells no step
-pub no_steps : (halt : Halt) → steps_in (halted halt) ≡ []
-no_steps (FaultHalt fault long) = refl
-no_steps (ReservedHalt at code) = refl
+pub no_steps : (why : StoppedBy) → steps_in (outcome_again why) ≡ []
+no_steps (ByFault fault long) = refl
+no_steps (ByOpcode at code) = refl

@@ -164,43 +164,58 @@ module _ (now : Flow → Count) (m : MachineState) (olds news : List ChipState) 
   keyed_by : (own : Bool) → is_own port ≡ own → RackKeyedBy own port byte olds news →
       Stands now (if own then record m { cpu = record m.cpu { ports = with_own_key port byte m.cpu.ports } } else m) news (with_event (Keys port byte) x)
   keyed_by true own same =
+      let there = stands.holds in
       let two : 2 ≤ length x.flat.state.keys = omega (arith, stands.keys) in
       let vs : views news ≡ views olds = ap views same in
-      let seats : map seat_of (views olds) ≡ seats_of x.copies = seats_same (λ second c. now c) m.probe.last x.copies (views olds) stands.copies in
-      let none : takers port (map seat_of (views olds)) ≡ 0 = ap (takers port) seats ∙ free_of port (seats_of x.copies) stands.free own in
+      let seats : map seat_of (views olds) ≡ seats_of x.copies =
+      seats_same (λ second c. now c) m.probe.last x.copies (views olds) there.rack.copies in
+      let none : takers port (map seat_of (views olds)) ≡ 0 = ap (takers port) seats ∙ free_of port (seats_of x.copies) there.free own in
       record {
-        registers = stands.registers;
-        own = ap (with_own_key port byte) stands.own ∙ sym (own_ports-with_key port byte x.flat.state two);
+        holds = record {
+          registers = there.registers;
+          own = ap (with_own_key port byte) there.own ∙ sym (own_ports-with_key port byte x.flat.state two);
+          rack = record {
+            reference = there.rack.reference;
+            copies = subst (λ (ws : List ChipView). AreCopies (λ second c. now c) m.probe.last x.copies ws) (sym vs) there.rack.copies;
+            flat = subst (λ (ws : List ChipView). HoldsFlat x.flat.memory ws) (sym vs) there.rack.flat;
+            ports = subst (λ (ws : List ChipView). HoldsPorts (slice_set x.flat.state.keys port byte) x.flat.state.writes ws) (sym vs)
+                (ports_own x.flat.state.keys x.flat.state.writes port byte (views olds) none there.rack.ports);
+          };
+          free = there.free;
+          memory = there.memory;
+          addresses = there.addresses;
+        };
         flow = stands.flow;
         phi = stands.phi;
         chain = stands.chain;
-        reference = stands.reference;
-        copies = subst (λ (ws : List ChipView). AreCopies (λ second c. now c) m.probe.last x.copies ws) (sym vs) stands.copies;
-        flat = subst (λ (ws : List ChipView). HoldsFlat x.flat.memory ws) (sym vs) stands.flat;
-        ports = subst (λ (ws : List ChipView). HoldsPorts (slice_set x.flat.state.keys port byte) x.flat.state.writes ws) (sym vs) (ports_own x.flat.state.keys x.flat.state.writes port byte (views olds) none stands.ports);
         keys = length-set x.flat.state.keys port byte ∙ stands.keys;
-        free = stands.free;
-        memory = stands.memory;
-        addresses = stands.addresses;
       }
   keyed_by false other all =
+      let there = stands.holds in
       let two : 2 ≤ length x.flat.state.keys = omega (arith, stands.keys) in
       let within : port < length x.flat.state.keys = omega (arith, stands.keys, small) in
       let vs : views news ≡ map (keyed port byte) (views olds) = keyed_from port byte 0 olds news all in
       record {
-        registers = stands.registers;
-        own = stands.own ∙ sym (own_ports_other port byte x.flat.state two other);
+        holds = record {
+          registers = there.registers;
+          own = there.own ∙ sym (own_ports_other port byte x.flat.state two other);
+          rack = record {
+            reference = there.rack.reference;
+            copies = subst (λ (ws : List ChipView). AreCopies (λ second c. now c) m.probe.last x.copies ws) (sym vs)
+                (copies_keyed (λ second c. now c) m.probe.last port byte x.copies (views olds) there.rack.copies);
+            flat = subst (λ (ws : List ChipView). HoldsFlat x.flat.memory ws) (sym vs)
+                (flat_keyed x.flat.memory port byte (views olds) there.rack.flat);
+            ports = subst (λ (ws : List ChipView). HoldsPorts (slice_set x.flat.state.keys port byte) x.flat.state.writes ws) (sym vs)
+                (ports_keyed x.flat.state.keys x.flat.state.writes port byte (views olds) within there.rack.ports);
+          };
+          free = there.free;
+          memory = there.memory;
+          addresses = there.addresses;
+        };
         flow = stands.flow;
         phi = stands.phi;
         chain = stands.chain;
-        reference = stands.reference;
-        copies = subst (λ (ws : List ChipView). AreCopies (λ second c. now c) m.probe.last x.copies ws) (sym vs) (copies_keyed (λ second c. now c) m.probe.last port byte x.copies (views olds) stands.copies);
-        flat = subst (λ (ws : List ChipView). HoldsFlat x.flat.memory ws) (sym vs) (flat_keyed x.flat.memory port byte (views olds) stands.flat);
-        ports = subst (λ (ws : List ChipView). HoldsPorts (slice_set x.flat.state.keys port byte) x.flat.state.writes ws) (sym vs) (ports_keyed x.flat.state.keys x.flat.state.writes port byte (views olds) within stands.ports);
         keys = length-set x.flat.state.keys port byte ∙ stands.keys;
-        free = stands.free;
-        memory = stands.memory;
-        addresses = stands.addresses;
       }
 
   pub stands_keyed : RackKeyed port byte olds news → Stands now (keyed_machine port byte m) news (with_event (Keys port byte) x)

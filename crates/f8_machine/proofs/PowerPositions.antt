@@ -89,22 +89,27 @@ powers_pair fill chain olds news small whole free powers =
     let same : views news ≡ powered_views fill vs = views_powered fill olds news powers in
     record {
       stands = record {
-        registers = refl;
-        own = refl;
+        holds = record {
+          registers = refl;
+          own = refl;
+          rack = record {
+            reference = refl;
+            copies = subst (λ ws. AreCopies (λ second c. unreset c) 0 (map (reset_copy fill) (enumerate_from 0 (map seat_of vs))) ws)
+                (sym same) (copies_powered fill 0 vs filled);
+            flat = subst (λ ws. HoldsFlat (power_position vs chain fill).flat.memory ws) (sym same) (first_flat fill vs filled);
+            ports = subst (λ (ws : List ChipView). HoldsPorts (replicate 256 0) [] ws) (sym same) (powered_ports fill vs);
+          };
+          free = subst LeaveOwnPorts (sym (seats_reset fill 0 (map seat_of vs))) free;
+          memory = record {
+            whole = length-first_memory vs fill;
+            bytes = first_bytes vs fill small (λ k v lies i. (view_whole olds whole k v lies).bytes i);
+          };
+          addresses = record { p = omega arith; p1 = omega arith; d0 = omega arith; d1 = omega arith };
+        };
         flow = refl;
         phi = refl;
         chain = refl;
-        reference = refl;
-        copies = subst (λ ws. AreCopies (λ second c. unreset c) 0 (map (reset_copy fill) (enumerate_from 0 (map seat_of vs))) ws) (sym same) (copies_powered fill 0 vs filled);
-        ports = subst (λ (ws : List ChipView). HoldsPorts (replicate 256 0) [] ws) (sym same) (powered_ports fill vs);
         keys = refl;
-        free = subst LeaveOwnPorts (sym (seats_reset fill 0 (map seat_of vs))) free;
-        flat = subst (λ ws. HoldsFlat (power_position vs chain fill).flat.memory ws) (sym same) (first_flat fill vs filled);
-        memory = record {
-          whole = length-first_memory vs fill;
-          bytes = first_bytes vs fill small (λ k v lies i. (view_whole olds whole k v lies).bytes i);
-        };
-        addresses = record { p = omega arith; p1 = omega arith; d0 = omega arith; d1 = omega arith };
       };
       at_zero = refl;
       copies_at_zero = resets_to_zero fill 0 (map seat_of vs);

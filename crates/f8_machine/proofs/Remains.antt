@@ -17,7 +17,7 @@ use Rattle.cpu3850.specs.Reaching.{Reaches, Places, is_placed_by}
 use Rattle.probe.specs.ProbeState.{ProbeState, probe_after}
 use Rattle.data_bus.specs.Racks.{views}
 use Rattle.data_bus.specs.declared.fault.BusFault.{BusFault}
-use Rattle.f8_machine.specs.BusSteps.{IsPlain, IsServed, IsRefused, told}
+use Rattle.f8_machine.specs.BusSteps.{IsPlain, IsServed, IsRefused, heard_served}
 use Rattle.f8_machine.specs.Faults.{fault_of}
 use Rattle.f8_machine.specs.Rounds.{heard_of}
 use Rattle.f8_machine.specs.declared.heard.Heard.{Heard}
@@ -104,9 +104,9 @@ module _ (i : Inputs) (x : Position) (aim : Aim) (s : MicroStep) (rest : List Mi
       record {
         so_far = left.so_far ++ traced i s served.socket ∷ [];
         told_so_far = served.recorded
-            ∙ ap (λ (l : List Heard). l ++ told (bus_step s) byte served.socket ∷ []) left.told_so_far
-            ∙ ap (λ (b : ℕ). map heard_of left.so_far ++ told (bus_step s) b served.socket ∷ []) same
-            ∙ ap (λ w. map heard_of left.so_far ++ record (told (bus_step s) (byte_of i s.source) served.socket) { who = w } ∷ []) (sym (left.along.quiet.0 served.socket))
+            ∙ ap (λ (l : List Heard). l ++ heard_served (bus_step s) byte served.socket ∷ []) left.told_so_far
+            ∙ ap (λ (b : ℕ). map heard_of left.so_far ++ heard_served (bus_step s) b served.socket ∷ []) same
+            ∙ ap (λ w. map heard_of left.so_far ++ record (heard_served (bus_step s) (byte_of i s.source) served.socket) { who = w } ∷ []) (sym (left.along.quiet.0 served.socket))
             ∙ sym (map-append heard_of left.so_far (traced i s served.socket ∷ []));
         along = subst (λ (p : ProbeState). Along i x aim rest p (views states_now) (left.so_far ++ traced i s served.socket ∷ [])) (sym now_probe)
             (subst (λ (ws : List ChipView). Along i x aim rest (probe_after s.romc (byte_of i s.source) probe) ws (left.so_far ++ traced i s served.socket ∷ [])) (sym now_views) moved);

@@ -13,7 +13,7 @@ use Rattle.probe.specs.ProbeState.{ProbeState}
 use Rattle.data_bus.specs.Racks.{views}
 use Rattle.data_bus.specs.declared.fault.BusFault.{BusFault}
 use Rattle.cpu3850.specs.declared.steps.Step.{Step as Cpu3850Step}
-use Rattle.f8_machine.specs.BusSteps.{IsServed, IsRefused, told}
+use Rattle.f8_machine.specs.BusSteps.{IsServed, IsRefused, heard_served}
 use Rattle.f8_machine.specs.Faults.{fault_of}
 use Rattle.f8_machine.specs.Rounds.{RackRuns}
 use Rattle.f8_machine.specs.declared.carry.Unserved.{Unserved}
@@ -34,7 +34,7 @@ module _ (x : Position) where
   reset_first probe states at = record {
     so_far = [];
     told_so_far = refl;
-    along = reset-starts x probe (views states) at.reference at.copies at.flat at.ports at.whole;
+    along = reset-starts x probe states at.rack at.whole;
   }
 
   -- a step before the fetch
@@ -54,10 +54,13 @@ module _ (x : Position) where
       let ended = along-ends i x (reset_aim x) probe_now (views states_now) bus.so_far bus.along in
       record {
         opcode_is = bus_byte_is i x (reset_aim x) (short_step 0x00 Opcode) [] probe states steps left 0 byte probe_now states_now steps_now tt served;
-        reference = ended.reference;
-        copies = copies_same ended.now (λ second c. fetched (record c { p = 0 })) probe_now.last x.copies (views states_now) ended.moves ended.copies;
-        flat = ended.flat;
-        ports = ended.ports;
+        rack = record {
+          reference = ended.reference;
+          copies = copies_same ended.now (λ second c. fetched (record c { p = 0 })) probe_now.last x.copies (views states_now)
+              ended.moves ended.copies;
+          flat = ended.flat;
+          ports = ended.ports;
+        };
         served = ended.fault;
         so_far = bus.so_far;
         recorded = bus.told_so_far;
@@ -92,7 +95,7 @@ if_err_both P R Q (Err e) f p q = f e p q
 pub rack_served : (step : Cpu3850Step) (byte : ℕ) (probe probe_now : ProbeState) (olds mids news : List ChipState) (steps steps_now : List Heard) → RackRuns steps olds mids →
     IsServed step 0 probe probe_now mids news steps steps_now byte → RackRuns steps_now olds news
 rack_served step byte probe probe_now olds mids news steps steps_now ran served =
-    subst (λ (l : List Heard). RackRuns l olds news) (sym served.recorded) (rack_runs_more 0 steps (told step byte served.socket) olds mids news ran served.settled)
+    subst (λ (l : List Heard). RackRuns l olds news) (sym served.recorded) (rack_runs_more 0 steps (heard_served step byte served.socket) olds mids news ran served.settled)
 
 -- and after one that is served or not
 pub rack_ran : (step : Cpu3850Step) (r : Result ℕ Unserved) (probe probe_now : ProbeState) (olds mids news : List ChipState) (steps steps_now : List Heard) → RackRuns steps olds mids →

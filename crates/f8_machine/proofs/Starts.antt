@@ -2,7 +2,7 @@
 use Rattle.std.proofs.Common.{◌≡◌, Bool, true, false, List, [], ◌∷◌, ◌++◌, append-nil, length, map, refl, ap, ◌∙◌, sym, subst, arith}
 use Rattle.std.specs.Prelude.{None}
 use Rattle.f8_spec.specs.BusCodes.{Count}
-use Rattle.f8_spec.specs.ChipState.{ChipView}
+use Rattle.f8_spec.specs.ChipState.{ChipView, ChipState}
 use Rattle.f8_spec.specs.Instructions.{row_of}
 use Rattle.f8_spec.specs.MicroSteps.{steps_of, reset_steps}
 use Rattle.f8_spec.specs.declared.instructions.Op.{Op}
@@ -18,12 +18,13 @@ use Rattle.console_spec.proofs.InputLaws.{accesses-with_opcode}
 use Rattle.console_spec.specs.CounterCopies.{fetched, unreset}
 use Rattle.console_spec.proofs.Walks.{follows}
 use Rattle.probe.specs.ProbeState.{ProbeState}
+use Rattle.data_bus.specs.Racks.{views}
 use Rattle.f8_machine.specs.FlatViews.{HoldsFlat}
 use Rattle.f8_machine.specs.PortViews.{HoldsPorts}
 use Rattle.f8_machine.proofs.PortValues.{bus_port, writes_go, port_values_of, from_port}
 use Rattle.f8_machine.proofs.Places.{places_follow, named_place}
 use Rattle.f8_machine.proofs.Values.{Values, memory_along, memory_goes, memory_after-with_opcode, values_of, from_flat}
-use Rattle.f8_machine.specs.Refinement.{AreAddresses}
+use Rattle.f8_machine.specs.Refinement.{AreAddresses, RackStands}
 use Rattle.f8_machine.proofs.Bounds.{GetsBytes, places_small}
 use Rattle.f8_machine.specs.ChipCopies.{AreCopies}
 use Rattle.f8_machine.proofs.Along.{Quiet, Aim, Along}
@@ -75,12 +76,12 @@ instruction_aim op x = record {
   flow = flow_after (row_of op) (gets_all op (seats_of x.copies) x.flat);
 }
 
-pub along-starts : (op : Op) (x : Position) (probe : ProbeState) (vs : List ChipView) →
+pub along-starts : (op : Op) (x : Position) (probe : ProbeState) (states : List ChipState) →
     GetsBytes (gets_all op (seats_of x.copies) x.flat) → AreAddresses x.flat.state.flow →
-    probe.count ≡ fetched x.flat.state.flow → AreCopies (λ second c. fetched c) probe.last x.copies vs →
-    HoldsFlat x.flat.memory vs → HoldsPorts x.flat.state.keys x.flat.state.writes vs → length x.flat.memory ≡ 65536 →
-    Along (gets_all op (seats_of x.copies) x.flat) x (instruction_aim op x) (steps_of (row_of op) (gets_all op (seats_of x.copies) x.flat).taken) probe vs []
-along-starts op x probe vs bytes addresses reference copies flat ports whole =
+    RackStands fetched probe states x → length x.flat.memory ≡ 65536 →
+    Along (gets_all op (seats_of x.copies) x.flat) x (instruction_aim op x)
+    (steps_of (row_of op) (gets_all op (seats_of x.copies) x.flat).taken) probe (views states) []
+along-starts op x probe states bytes addresses rack whole =
     let seats = seats_of x.copies in
     let i = gets_all op seats x.flat in
     let row = row_of op in
@@ -92,12 +93,12 @@ along-starts op x probe vs bytes addresses reference copies flat ports whole =
       accesses = accesses_before_fetch row i ++ last_access row i ∷ [];
       places = λ second d. places_follow row i bytes.low second d probe.last;
       moves = λ second d. follows row i bytes.low second d;
-      reference = reference;
-      copies = copies;
-      flat = flat;
-      ports = ports;
+      reference = rack.reference;
+      copies = rack.copies;
+      flat = rack.flat;
+      ports = rack.ports;
       whole = whole;
-      values = subst (λ (k : Count). Values seats i (steps_of row i.taken) k probe.last x.flat.memory) (sym reference)
+      values = subst (λ (k : Count). Values seats i (steps_of row i.taken) k probe.last x.flat.memory) (sym rack.reference)
           (values_of seats row i bytes.low c probe.last x.flat.memory (from_flat op seats x.flat));
       port_values = port_values_of seats x.flat.state.keys (flat_after op seats x.flat).state.phi (row_of op) i probe.last x.flat.state.writes (from_port op seats x.flat);
       writes_later = writes_go seats (flat_after op seats x.flat).state.phi (row_of op) i probe.last x.flat.state.writes;
@@ -105,7 +106,7 @@ along-starts op x probe vs bytes addresses reference copies flat ports whole =
       small = places_small row i c bytes addresses;
       fault = ap (first_fault c x.copies) (accesses-with_opcode row i.opcode (gets op (seats_of x.copies) x.flat));
       course = refl;
-      later = ap (λ (k : Count). memory_along seats i (steps_of row i.taken) k probe.last x.flat.memory) reference
+      later = ap (λ (k : Count). memory_along seats i (steps_of row i.taken) k probe.last x.flat.memory) rack.reference
           ∙ memory_goes seats row i c probe.last x.flat.memory
           ∙ memory_after-with_opcode seats row i.opcode (gets op (seats_of x.copies) x.flat) c x.flat.memory;
     }
@@ -116,21 +117,19 @@ along-starts op x probe vs bytes addresses reference copies flat ports whole =
 abbrev pub reset_aim : Position → Aim
 reset_aim x = record { fault = reset_fault x; course = reset_course x; memory = x.flat.memory; writes = x.flat.state.writes; phi = 0; flow = λ second c. record c { p = 0 } }
 
-pub reset-starts : (x : Position) (probe : ProbeState) (vs : List ChipView) →
-    probe.count ≡ unreset x.flat.state.flow → AreCopies (λ second c. unreset c) probe.last x.copies vs →
-    HoldsFlat x.flat.memory vs → HoldsPorts x.flat.state.keys x.flat.state.writes vs → length x.flat.memory ≡ 65536 →
-    Along (reset_gets x.flat.memory) x (reset_aim x) reset_steps probe vs []
-reset-starts x probe vs reference copies flat ports whole = record {
+pub reset-starts : (x : Position) (probe : ProbeState) (states : List ChipState) → RackStands unreset probe states x →
+    length x.flat.memory ≡ 65536 → Along (reset_gets x.flat.memory) x (reset_aim x) reset_steps probe (views states) []
+reset-starts x probe states rack whole = record {
   now = λ second c. unreset c;
   memory = x.flat.memory;
   writes = x.flat.state.writes;
   accesses = reset_access ∷ [];
   places = λ second c. refl;
   moves = λ second c. refl;
-  reference = reference;
-  copies = copies;
-  flat = flat;
-  ports = ports;
+  reference = rack.reference;
+  copies = rack.copies;
+  flat = rack.flat;
+  ports = rack.ports;
   whole = whole;
   values = (tt, (tt, (refl, tt)));
   port_values = (tt, (tt, (tt, tt)));

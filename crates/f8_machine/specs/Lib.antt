@@ -1,3 +1,4 @@
+pub mod Chains
 pub mod FlatViews
 pub mod PortViews
 pub mod ChipCopies
@@ -10,5 +11,6 @@ pub mod PortWrites
 pub mod MachineState
 pub mod Keying
 pub mod Refinement
+pub mod Advancing
 pub mod Carrying
 pub mod Resetting

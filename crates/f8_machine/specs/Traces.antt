@@ -6,5 +6,5 @@ use Rattle.console_spec.specs.BusTrace.{who_by}
 use Rattle.console_spec.specs.declared.Who.{Who}
 use Rattle.console_spec.specs.declared.Who.TheVariants.{Cpu, Nobody}
 
-abbrev pub told_who : ℕ → Bool → Option ℕ → Who
-told_who romc long socket = if romc == 0x1C then (if long then Cpu else Nobody) else who_by (driver_of romc) socket
+abbrev pub who_drove : ℕ → Bool → Option ℕ → Who
+who_drove romc long socket = if romc == 0x1C then (if long then Cpu else Nobody) else who_by (driver_of romc) socket

@@ -6,7 +6,7 @@ use Rattle.cpu3850.proofs.PlanLaws.{planned-taken}
 use Rattle.cpu3850.specs.CpuSteps.{CpuState, planned}
 use Rattle.cpu3850.specs.Keeping.{IsRestorable}
 use Rattle.probe.specs.ProbeState.{ProbeState, probe_after}
-use Rattle.f8_machine.specs.BusSteps.{told}
+use Rattle.f8_machine.specs.BusSteps.{heard_served}
 use Rattle.f8_machine.specs.MachineState.{probe_after_steps}
 use Rattle.f8_machine.proofs.Carried.{remaining_first, remaining_ends}
 use Rattle.f8_machine.proofs.RackLaws.{rack_runs_none, rack_runs_more, rack_runs_stays, probe_after_steps-more}
@@ -84,10 +84,10 @@ loop-index-preserved g c =
           let more : c.loop-index.index + 1 < length (planned c.loop-index.cpu) = rw plan_is later in
           subst (λ (cpu : CpuState). IsRestorable c.args.cpu.now cpu) (sym c.take.ensures)
           (IsRestorable-taken c.args.cpu.now c.loop-index.cpu c.loop-index.index c.in-Ok.byte more (c.loop-index.invariant.restorable within));
-      ran = rw served.recorded (rack_runs_more 0 c.loop-index.steps (told c.index-plan-index.result c.in-Ok.byte served.socket) _ _ _ c.loop-index.invariant.ran served.settled);
+      ran = rw served.recorded (rack_runs_more 0 c.loop-index.steps (heard_served c.index-plan-index.result c.in-Ok.byte served.socket) _ _ _ c.loop-index.invariant.ran served.settled);
       reference = served.heard
           ∙ ap (λ (p : ProbeState). probe_after c.index-plan-index.result.romc c.in-Ok.byte p) c.loop-index.invariant.reference
-          ∙ sym (probe_after_steps-more c.loop-index.steps (told c.index-plan-index.result c.in-Ok.byte served.socket) c.args.probe.now)
+          ∙ sym (probe_after_steps-more c.loop-index.steps (heard_served c.index-plan-index.result c.in-Ok.byte served.socket) c.args.probe.now)
           ∙ ap (λ steps. probe_after_steps steps c.args.probe.now) (sym served.recorded);
       left = λ op x holds.
           remaining_more op x _ _ _ c.args.plan.now c.index-plan-index.result c.loop-index.index c.loop-index.cpu c.loop-index.probe _ c.loop-index.steps
@@ -98,7 +98,7 @@ loop-index-preserved g c =
 pub returns-clause-done : goal.returns-clause-done
 returns-clause-done g c = λ op x holds.
     let past : length c.args.plan.now ≤ c.loop-index.index = search rules in
-    remaining_ends c.args.cpu.now c.loop-index.cpu c.loop-index.probe _ c.loop-index.steps op x c.args.plan.now c.loop-index.index past (c.loop-index.invariant.left op x holds) holds.free
+    remaining_ends c.args.cpu.now c.loop-index.cpu c.loop-index.probe _ c.loop-index.steps op x c.args.plan.now c.loop-index.index past (c.loop-index.invariant.left op x holds) holds.holds.free
 
 pub returns-clause-ran : goal.returns-clause-ran
 returns-clause-ran g c = c.loop-index.invariant.ran

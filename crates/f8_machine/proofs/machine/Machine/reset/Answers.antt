@@ -9,5 +9,5 @@ returns-in-Ok-clause-refines g c = λ x p.
 
 pub returns-in-Err-clause-refines : goal.returns-in-Err-clause-refines
 returns-in-Err-clause-refines g c = λ x p.
-    reset_cut c.args.self.now _ c.self.view_is _ x c.fetch_first.new.probe c.in-Err.unserved.fault c.halt.result c.in-Err.unserved.long c.fetch_first.new.steps p
-    (λ at. c.in-Err.ensures.cut x at) c.halt.ensures
+    reset_cut c.args.self.now _ c.self.view_is _ x c.fetch_first.new.probe c.in-Err.unserved.fault c.to_stopped_by.result c.in-Err.unserved.long c.fetch_first.new.steps p
+    (λ at. c.in-Err.ensures.cut x at) c.to_stopped_by.ensures

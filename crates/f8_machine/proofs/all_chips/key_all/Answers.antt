@@ -2,7 +2,7 @@
 use Rattle.std.proofs.Common.{length, ◌≤◌, ◌≡◌, ◌∙◌, ap, vec_len}
 use Rattle.data_bus.proofs.Racks.{changed-none, changed-more, changed-written, whole_again}
 use Rattle.f8_machine.specs.Keying.{KeysInSocket}
-use Rattle.f8_machine.proofs.keys.key_all.Goals as goal
+use Rattle.f8_machine.proofs.all_chips.key_all.Goals as goal
 
 pub loop-chip-init : goal.loop-chip-init
 loop-chip-init g c = changed-none _ _

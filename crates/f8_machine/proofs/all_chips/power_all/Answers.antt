@@ -2,7 +2,7 @@
 use Rattle.std.proofs.Common.{length, ◌≤◌, ◌≡◌, ◌∙◌, ap, vec_len}
 use Rattle.data_bus.proofs.Racks.{changed-none, changed-more, changed-written, whole_again}
 use Rattle.f8_machine.specs.Rounds.{PowersInSocket}
-use Rattle.f8_machine.proofs.power.power_all.Goals as goal
+use Rattle.f8_machine.proofs.all_chips.power_all.Goals as goal
 
 pub loop-socket-init : goal.loop-socket-init
 loop-socket-init g c = changed-none _ _
