@@ -17,7 +17,7 @@ use Rattle.console_spec.specs.FlatMemory.{stored_at}
 use Rattle.console_spec.specs.CounterCopies.{Copy}
 use Rattle.console_spec.specs.BusAccesses.{Access}
 use Rattle.console_spec.specs.Services.{Fault, fault_by, access_verdict, first_fault}
-use Rattle.console_spec.specs.BusTrace.{TracedStep, Course, traced, with_step, stopped_by, course_by, course_of, is_access, who_of}
+use Rattle.console_spec.specs.BusTrace.{TracedStep, Course, traced, with_step, stopped_by, course_by, course_of, is_access}
 use Rattle.console_spec.specs.Run.{Position, seats_of}
 use Rattle.console_spec.specs.CounterCopies.{fetched}
 use Rattle.console_spec.proofs.Walks.{moved_along}
@@ -27,7 +27,7 @@ use Rattle.f8_machine.specs.FlatViews.{HoldsFlat}
 use Rattle.f8_machine.specs.PortViews.{HoldsPorts}
 use Rattle.console_spec.specs.declared.PortWrite.{PortWrite}
 use Rattle.f8_machine.proofs.PortValues.{PortValues, writes_along}
-use Rattle.f8_machine.specs.Traces.{who_drove}
+use Rattle.f8_machine.proofs.StepTests.{Quiet}
 use Rattle.f8_machine.proofs.Places.{places_along, named_place}
 use Rattle.f8_machine.proofs.Values.{Values, ValueIs, memory_along}
 use Rattle.f8_machine.proofs.Bounds.{AreAt}
@@ -36,11 +36,6 @@ use Rattle.f8_machine.proofs.Slots.{plain_step}
 use Rattle.f8_machine.proofs.Stores.{keeps_flat, store_keeps_flat, stored_long}
 use Rattle.f8_machine.specs.ChipCopies.{AreCopies}
 use Rattle.f8_machine.proofs.Copies.{seats_same, all_filled}
-
--- the trace of each step tells who drives by the code
-abbrev pub Quiet : List Step → Type 0
-Quiet [] = Unit {0}
-Quiet (s ∷ later) = ((socket : Option ℕ) → who_of s socket ≡ who_drove s.romc s.long socket) × Quiet later
 
 -- steps before others in a course
 abbrev pub with_steps : List TracedStep → Course → Course

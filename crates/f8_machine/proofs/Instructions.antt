@@ -12,8 +12,7 @@ use Rattle.f8_spec.specs.declared.instructions.Row.TheVariants.{StoreData, Branc
 use Rattle.console_spec.specs.Processor.{Flow, Registers, Inputs, is_taken, result_of, own_inputs, with_write, write_of}
 use Rattle.cpu3850.specs.CpuPorts.{PortBytes, put_by, with_latch}
 use Rattle.cpu3850.proofs.PortLaws.{own_ports-after_instruction}
-use Rattle.f8_machine.proofs.PortEnds.{port_gets}
-use Rattle.f8_machine.proofs.Written.{OwnLatch, op_write}
+use Rattle.f8_machine.proofs.PortEnds.{OwnLatch, port_gets, op_write}
 use Rattle.std.proofs.lemmas.List.{get_or-set_same}
 use Rattle.std.proofs.lemmas.Bool.{ltb-true}
 use Rattle.console_spec.specs.declared.PortWrite.{PortWrite}
@@ -40,7 +39,8 @@ use Rattle.f8_machine.specs.declared.heard.Heard.{Heard}
 use Rattle.f8_machine.specs.declared.outcome.Mode.TheVariants.{Stopped}
 use Rattle.f8_machine.specs.declared.outcome.StoppedBy.{StoppedBy}
 use Rattle.f8_machine.specs.declared.outcome.StoppedBy.TheVariants.{Fault as ByFault, Reserved as ByOpcode}
-use Rattle.f8_machine.proofs.Bounds.{GetsBytes, gets_bytes, flow_small}
+use Rattle.f8_machine.proofs.Bounds.{GetsBytes, gets_bytes}
+use Rattle.f8_machine.proofs.Rows.{clocks_listed, row_facts}
 use Rattle.f8_machine.proofs.Stores.{stored_long, stored_bytes}
 
 -- ---- the opcode
@@ -62,13 +62,6 @@ course_with x code found opcode held =
     ∙ ap (λ (o : Option Op). course_as x o) held
 
 -- ---- clocks, counters and memory
-
-clocks_listed : (row : Row) (branched : Bool) → sum_by (λ (step : Step). step_clocks step.long) (map bus_step (steps_of row branched)) ≡ row_clocks row branched
-clocks_listed Branch true = refl
-clocks_listed Branch false = refl
-clocks_listed BranchIsar true = refl
-clocks_listed BranchIsar false = refl
-clocks_listed row branched = refl
 
 pub clocks_planned : (cpu : CpuState) (op : Op) → decoded cpu.opcode ≡ Some op →
     sum_by (λ (step : Step). step_clocks step.long) (planned cpu) ≡ row_clocks (row_of op) (is_taken op cpu.registers)
@@ -156,7 +149,7 @@ module _ (m : MachineState) (states news : List ChipState) (op : Op) (x : Positi
       let registers_in_range : AreInRange x.flat.state.registers = subst AreInRange there.registers range in
       let bytes : GetsBytes i = gets_bytes op seats x.flat registers_in_range there.memory.bytes in
       let small : AreAddresses y.flat.state.flow =
-      subst AreAddresses (flow_after-with_opcode (row_of op) i.opcode (gets op seats x.flat) true x.flat.state.flow) (flow_small (row_of op) i true x.flat.state.flow bytes there.addresses) in
+      subst AreAddresses (flow_after-with_opcode (row_of op) i.opcode (gets op seats x.flat) true x.flat.state.flow) ((row_facts (row_of op)).flow i true x.flat.state.flow bytes there.addresses) in
       let same_flow : flow ≡ y.flat.state.flow = moved ∙ ap flow_before_fetch carried.rack.reference ∙ flow_before_fetch-fetched y.flat.state.flow small in
       let same_registers : cpu.registers ≡ y.flat.state.registers =
       ap (λ (k : CpuState). k.registers) carried.processor

@@ -6,8 +6,6 @@ use Rattle.f8_spec.specs.ChipState.{ChipView, ChipState}
 use Rattle.f8_spec.specs.Instructions.{decoded, row_of}
 use Rattle.f8_spec.specs.MicroSteps.{Step as MicroStep, steps_of, step_clocks}
 use Rattle.f8_spec.specs.declared.instructions.Op.{Op}
-use Rattle.f8_spec.specs.declared.instructions.Row.{Row}
-use Rattle.f8_spec.specs.declared.instructions.Row.TheVariants.{Plain, PlainLong, Idle, StackToK, StackFromK, CallK, JumpQ, DataToPair, DataFromQ, DataFromH, ReadData, StoreData, Return, Immediate, PortIn, PortOut, Call, Jump, LoadData, Exchange, AddData, Branch, BranchIsar, ShortIn, ShortOut}
 use Rattle.console_spec.specs.Processor.{Inputs, Registers, byte_of, is_taken}
 use Rattle.console_spec.specs.BusTrace.{TracedStep, traced}
 use Rattle.console_spec.specs.Run.{Position}
@@ -17,58 +15,21 @@ use Rattle.cpu3850.specs.Reaching.{Reaches, Places, is_placed_by}
 use Rattle.probe.specs.ProbeState.{ProbeState, probe_after}
 use Rattle.data_bus.specs.Racks.{views}
 use Rattle.data_bus.specs.declared.fault.BusFault.{BusFault}
-use Rattle.f8_machine.specs.BusSteps.{IsPlain, IsServed, IsRefused, heard_served}
+use Rattle.f8_machine.specs.BusSteps.{IsServed, IsRefused, heard_served}
 use Rattle.f8_machine.specs.Faults.{fault_of}
 use Rattle.f8_machine.specs.Rounds.{heard_of}
 use Rattle.f8_machine.specs.declared.heard.Heard.{Heard}
 use Rattle.f8_machine.proofs.Along.{Aim, Along}
+use Rattle.f8_machine.proofs.Rows.{usual_steps}
 use Rattle.f8_machine.proofs.Slots.{views_settled}
+use Rattle.f8_machine.proofs.StepTests.{ArePlain, plain_by}
 use Rattle.f8_machine.proofs.Turns.{stepped, along-stops, along-byte, along-more}
 
 -- ---- codes of the plan
 
-abbrev pub ArePlain : List Step → Type 0
-ArePlain [] = Unit {0}
-ArePlain (s ∷ later) = IsPlain s.romc × ArePlain later
-
-branch_plain : (branched : Bool) → ArePlain (map bus_step (steps_of Branch branched))
-branch_plain true = (refl, (refl, (refl, tt)))
-branch_plain false = (refl, (refl, (refl, tt)))
-
-branch_isar_plain : (branched : Bool) → ArePlain (map bus_step (steps_of BranchIsar branched))
-branch_isar_plain true = (refl, (refl, tt))
-branch_isar_plain false = (refl, (refl, tt))
-
-row_plain : (row : Row) (branched : Bool) → ArePlain (map bus_step (steps_of row branched))
-row_plain Plain branched = (refl, tt)
-row_plain PlainLong branched = (refl, tt)
-row_plain Idle branched = (refl, (refl, tt))
-row_plain StackToK branched = (refl, (refl, (refl, tt)))
-row_plain StackFromK branched = (refl, (refl, (refl, tt)))
-row_plain CallK branched = (refl, (refl, (refl, tt)))
-row_plain JumpQ branched = (refl, (refl, (refl, tt)))
-row_plain DataToPair branched = (refl, (refl, (refl, tt)))
-row_plain DataFromQ branched = (refl, (refl, (refl, tt)))
-row_plain DataFromH branched = (refl, (refl, (refl, tt)))
-row_plain ReadData branched = (refl, (refl, tt))
-row_plain StoreData branched = (refl, (refl, tt))
-row_plain Return branched = (refl, (refl, tt))
-row_plain Immediate branched = (refl, (refl, tt))
-row_plain PortIn branched = (refl, (refl, (refl, tt)))
-row_plain PortOut branched = (refl, (refl, (refl, tt)))
-row_plain Call branched = (refl, (refl, (refl, (refl, (refl, tt)))))
-row_plain Jump branched = (refl, (refl, (refl, (refl, tt))))
-row_plain LoadData branched = (refl, (refl, (refl, (refl, (refl, tt)))))
-row_plain Exchange branched = (refl, (refl, tt))
-row_plain AddData branched = (refl, (refl, tt))
-row_plain Branch branched = branch_plain branched
-row_plain BranchIsar branched = branch_isar_plain branched
-row_plain ShortIn branched = (refl, (refl, (refl, tt)))
-row_plain ShortOut branched = (refl, (refl, (refl, tt)))
-
 planned_plain_as : (found : Option Op) (m : Registers) → ArePlain (planned_as found m)
 planned_plain_as None m = tt
-planned_plain_as (Some op) m = row_plain (row_of op) (is_taken op m)
+planned_plain_as (Some op) m = plain_by (steps_of (row_of op) (is_taken op m)) (usual_steps (row_of op) (is_taken op m))
 
 -- no instruction acknowledges an interrupt
 pub planned_plain : (cpu : CpuState) → ArePlain (planned cpu)

@@ -6,8 +6,6 @@ use Rattle.f8_spec.specs.ChipState.{ChipView, ChipState}
 use Rattle.f8_spec.specs.Instructions.{row_of}
 use Rattle.f8_spec.specs.MicroSteps.{steps_of, reset_steps}
 use Rattle.f8_spec.specs.declared.instructions.Op.{Op}
-use Rattle.f8_spec.specs.declared.instructions.Row.{Row}
-use Rattle.f8_spec.specs.declared.instructions.Row.TheVariants.{StackToK, StackFromK, CallK, JumpQ, DataToPair, DataFromQ, DataFromH, ReadData, StoreData, Return, Immediate, PortIn, PortOut, Call, Jump, LoadData, Exchange, AddData, Branch, BranchIsar, ShortIn, ShortOut, Idle}
 use Rattle.console_spec.specs.Processor.{Flow, Inputs, flow_after, write_at, with_write}
 use Rattle.console_spec.specs.FlatMachine.{gets, gets_all, flat_after}
 use Rattle.console_spec.specs.BusAccesses.{Access, accesses_before_fetch, last_access}
@@ -21,49 +19,17 @@ use Rattle.probe.specs.ProbeState.{ProbeState}
 use Rattle.data_bus.specs.Racks.{views}
 use Rattle.f8_machine.specs.FlatViews.{HoldsFlat}
 use Rattle.f8_machine.specs.PortViews.{HoldsPorts}
-use Rattle.f8_machine.proofs.PortValues.{bus_port, writes_go, port_values_of, from_port}
+use Rattle.f8_machine.proofs.PortValues.{bus_port, from_port}
 use Rattle.f8_machine.proofs.Places.{places_follow, named_place}
-use Rattle.f8_machine.proofs.Values.{Values, memory_along, memory_goes, memory_after-with_opcode, values_of, from_flat}
+use Rattle.f8_machine.proofs.Values.{Values, memory_along, memory_after-with_opcode, from_flat}
 use Rattle.f8_machine.specs.Refinement.{AreAddresses, RackStands}
-use Rattle.f8_machine.proofs.Bounds.{GetsBytes, places_small}
+use Rattle.f8_machine.proofs.Bounds.{GetsBytes}
 use Rattle.f8_machine.specs.ChipCopies.{AreCopies}
-use Rattle.f8_machine.proofs.Along.{Quiet, Aim, Along}
+use Rattle.f8_machine.proofs.Along.{Aim, Along}
+use Rattle.f8_machine.proofs.Rows.{row_facts, usual_steps, memory_goes, values_of, places_small}
+use Rattle.f8_machine.proofs.StepTests.{quiet_by}
 
 -- ---- an instruction
-
-quiet_branch : (taken : Bool) → Quiet (steps_of Branch taken)
-quiet_branch true = ((λ k. refl), ((λ k. refl), ((λ k. refl), tt)))
-quiet_branch false = ((λ k. refl), ((λ k. refl), ((λ k. refl), tt)))
-
-quiet_branch_isar : (taken : Bool) → Quiet (steps_of BranchIsar taken)
-quiet_branch_isar true = ((λ k. refl), ((λ k. refl), tt))
-quiet_branch_isar false = ((λ k. refl), ((λ k. refl), tt))
-
-quiet_of : (row : Row) (taken : Bool) → Quiet (steps_of row taken)
-quiet_of StackToK taken = ((λ k. refl), ((λ k. refl), ((λ k. refl), tt)))
-quiet_of StackFromK taken = ((λ k. refl), ((λ k. refl), ((λ k. refl), tt)))
-quiet_of CallK taken = ((λ k. refl), ((λ k. refl), ((λ k. refl), tt)))
-quiet_of JumpQ taken = ((λ k. refl), ((λ k. refl), ((λ k. refl), tt)))
-quiet_of DataToPair taken = ((λ k. refl), ((λ k. refl), ((λ k. refl), tt)))
-quiet_of DataFromQ taken = ((λ k. refl), ((λ k. refl), ((λ k. refl), tt)))
-quiet_of DataFromH taken = ((λ k. refl), ((λ k. refl), ((λ k. refl), tt)))
-quiet_of ReadData taken = ((λ k. refl), ((λ k. refl), tt))
-quiet_of StoreData taken = ((λ k. refl), ((λ k. refl), tt))
-quiet_of Return taken = ((λ k. refl), ((λ k. refl), tt))
-quiet_of Immediate taken = ((λ k. refl), ((λ k. refl), tt))
-quiet_of PortIn taken = ((λ k. refl), ((λ k. refl), ((λ k. refl), tt)))
-quiet_of PortOut taken = ((λ k. refl), ((λ k. refl), ((λ k. refl), tt)))
-quiet_of Call taken = ((λ k. refl), ((λ k. refl), ((λ k. refl), ((λ k. refl), ((λ k. refl), tt)))))
-quiet_of Jump taken = ((λ k. refl), ((λ k. refl), ((λ k. refl), ((λ k. refl), tt))))
-quiet_of LoadData taken = ((λ k. refl), ((λ k. refl), ((λ k. refl), ((λ k. refl), ((λ k. refl), tt)))))
-quiet_of Exchange taken = ((λ k. refl), ((λ k. refl), tt))
-quiet_of AddData taken = ((λ k. refl), ((λ k. refl), tt))
-quiet_of Branch taken = quiet_branch taken
-quiet_of BranchIsar taken = quiet_branch_isar taken
-quiet_of ShortIn taken = ((λ k. refl), ((λ k. refl), ((λ k. refl), tt)))
-quiet_of ShortOut taken = ((λ k. refl), ((λ k. refl), ((λ k. refl), tt)))
-quiet_of Idle taken = ((λ k. refl), ((λ k. refl), tt))
-quiet_of row taken = ((λ k. refl), tt)
 
 -- where an instruction leads to
 abbrev pub instruction_aim : Op → Position → Aim
@@ -85,6 +51,7 @@ along-starts op x probe states bytes addresses rack whole =
     let seats = seats_of x.copies in
     let i = gets_all op seats x.flat in
     let row = row_of op in
+    let facts = row_facts row in
     let c = x.flat.state.flow in
     record {
       now = λ second d. fetched d;
@@ -100,9 +67,10 @@ along-starts op x probe states bytes addresses rack whole =
       whole = whole;
       values = subst (λ (k : Count). Values seats i (steps_of row i.taken) k probe.last x.flat.memory) (sym rack.reference)
           (values_of seats row i bytes.low c probe.last x.flat.memory (from_flat op seats x.flat));
-      port_values = port_values_of seats x.flat.state.keys (flat_after op seats x.flat).state.phi (row_of op) i probe.last x.flat.state.writes (from_port op seats x.flat);
-      writes_later = writes_go seats (flat_after op seats x.flat).state.phi (row_of op) i probe.last x.flat.state.writes;
-      quiet = quiet_of row i.taken;
+      port_values = facts.ports.port_values i.taken seats x.flat.state.keys (flat_after op seats x.flat).state.phi i probe.last x.flat.state.writes
+          (from_port op seats x.flat);
+      writes_later = facts.ports.writes i.taken seats (flat_after op seats x.flat).state.phi i probe.last x.flat.state.writes;
+      quiet = quiet_by (steps_of row i.taken) (usual_steps row i.taken);
       small = places_small row i c bytes addresses;
       fault = ap (first_fault c x.copies) (accesses-with_opcode row i.opcode (gets op (seats_of x.copies) x.flat));
       course = refl;
@@ -134,7 +102,7 @@ reset-starts x probe states rack whole = record {
   values = (tt, (tt, (refl, tt)));
   port_values = (tt, (tt, (tt, tt)));
   writes_later = refl;
-  quiet = ((λ k. refl), ((λ k. refl), ((λ k. refl), tt)));
+  quiet = quiet_by reset_steps refl;
   small = (λ read. omega arith, tt);
   fault = refl;
   course = refl;

@@ -10,8 +10,9 @@ use Rattle.f8_machine.specs.BusSteps.{heard_served}
 use Rattle.f8_machine.specs.MachineState.{probe_after_steps}
 use Rattle.f8_machine.proofs.Carried.{remaining_first, remaining_ends}
 use Rattle.f8_machine.proofs.RackLaws.{rack_runs_none, rack_runs_more, rack_runs_stays, probe_after_steps-more}
-use Rattle.f8_machine.proofs.Remains.{ArePlain, planned_plain, split_plan, remaining_more, remaining_stops}
+use Rattle.f8_machine.proofs.Remains.{planned_plain, split_plan, remaining_more, remaining_stops}
 use Rattle.f8_machine.proofs.Slots.{rack_stays_same}
+use Rattle.f8_machine.proofs.StepTests.{ArePlain}
 use Rattle.f8_machine.proofs.carry.carry_out.Goals as goal
 
 pub loop-index-init : goal.loop-index-init

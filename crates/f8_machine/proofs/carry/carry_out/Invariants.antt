@@ -9,7 +9,8 @@ use Rattle.cpu3850.specs.Reaching.{done}
 use Rattle.f8_machine.specs.Carrying.{HoldsInstruction}
 use Rattle.f8_machine.specs.MachineState.{probe_after_steps}
 use Rattle.f8_machine.specs.Rounds.{RackRuns}
-use Rattle.f8_machine.proofs.Remains.{ArePlain, Remaining}
+use Rattle.f8_machine.proofs.Remains.{Remaining}
+use Rattle.f8_machine.proofs.StepTests.{ArePlain}
 use Rattle.f8_machine.proofs.Starts.{instruction_aim}
 use Rattle.f8_machine.proofs.carry.carry_out.Given as goal
 
