@@ -22,7 +22,8 @@ pub record GetsBytes (i : Inputs) : Type 0 where
   pub q_high : i.q_high < 256
   pub h_high : i.h_high < 256
 
-pub gets_bytes : (op : Op) (seats : List Seat) (f : FlatState) → AreInRange f.state.registers → ((at : ℕ) → byte_at f.memory at < 256) → GetsBytes (gets_all op seats f)
+pub gets_bytes : (op : Op) (seats : List Seat) (f : FlatState) → AreInRange f.state.registers →
+    ((at : ℕ) → byte_at f.memory at < 256) → GetsBytes (gets_all op seats f)
 unfolding own_inputs
 gets_bytes op seats f range bytes = record {
   low = record {
@@ -48,7 +49,8 @@ wrapped_small at (negsuc n) = omega arith
 pub displaced_small : (at byte : ℕ) → displaced at byte < 65536
 displaced_small at byte = wrapped_small at (cast_signed w8 byte)
 
-pub branch_small : (taken : Bool) (at byte : ℕ) → (if taken then displaced (places_on at 1) byte else places_on at 2) < 65536
+pub branch_small : (taken : Bool) (at byte : ℕ) →
+    (if taken then displaced (places_on at 1) byte else places_on at 2) < 65536
 branch_small true at byte = displaced_small (places_on at 1) byte
 branch_small false at byte = omega arith
 

@@ -20,7 +20,6 @@ pub mod PortEnds
 pub mod Along
 pub mod Turns
 pub mod Starts
-pub mod Takers
 pub mod BusAnswers
 pub mod RackLaws
 pub mod Remains

@@ -22,7 +22,8 @@ use Rattle.f8_machine.proofs.StepTests.{both_true, is_port, is_portless, writes_
 
 -- a port write is one of the run where one chip has the port
 abbrev pub writes_by : ℕ → List Seat → ℕ → ℕ → ℕ → List PortWrite → List PortWrite
-writes_by romc seats phi port byte writes = if romc == 0x1A then with_write (write_at phi byte (if_taken port seats)) writes else writes
+writes_by romc seats phi port byte writes =
+    if romc == 0x1A then with_write (write_at phi byte (if_taken port seats)) writes else writes
 
 -- the byte of the step before it names the port
 abbrev pub writes_along : List Seat → ℕ → Inputs → List Step → ℕ → List PortWrite → List PortWrite
@@ -43,7 +44,8 @@ writes_stay seats phi i [] last writes all = refl
 writes_stay seats phi i (s ∷ later) last writes all =
     let both = both_true (is_portless s) (list_all is_portless later) all in
     let taken = with_write (write_at phi (byte_of i s.source) (if_taken last seats)) writes in
-    ap (λ (b : Bool). writes_along seats phi i later (byte_of i s.source) (if b then taken else writes)) (writes_no_port s both.0)
+    ap (λ (b : Bool). writes_along seats phi i later (byte_of i s.source) (if b then taken else writes))
+    (writes_no_port s both.0)
     ∙ writes_stay seats phi i later (byte_of i s.source) writes both.1
 
 -- ---- the bytes along the steps
@@ -57,7 +59,8 @@ abbrev pub PortValues : List Seat → List ℕ → ℕ → Inputs → List Step 
 PortValues seats keys phi i [] last writes = Unit {0}
 PortValues seats keys phi i (s ∷ later) last writes =
     PortIs (driver_of s.romc) seats keys writes last (byte_of i s.source)
-    × PortValues seats keys phi i later (byte_of i s.source) (writes_by s.romc seats phi last (byte_of i s.source) writes)
+    × PortValues seats keys phi i later (byte_of i s.source)
+    (writes_by s.romc seats phi last (byte_of i s.source) writes)
 
 -- what an instruction gets from a chip's port
 abbrev pub FromPort : Row → Inputs → List Seat → List ℕ → List PortWrite → Type 0
@@ -71,29 +74,38 @@ port_is : (driver : Driver) (seats : List Seat) (keys : List ℕ) (writes : List
 port_is Port seats keys writes port value is = cc
 port_is driver seats keys writes port value is = tt
 
-pub no_port_values : (seats : List Seat) (keys : List ℕ) (phi : ℕ) (i : Inputs) (steps : List Step) (last : ℕ) (writes : List PortWrite) →
+pub no_port_values : (seats : List Seat) (keys : List ℕ) (phi : ℕ) (i : Inputs) (steps : List Step) (last : ℕ)
+    (writes : List PortWrite) →
     list_all is_portless steps ≡ true → PortValues seats keys phi i steps last writes
 no_port_values seats keys phi i [] last writes all = tt
 no_port_values seats keys phi i (s ∷ later) last writes all =
-    let both = both_true (is_portless s) (list_all is_portless later) all in
-    (port_is (driver_of s.romc) seats keys writes last _ (reads_no_port s both.0), no_port_values seats keys phi i later _ _ both.1)
+    let both = both_true (is_portless s) (list_all is_portless later) all in (
+      port_is (driver_of s.romc) seats keys writes last _ (reads_no_port s both.0),
+      no_port_values seats keys phi i later _ _ both.1,
+    )
 
 -- `INS`, of a port of the CPU's own or of a chip's
-from_short : (own : Bool) (n : ℕ) (i : Inputs) (seats : List Seat) (keys : List ℕ) (writes : List PortWrite) (value : ℕ) →
-    i.port ≡ n → i.port_byte ≡ (if own then value else chip_port_byte n seats keys writes) → FromPort (if own then Idle else ShortIn) i seats keys writes
+from_short : (own : Bool) (n : ℕ) (i : Inputs) (seats : List Seat) (keys : List ℕ) (writes : List PortWrite)
+    (value : ℕ) →
+    i.port ≡ n → i.port_byte ≡ (if own then value else chip_port_byte n seats keys writes) →
+    FromPort (if own then Idle else ShortIn) i seats keys writes
 from_short true n i seats keys writes value port byte = tt
 from_short false n i seats keys writes value port byte = rw port byte
 
-out_short : (own : Bool) (i : Inputs) (seats : List Seat) (keys : List ℕ) (writes : List PortWrite) → FromPort (if own then Idle else ShortOut) i seats keys writes
+out_short : (own : Bool) (i : Inputs) (seats : List Seat) (keys : List ℕ) (writes : List PortWrite) →
+    FromPort (if own then Idle else ShortOut) i seats keys writes
 out_short true i seats keys writes = tt
 out_short false i seats keys writes = tt
 
-from_short_port : (n : ℕ) (seats : List Seat) (f : FlatState) → FromPort (row_of (Ins n)) (gets_all (Ins n) seats f) seats f.state.keys f.state.writes
+from_short_port : (n : ℕ) (seats : List Seat) (f : FlatState) →
+    FromPort (row_of (Ins n)) (gets_all (Ins n) seats f) seats f.state.keys f.state.writes
 unfolding own_inputs
-from_short_port n seats f = from_short (nat_lt n 2) n (gets_all (Ins n) seats f) seats f.state.keys f.state.writes _ refl refl
+from_short_port n seats f = from_short (nat_lt n 2) n
+    (gets_all (Ins n) seats f) seats f.state.keys f.state.writes _ refl refl
 
 -- the flat machine's own inputs
-pub from_port : (op : Op) (seats : List Seat) (f : FlatState) → FromPort (row_of op) (gets_all op seats f) seats f.state.keys f.state.writes
+pub from_port : (op : Op) (seats : List Seat) (f : FlatState) →
+    FromPort (row_of op) (gets_all op seats f) seats f.state.keys f.state.writes
 unfolding own_inputs
 from_port In seats f = refl
 from_port (Ins n) seats f = from_short_port n seats f

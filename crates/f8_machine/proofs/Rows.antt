@@ -1,12 +1,18 @@
 -- Facts by row of the instruction table. A new row of it has its facts in `row_facts`.
-use Rattle.std.proofs.Common.{◌≡◌, ℕ, ◌<◌, Bool, true, false, List, [], ◌∷◌, ◌++◌, map, Option, None, refl, ap, ◌∙◌, sym, arith}
+use Rattle.std.proofs.Common.{◌≡◌, ℕ, ◌<◌, Bool, true, false, List, [], ◌∷◌, ◌++◌, map, Option, None, refl, ap, ◌∙◌}
+use Rattle.std.proofs.Common.{sym, arith}
 use Rattle.std.specs.Prelude.{sum_by}
 use Rattle.std.specs.List.{list_all}
 use Rattle.f8_spec.specs.BusArbitration.{Seat}
 use Rattle.f8_spec.specs.Instructions.{row_clocks}
-use Rattle.f8_spec.specs.MicroSteps.{Accumulator, Operand, PortNumber, step_clocks, long_step, last_fetch, steps_before_fetch, steps_of}
+use Rattle.f8_spec.specs.MicroSteps.{Accumulator, Operand, PortNumber, step_clocks, long_step, last_fetch}
+use Rattle.f8_spec.specs.MicroSteps.{steps_before_fetch, steps_of}
 use Rattle.f8_spec.specs.declared.instructions.Row.{Row}
-use Rattle.f8_spec.specs.declared.instructions.Row.TheVariants.{Plain, PlainLong, Idle, StackToK, StackFromK, CallK, JumpQ, DataToPair, DataFromQ, DataFromH, ReadData, StoreData, Return, Immediate, PortIn, PortOut, Call, Jump, LoadData, Exchange, AddData, Branch, BranchIsar, ShortIn, ShortOut}
+use Rattle.f8_spec.specs.declared.instructions.Row.TheVariants.{Plain, PlainLong, Idle, StackToK, StackFromK, CallK}
+use Rattle.f8_spec.specs.declared.instructions.Row.TheVariants.{JumpQ, DataToPair, DataFromQ, DataFromH, ReadData}
+use Rattle.f8_spec.specs.declared.instructions.Row.TheVariants.{StoreData, Return, Immediate, PortIn, PortOut, Call}
+use Rattle.f8_spec.specs.declared.instructions.Row.TheVariants.{Jump, LoadData, Exchange, AddData, Branch, BranchIsar}
+use Rattle.f8_spec.specs.declared.instructions.Row.TheVariants.{ShortIn, ShortOut}
 use Rattle.console_spec.specs.BusAccesses.{Access, accesses_before_fetch, ahead, at_port, last_access}
 use Rattle.console_spec.specs.BusTrace.{TracedStep, Course, course_by, course_of}
 use Rattle.console_spec.specs.CounterCopies.{Copy, fetched}
@@ -25,7 +31,8 @@ use Rattle.f8_machine.proofs.Bounds.{GetsBytes, AreAt, branch_small, displaced_s
 use Rattle.f8_machine.proofs.PortValues.{FromPort, PortValues, bus_port, no_port_values, writes_along, writes_stay}
 use Rattle.f8_machine.proofs.StepTests.{by_taken, is_portless, is_usual}
 use Rattle.f8_machine.proofs.Values.{FromFlat, Values, Values-append, memory_along, memory_along-append}
-use Rattle.f8_machine.proofs.Written.{FirstBy, FirstServed, PutsNothing, ends, first_by, first_idle, puts_nothing, row_none, written_by}
+use Rattle.f8_machine.proofs.Written.{FirstBy, FirstServed, PutsNothing, ends, first_by, first_idle, puts_nothing}
+use Rattle.f8_machine.proofs.Written.{row_none, written_by}
 
 -- ---- what computes for each row
 
@@ -59,58 +66,71 @@ memory_before row taken seats i c last memory = refl
 -- what a row does to the ports of chips
 pub record PortFacts (row : Row) : Type 0 where
   -- the byte that a chip's port gives is the flat machine's
-  pub port_values : (taken : Bool) (seats : List Seat) (keys : List ℕ) (phi : ℕ) (i : Inputs) (last : ℕ) (writes : List PortWrite) →
+  pub port_values : (taken : Bool) (seats : List Seat) (keys : List ℕ) (phi : ℕ) (i : Inputs) (last : ℕ)
+      (writes : List PortWrite) →
       FromPort row i seats keys writes → PortValues seats keys phi i (steps_of row taken) last writes
   -- the writes become the flat machine's
   pub writes : (taken : Bool) (seats : List Seat) (phi : ℕ) (i : Inputs) (last : ℕ) (writes : List PortWrite) →
-      writes_along seats phi i (steps_of row taken) last writes ≡ with_write (write_at phi i.accumulator (bus_port row i seats)) writes
+      writes_along seats phi i (steps_of row taken) last writes
+      ≡ with_write (write_at phi i.accumulator (bus_port row i seats)) writes
   -- where all steps are served, the machine finds the write in their record
   pub wrote : (i : Inputs) (c : Flow) (copies : List Copy) (phi : ℕ) (so_far : List TracedStep) →
-      course_of i c copies (steps_of row i.taken) (accesses_before_fetch row i ++ last_access row i ∷ []) ≡ ends so_far →
+      course_of i c copies (steps_of row i.taken) (accesses_before_fetch row i ++ last_access row i ∷ [])
+      ≡ ends so_far →
       chip_write phi (map heard_of so_far) ≡ write_at phi i.accumulator (bus_port row i (seats_of copies))
 
 pub record RowFacts (row : Row) : Type 0 where
   -- before the last fetch every byte that a chip drives is the flat machine's
-  pub values : (taken : Bool) (seats : List Seat) (i : Inputs) (c : Flow) (last : ℕ) (memory : List ℕ) → FromFlat row seats i memory c →
+  pub values : (taken : Bool) (seats : List Seat) (i : Inputs) (c : Flow) (last : ℕ) (memory : List ℕ) →
+      FromFlat row seats i memory c →
       Values seats i (steps_before_fetch row taken) (fetched c) last memory
   -- after the instruction the counters are addresses again
-  pub flow : (i : Inputs) (second : Bool) (c : Flow) → GetsBytes i → AreAddresses c → AreAddresses (flow_after row i second c)
+  pub flow : (i : Inputs) (second : Bool) (c : Flow) → GetsBytes i → AreAddresses c →
+      AreAddresses (flow_after row i second c)
   -- the places of reads are addresses
-  pub places : (i : Inputs) (c : Flow) (later : List Access) → AreAddresses c → AreAt c later → AreAt c (accesses_before_fetch row i ++ later)
+  pub places : (i : Inputs) (c : Flow) (later : List Access) → AreAddresses c → AreAt c later →
+      AreAt c (accesses_before_fetch row i ++ later)
   pub ports : PortFacts row
 
 -- a row whose steps leave the ports of chips alone
 no_ports : (row : Row) → ((taken : Bool) → list_all is_portless (steps_of row taken) ≡ true) →
     ((i : Inputs) (seats : List Seat) → bus_port row i seats ≡ None) → PortFacts row
 no_ports row portless none = record {
-  port_values = λ taken seats keys phi i last writes f. no_port_values seats keys phi i (steps_of row taken) last writes (portless taken);
+  port_values = λ taken seats keys phi i last writes f. no_port_values seats keys phi i (steps_of row taken) last writes
+      (portless taken);
   writes = λ taken seats phi i last writes. writes_stay seats phi i (steps_of row taken) last writes (portless taken)
       ∙ ap (λ (port : Option ℕ). with_write (write_at phi i.accumulator port) writes) (sym (none i seats));
-  wrote = λ i c copies phi so_far e. row_none row i c copies phi so_far e (puts_nothing (steps_of row i.taken) (portless i.taken))
+  wrote = λ i c copies phi so_far e. row_none row i c copies phi so_far e
+      (puts_nothing (steps_of row i.taken) (portless i.taken))
       ∙ ap (write_at phi i.accumulator) (sym (none i (seats_of copies)));
 }
 
 -- `OUT`, and `OUTS` of a chip's port
 out_wrote : (i : Inputs) (c : Flow) (copies : List Copy) (phi : ℕ) (so_far : List TracedStep) →
-    course_of i c copies (steps_of PortOut i.taken) (accesses_before_fetch PortOut i ++ last_access PortOut i ∷ []) ≡ ends so_far →
+    course_of i c copies (steps_of PortOut i.taken) (accesses_before_fetch PortOut i ++ last_access PortOut i ∷ [])
+    ≡ ends so_far →
     chip_write phi (map heard_of so_far) ≡ write_at phi i.accumulator (bus_port PortOut i (seats_of copies))
 out_wrote i c copies phi so_far e =
     let rest : Course = course_of i c copies (last_fetch PortOut ∷ []) (last_access PortOut i ∷ []) in
-    let put : Course = course_by i (long_step 0x1A Accumulator) (access_verdict c copies (at_port 0x1A i.operand)) rest in
+    let put : Course = course_by i (long_step 0x1A Accumulator)
+    (access_verdict c copies (at_port 0x1A i.operand)) rest in
     let first : FirstBy i (long_step 0x03 Operand) (access_verdict c copies (ahead 0x03 1)) put so_far =
     first_by i (long_step 0x03 Operand) (access_verdict c copies (ahead 0x03 1)) put so_far e in
     written_by phi i (long_step 0x03 Operand) i.operand c copies first.socket rest so_far first.are first.rest_ends refl
 
 short_out_wrote : (i : Inputs) (c : Flow) (copies : List Copy) (phi : ℕ) (so_far : List TracedStep) →
-    course_of i c copies (steps_of ShortOut i.taken) (accesses_before_fetch ShortOut i ++ last_access ShortOut i ∷ []) ≡ ends so_far →
+    course_of i c copies (steps_of ShortOut i.taken) (accesses_before_fetch ShortOut i ++ last_access ShortOut i ∷ [])
+    ≡ ends so_far →
     chip_write phi (map heard_of so_far) ≡ write_at phi i.accumulator (bus_port ShortOut i (seats_of copies))
 short_out_wrote i c copies phi so_far e =
     let rest : Course = course_of i c copies (last_fetch ShortOut ∷ []) (last_access ShortOut i ∷ []) in
     let put : Course = course_by i (long_step 0x1A Accumulator) (access_verdict c copies (at_port 0x1A i.port)) rest in
-    let first : FirstServed i (long_step 0x1C PortNumber) put so_far = first_idle i (long_step 0x1C PortNumber) None put so_far e in
+    let first : FirstServed i (long_step 0x1C PortNumber) put so_far =
+    first_idle i (long_step 0x1C PortNumber) None put so_far e in
     written_by phi i (long_step 0x1C PortNumber) i.port c copies first.socket rest so_far first.are first.rest_ends refl
 
-exchange_small : (second : Bool) (c : Flow) → AreAddresses c → (i : Inputs) → AreAddresses (flow_after Exchange i second c)
+exchange_small : (second : Bool) (c : Flow) → AreAddresses c → (i : Inputs) →
+    AreAddresses (flow_after Exchange i second c)
 exchange_small true c s i = record { p = omega arith; p1 = s.p1; d0 = s.d1; d1 = s.d0 }
 exchange_small false c s i = record { p = omega arith; p1 = s.p1; d0 = s.d0; d1 = s.d1 }
 
@@ -216,9 +236,15 @@ row_facts Jump = record {
   ports = no_ports Jump (λ taken. refl) (λ i seats. refl);
 }
 row_facts LoadData = record {
-  values = λ taken seats i c last memory f. (f.operand, (f.operand, (rw places_on-places_on f.second, (rw places_on-places_on f.second, tt))));
+  values = λ taken seats i c last memory f. (
+    f.operand,
+    (f.operand, (rw places_on-places_on f.second, (rw places_on-places_on f.second, tt))),
+  );
   flow = λ i second c b s. record { p = omega arith; p1 = s.p1; d0 = word_small _ _ b.operand b.low.second; d1 = s.d1 };
-  places = λ i c later s l. (λ read. omega arith, (λ read. omega arith, (λ read. omega arith, (λ read. omega arith, l))));
+  places = λ i c later s l. (
+    λ read. omega arith,
+    (λ read. omega arith, (λ read. omega arith, (λ read. omega arith, l))),
+  );
   ports = no_ports LoadData (λ taken. refl) (λ i seats. refl);
 }
 row_facts Exchange = record {
@@ -235,17 +261,21 @@ row_facts AddData = record {
 }
 row_facts Branch = record {
   values = λ taken seats i c last memory f.
-      by_taken (λ t. Values seats i (steps_before_fetch Branch t) (fetched c) last memory) (tt, (f.operand, tt)) (tt, (f.operand, tt)) taken;
+      by_taken (λ t. Values seats i (steps_before_fetch Branch t) (fetched c) last memory) (tt, (f.operand, tt))
+      (tt, (f.operand, tt)) taken;
   flow = λ i second c b s. record { p = branch_small i.taken c.p i.operand; p1 = s.p1; d0 = s.d0; d1 = s.d1 };
   places = λ i c later s l. (λ read. omega arith, l);
-  ports = no_ports Branch (by_taken (λ taken. list_all is_portless (steps_of Branch taken) ≡ true) refl refl) (λ i seats. refl);
+  ports = no_ports Branch (by_taken (λ taken. list_all is_portless (steps_of Branch taken) ≡ true) refl refl)
+      (λ i seats. refl);
 }
 row_facts BranchIsar = record {
   values = λ taken seats i c last memory f.
-      by_taken (λ t. Values seats i (steps_before_fetch BranchIsar t) (fetched c) last memory) (f.operand, tt) (f.operand, tt) taken;
+      by_taken (λ t. Values seats i (steps_before_fetch BranchIsar t) (fetched c) last memory) (f.operand, tt)
+      (f.operand, tt) taken;
   flow = λ i second c b s. record { p = branch_small i.taken c.p i.operand; p1 = s.p1; d0 = s.d0; d1 = s.d1 };
   places = λ i c later s l. (λ read. omega arith, l);
-  ports = no_ports BranchIsar (by_taken (λ taken. list_all is_portless (steps_of BranchIsar taken) ≡ true) refl refl) (λ i seats. refl);
+  ports = no_ports BranchIsar (by_taken (λ taken. list_all is_portless (steps_of BranchIsar taken) ≡ true) refl refl)
+      (λ i seats. refl);
 }
 row_facts ShortIn = record {
   values = λ taken seats i c last memory f. (tt, (tt, tt));

@@ -1,5 +1,6 @@
 -- How an instruction and reset begin and end on the bus.
-use Rattle.std.proofs.Common.{◌≡◌, Bool, true, false, List, [], ◌∷◌, ◌++◌, append-nil, length, map, refl, ap, ◌∙◌, sym, subst, arith}
+use Rattle.std.proofs.Common.{◌≡◌, Bool, true, false, List, [], ◌∷◌, ◌++◌, append-nil, length, map, refl, ap, ◌∙◌, sym}
+use Rattle.std.proofs.Common.{subst, arith}
 use Rattle.std.specs.Prelude.{None}
 use Rattle.f8_spec.specs.BusCodes.{Count}
 use Rattle.f8_spec.specs.ChipState.{ChipView, ChipState}
@@ -11,20 +12,19 @@ use Rattle.console_spec.specs.FlatMachine.{gets, gets_all, flat_after}
 use Rattle.console_spec.specs.BusAccesses.{Access, accesses_before_fetch, last_access}
 use Rattle.console_spec.specs.Services.{first_fault}
 use Rattle.console_spec.specs.BusTrace.{TracedStep}
-use Rattle.console_spec.specs.Run.{Position, seats_of, instruction_fault, instruction_course, reset_fault, reset_access, reset_gets, reset_course}
+use Rattle.console_spec.specs.Run.{Position, seats_of, instruction_fault, instruction_course, reset_fault, reset_access}
+use Rattle.console_spec.specs.Run.{reset_gets, reset_course}
 use Rattle.console_spec.proofs.InputLaws.{accesses-with_opcode}
 use Rattle.console_spec.specs.CounterCopies.{fetched, unreset}
 use Rattle.console_spec.proofs.Walks.{follows}
 use Rattle.probe.specs.ProbeState.{ProbeState}
 use Rattle.data_bus.specs.Racks.{views}
-use Rattle.f8_machine.specs.FlatViews.{HoldsFlat}
-use Rattle.f8_machine.specs.PortViews.{HoldsPorts}
+use Rattle.f8_machine.specs.RackViews.{HoldsFlat, HoldsPorts, AreCopies}
 use Rattle.f8_machine.proofs.PortValues.{bus_port, from_port}
 use Rattle.f8_machine.proofs.Places.{places_follow, named_place}
 use Rattle.f8_machine.proofs.Values.{Values, memory_along, memory_after-with_opcode, from_flat}
 use Rattle.f8_machine.specs.Refinement.{AreAddresses, RackStands}
 use Rattle.f8_machine.proofs.Bounds.{GetsBytes}
-use Rattle.f8_machine.specs.ChipCopies.{AreCopies}
 use Rattle.f8_machine.proofs.Along.{Aim, Along}
 use Rattle.f8_machine.proofs.Rows.{row_facts, usual_steps, memory_goes, values_of, places_small}
 use Rattle.f8_machine.proofs.StepTests.{quiet_by}
@@ -37,7 +37,9 @@ instruction_aim op x = record {
   fault = instruction_fault op x;
   course = instruction_course op x;
   memory = (flat_after op (seats_of x.copies) x.flat).memory;
-  writes = with_write (write_at (flat_after op (seats_of x.copies) x.flat).state.phi (gets_all op (seats_of x.copies) x.flat).accumulator (bus_port (row_of op) (gets_all op (seats_of x.copies) x.flat) (seats_of x.copies))) x.flat.state.writes;
+  writes = with_write (write_at (flat_after op (seats_of x.copies) x.flat).state.phi
+      (gets_all op (seats_of x.copies) x.flat).accumulator
+      (bus_port (row_of op) (gets_all op (seats_of x.copies) x.flat) (seats_of x.copies))) x.flat.state.writes;
   phi = (flat_after op (seats_of x.copies) x.flat).state.phi;
   flow = flow_after (row_of op) (gets_all op (seats_of x.copies) x.flat);
 }
@@ -65,11 +67,14 @@ along-starts op x probe states bytes addresses rack whole =
       flat = rack.flat;
       ports = rack.ports;
       whole = whole;
-      values = subst (λ (k : Count). Values seats i (steps_of row i.taken) k probe.last x.flat.memory) (sym rack.reference)
+      values = subst (λ (k : Count). Values seats i (steps_of row i.taken) k probe.last x.flat.memory)
+          (sym rack.reference)
           (values_of seats row i bytes.low c probe.last x.flat.memory (from_flat op seats x.flat));
-      port_values = facts.ports.port_values i.taken seats x.flat.state.keys (flat_after op seats x.flat).state.phi i probe.last x.flat.state.writes
+      port_values = facts.ports.port_values i.taken seats x.flat.state.keys
+          (flat_after op seats x.flat).state.phi i probe.last x.flat.state.writes
           (from_port op seats x.flat);
-      writes_later = facts.ports.writes i.taken seats (flat_after op seats x.flat).state.phi i probe.last x.flat.state.writes;
+      writes_later = facts.ports.writes i.taken seats
+          (flat_after op seats x.flat).state.phi i probe.last x.flat.state.writes;
       quiet = quiet_by (steps_of row i.taken) (usual_steps row i.taken);
       small = places_small row i c bytes addresses;
       fault = ap (first_fault c x.copies) (accesses-with_opcode row i.opcode (gets op (seats_of x.copies) x.flat));
@@ -83,7 +88,14 @@ along-starts op x probe states bytes addresses rack whole =
 
 -- where reset leads to
 abbrev pub reset_aim : Position → Aim
-reset_aim x = record { fault = reset_fault x; course = reset_course x; memory = x.flat.memory; writes = x.flat.state.writes; phi = 0; flow = λ second c. record c { p = 0 } }
+reset_aim x = record {
+  fault = reset_fault x;
+  course = reset_course x;
+  memory = x.flat.memory;
+  writes = x.flat.state.writes;
+  phi = 0;
+  flow = λ second c. record c { p = 0 };
+}
 
 pub reset-starts : (x : Position) (probe : ProbeState) (states : List ChipState) → RackStands unreset probe states x →
     length x.flat.memory ≡ 65536 → Along (reset_gets x.flat.memory) x (reset_aim x) reset_steps probe (views states) []
@@ -112,7 +124,8 @@ reset-starts x probe states rack whole = record {
 -- ---- the end
 
 -- all steps are served: the counters and the memory are those that the steps lead to
-pub record Ended (x : Position) (aim : Aim) (probe : ProbeState) (vs : List ChipView) (so_far : List TracedStep) : Type 0 where
+pub record Ended (x : Position) (aim : Aim) (probe : ProbeState) (vs : List ChipView)
+    (so_far : List TracedStep) : Type 0 where
   pub now : Bool → Flow → Count
   pub moves : (second : Bool) (c : Flow) → now second c ≡ fetched (aim.flow second c)
   pub reference : probe.count ≡ fetched (aim.flow true x.flat.state.flow)
@@ -122,7 +135,9 @@ pub record Ended (x : Position) (aim : Aim) (probe : ProbeState) (vs : List Chip
   pub fault : aim.fault ≡ None
   pub course : aim.course ≡ record { steps = so_far; fault = None }
 
-ended_by : (i : Inputs) (x : Position) (aim : Aim) (probe : ProbeState) (vs : List ChipView) (so_far : List TracedStep) (left : Along i x aim [] probe vs so_far) (accesses : List Access) → left.accesses ≡ accesses → Ended x aim probe vs so_far
+ended_by : (i : Inputs) (x : Position) (aim : Aim) (probe : ProbeState) (vs : List ChipView) (so_far : List TracedStep)
+    (left : Along i x aim [] probe vs so_far) (accesses : List Access) → left.accesses ≡ accesses →
+    Ended x aim probe vs so_far
 ended_by i x aim probe vs so_far left [] none = record {
   now = left.now;
   moves = left.moves;
@@ -134,8 +149,10 @@ ended_by i x aim probe vs so_far left [] none = record {
   course = sym left.course ∙ ap (λ (l : List TracedStep). record { steps = l; fault = None }) (append-nil so_far);
 }
 ended_by i x aim probe vs so_far left (a ∷ later) some =
-    let none : [] ≡ map (named_place true x.flat.state.flow) (a ∷ later) = left.places true x.flat.state.flow ∙ ap (map (named_place true x.flat.state.flow)) some in
+    let none : [] ≡ map (named_place true x.flat.state.flow) (a ∷ later) =
+    left.places true x.flat.state.flow ∙ ap (map (named_place true x.flat.state.flow)) some in
     cc
 
-pub along-ends : (i : Inputs) (x : Position) (aim : Aim) (probe : ProbeState) (vs : List ChipView) (so_far : List TracedStep) → Along i x aim [] probe vs so_far → Ended x aim probe vs so_far
+pub along-ends : (i : Inputs) (x : Position) (aim : Aim) (probe : ProbeState) (vs : List ChipView)
+    (so_far : List TracedStep) → Along i x aim [] probe vs so_far → Ended x aim probe vs so_far
 along-ends i x aim probe vs so_far left = ended_by i x aim probe vs so_far left left.accesses refl

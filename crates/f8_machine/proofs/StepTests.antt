@@ -13,7 +13,7 @@ use Rattle.console_spec.specs.declared.Who.TheVariants.{Cpu, Nobody}
 use Rattle.cpu3850.specs.declared.steps.Step.{Step}
 use Rattle.cpu3850.specs.CpuSteps.{bus_step}
 use Rattle.f8_machine.specs.BusSteps.{IsPlain}
-use Rattle.f8_machine.specs.Traces.{who_drove}
+use Rattle.f8_machine.specs.HeardSteps.{who_drove}
 
 -- a fact for a branch that is taken and one that is not
 pub by_taken : (P : Bool → Type 0) → P true → P false → (taken : Bool) → P taken
@@ -45,21 +45,25 @@ ArePlain (s ∷ later) = IsPlain s.romc × ArePlain later
 pub plain_by : (steps : List MicroStep) → list_all is_usual steps ≡ true → ArePlain (map bus_step steps)
 plain_by [] all = tt
 plain_by (s ∷ later) all =
-    let both = both_true (is_usual s) (list_all is_usual later) all in
-    (not_true (s.romc == 0x0F || s.romc == 0x13) (both_true (not (s.romc == 0x0F || s.romc == 0x13)) _ both.0).0, plain_by later both.1)
+    let both = both_true (is_usual s) (list_all is_usual later) all in (
+      not_true (s.romc == 0x0F || s.romc == 0x13) (both_true (not (s.romc == 0x0F || s.romc == 0x13)) _ both.0).0,
+      plain_by later both.1,
+    )
 
 -- the trace of each step tells who drives by the code
 abbrev pub Quiet : List MicroStep → Type 0
 Quiet [] = Unit {0}
 Quiet (s ∷ later) = ((socket : Option ℕ) → who_of s socket ≡ who_drove s.romc s.long socket) × Quiet later
 
-idles_by : (source : Source) (long : Bool) → is_long_for source long ≡ true → who_idles source ≡ (if long then Cpu else Nobody)
+idles_by : (source : Source) (long : Bool) → is_long_for source long ≡ true →
+    who_idles source ≡ (if long then Cpu else Nobody)
 idles_by PortNumber true is = refl
 idles_by PortNumber false is = cc
 idles_by source true is = cc
 idles_by source false is = refl
 
-who_by_code : (idle : Bool) (source : Source) (long : Bool) (other : Who) → (if idle then is_long_for source long else true) ≡ true →
+who_by_code : (idle : Bool) (source : Source) (long : Bool) (other : Who) →
+    (if idle then is_long_for source long else true) ≡ true →
     (if idle then who_idles source else other) ≡ (if idle then (if long then Cpu else Nobody) else other)
 who_by_code true source long other is = idles_by source long is
 who_by_code false source long other is = refl
@@ -84,7 +88,8 @@ abbrev pub is_portless : MicroStep → Bool
 is_portless s = not (s.romc == 0x1A) && not (is_port (driver_of s.romc))
 
 pub writes_no_port : (s : MicroStep) → is_portless s ≡ true → (s.romc == 0x1A) ≡ false
-writes_no_port s is = not_true (s.romc == 0x1A) (both_true (not (s.romc == 0x1A)) (not (is_port (driver_of s.romc))) is).0
+writes_no_port s is = not_true (s.romc == 0x1A)
+    (both_true (not (s.romc == 0x1A)) (not (is_port (driver_of s.romc))) is).0
 
 pub reads_no_port : (s : MicroStep) → is_portless s ≡ true → is_port (driver_of s.romc) ≡ false
 reads_no_port s is =

@@ -33,9 +33,11 @@ memory_along seats i (s ∷ later) c last memory =
     memory_along seats i later (moved_by s.romc (byte_of i s.source) true c) (byte_of i s.source)
     (memory_by s.romc seats (place_in s.romc c last) (byte_of i s.source) memory)
 
-pub memory_along-append : (seats : List Seat) (i : Inputs) (first later : List Step) (c : Count) (last : ℕ) (memory : List ℕ) →
+pub memory_along-append : (seats : List Seat) (i : Inputs) (first later : List Step) (c : Count) (last : ℕ)
+    (memory : List ℕ) →
     memory_along seats i (first ++ later) c last memory
-    ≡ memory_along seats i later (moved_along true i first c) (last_along i first last) (memory_along seats i first c last memory)
+    ≡ memory_along seats i later (moved_along true i first c) (last_along i first last)
+    (memory_along seats i first c last memory)
 memory_along-append seats i [] later c last memory = refl
 memory_along-append seats i (s ∷ first) later c last memory = memory_along-append seats i first later _ _ _
 
@@ -57,12 +59,15 @@ Values seats i (s ∷ later) c last memory =
     × Values seats i later (moved_by s.romc (byte_of i s.source) true c) (byte_of i s.source)
     (memory_by s.romc seats (place_in s.romc c last) (byte_of i s.source) memory)
 
-pub Values-append : (seats : List Seat) (i : Inputs) (first later : List Step) (c : Count) (last : ℕ) (memory : List ℕ) →
+pub Values-append : (seats : List Seat) (i : Inputs) (first later : List Step) (c : Count) (last : ℕ)
+    (memory : List ℕ) →
     Values seats i first c last memory →
-    Values seats i later (moved_along true i first c) (last_along i first last) (memory_along seats i first c last memory) →
+    Values seats i later (moved_along true i first c) (last_along i first last)
+    (memory_along seats i first c last memory) →
     Values seats i (first ++ later) c last memory
 Values-append seats i [] later c last memory front back = back
-Values-append seats i (s ∷ first) later c last memory front back = (front.0, Values-append seats i first later _ _ _ front.1 back)
+Values-append seats i (s ∷ first) later c last memory front back =
+    (front.0, Values-append seats i first later _ _ _ front.1 back)
 
 -- what an instruction gets from the memory and from the counters
 pub record FromFlat (row : Row) (seats : List Seat) (i : Inputs) (memory : List ℕ) (c : Flow) : Type 0 where
@@ -84,12 +89,15 @@ memory_after-with_opcode seats row code i c memory = refl
 
 own_opcode : (row : Row) (seats : List Seat) (own : Inputs) (c : Flow) (memory : List ℕ) (code : ℕ) →
     code ≡ byte_at (memory_after row seats own c memory) (flow_after row own true c).p →
-    code ≡ byte_at (memory_after row seats (with_opcode code own) c memory) (flow_after row (with_opcode code own) true c).p
+    code ≡ byte_at (memory_after row seats (with_opcode code own) c memory)
+    (flow_after row (with_opcode code own) true c).p
 own_opcode row seats own c memory code e =
-    e ∙ sym (ap (λ m. byte_at m (flow_after row (with_opcode code own) true c).p) (memory_after-with_opcode seats row code own c memory)
+    e ∙ sym (ap (λ m. byte_at m (flow_after row (with_opcode code own) true c).p)
+    (memory_after-with_opcode seats row code own c memory)
     ∙ ap (λ (x : Flow). byte_at (memory_after row seats own c memory) x.p) (flow_after-with_opcode row code own true c))
 
-pub from_flat : (op : Op) (seats : List Seat) (f : FlatState) → FromFlat (row_of op) seats (gets_all op seats f) f.memory f.state.flow
+pub from_flat : (op : Op) (seats : List Seat) (f : FlatState) →
+    FromFlat (row_of op) seats (gets_all op seats f) f.memory f.state.flow
 unfolding own_inputs
 from_flat op seats f = record {
   operand = refl;

@@ -1,8 +1,10 @@
 -- The port write that a machine finds in the record of an instruction's bus steps is that which one chip took.
-use Rattle.std.proofs.Common.{◌≡◌, ℕ, ◌+◌, Bool, true, false, List, [], ◌∷◌, ◌++◌, map, length, Option, Some, None, refl, sym, ap, ◌∙◌, subst}
+use Rattle.std.proofs.Common.{◌≡◌, ℕ, ◌+◌, Bool, true, false, List, [], ◌∷◌, ◌++◌, map, length, Option, Some, None}
+use Rattle.std.proofs.Common.{refl, sym, ap, ◌∙◌, subst}
 use Rattle.std.specs.Prelude.{◌==◌, nat_lt, if◌then◌else◌, option_map, slice_index}
 use Rattle.std.specs.List.{enumerate_from, list_all}
-use Rattle.f8_spec.specs.BusArbitration.{Seat, Verdict, Served, Conflict, Undriven, Astray, seat_has_port, parties, port_write_verdict, rule_of}
+use Rattle.f8_spec.specs.BusArbitration.{Seat, Verdict, Served, Conflict, Undriven, Astray, seat_has_port, parties}
+use Rattle.f8_spec.specs.BusArbitration.{port_write_verdict, rule_of}
 use Rattle.f8_spec.specs.declared.bus.BusRule.TheVariants.{PortWrite as WriteRule}
 use Rattle.f8_spec.specs.declared.bus.Party.{Party}
 use Rattle.f8_spec.specs.MicroSteps.{Operand, Accumulator, PortNumber, Step, long_step, last_fetch, steps_of}
@@ -31,7 +33,8 @@ pub record FirstServed (i : Inputs) (s : Step) (rest : Course) (so_far : List Tr
   pub are : so_far ≡ traced i s socket ∷ rest.steps
   pub rest_ends : rest ≡ ends rest.steps
 
-pub first_idle : (i : Inputs) (s : Step) (socket : Option ℕ) (rest : Course) (so_far : List TracedStep) → with_step (traced i s socket) rest ≡ ends so_far → FirstServed i s rest so_far
+pub first_idle : (i : Inputs) (s : Step) (socket : Option ℕ) (rest : Course) (so_far : List TracedStep) →
+    with_step (traced i s socket) rest ≡ ends so_far → FirstServed i s rest so_far
 first_idle i s socket rest so_far e = record {
   socket = socket;
   are = sym (ap (λ (c : Course). c.steps) e);
@@ -45,7 +48,8 @@ pub record FirstBy (i : Inputs) (s : Step) (v : Verdict) (rest : Course) (so_far
   pub are : so_far ≡ traced i s socket ∷ rest.steps
   pub rest_ends : rest ≡ ends rest.steps
 
-pub first_by : (i : Inputs) (s : Step) (v : Verdict) (rest : Course) (so_far : List TracedStep) → course_by i s v rest ≡ ends so_far → FirstBy i s v rest so_far
+pub first_by : (i : Inputs) (s : Step) (v : Verdict) (rest : Course) (so_far : List TracedStep) →
+    course_by i s v rest ≡ ends so_far → FirstBy i s v rest so_far
 first_by i s (Served socket) rest so_far e =
     let first = first_idle i s socket rest so_far e in
     record { socket = socket; served = refl; are = sym (ap (λ (c : Course). c.steps) e); rest_ends = first.rest_ends }
@@ -62,25 +66,31 @@ Told i [] (t ∷ ts) = ⊥
 Told i (s ∷ ss) [] = ⊥
 Told i (s ∷ ss) (t ∷ ts) = ((socket : Option ℕ) × (t ≡ traced i s socket)) × Told i ss ts
 
-told_more : (i : Inputs) (s : Step) (ss : List Step) (socket : Option ℕ) (rest so_far : List TracedStep) → so_far ≡ traced i s socket ∷ rest → Told i ss rest → Told i (s ∷ ss) so_far
+told_more : (i : Inputs) (s : Step) (ss : List Step) (socket : Option ℕ) (rest so_far : List TracedStep) →
+    so_far ≡ traced i s socket ∷ rest → Told i ss rest → Told i (s ∷ ss) so_far
 told_more i s ss socket rest [] e told = cc
 told_more i s ss socket rest (t ∷ ts) e told =
     let first : t ≡ traced i s socket = cc in
     let later : ts ≡ rest = cc in
     ((socket, first), subst (λ (l : List TracedStep). Told i ss l) (sym later) told)
 
-course_told : (i : Inputs) (c : Flow) (copies : List Copy) (steps : List Step) (accesses : List Access) (so_far : List TracedStep) → course_of i c copies steps accesses ≡ ends so_far → Told i steps so_far
+course_told : (i : Inputs) (c : Flow) (copies : List Copy) (steps : List Step) (accesses : List Access)
+    (so_far : List TracedStep) → course_of i c copies steps accesses ≡ ends so_far → Told i steps so_far
 course_told i c copies [] accesses [] e = tt
 course_told i c copies [] accesses (t ∷ ts) e = let none = ap (λ (k : Course). k.steps) e in cc
 course_told i c copies (s ∷ later) [] so_far e =
     let first = first_idle i s None (course_of i c copies later []) so_far e in
     told_more i s later first.socket _ so_far first.are (course_told i c copies later [] _ first.rest_ends)
 course_told i c copies (s ∷ later) (a ∷ accesses) so_far e = by (is_access (rule_of s.romc)) e
-    (λ ts there. course_told i c copies later accesses ts there) (λ ts there. course_told i c copies later (a ∷ accesses) ts there)
+    (λ ts there. course_told i c copies later accesses ts there)
+    (λ ts there. course_told i c copies later (a ∷ accesses) ts there)
   where
-    by : (b : Bool) → (if b then course_by i s (access_verdict c copies a) (course_of i c copies later accesses) else with_step (traced i s None) (course_of i c copies later (a ∷ accesses))) ≡ ends so_far →
+    by : (b : Bool) → (if b then course_by i s (access_verdict c copies a)
+        (course_of i c copies later accesses) else with_step (traced i s None)
+        (course_of i c copies later (a ∷ accesses))) ≡ ends so_far →
         ((ts : List TracedStep) → course_of i c copies later accesses ≡ ends ts → Told i later ts) →
-        ((ts : List TracedStep) → course_of i c copies later (a ∷ accesses) ≡ ends ts → Told i later ts) → Told i (s ∷ later) so_far
+        ((ts : List TracedStep) → course_of i c copies later (a ∷ accesses) ≡ ends ts → Told i later ts) →
+        Told i (s ∷ later) so_far
     by true e access idle =
         let first = first_by i s (access_verdict c copies a) (course_of i c copies later accesses) so_far e in
         told_more i s later first.socket _ so_far first.are (access _ first.rest_ends)
@@ -94,7 +104,8 @@ PutsNothing [] = Unit {0}
 PutsNothing (s ∷ []) = Unit {0}
 PutsNothing (s ∷ (t ∷ later)) = (t.romc == 0x1A) ≡ false
 
-no_write : (i : Inputs) (steps : List Step) (so_far : List TracedStep) (phi : ℕ) → Told i steps so_far → PutsNothing steps → chip_write phi (map heard_of so_far) ≡ None
+no_write : (i : Inputs) (steps : List Step) (so_far : List TracedStep) (phi : ℕ) → Told i steps so_far →
+    PutsNothing steps → chip_write phi (map heard_of so_far) ≡ None
 no_write i [] [] phi told puts = refl
 no_write i [] (t ∷ ts) phi told puts = absurd told
 no_write i (s ∷ ss) [] phi told puts = absurd told
@@ -115,11 +126,14 @@ puts_nothing (s ∷ (t ∷ later)) all =
 -- ---- a port write
 
 -- as many copies take the byte as have the port
-copies_count : (port n : ℕ) (cs : List Copy) → length (parties WriteRule (enumerate_from n (map (placed_copy (at_port 0x1A port)) cs))) ≡ takers port (seats_of cs)
+copies_count : (port n : ℕ) (cs : List Copy) →
+    length (parties WriteRule (enumerate_from n (map (placed_copy (at_port 0x1A port)) cs))) ≡ takers port (seats_of cs)
 copies_count port n [] = refl
-copies_count port n (c ∷ cs) = counted (seat_has_port c.seat port) (seat_has_port c.seat port) refl n port _ c.seat _ (copies_count port (n + 1) cs)
+copies_count port n (c ∷ cs) = counted (seat_has_port c.seat port) (seat_has_port c.seat port) refl n port _ c.seat _
+    (copies_count port (n + 1) cs)
 
-taken_by_one : (phi port byte : ℕ) (ps : List Party) (socket : Option ℕ) (seats : List Seat) → port_write_verdict ps ≡ Served socket → length ps ≡ takers port seats →
+taken_by_one : (phi port byte : ℕ) (ps : List Party) (socket : Option ℕ) (seats : List Seat) →
+    port_write_verdict ps ≡ Served socket → length ps ≡ takers port seats →
     option_map (λ k. record { phi = phi; port = port; byte = byte }) socket ≡ write_at phi byte (if_taken port seats)
 taken_by_one phi port byte [] socket seats served count =
     let none : None ≡ socket = cc in
@@ -132,20 +146,31 @@ taken_by_one phi port byte (p ∷ []) socket seats served count =
 taken_by_one phi port byte (p ∷ (q ∷ ps)) socket seats served count = cc
 
 -- a step that names the port, and the port write
-pub written_by : (phi : ℕ) (i : Inputs) (names : Step) (port : ℕ) (c : Flow) (copies : List Copy) (socket : Option ℕ) (rest : Course) (so_far : List TracedStep) →
-    so_far ≡ traced i names socket ∷ (course_by i (long_step 0x1A Accumulator) (access_verdict c copies (at_port 0x1A port)) rest).steps →
-    course_by i (long_step 0x1A Accumulator) (access_verdict c copies (at_port 0x1A port)) rest ≡ ends (course_by i (long_step 0x1A Accumulator) (access_verdict c copies (at_port 0x1A port)) rest).steps →
-    byte_of i names.source ≡ port → chip_write phi (map heard_of so_far) ≡ write_at phi i.accumulator (if_taken port (seats_of copies))
+pub written_by : (phi : ℕ) (i : Inputs) (names : Step) (port : ℕ) (c : Flow) (copies : List Copy) (socket : Option ℕ)
+    (rest : Course) (so_far : List TracedStep) →
+    so_far ≡ traced i names socket ∷ (course_by i (long_step 0x1A Accumulator)
+    (access_verdict c copies (at_port 0x1A port)) rest).steps →
+    course_by i (long_step 0x1A Accumulator) (access_verdict c copies (at_port 0x1A port)) rest
+    ≡ ends (course_by i (long_step 0x1A Accumulator) (access_verdict c copies (at_port 0x1A port)) rest).steps →
+    byte_of i names.source ≡ port → chip_write phi (map heard_of so_far)
+    ≡ write_at phi i.accumulator (if_taken port (seats_of copies))
 written_by phi i names port c copies socket rest so_far are put named =
-    let second : FirstBy i (long_step 0x1A Accumulator) (access_verdict c copies (at_port 0x1A port)) rest (course_by i (long_step 0x1A Accumulator) (access_verdict c copies (at_port 0x1A port)) rest).steps =
-    first_by i (long_step 0x1A Accumulator) (access_verdict c copies (at_port 0x1A port)) rest (course_by i (long_step 0x1A Accumulator) (access_verdict c copies (at_port 0x1A port)) rest).steps put in
-    ap (λ (l : List TracedStep). chip_write phi (map heard_of l)) (are ∙ ap (λ (l : List TracedStep). traced i names socket ∷ l) second.are)
+    let second : FirstBy i (long_step 0x1A Accumulator) (access_verdict c copies (at_port 0x1A port)) rest
+    (course_by i (long_step 0x1A Accumulator) (access_verdict c copies (at_port 0x1A port)) rest).steps =
+    first_by i (long_step 0x1A Accumulator) (access_verdict c copies (at_port 0x1A port)) rest
+    (course_by i (long_step 0x1A Accumulator) (access_verdict c copies (at_port 0x1A port)) rest).steps put in
+    ap (λ (l : List TracedStep). chip_write phi (map heard_of l))
+    (are ∙ ap (λ (l : List TracedStep). traced i names socket ∷ l) second.are)
     ∙ ap (λ (n : ℕ). option_map (λ (k : ℕ). record { phi = phi; port = n; byte = i.accumulator }) second.socket) named
-    ∙ taken_by_one phi port i.accumulator (parties WriteRule (enumerate_from 0 (map (placed_copy (at_port 0x1A port)) copies))) second.socket (seats_of copies) second.served (copies_count port 0 copies)
+    ∙ taken_by_one phi port i.accumulator (parties WriteRule
+    (enumerate_from 0 (map (placed_copy (at_port 0x1A port)) copies))) second.socket (seats_of copies) second.served
+    (copies_count port 0 copies)
 
 -- the steps of a row in which none writes a port
 pub row_none : (row : Row) (i : Inputs) (c : Flow) (copies : List Copy) (phi : ℕ) (so_far : List TracedStep) →
     course_of i c copies (steps_of row i.taken) (accesses_before_fetch row i ++ last_access row i ∷ []) ≡ ends so_far →
     PutsNothing (steps_of row i.taken) → chip_write phi (map heard_of so_far) ≡ None
 row_none row i c copies phi so_far e puts =
-    no_write i (steps_of row i.taken) so_far phi (course_told i c copies (steps_of row i.taken) (accesses_before_fetch row i ++ last_access row i ∷ []) so_far e) puts
+    no_write i (steps_of row i.taken) so_far phi
+    (course_told i c copies (steps_of row i.taken) (accesses_before_fetch row i ++ last_access row i ∷ []) so_far e)
+    puts

@@ -23,7 +23,8 @@ pub record Advances (result : Outcome) (old new : MachineState) (olds news : Lis
   pub onward : old.phi ≤ new.phi
 
 -- A machine that was stopped answers the same again, and nothing changes: neither the machine nor what its chips are and have heard.
-pub record StaysStopped (why : StoppedBy) (result : Outcome) (old new : MachineState) (olds news : List ChipState) : Type 0 where
+pub record StaysStopped (why : StoppedBy) (result : Outcome) (old new : MachineState)
+    (olds news : List ChipState) : Type 0 where
   pub again : result ≡ outcome_again why
   pub machine : new ≡ old
   pub rack : news ≡ olds

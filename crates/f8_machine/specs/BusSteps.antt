@@ -10,7 +10,7 @@ use Rattle.data_bus.specs.Racks.{RackSettles, RackStays, named_views}
 use Rattle.data_bus.specs.Steps.{probe_place}
 use Rattle.data_bus.specs.declared.fault.BusFault.{BusFault}
 use Rattle.f8_machine.specs.Faults.{fault_of}
-use Rattle.f8_machine.specs.Traces.{who_drove}
+use Rattle.f8_machine.specs.HeardSteps.{who_drove}
 use Rattle.f8_machine.specs.declared.heard.Heard.{Heard}
 
 -- a code of no acknowledgement
@@ -28,7 +28,8 @@ heard_served step byte socket = record {
 }
 
 -- served: one chip answers, or none has to; the byte is the bus rule's, and every chip and the probe hear it
-pub record IsServed (step : Step) (placed : ℕ) (before after : ProbeState) (olds news : List ChipState) (earlier now : List Heard) (byte : ℕ) : Type 0 where
+pub record IsServed (step : Step) (placed : ℕ) (before after : ProbeState) (olds news : List ChipState)
+    (earlier now : List Heard) (byte : ℕ) : Type 0 where
   pub socket : Option ℕ
   pub verdict : view_verdict step.romc None (probe_place step.romc before) (named_views olds) ≡ Served socket
   pub driven : byte ≡ bus_byte step.romc None placed (named_views olds)
@@ -37,8 +38,10 @@ pub record IsServed (step : Step) (placed : ℕ) (before after : ProbeState) (ol
   pub recorded : now ≡ earlier ++ heard_served step byte socket ∷ []
 
 -- not served: the fault is the bus rule's, and nothing changes
-pub record IsRefused (step : Step) (fault : BusFault) (before after : ProbeState) (olds news : List ChipState) (earlier now : List Heard) : Type 0 where
-  pub verdict : fault_by step.romc (view_verdict step.romc None (probe_place step.romc before) (named_views olds)) ≡ Some (fault_of fault)
+pub record IsRefused (step : Step) (fault : BusFault) (before after : ProbeState) (olds news : List ChipState)
+    (earlier now : List Heard) : Type 0 where
+  pub verdict : fault_by step.romc (view_verdict step.romc None (probe_place step.romc before) (named_views olds))
+      ≡ Some (fault_of fault)
   pub stays : RackStays olds news
   pub unheard : after ≡ before
   pub recorded : now ≡ earlier

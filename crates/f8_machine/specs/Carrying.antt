@@ -17,13 +17,15 @@ use Rattle.f8_machine.specs.Refinement.{RackStands, Holds}
 use Rattle.f8_machine.specs.declared.heard.Heard.{Heard}
 
 -- the processor holds an instruction, and stands with the probe and the chips at a position
-pub record HoldsInstruction (cpu : CpuState) (probe : ProbeState) (states : List ChipState) (op : Op) (x : Position) : Type 0 where
+pub record HoldsInstruction (cpu : CpuState) (probe : ProbeState) (states : List ChipState) (op : Op)
+    (x : Position) : Type 0 where
   pub instruction : decoded cpu.opcode ≡ Some op
   pub range : AreInRange cpu.registers
   pub holds : Holds fetched cpu probe states x
 
 -- all its steps were served: the processor, the probe and the chips are where the instruction leads
-pub record IsCarriedOut (start cpu : CpuState) (probe : ProbeState) (states : List ChipState) (steps : List Heard) (op : Op) (x : Position) : Type 0 where
+pub record IsCarriedOut (start cpu : CpuState) (probe : ProbeState) (states : List ChipState) (steps : List Heard)
+    (op : Op) (x : Position) : Type 0 where
   pub processor : cpu ≡ done op (gets_all op (seats_of x.copies) x.flat) start
   pub rack : RackStands fetched probe states (position_after op x)
   pub served : instruction_fault op x ≡ None

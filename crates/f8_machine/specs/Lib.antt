@@ -1,10 +1,7 @@
 pub mod Chains
-pub mod FlatViews
-pub mod PortViews
-pub mod ChipCopies
+pub mod RackViews
 pub mod Faults
 pub mod HeardSteps
-pub mod Traces
 pub mod BusSteps
 pub mod Rounds
 pub mod PortWrites

@@ -18,7 +18,8 @@ pub record IsAtPower (probe : ProbeState) (states : List ChipState) (x : Positio
   pub whole : length x.flat.memory ≡ 65536
 
 -- the opcode at 0 was fetched, and every counter set goes on from there
-pub record IsFetched (opcode : ℕ) (probe : ProbeState) (states : List ChipState) (steps : List Heard) (x : Position) : Type 0 where
+pub record IsFetched (opcode : ℕ) (probe : ProbeState) (states : List ChipState) (steps : List Heard)
+    (x : Position) : Type 0 where
   pub opcode_is : opcode ≡ byte_at x.flat.memory 0
   pub rack : RackStands (λ c. fetched (record c { p = 0 })) probe states x
   pub served : reset_fault x ≡ None

@@ -2,7 +2,7 @@
 ghost use Rattle.std.specs.Prelude.{◌≡◌};
 ghost use Rattle.f8_spec.specs.BusArbitration.{rule_of};
 ghost use Rattle.console_spec.specs.BusTrace.{taker_by};
-ghost use Rattle.f8_machine.specs.Traces.{who_drove};
+ghost use Rattle.f8_machine.specs.HeardSteps.{who_drove};
 
 use console_spec::Who;
 use romc_table::{Driver, Romc, driver_of};
@@ -40,7 +40,7 @@ pub(crate) fn who_drove(romc: Romc, long: bool, socket: Option<u8>) -> Who
 }
 
 /// The socket of the chip that takes the byte of a step.
-#[tactic(auto, using(crate::proofs::Takers::taker_none))]
+#[tactic(auto, using(crate::proofs::BusAnswers::taker_none))]
 pub(crate) fn taker(romc: Romc, socket: Option<u8>) -> Option<u8>
     ensures { result ≡ taker_by (rule_of romc) socket }
 {

@@ -26,7 +26,9 @@ invariant-loop-index g l = record {
       (map (λ b. (goal.Chip-dyn g (b.vtable, b.value)).state b.value) l.fn.rack.items)
       (map (λ b. (goal.Chip-dyn g (b.vtable, b.value)).state b.value) l.rack.items);
   reference : l.probe ≡ probe_after_steps l.steps l.fn.probe;
-  left : (op : Op) (x : Position) → HoldsInstruction l.fn.cpu l.fn.probe (map (λ b. (goal.Chip-dyn g (b.vtable, b.value)).state b.value) l.fn.rack.items) op x →
-      Remaining op x (gets_all op (seats_of x.copies) x.flat) (instruction_aim op x) (done op (gets_all op (seats_of x.copies) x.flat) l.fn.cpu) l.plan l.index l.cpu l.probe
+  left : (op : Op) (x : Position) → HoldsInstruction l.fn.cpu l.fn.probe
+      (map (λ b. (goal.Chip-dyn g (b.vtable, b.value)).state b.value) l.fn.rack.items) op x →
+      Remaining op x (gets_all op (seats_of x.copies) x.flat) (instruction_aim op x)
+      (done op (gets_all op (seats_of x.copies) x.flat) l.fn.cpu) l.plan l.index l.cpu l.probe
       (map (λ b. (goal.Chip-dyn g (b.vtable, b.value)).state b.value) l.rack.items) l.steps;
 }

@@ -12,10 +12,12 @@ returns-in-Ok-clause-advances g c = record {
   refines = λ x r.
       let found = some_of (decoded c.self.inside.cpu.opcode) (rw (← c.self.view_is) at c.requires.instruction) in
       let clocks = c.from.ensures ∙ c.clocks.ensures
-      ∙ ap (λ (steps : List Step). sum_by (λ (step : Step). step_clocks step.long) steps) (rw (← c.self.view_is) at c.requires.plan)
+      ∙ ap (λ (steps : List Step). sum_by (λ (step : Step). step_clocks step.long) steps)
+      (rw (← c.self.view_is) at c.requires.plan)
       ∙ clocks_planned c.self.inside.cpu found.0 found.1 in
       done_from c.args.self.now _ c.self.view_is _ _ found.0 x found.1 r
-      c.carry_out-carried.new.cpu c.carry_out-carried.new.probe _ c.from.result c.done_write-wrote.result c.carry_out-carried.new.steps
+      c.carry_out-carried.new.cpu c.carry_out-carried.new.probe _ c.from.result c.done_write-wrote.result
+      c.carry_out-carried.new.steps
       c.kept-kept.ensures.ranges (λ holds. c.in-Ok.ensures.done found.0 x holds)
       (c.of-self-inside.ensures c.carry_out-carried.new.probe c.counters.ensures) clocks
       (told_of _ _ found.0 _ _ _ _ _ c.done_write-wrote.ensures (ap decoded c.opcode-code.ensures ∙ found.1)
