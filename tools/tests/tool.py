@@ -14,7 +14,11 @@ TOOLS = Path(__file__).resolve().parent.parent
 TOP = TOOLS.parent
 PROGRAM = Path(os.environ.get('CHANNEL_F_PROGRAM') or TOP / 'crates/channel_f_main/out/channel_f_main').absolute()
 
-needs_program = unittest.skipUnless(os.access(PROGRAM, os.X_OK), f'the program {PROGRAM} is not built')
+HAS_PROGRAM = os.access(PROGRAM, os.X_OK)
+
+needs_program = unittest.skipUnless(HAS_PROGRAM, 'the program is not built')
+if not HAS_PROGRAM:
+    print(f'tools/tests: {PROGRAM} is not there, so the tests that need the program are skipped', file=sys.stderr)
 
 
 def load(name: str) -> ModuleType:
