@@ -89,10 +89,13 @@ class Frames(unittest.TestCase):
         self.assertEqual((done.stdout, done.stderr), (b'frame 20 phi 596600 tone 0\n', b''))
 
     @needs_program
-    def test_lighthouse(self):
-        cart = 'cartridges/lighthouse'
-        done = call('frames', tool.PROGRAM, 'play', f'{cart}/cart.toml', f'{cart}/script.txt')
-        self.assertEqual(done.text.count('\nframe '), 3)
+    def test_the_first_frames_of_the_lighthouse(self):
+        with tempfile.TemporaryDirectory() as folder:
+            script = Path(folder) / 'script.txt'
+            script.write_text('show 1\nshow 2\nframes 2\n')
+            done = call('frames', '--plain', tool.PROGRAM, 'play', 'cartridges/lighthouse/cart.toml', script)
+        self.assertEqual([line.split()[1] for line in done.text.split('\n') if line.startswith('frame ')], ['1', '2'])
+        self.assertEqual(done.text.count('\n'), 1 + 2 * 33 + 1 + 6)
         self.assertIn('\nstop done\n', done.text)
         self.assertNotIn('\nout ', done.text)
 
