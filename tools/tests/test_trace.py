@@ -68,6 +68,8 @@ class Trace(unittest.TestCase):
         done = self.piped('--from', 5, '--count', 1)
         self.assertEqual(re.findall(r'^ +(\d+)  \w\w [SL] ', done.text, re.M), ['5'])
         self.assertEqual(re.findall(r'^ +(\d+)  \w\w [SL] ', self.piped('--last', 2).text, re.M), ['7', '8'])
+        self.assertIn('0002 BR $0001\n      7 ', self.piped('--last', 2).text)
+        self.assertEqual(re.findall(r'^ +(\d+)  \w\w [SL] ', self.piped('--at', '0001').text, re.M), ['5'])
         self.assertNotIn(' step ', self.piped('--parted').text)
 
     def test_other_lines_pass_and_pictures_do_not(self):
