@@ -60,10 +60,10 @@ class Explain(unittest.TestCase):
     def test_other_ways_to_write_statements(self):
         self.assert_asm('START = $0400', 7, 2, '`START: EQU $0400`')
         self.assert_asm('*=$0800', 2, 2, '`ORG $0800`')
-        self.assert_asm(' .byte 1', 2, 11, 'Bytes are given by DB')
+        self.assert_asm(' .byte 1', 2, 11, 'A directive has no dot. Bytes are given by DB')
         self.assert_asm(' INCLUDE "ves.h"', 10, 2, 'no INCLUDE')
-        self.assert_asm('LOOP LI 5', 1, 3, 'colon behind it: `LOOP:`')
-        self.assert_asm('LOOP', 1, 3, 'colon behind it: `LOOP:`')
+        self.assert_asm('LOOP LI 5', 1, 3, 'colon after it: `LOOP:`')
+        self.assert_asm('LOOP', 1, 3, 'colon after it: `LOOP:`')
         self.assert_asm(' LSI 4', 2, 3, 'Is `LI` or `LIS` meant?')
         self.assert_asm(' LR A,(IS)+', 8, 11, 'is `S`')
         self.assert_asm(' LR DC0,Q', 9, 11, 'is named `DC`')
@@ -82,7 +82,7 @@ class Explain(unittest.TestCase):
         told = self.explained('error cart toml', cart=CHIP.replace('0x0000', '$0400'))
         self.assertIn('cart, line 5, column 8\n    base = $0400\n           ^\nTOML: Invalid value.\n', told)
         self.assertIn('begins with 0x', told)
-        self.assertIn('stand', self.explained('error cart toml', cart=CHIP + 'ports = 4\n'))
+        self.assertIn('there twice', self.explained('error cart toml', cart=CHIP + 'ports = 4\n'))
         self.assertIn('`source = "game.f8"`', self.explained('error cart toml', cart=CHIP + 'source = a.f8\n'))
         self.assertIn('not UTF-8', call('explain', '--cart', '/bin/sh', stdin='error cart toml\n').told)
 
@@ -107,8 +107,8 @@ class Explain(unittest.TestCase):
         self.assertIn(f'write `source = "{Path(folder).name}/game.f8"`', done.told)
 
     def test_scripts(self):
-        for text, cause, hint in (('steps = 5', 1, 'Blanks alone'), ('steps 5 ', 1, 'behind the last word'), ('STEPS 5', 1, 'small letters'),
-                                  ('power 5', 2, '`05`'), ('power 0x05', 2, 'stand alone: `05`'), ('at 3 keys 0 01', 2, '`00`'),
+        for text, cause, hint in (('steps = 5', 1, 'Only blanks'), ('steps 5 ', 1, 'after the last word'), ('STEPS 5', 1, 'small letters'),
+                                  ('power 5', 2, '`05`'), ('power 0x05', 2, 'nothing else: `05`'), ('at 3 keys 0 01', 2, '`00`'),
                                   ('frame 5', 1, 'Is `frames` meant?'), ('at 3 key 00 01', 1, 'Is `keys` meant?'), ('frames 601', 3, '1 to 600'),
                                   ('steps 5 # all', 1, 'line of its own'), ('', 6, 'Add a line')):
             told = self.explained(f'error script line 1 cause {cause}', script=text + '\n')
