@@ -83,7 +83,7 @@ class Explain(unittest.TestCase):
         self.assertIn('cart, line 5, column 8\n    base = $0400\n           ^\nTOML: Invalid value.\n', told)
         self.assertIn('begins with 0x', told)
         self.assertIn('there twice', self.explained('error cart toml', cart=CHIP + 'ports = 4\n'))
-        self.assertIn('`source = "game.f8"`', self.explained('error cart toml', cart=CHIP + 'source = a.f8\n'))
+        self.assertIn('`"a.f8"`', self.explained('error cart toml', cart=CHIP + 'source = a.f8\n'))
         self.assertIn('not UTF-8', call('explain', '--cart', '/bin/sh', stdin='error cart toml\n').told)
 
     @unittest.skipUnless(HAS_TOML, 'Python before 3.11 has no reader of TOML')
