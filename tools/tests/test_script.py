@@ -1,4 +1,4 @@
-"""The script `channel_f`, over a tree of three crates and a command `rt` that proves nothing."""
+"""The script `channel_f` with tools/prove, over a tree of small crates and a command `rt` that proves nothing."""
 from __future__ import annotations
 
 import os
@@ -12,31 +12,43 @@ from pathlib import Path
 
 TOP = Path(__file__).resolve().parent.parent.parent
 
-# Four crates, of which the program needs three.
-CRATES = '# A crate a line.\nlow:\nside: low\nhigh: low thiserror # a library of the kit\nchannel_f_main: high\n'
+# Of these crates the program doesn't need `side`, and `left` and `right` don't stand on each other.
+CRATES = '''# A crate a line.
+low:
+side: low
+left: low thiserror # a library of the kit
+right: low
+high: left right
+channel_f_main: high
+'''
+BELOW = ['low', 'left', 'right', 'high']
 
-# It notes its calls, writes what rt does where it proves, and waits where the file `hold` lies at the top.
+# It notes its calls at the top, writes what rt does where it proves, and waits while the file `hold` lies there.
 RT = '''#!/bin/sh
-top=../..
-echo "$(basename "$PWD"): $*" >>$top/calls
-[ -d "$TMPDIR" ] && touch "$TMPDIR/of-rt" || echo "no TMPDIR" >>$top/calls
+top='TOP'
+crate=$(basename "$PWD")
+echo "$crate: $*" >>"$top/calls"
+[ -d "$TMPDIR" ] && touch "$TMPDIR/of-rt" || echo "no TMPDIR" >>"$top/calls"
+hold() { while [ -f "$top/hold" ]; do echo "$$" >"$top/pid-$crate"; sleep 0.1; done; }
 case $1 in
-    all)
-        echo "rt: talk of the prover"
-        for name in low high channel_f_main; do
-            echo "== $name"
-            while [ -f $top/hold ]; do echo "$$" >$top/pid; sleep 0.1; done
-        done
-        [ ! -f $top/refuse ] || { echo "== summary"; echo "high: failed (1)"; exit 1; }
-        echo "== summary"
+    lib)
+        echo "talk of the prover"
+        [ -f src/lib.rt ] || exit 2
+        for name in ../*; do [ ! -f "$name/out/rlib/stamp" ] || echo "over $(basename "$name")" >>"$top/$crate.over"; done
+        mkdir -p out/incremental
+        echo half >>out/incremental/work
+        [ "$crate" != low ] && hold
+        [ ! -f "$top/refuse" ] || [ "$crate" != high ] || exit 1
+        mkdir -p out/rlib
+        touch out/rlib/stamp
         ;;
     run)
         mkdir -p out
-        cp $top/program out/channel_f_main
+        cp "$top/program" out/channel_f_main
         ;;
     try)
         echo "talk of the build" >&2
-        [ ! -f $top/refuse ] || { echo "run=none proved=no" >&2; exit 6; }
+        [ ! -f "$top/refuse" ] || { echo "run=none proved=no" >&2; exit 6; }
         while [ "$1" != -- ]; do echo "$1"; shift; done
         shift
         echo "$@"
@@ -59,15 +71,18 @@ class Script(unittest.TestCase):
         room = tempfile.TemporaryDirectory()
         self.addCleanup(room.cleanup)
         self.top = Path(room.name).resolve() / 'a tree'
-        for name in ('low', 'side', 'high', 'channel_f_main'):
+        for name in ('side', *BELOW, 'channel_f_main'):
             (self.top / 'crates' / name / 'src').mkdir(parents=True)
             (self.top / 'crates' / name / 'src/lib.rt').write_text('')
+            (self.top / 'crates' / name / 'src/more.rt').write_text('')
         shutil.copy(TOP / 'channel_f', self.top)
+        (self.top / 'tools').mkdir()
+        shutil.copy(TOP / 'tools/prove', self.top / 'tools')
         self.put('crates.txt', CRATES)
         self.put('HANDLES', '')
         self.put('status', '0')
         self.put('program', PROGRAM).chmod(0o755)
-        self.put('bin/rt', RT).chmod(0o755)
+        self.put('bin/rt', RT.replace('TOP', str(self.top))).chmod(0o755)
         self.put('temporary/keep', '')
         self.out = self.top / 'crates/channel_f_main/out'
 
@@ -109,6 +124,9 @@ class Script(unittest.TestCase):
         self.assertEqual([it.name for it in (self.top / 'temporary').iterdir()], ['keep'])
         self.assertEqual({it.name for it in self.out.iterdir()} - {'channel_f_main', 'built', 'build.log', 'lock'}, set())
 
+    def built(self) -> list[str]:
+        return [name for name in BELOW if (self.top / 'crates' / name / 'out/rlib/stamp').exists()]
+
     def test_help_needs_no_build(self):
         for word in ('--help', '-h', 'help', '--version'):
             done = self.call(word, with_rt=False)
@@ -122,25 +140,38 @@ class Script(unittest.TestCase):
     def test_first_call_builds_and_the_next_does_not(self):
         done = self.call('asm', 'a b')
         self.assertEqual((done.returncode, done.stdout), (0, 'asm a b\n'))
-        for number, name in enumerate(('low', 'high', 'channel_f_main'), start=1):
-            self.assertIn(f'crate {number} of 3: {name}\n', done.stderr)
+        self.assertIn('crate 1 of 5: low\n', done.stderr)
+        self.assertIn('crate 4 of 5: high\n', done.stderr)
         self.assertNotIn('talk of the prover', done.stderr)
-        self.assertIn('talk of the prover', (self.out / 'build.log').read_text())
+        self.assertIn('== high\ntalk of the prover\n', (self.out / 'build.log').read_text())
         self.assertIn(str(self.out / 'build.log'), done.stderr)
-        self.assertRegex(self.calls()[0], r'^channel_f_main: all check --jobs [1-9][0-9]*$')
-        self.assertEqual(self.calls()[1:], ['channel_f_main: run -- asm /dev/null'])
+        self.assertEqual([it.partition(' --jobs')[0] for it in sorted(self.calls()[1:3])], ['left: lib', 'right: lib'])
+        self.assertEqual([it.partition(' --jobs')[0] for it in self.calls()[::3]], ['low: lib', 'high: lib'])
+        self.assertEqual(self.calls()[4:], ['channel_f_main: run -- asm /dev/null'])
+        self.assertEqual(sorted(set((self.top / 'high.over').read_text().split())), ['left', 'low', 'over', 'right'])
+        self.assertEqual(self.built(), BELOW)
         self.assert_nothing_left()
         done = self.call('gen', '1', with_rt=False)
         self.assertEqual((done.returncode, done.stdout, done.stderr), (0, 'gen 1\n', ''))
 
-    def test_changed_source_is_built_again(self):
+    @unittest.skipUnless(len(os.sched_getaffinity(0)) > 1, 'there is a single processor')
+    def test_crates_that_do_not_stand_on_each_other_are_proved_side_by_side(self):
+        self.put('hold', '')
+        process = self.start('gen', '1')
+        self.wait_for('pid-left')
+        self.wait_for('pid-right')
+        (self.top / 'hold').unlink()
+        self.assertEqual(process.communicate(timeout=30)[0], 'gen 1\n')
+
+    def test_what_changed_is_built_again_and_what_stands_on_it(self):
         self.call('gen', '1')
-        for change in (lambda: self.put('crates/low/src/lib.rt', 'changed'), lambda: (self.top / 'crates/high/src/lib.rt').unlink()):
+        for change, again in ((lambda: self.put('crates/right/src/lib.rt', 'changed'), ['right', 'high']),
+                              (lambda: (self.top / 'crates/high/src/more.rt').unlink(), ['high'])):
             time.sleep(0.05)
             change()
             before = len(self.calls())
             self.call('gen', '1')
-            self.assertEqual(len(self.calls()), before + 2)
+            self.assertEqual([it.partition(':')[0] for it in self.calls()[before:]], [*again, 'channel_f_main'])
 
     def test_status_is_the_programs_and_is_said_in_words(self):
         self.call('gen', '1')
@@ -161,29 +192,35 @@ class Script(unittest.TestCase):
         self.put('refuse', '')
         done = self.call('gen', '1')
         self.assertEqual((done.returncode, done.stdout), (70, ''))
-        self.assertIn('high: failed (1)', done.stderr)
+        self.assertIn("high wasn't proved", done.stderr)
+        self.assertEqual(self.built(), BELOW[:3])
         self.assertFalse((self.out / 'built').exists())
         self.assert_nothing_left()
 
-    def test_build_that_is_cut_off_is_done_again(self):
-        for sign in (signal.SIGINT, signal.SIGTERM, signal.SIGHUP):
+    def test_build_that_is_cut_off_goes_on_with_what_was_proved(self):
+        for number, sign in enumerate((signal.SIGINT, signal.SIGTERM, signal.SIGHUP, signal.SIGKILL), start=1):
             self.put('hold', '')
             process = self.start('gen', '1')
-            of_rt = self.wait_for('pid')
+            of_rt = self.wait_for('pid-left')
             os.killpg(process.pid, sign)
             wrote, _ = process.communicate(timeout=30)
             self.assertEqual((process.returncode, wrote), (-sign, ''))
             self.assert_gone(of_rt)
             self.assertFalse((self.out / 'built').exists())
-            self.assert_nothing_left()
-            (self.top / 'pid').unlink()
+            self.assertEqual(self.built(), ['low'])
+            if sign != signal.SIGKILL:
+                self.assert_nothing_left()
+                self.assertEqual((self.top / 'crates/left/out/incremental/work').read_text(), 'half\n' * number)
+            (self.top / 'pid-left').unlink()
         (self.top / 'hold').unlink()
         self.assertEqual(self.call('gen', '1').stdout, 'gen 1\n')
+        self.assertEqual((self.top / 'crates/left/out/incremental/work').read_text(), 'half\n' * 5)
+        self.assert_nothing_left()
 
     def test_two_calls_build_once(self):
         self.put('hold', '')
         first = self.start('gen', '1')
-        self.wait_for('pid')
+        self.wait_for('pid-left')
         second = self.start('gen', '2')
         time.sleep(0.5)
         (self.top / 'hold').unlink()
@@ -191,7 +228,7 @@ class Script(unittest.TestCase):
         wrote, told = second.communicate(timeout=30)
         self.assertEqual((second.returncode, wrote), (0, 'gen 2\n'))
         self.assertIn('another call', told)
-        self.assertEqual(len(self.calls()), 2)
+        self.assertEqual(len(self.calls()), 5)
 
     def test_signal_ends_the_program_too(self):
         self.call('gen', '1')
