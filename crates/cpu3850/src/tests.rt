@@ -1,3 +1,4 @@
+// Worked instructions, step by step.
 use super::*;
 use std::process::Abort;
 use std::test::Fail;

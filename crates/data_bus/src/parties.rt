@@ -1,3 +1,4 @@
+// The chips that drive or take in one bus step.
 ghost use Rattle.std.specs.Prelude.{◌≡◌, ◌<◌, ◌≤◌, ◌+◌, ◌==◌, ◌++◌, [], ◌∷◌, length};
 
 use chip_face::MOST_CHIPS;

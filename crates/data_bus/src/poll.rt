@@ -1,3 +1,4 @@
+// One pass over the chips of a rack, and what it gathers.
 ghost use Rattle.std.specs.Prelude.{◌≡◌, ◌+◌, ◌<◌, ◌≤◌, length, map};
 ghost use Rattle.data_bus.specs.Racks.{AllMayHear, views};
 ghost use Rattle.data_bus.specs.Polling.{no_poll, polled};

@@ -1,3 +1,4 @@
+// A served step is heard by every chip.
 ghost use Rattle.std.specs.Prelude.{◌≡◌, ◌≤◌, length, map};
 ghost use Rattle.f8_spec.specs.BusArbitration.{is_first as is_first_socket};
 ghost use Rattle.f8_spec.specs.ChipState.{MayHear};

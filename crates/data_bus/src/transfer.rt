@@ -1,3 +1,4 @@
+// A bus step: asked, decided, and settled.
 ghost use Rattle.std.specs.Prelude.{◌≡◌, ◌≤◌, length, map, IfOk, OnErr};
 ghost use Rattle.probe.specs.ProbeState.{probe_after};
 ghost use Rattle.data_bus.specs.Racks.{ChosenAsks, RackSettles, RackStays};

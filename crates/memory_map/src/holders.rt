@@ -1,3 +1,4 @@
+// Which chips hold a page, and its bytes.
 use super::pages::{HeldPage, chip_page};
 use super::table::Entry;
 use chip_face::{ChipSpec, PAGE_SIZE, PageSort};

@@ -1,3 +1,4 @@
+// The ports of a chip.
 ghost use Rattle.std.specs.Prelude.{◌≡◌, ◌≤◌, All, length, None};
 ghost use Rattle.f8_spec.specs.BusArbitration.{seat_of, seat_has_data_port, seat_has_port};
 ghost use Rattle.console_spec.specs.Writes.{readers, takers};

@@ -1,3 +1,4 @@
+// The map: what each address is to the chips of a description.
 use super::holders::Holder;
 use super::ports::{all_readers, all_takers};
 use chip_face::{ChipList, ChipSpec, PageSort};

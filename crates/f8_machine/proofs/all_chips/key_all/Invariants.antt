@@ -2,7 +2,7 @@
 use Rattle.std.proofs.Common.{map}
 use Rattle.data_bus.proofs.Racks.{ChangedBelow}
 use Rattle.f8_machine.specs.Keying.{KeysInSocket}
-use Rattle.f8_machine.proofs.keys.key_all.Given as goal
+use Rattle.f8_machine.proofs.all_chips.key_all.Given as goal
 
 abbrev pub invariant-loop-chip : goal.invariant-loop-chip
 invariant-loop-chip g l = ChangedBelow (KeysInSocket l.port l.byte) l.chip-index

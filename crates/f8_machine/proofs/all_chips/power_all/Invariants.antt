@@ -2,7 +2,7 @@
 use Rattle.std.proofs.Common.{map}
 use Rattle.data_bus.proofs.Racks.{ChangedBelow}
 use Rattle.f8_machine.specs.Rounds.{PowersInSocket}
-use Rattle.f8_machine.proofs.power.power_all.Given as goal
+use Rattle.f8_machine.proofs.all_chips.power_all.Given as goal
 
 abbrev pub invariant-loop-socket : goal.invariant-loop-socket
 invariant-loop-socket g l = ChangedBelow (PowersInSocket l.fill) l.socket
