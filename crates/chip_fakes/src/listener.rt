@@ -1,3 +1,4 @@
+// A chip that tells the steps that it heard.
 ghost use Rattle.std.specs.Prelude.{◌≡◌, ◌≤◌, IfOk};
 ghost use Rattle.f8_spec.specs.ChipState.{told_step};
 ghost use Rattle.chip_fakes.specs.RecorderView.{heard_step};
@@ -52,7 +53,7 @@ fn told(romc: Romc, byte: u8, phi: u8, first: bool) -> Heard
     ensures { heard_step result ≡ told_step
         (record { romc = romc; byte = byte; clocks = phi; first = first }) }
 {
-    let acknowledges = romc.number() == 0x0F || romc.number() == 0x13;
+    let acknowledges = matches!(romc, Romc::VECTOR_LOW | Romc::VECTOR_HIGH);
     Heard {
         romc,
         byte,
@@ -105,11 +106,19 @@ impl Chip for Listener {
     fn settle(&mut self, romc: Romc, byte: u8, phi: u8, first: bool)
         requires step_length { IsStepLength phi }
         requires may_hear { MayHear romc first (listener_state self.old).view }
-        ensures settles { Settles 0 (record { romc = romc; byte = byte; clocks = phi;
-            first = first }) (listener_state self.old) (listener_state self.new) }
+        ensures settles { Settles 0 (record {
+          romc = romc;
+          byte = byte;
+          clocks = phi;
+          first = first;
+        }) (listener_state self.old) (listener_state self.new) }
         ensures recording { recording_of self.new
-            ≡ recorded (told_step (record { romc = romc; byte = byte; clocks = phi;
-            first = first })) (recording_of self.old) }
+            ≡ recorded (told_step (record {
+              romc = romc;
+              byte = byte;
+              clocks = phi;
+              first = first;
+            })) (recording_of self.old) }
     {
         self.chip.settle(romc, byte, phi, first);
         self.recorder.hear(told(romc, byte, phi, first));

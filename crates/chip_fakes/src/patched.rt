@@ -1,3 +1,4 @@
+// A 3851 with one changed byte.
 ghost use Rattle.std.specs.Prelude.{◌≡◌, ◌%◌, IfOk, length};
 ghost use Rattle.f8_spec.specs.ChipState.{patched_bytes};
 ghost use Rattle.chip_face.specs.Fitting.{psu_pages};

@@ -1,3 +1,4 @@
+// A chip of one of the two kinds.
 use chip_face::{Chip, ChipKind, ChipSpec, FitFault, Offer};
 use psu3851::Psu;
 use romc_table::{Counters, Romc};

@@ -1,3 +1,4 @@
+// The board: its screen, and the count of frames.
 use super::PortWrite;
 use std::marker::Model;
 use video::Screen;

@@ -1,3 +1,4 @@
+// The 3850: its registers, its own ports, and the opcode that it holds.
 use super::instruction_table::InstructionTable;
 use super::kept::Kept;
 use super::own_ports::OwnPorts;

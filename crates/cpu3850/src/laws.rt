@@ -1,3 +1,4 @@
+// Laws that bind the steps of an instruction to the flat machine.
 ghost use Rattle.std.specs.Prelude.{◌≡◌, ℕ, ◌+◌, ◌<◌, ◌≤◌, List, Some, length};
 ghost use Rattle.f8_spec.specs.declared.instructions.Op.{Op};
 ghost use Rattle.f8_spec.specs.Instructions.{decoded, row_of};

@@ -1,3 +1,4 @@
+// Accumulator, ISAR, status word and scratchpad, and what a step makes of them.
 use super::kept::Kept;
 use console_spec::Regs;
 use f8_ops::registers::{H, J, K, Q};

@@ -1,3 +1,4 @@
+// The question that a bus step puts to one chip, and its answer.
 ghost use Rattle.std.specs.Prelude.{◌≡◌};
 ghost use Rattle.f8_spec.specs.BusArbitration.{is_first as is_first_socket, seat_of, would_answer};
 ghost use Rattle.f8_spec.specs.ChipState.{MayHear};

@@ -1,3 +1,4 @@
+// The bus rule: whether a step is served, by what the chips answered.
 ghost use Rattle.std.specs.Prelude.{◌≡◌};
 ghost use Rattle.f8_spec.specs.BusCodes.{driver_of as driver_by_table};
 ghost use Rattle.f8_spec.specs.BusArbitration.{Served as ServedBy, Astray, Undriven, byte_by, one_party, port_read_verdict, port_write_verdict, read_verdict, store_verdict, unless_bystander};

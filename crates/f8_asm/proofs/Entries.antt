@@ -34,10 +34,10 @@ module _ {written whole : List ℕ} {raw at : ℕ} where
           let less : (piece raw at b bs).length - 1 ≡ k = omega arith in
           let next : at + 1 + k ≡ at + suc k = omega arith in
           let rest : entries 0 (piece raw at b bs).raw (at + suc k) (drop k bs)
-              ≡ entries ((piece raw at b bs).length - 1) (piece raw at b bs).raw (at + 1) bs =
-              ap (λ a. entries 0 (piece raw at b bs).raw a (drop k bs)) (sym next)
-              ∙ sym (skipped k (piece raw at b bs).raw (at + 1) bs)
-              ∙ ap (λ n. entries n (piece raw at b bs).raw (at + 1) bs) (sym less) in
+          ≡ entries ((piece raw at b bs).length - 1) (piece raw at b bs).raw (at + 1) bs =
+          ap (λ a. entries 0 (piece raw at b bs).raw a (drop k bs)) (sym next)
+          ∙ sym (skipped k (piece raw at b bs).raw (at + 1) bs)
+          ∙ ap (λ n. entries n (piece raw at b bs).raw (at + 1) bs) (sym less) in
           record { is = ap (with_entries (with_entry written (piece raw at b bs).entry)) rest ∙ on.is }
 
   -- one turn of the loop

@@ -10,7 +10,7 @@ use Rattle.f8_asm.specs.declared.answers.AsmCause.TheVariants.{Unknown, Undefine
 use Rattle.f8_asm.specs.declared.faults.LineFault.{LineFault}
 use Rattle.f8_asm.specs.Answers.{form}
 use Rattle.f8_asm.specs.Bytes.{list_bytes}
-use Rattle.f8_asm.specs.Grammar.{chain, level, parenthesised, opened, operand_of, operand, expression}
+use Rattle.f8_asm.specs.Grammar.{chain, level, parenthesis_expression, mark_operand, operand_of, operand, expression}
 use Rattle.f8_asm.specs.Judging.{fault_at}
 use Rattle.text_lines.specs.Lines.{lines}
 use Rattle.f8_asm.specs.Listing.{pair_text, gap_of, front_of, piece, entries, listing}
@@ -32,7 +32,7 @@ bytes line =
 -- 512 less 1 is 511, no displacement
 branch_too_far : bytes (codes " BT 1,$200") ≡ Err (fault_at 7 BranchRange)
 unfolding tokens_at lexeme name_lexeme name_of number_lexeme number_of quoted_lexeme value narrow line_bytes statement
-    label_of operands items chain level parenthesised opened operand_of operand expression same_word one_letter_register
+    label_of operands items chain level parenthesis_expression mark_operand operand_of operand expression same_word one_letter_register
     two_letter_register register_of pair_op two_letter_op_a_to_b two_letter_op_c_to_l two_letter_op_n_to_x two_letter_op
     three_letter_op_a_to_c three_letter_op_d_to_x three_letter_op two_letter_shape longer_shape op_of shape_of
     is_reserved list_bytes
@@ -41,7 +41,7 @@ branch_too_far = refl
 -- 0 less 1 is -1
 branch_to_itself : bytes (codes " BR 0") ≡ Ok (0x90 ∷ 0xFF ∷ [])
 unfolding tokens_at lexeme name_lexeme name_of number_lexeme number_of quoted_lexeme value narrow line_bytes statement
-    label_of operands items chain level parenthesised opened operand_of operand expression same_word one_letter_register
+    label_of operands items chain level parenthesis_expression mark_operand operand_of operand expression same_word one_letter_register
     two_letter_register register_of pair_op two_letter_op_a_to_b two_letter_op_c_to_l two_letter_op_n_to_x two_letter_op
     three_letter_op_a_to_c three_letter_op_d_to_x three_letter_op two_letter_shape longer_shape op_of shape_of
     is_reserved list_bytes
@@ -50,7 +50,7 @@ branch_to_itself = refl
 -- 256 is no byte
 byte_too_large : bytes (codes " LI 256") ≡ Err (fault_at 5 Range)
 unfolding tokens_at lexeme name_lexeme name_of number_lexeme number_of quoted_lexeme value narrow line_bytes statement
-    label_of operands items chain level parenthesised opened operand_of operand expression same_word one_letter_register
+    label_of operands items chain level parenthesis_expression mark_operand operand_of operand expression same_word one_letter_register
     two_letter_register register_of pair_op two_letter_op_a_to_b two_letter_op_c_to_l two_letter_op_n_to_x two_letter_op
     three_letter_op_a_to_c three_letter_op_d_to_x three_letter_op two_letter_shape longer_shape op_of shape_of
     is_reserved list_bytes
@@ -59,7 +59,7 @@ byte_too_large = refl
 -- -128 is one
 least_byte : bytes (codes " li -128") ≡ Ok (0x20 ∷ 0x80 ∷ [])
 unfolding tokens_at lexeme name_lexeme name_of number_lexeme number_of quoted_lexeme value narrow line_bytes statement
-    label_of operands items chain level parenthesised opened operand_of operand expression same_word one_letter_register
+    label_of operands items chain level parenthesis_expression mark_operand operand_of operand expression same_word one_letter_register
     two_letter_register register_of pair_op two_letter_op_a_to_b two_letter_op_c_to_l two_letter_op_n_to_x two_letter_op
     three_letter_op_a_to_c three_letter_op_d_to_x three_letter_op two_letter_shape longer_shape op_of shape_of
     is_reserved list_bytes
@@ -68,7 +68,7 @@ least_byte = refl
 -- an operand with an undefined name is not judged further
 undefined_goes_first : bytes (codes " LI 1/0+X") ≡ Err (fault_at 9 Undefined)
 unfolding tokens_at lexeme name_lexeme name_of number_lexeme number_of quoted_lexeme value narrow line_bytes statement
-    label_of operands items chain level parenthesised opened operand_of operand expression same_word one_letter_register
+    label_of operands items chain level parenthesis_expression mark_operand operand_of operand expression same_word one_letter_register
     two_letter_register register_of pair_op two_letter_op_a_to_b two_letter_op_c_to_l two_letter_op_n_to_x two_letter_op
     three_letter_op_a_to_c three_letter_op_d_to_x three_letter_op two_letter_shape longer_shape op_of shape_of
     is_reserved list_bytes
@@ -77,7 +77,7 @@ undefined_goes_first = refl
 -- between operands the lower column goes first
 lower_column_first : bytes (codes " DB 1/0,X") ≡ Err (fault_at 5 Range)
 unfolding tokens_at lexeme name_lexeme name_of number_lexeme number_of quoted_lexeme value narrow line_bytes statement
-    label_of operands items chain level parenthesised opened operand_of operand expression same_word one_letter_register
+    label_of operands items chain level parenthesis_expression mark_operand operand_of operand expression same_word one_letter_register
     two_letter_register register_of pair_op two_letter_op_a_to_b two_letter_op_c_to_l two_letter_op_n_to_x two_letter_op
     three_letter_op_a_to_c three_letter_op_d_to_x three_letter_op two_letter_shape longer_shape op_of shape_of
     is_reserved list_bytes
@@ -86,7 +86,7 @@ lower_column_first = refl
 -- a character, and a negative byte
 characters_and_negatives : bytes (codes " DB -1,'A'") ≡ Ok (0xFF ∷ 0x41 ∷ [])
 unfolding tokens_at lexeme name_lexeme name_of number_lexeme number_of quoted_lexeme value narrow line_bytes statement
-    label_of operands items chain level parenthesised opened operand_of operand expression same_word one_letter_register
+    label_of operands items chain level parenthesis_expression mark_operand operand_of operand expression same_word one_letter_register
     two_letter_register register_of pair_op two_letter_op_a_to_b two_letter_op_c_to_l two_letter_op_n_to_x two_letter_op
     three_letter_op_a_to_c three_letter_op_d_to_x three_letter_op two_letter_shape longer_shape op_of shape_of
     is_reserved list_bytes
@@ -95,7 +95,7 @@ characters_and_negatives = refl
 -- `*` before `+`, `+` before `&`, `&` before `|`
 strengths : bytes (codes " LI 1|6&2+2*3") ≡ Ok (0x20 ∷ 0x01 ∷ [])
 unfolding tokens_at lexeme name_lexeme name_of number_lexeme number_of quoted_lexeme value narrow line_bytes statement
-    label_of operands items chain level parenthesised opened operand_of operand expression same_word one_letter_register
+    label_of operands items chain level parenthesis_expression mark_operand operand_of operand expression same_word one_letter_register
     two_letter_register register_of pair_op two_letter_op_a_to_b two_letter_op_c_to_l two_letter_op_n_to_x two_letter_op
     three_letter_op_a_to_c three_letter_op_d_to_x three_letter_op two_letter_shape longer_shape op_of shape_of
     is_reserved list_bytes
@@ -104,7 +104,7 @@ strengths = refl
 -- the low byte of a word
 low_byte : bytes (codes " LI <$1234") ≡ Ok (0x20 ∷ 0x34 ∷ [])
 unfolding tokens_at lexeme name_lexeme name_of number_lexeme number_of quoted_lexeme value narrow line_bytes statement
-    label_of operands items chain level parenthesised opened operand_of operand expression same_word one_letter_register
+    label_of operands items chain level parenthesis_expression mark_operand operand_of operand expression same_word one_letter_register
     two_letter_register register_of pair_op two_letter_op_a_to_b two_letter_op_c_to_l two_letter_op_n_to_x two_letter_op
     three_letter_op_a_to_c three_letter_op_d_to_x three_letter_op two_letter_shape longer_shape op_of shape_of
     is_reserved list_bytes
@@ -113,7 +113,7 @@ low_byte = refl
 -- `<` of a negative value
 negative_has_no_low_byte : bytes (codes " LI <-1") ≡ Err (fault_at 5 Range)
 unfolding tokens_at lexeme name_lexeme name_of number_lexeme number_of quoted_lexeme value narrow line_bytes statement
-    label_of operands items chain level parenthesised opened operand_of operand expression same_word one_letter_register
+    label_of operands items chain level parenthesis_expression mark_operand operand_of operand expression same_word one_letter_register
     two_letter_register register_of pair_op two_letter_op_a_to_b two_letter_op_c_to_l two_letter_op_n_to_x two_letter_op
     three_letter_op_a_to_c three_letter_op_d_to_x three_letter_op two_letter_shape longer_shape op_of shape_of
     is_reserved list_bytes
@@ -122,7 +122,7 @@ negative_has_no_low_byte = refl
 -- `LR A,A` is no instruction
 second_accumulator : bytes (codes " LR A,A") ≡ Err (form (Some 7))
 unfolding tokens_at lexeme name_lexeme name_of number_lexeme number_of quoted_lexeme value narrow line_bytes statement
-    label_of operands items chain level parenthesised opened operand_of operand expression same_word one_letter_register
+    label_of operands items chain level parenthesis_expression mark_operand operand_of operand expression same_word one_letter_register
     two_letter_register register_of pair_op two_letter_op_a_to_b two_letter_op_c_to_l two_letter_op_n_to_x two_letter_op
     three_letter_op_a_to_c three_letter_op_d_to_x three_letter_op two_letter_shape longer_shape op_of shape_of
     is_reserved list_bytes
@@ -131,7 +131,7 @@ second_accumulator = refl
 -- neither is `LR HU,W`
 no_such_pair : bytes (codes " LR HU,W") ≡ Err (form (Some 8))
 unfolding tokens_at lexeme name_lexeme name_of number_lexeme number_of quoted_lexeme value narrow line_bytes statement
-    label_of operands items chain level parenthesised opened operand_of operand expression same_word one_letter_register
+    label_of operands items chain level parenthesis_expression mark_operand operand_of operand expression same_word one_letter_register
     two_letter_register register_of pair_op two_letter_op_a_to_b two_letter_op_c_to_l two_letter_op_n_to_x two_letter_op
     three_letter_op_a_to_c three_letter_op_d_to_x three_letter_op two_letter_shape longer_shape op_of shape_of
     is_reserved list_bytes
@@ -140,7 +140,7 @@ no_such_pair = refl
 -- J is register 9
 register_nine : bytes (codes " LR J,A") ≡ Ok (0x59 ∷ [])
 unfolding tokens_at lexeme name_lexeme name_of number_lexeme number_of quoted_lexeme value narrow line_bytes statement
-    label_of operands items chain level parenthesised opened operand_of operand expression same_word one_letter_register
+    label_of operands items chain level parenthesis_expression mark_operand operand_of operand expression same_word one_letter_register
     two_letter_register register_of pair_op two_letter_op_a_to_b two_letter_op_c_to_l two_letter_op_n_to_x two_letter_op
     three_letter_op_a_to_c three_letter_op_d_to_x three_letter_op two_letter_shape longer_shape op_of shape_of
     is_reserved list_bytes
@@ -149,7 +149,7 @@ register_nine = refl
 -- only S, I and D name 12 to 14
 words_alone : bytes (codes " LR 12,A") ≡ Err (fault_at 5 Range)
 unfolding tokens_at lexeme name_lexeme name_of number_lexeme number_of quoted_lexeme value narrow line_bytes statement
-    label_of operands items chain level parenthesised opened operand_of operand expression same_word one_letter_register
+    label_of operands items chain level parenthesis_expression mark_operand operand_of operand expression same_word one_letter_register
     two_letter_register register_of pair_op two_letter_op_a_to_b two_letter_op_c_to_l two_letter_op_n_to_x two_letter_op
     three_letter_op_a_to_c three_letter_op_d_to_x three_letter_op two_letter_shape longer_shape op_of shape_of
     is_reserved list_bytes
@@ -158,7 +158,7 @@ words_alone = refl
 -- port 2 has no instruction
 port_two : bytes (codes " INS 2") ≡ Err (fault_at 6 Range)
 unfolding tokens_at lexeme name_lexeme name_of number_lexeme number_of quoted_lexeme value narrow line_bytes statement
-    label_of operands items chain level parenthesised opened operand_of operand expression same_word one_letter_register
+    label_of operands items chain level parenthesis_expression mark_operand operand_of operand expression same_word one_letter_register
     two_letter_register register_of pair_op two_letter_op_a_to_b two_letter_op_c_to_l two_letter_op_n_to_x two_letter_op
     three_letter_op_a_to_c three_letter_op_d_to_x three_letter_op two_letter_shape longer_shape op_of shape_of
     is_reserved list_bytes
@@ -167,7 +167,7 @@ port_two = refl
 -- a name in a mnemonic's place
 unknown : bytes (codes "X: Y: NOP") ≡ Err (record { column = Some 4; cause = Unknown })
 unfolding tokens_at lexeme name_lexeme name_of number_lexeme number_of quoted_lexeme value narrow line_bytes statement
-    label_of operands items chain level parenthesised opened operand_of operand expression same_word one_letter_register
+    label_of operands items chain level parenthesis_expression mark_operand operand_of operand expression same_word one_letter_register
     two_letter_register register_of pair_op two_letter_op_a_to_b two_letter_op_c_to_l two_letter_op_n_to_x two_letter_op
     three_letter_op_a_to_c three_letter_op_d_to_x three_letter_op two_letter_shape longer_shape op_of shape_of
     is_reserved list_bytes
@@ -176,7 +176,7 @@ unknown = refl
 -- a mnemonic is no label
 reserved_label : bytes (codes "NOP: NOP") ≡ Err (form (Some 4))
 unfolding tokens_at lexeme name_lexeme name_of number_lexeme number_of quoted_lexeme value narrow line_bytes statement
-    label_of operands items chain level parenthesised opened operand_of operand expression same_word one_letter_register
+    label_of operands items chain level parenthesis_expression mark_operand operand_of operand expression same_word one_letter_register
     two_letter_register register_of pair_op two_letter_op_a_to_b two_letter_op_c_to_l two_letter_op_n_to_x two_letter_op
     three_letter_op_a_to_c three_letter_op_d_to_x three_letter_op two_letter_shape longer_shape op_of shape_of
     is_reserved list_bytes
@@ -185,7 +185,7 @@ reserved_label = refl
 -- nothing stands behind the comma's place
 past_the_end : bytes (codes " BT 1") ≡ Err (form None)
 unfolding tokens_at lexeme name_lexeme name_of number_lexeme number_of quoted_lexeme value narrow line_bytes statement
-    label_of operands items chain level parenthesised opened operand_of operand expression same_word one_letter_register
+    label_of operands items chain level parenthesis_expression mark_operand operand_of operand expression same_word one_letter_register
     two_letter_register register_of pair_op two_letter_op_a_to_b two_letter_op_c_to_l two_letter_op_n_to_x two_letter_op
     three_letter_op_a_to_c three_letter_op_d_to_x three_letter_op two_letter_shape longer_shape op_of shape_of
     is_reserved list_bytes

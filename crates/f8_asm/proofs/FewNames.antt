@@ -12,12 +12,12 @@ use Rattle.f8_asm.specs.declared.operands.Effect.TheVariants.{Names, Moves, Fill
 use Rattle.f8_asm.specs.Answers.{◌>>=◌}
 use Rattle.f8_asm.specs.Evaluation.{values}
 use Rattle.f8_asm.specs.Grammar.{column_of}
-use Rattle.f8_asm.specs.Judging.{taken, unsigned}
+use Rattle.f8_asm.specs.Judging.{operand_value, unsigned_value}
 use Rattle.text_lines.specs.Lines.{lines, begins, with_first}
 use Rattle.f8_asm.specs.Names.{with_name}
 use Rattle.f8_asm.specs.PassOne.{Reading, line_tokens, in_line, check, read_line, read_lines, no_reading}
-use Rattle.f8_asm.specs.PassTwo.{Layout, with_label, fits, settled, settle, place, place_lines, no_layout}
-use Rattle.f8_asm.specs.Statements.{statement, label_of, unlabelled, effect_of}
+use Rattle.f8_asm.specs.PassTwo.{Layout, with_label, fits, layout_after, settle, place, place_lines, no_layout}
+use Rattle.f8_asm.specs.Statements.{statement, label_of, behind_label, effect_of}
 
 -- ---- what was read, if anything was
 
@@ -53,26 +53,26 @@ abbrev AddsOne : Layout → Layout → Type 0
 AddsOne s t = length t.names ≤ length s.names + 1
 
 settled_adds : (room : Room) (label : Option (List ℕ)) (column : Option ℕ) (s : Layout) (effect : Effect) →
-    IfOk (settled room label column s effect) (AddsOne s)
+    IfOk (layout_after room label column s effect) (AddsOne s)
 settled_adds room label column s (Names o) =
-    then (taken o) (λ v. Ok (with_label label v s)) (λ v. Unit {0}) (AddsOne s) (any (taken o)) (λ v _. with_label_adds label v s)
+    then (operand_value o) (λ v. Ok (with_label label v s)) (λ v. Unit {0}) (AddsOne s) (any (operand_value o)) (λ v _. with_label_adds label v s)
 settled_adds room label column s (Moves o) =
-    then (unsigned 65535 o) _ (λ v. Unit {0}) (AddsOne s) (any (unsigned 65535 o)) (λ _ _. with_label_adds label (pos s.here) s)
+    then (unsigned_value 65535 o) _ (λ v. Unit {0}) (AddsOne s) (any (unsigned_value 65535 o)) (λ _ _. with_label_adds label (pos s.here) s)
 settled_adds room label column s (Fills size) =
     then (fits room column size s) _ (λ v. Unit {0}) (AddsOne s) (any (fits room column size s)) (λ _ _. with_label_adds label (pos s.here) s)
 
 settle_adds : (room : Room) (s : Layout) (ts : List Token) → IfOk (settle room s ts) (AddsOne s)
 unfolding settle
 settle_adds room s ts =
-    let read = statement (values s.names s.here) _ (unlabelled ts) in
-    then read _ (λ st. Unit {0}) (AddsOne s) (any read) (λ st _. settled_adds room (label_of ts) (column_of (unlabelled ts)) s (effect_of st))
+    let read = statement (values s.names s.here) _ (behind_label ts) in
+    then read _ (λ st. Unit {0}) (AddsOne s) (any read) (λ st _. settled_adds room (label_of ts) (column_of (behind_label ts)) s (effect_of st))
 
 place_adds : (room : Room) (s : Layout) (l : Line) → IfOk (place room s l) (AddsOne s)
 unfolding place
 place_adds room s l =
     then (in_line l.number l.tokens (settle room s l.tokens)) _ (AddsOne s) (AddsOne s)
-        (placed_in_line l.number l.tokens (settle room s l.tokens) (AddsOne s) (settle_adds room s l.tokens))
-        (λ t adds. adds)
+    (placed_in_line l.number l.tokens (settle room s l.tokens) (AddsOne s) (settle_adds room s l.tokens))
+    (λ t adds. adds)
 
 place_lines_adds : (room : Room) (s : Layout) (ls : List Line) → IfOk (place_lines room s ls) (λ t. length t.names ≤ length s.names + length ls)
 unfolding place_lines
@@ -122,7 +122,7 @@ few_lines [] = omega arith
 few_lines (b ∷ bs) =
     let behind = few_lines bs in
     let others = one_of ((b == 13) && begins 10 bs) (lines bs) (with_first b (lines bs)) (length (b ∷ bs)) (omega arith)
-        (omega (arith, with_first_adds b (lines bs))) in
+    (omega (arith, with_first_adds b (lines bs))) in
     one_of (b == 10) ([] ∷ lines bs) (cond ((b == 13) && begins 10 bs) (lines bs) (with_first b (lines bs))) (length (b ∷ bs)) (omega arith) others
 
 pub few_names : (size : ℕ) (text : List ℕ) (room : Room) (read : Reading) (laid : Layout) →

@@ -78,6 +78,9 @@ module _ (acts : Actions Outcome) where
       where
         goes : (n : ℕ) → length rest ≤ n → after found (items acts n rest) ≡ whole → ItemsOn acts (found ++ o ∷ []) last whole
         goes zero room e = absurd (omega arith)
-        goes (suc n) room e = record { most = n; room = omega arith;
-            is = after_more found o (items acts n last)
-            ∙ ap (after found) (sym (goes_at n rest behind last o some read more)) ∙ e }
+        goes (suc n) room e = record {
+          most = n;
+          room = omega arith;
+          is = after_more found o (items acts n last)
+              ∙ ap (after found) (sym (goes_at n rest behind last o some read more)) ∙ e;
+        }

@@ -60,14 +60,14 @@ byte_line : (b c at : ℕ) (what : Op) → b < 256 → c < 256 → decoded b ≡
 byte_line b c at what is_byte c_is_byte is behind =
     let test = placed b what tail.Byte is_byte is behind in
     at_code (λ op b. Says at (line_of (entry.Byte op c)) (b ∷ c ∷ [])) 0x20 b what (grind (arith, nat_tests)) is
-        (says_byte c c_is_byte (b - 0x20) at (grind (arith, nat_tests)))
+    (says_byte c c_is_byte (b - 0x20) at (grind (arith, nat_tests)))
 
 word_line : (b c d at : ℕ) (what : Op) → b < 256 → c < 256 → d < 256 → decoded b ≡ Some what →
     tail_of (row_of what) ≡ tail.Word → Says at (line_of (entry.Word what (256 * c + d))) (b ∷ c ∷ d ∷ [])
 word_line b c d at what is_byte high low is behind =
     let test = placed b what tail.Word is_byte is behind in
     at_code (λ op b. Says at (line_of (entry.Word op (256 * c + d))) (b ∷ c ∷ d ∷ [])) 0x28 b what
-        (grind (arith, nat_tests)) is (says_word c d high low (b - 0x28) at (grind (arith, nat_tests)))
+    (grind (arith, nat_tests)) is (says_word c d high low (b - 0x28) at (grind (arith, nat_tests)))
 
 -- a branch to the place w, whose displacement is c
 module _ (b c at w : ℕ) (what : Op) (is_byte : b < 256) (is : decoded b ≡ Some what) (word : w < 65536)
@@ -102,10 +102,10 @@ reaches : (place c : ℕ) → place ≤ 65536 → c < 256 → Reaches place c (t
 reaches place c within byte =
     choose place c (nat_lt c 128) _ _
     (λ low. choose place c (nat_lt (place + c) 65536) (Some (place + c)) None
-        (λ fits. (forth place c (grind (arith, nat_tests)), grind (arith, nat_tests))) (λ past. tt))
+    (λ fits. (forth place c (grind (arith, nat_tests)), grind (arith, nat_tests))) (λ past. tt))
     (λ high. choose place c (nat_le 256 (place + c)) (Some (place + c - 256)) None
-        (λ fits. (back place c (grind (arith, nat_tests)) byte (grind (arith, nat_tests)), grind (arith, nat_tests)))
-        (λ below. tt))
+    (λ fits. (back place c (grind (arith, nat_tests)) byte (grind (arith, nat_tests)), grind (arith, nat_tests)))
+    (λ below. tt))
 
 -- ---- pieces
 
@@ -123,14 +123,24 @@ data_stands at b raw bs h = record { front = b ∷ []; says = says_data b at h; 
 module _ (at b : ℕ) (what : Op) (is_byte : b < 256) (is : decoded b ≡ Some what) where
   byte_stands : (bs : List ℕ) → AreBytes bs → tail_of (row_of what) ≡ tail.Byte → Stands at b bs (byte_piece b what bs)
   byte_stands [] all behind = data_stands at b 0 [] is_byte
-  byte_stands (c ∷ cs) all behind = record { front = b ∷ c ∷ []; says = byte_line b c at what is_byte all.0 is behind;
-      split = refl; size = refl; some = lit< tt }
+  byte_stands (c ∷ cs) all behind = record {
+    front = b ∷ c ∷ [];
+    says = byte_line b c at what is_byte all.0 is behind;
+    split = refl;
+    size = refl;
+    some = lit< tt;
+  }
 
   reaching_stands : (c : ℕ) (cs : List ℕ) (w : Option ℕ) → Reaches (at + 1) c w → tail_of (row_of what) ≡ tail.Place → Stands at b (c ∷ cs) (reaching b what w)
   reaching_stands c cs None far behind = data_stands at b 1 (c ∷ cs) is_byte
   reaching_stands c cs (Some w) far behind =
-      record { front = b ∷ c ∷ []; says = place_line b c at w what is_byte is far.1 far.0 behind; split = refl;
-      size = refl; some = lit< tt }
+      record {
+        front = b ∷ c ∷ [];
+        says = place_line b c at w what is_byte is far.1 far.0 behind;
+        split = refl;
+        size = refl;
+        some = lit< tt;
+      }
 
   place_stands : (bs : List ℕ) → AreBytes bs → at + 1 ≤ 65536 → tail_of (row_of what) ≡ tail.Place → Stands at b bs (place_piece at b what bs)
   place_stands [] all fits behind = data_stands at b 0 [] is_byte
@@ -139,13 +149,23 @@ module _ (at b : ℕ) (what : Op) (is_byte : b < 256) (is : decoded b ≡ Some w
   word_stands : (bs : List ℕ) → AreBytes bs → tail_of (row_of what) ≡ tail.Word → Stands at b bs (word_piece b what bs)
   word_stands [] all behind = data_stands at b 0 [] is_byte
   word_stands (c ∷ []) all behind = data_stands at b 1 (c ∷ []) is_byte
-  word_stands (c ∷ d ∷ ds) all behind = record { front = b ∷ c ∷ d ∷ [];
-      says = word_line b c d at what is_byte all.0 all.1.0 is behind; split = refl; size = refl; some = lit< tt }
+  word_stands (c ∷ d ∷ ds) all behind = record {
+    front = b ∷ c ∷ d ∷ [];
+    says = word_line b c d at what is_byte all.0 all.1.0 is behind;
+    split = refl;
+    size = refl;
+    some = lit< tt;
+  }
 
   tail_stands : (bs : List ℕ) (t : Tail) → AreBytes bs → at + 1 ≤ 65536 → tail_of (row_of what) ≡ t → Stands at b bs (tail_piece at b what bs t)
   tail_stands bs tail.Nothing all fits behind =
-      record { front = b ∷ []; says = plain_line b at what is_byte is behind; split = refl; size = refl;
-      some = lit< tt }
+      record {
+        front = b ∷ [];
+        says = plain_line b at what is_byte is behind;
+        split = refl;
+        size = refl;
+        some = lit< tt;
+      }
   tail_stands bs tail.Byte all fits behind = byte_stands bs all behind
   tail_stands bs tail.Place all fits behind = place_stands bs all fits behind
   tail_stands bs tail.Word all fits behind = word_stands bs all behind

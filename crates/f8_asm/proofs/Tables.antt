@@ -3,7 +3,7 @@ use Rattle.std.proofs.Common.{◌≡◌, ℕ, zero, suc, ◌+◌, ◌<◌, List,
 use Rattle.std.proofs.Common.{Option, Some, None, refl, sym, ◌∙◌, ap, arith, add-one}
 use Rattle.std.proofs.Math.Seq.{drop-cons}
 use Rattle.std.proofs.lemmas.List.{length-replicate}
-use Rattle.f8_asm.specs.PassThree.{no_bytes, written}
+use Rattle.f8_asm.specs.PassThree.{no_bytes, table_with}
 use Rattle.f8_asm.specs.Image.{ascending}
 
 pub are_no_bytes : (n : ℕ) (table : List (Option ℕ)) → n ≡ 65536 → table ≡ replicate n None → table ≡ no_bytes 65536
@@ -23,7 +23,7 @@ all_addresses n table same is = ap length is ∙ length-replicate n None ∙ sam
 
 -- a byte more is put
 pub record WrittenOn (table : List (Option ℕ)) (at : ℕ) (rest : List ℕ) (whole : List (Option ℕ)) : Type 0 where
-  pub is : written table at rest ≡ whole
+  pub is : table_with table at rest ≡ whole
 
 pub written_more : (table : List (Option ℕ)) (at k : ℕ) (bytes : List ℕ) (whole : List (Option ℕ)) →
     WrittenOn table (at + k) (drop k bytes) whole → k < length bytes →

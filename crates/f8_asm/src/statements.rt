@@ -4,8 +4,8 @@ ghost use Rattle.f8_spec.specs.Instructions.{InRange};
 ghost use Rattle.f8_asm.specs.Answers.{SaysOfLine};
 ghost use Rattle.f8_asm.specs.Evaluation.{values};
 ghost use Rattle.f8_asm.specs.Fields.{limit_of};
-ghost use Rattle.f8_asm.specs.Grammar.{seen, ReadsSome};
-ghost use Rattle.f8_asm.specs.Statements.{operand_at, comma, seen_rest, done, register_at, coded, one, two, numbered_at, register_operand, accumulator, load_from, load, items, item_list, operands, wants_label, no_mnemonic, statement_of, statement, begins_colon, label_of, unlabelled};
+ghost use Rattle.f8_asm.specs.Grammar.{reading_of, ReadsSome};
+ghost use Rattle.f8_asm.specs.Statements.{operand_at, comma, seen_rest, done, register_at, instruction_of, one, two, register_number_at, register_operand, accumulator, load_from, load, items, item_list, operands, wants_label, no_mnemonic, statement_of, statement, begins_colon, label_of, behind_label};
 ghost use Rattle.f8_asm.specs.Words.{HasRoom, shape_of};
 
 use crate::answers::AsmCause;
@@ -23,7 +23,7 @@ use std::alloc::Global;
 /// An expression with the column of its first token, and the tokens behind it.
 fn operand_at<'a>(scope: &Scope, tokens: &'a [Token]) -> Result<(Operand, &'a [Token]), LineFault>
     ensures value { let acts = values scope.now.symbols.now scope.now.address in
-        seen result ≡ operand_at acts tokens.now }
+        reading_of result ≡ operand_at acts tokens.now }
     ensures consumes { ReadsSome (length tokens.now) result }
 {
     let Some((first, _)) = tokens.split_first() else {
@@ -80,9 +80,9 @@ fn register_at(tokens: &[Token]) -> Option<Register>
 }
 
 /// An instruction, if there is one, behind whose first token nothing may stand.
-fn coded(op: Option<Op>, tokens: &[Token]) -> Result<Statement, LineFault>
+fn instruction_of(op: Option<Op>, tokens: &[Token]) -> Result<Statement, LineFault>
     requires { IfSome op InRange }
-    ensures { result ≡ coded op tokens.now }
+    ensures { result ≡ instruction_of op tokens.now }
 {
     match op {
         Some(op) => done(Statement::Fixed(encode(op)), behind(tokens)),
@@ -111,8 +111,8 @@ fn two(scope: &Scope, field: Field, tokens: &[Token]) -> Result<Statement, LineF
 }
 
 /// The register by number that the first token names.
-fn numbered_at(tokens: &[Token]) -> Option<u8>
-    ensures value { result ≡ numbered_at tokens.now }
+fn register_number_at(tokens: &[Token]) -> Option<u8>
+    ensures value { result ≡ register_number_at tokens.now }
     ensures below { IfSome result (λ r. r < 15) }
 {
     number_of(register_at(tokens)?)
@@ -122,10 +122,10 @@ fn numbered_at(tokens: &[Token]) -> Option<u8>
 fn register_operand(scope: &Scope, field: Field, tokens: &[Token]) -> Result<Statement, LineFault>
     requires { 15 ≤ limit_of field }
     ensures { let acts = values scope.now.symbols.now scope.now.address in
-        result ≡ register_operand acts field tokens.now (numbered_at tokens.now) }
+        result ≡ register_operand acts field tokens.now (register_number_at tokens.now) }
 {
-    match numbered_at(tokens) {
-        Some(number) => coded(op_with(field, number), tokens),
+    match register_number_at(tokens) {
+        Some(number) => instruction_of(op_with(field, number), tokens),
         None => one(scope, Single::Small(field), tokens),
     }
 }
@@ -146,7 +146,7 @@ fn load_from(scope: &Scope, to: Register, tokens: &[Token]) -> Result<Statement,
         result ≡ load_from acts to tokens.now (register_at tokens.now) }
 {
     match register_at(tokens) {
-        Some(from) => coded(pair_op(to, from), tokens),
+        Some(from) => instruction_of(pair_op(to, from), tokens),
         None if is_accumulator(to) => one(scope, Single::Small(Field::LrAR), tokens),
         None => Err(form(column_of(tokens))),
     }
@@ -319,8 +319,8 @@ pub fn label_of(tokens: &[Token]) -> Option<&Name>
 }
 
 /// A line's tokens behind its label and colon.
-pub fn unlabelled(tokens: &[Token]) -> &[Token]
-    ensures { result.now ≡ unlabelled tokens.now }
+pub fn behind_label(tokens: &[Token]) -> &[Token]
+    ensures { result.now ≡ behind_label tokens.now }
 {
     match label_of(tokens) {
         Some(_) => behind(behind(tokens)),

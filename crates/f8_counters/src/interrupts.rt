@@ -1,3 +1,4 @@
+// Control, timer and request of a storage chip.
 ghost use Rattle.std.specs.Prelude.{◌≡◌, ◌+◌, ◌*◌, ◌/◌, ◌%◌, ◌==◌, ◌&&◌, true, false, if◌then◌else◌};
 
 /// Control, timer and request of a storage chip (Mostek 3851 and 3853 data sheets; the rules of requests are this project's own). So far
@@ -21,8 +22,13 @@ pub struct Interrupts {
 impl Interrupts {
     /// As at power-on: control 00, the timer at FF, and no request. `wired` says that the chip can interrupt.
     pub fn new(wired: bool) -> Interrupts
-        ensures { result ≡ record { control = 0; timer = 255; phase = 0; wired = wired;
-            request = false } }
+        ensures { result ≡ record {
+          control = 0;
+          timer = 255;
+          phase = 0;
+          wired = wired;
+          request = false;
+        } }
     {
         Interrupts {
             control: 0,
@@ -35,8 +41,13 @@ impl Interrupts {
 
     /// Power-on, which leaves the wiring.
     pub fn power(&mut self)
-        ensures { self.new ≡ record { control = 0; timer = 255; phase = 0; wired = self.old.wired;
-            request = false } }
+        ensures { self.new ≡ record {
+          control = 0;
+          timer = 255;
+          phase = 0;
+          wired = self.old.wired;
+          request = false;
+        } }
     {
         *self = Interrupts::new(self.wired);
     }

@@ -1,3 +1,4 @@
+// The flat memory of a description's chips.
 ghost use Rattle.std.specs.Prelude.{◌≡◌, ℕ, ◌/◌, IfOk};
 ghost use Rattle.console_spec.specs.FlatMemory.{is_ram_sort};
 ghost use Rattle.memory_map.specs.MapOf.{mapped_sort};

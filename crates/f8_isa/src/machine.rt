@@ -1,3 +1,4 @@
+// The instruction set on flat memory, an instruction at a time.
 use super::counters::Flow;
 use super::flat_memory::FlatMemory;
 use super::instruction_table::{Instruction, InstructionTable};

@@ -1,3 +1,4 @@
+// Accumulator, ISAR, status word and scratchpad.
 use f8_ops::Op;
 use f8_ops::registers::{J, K, Q};
 use f8_words::{Flags, Sum, add9, bcd};

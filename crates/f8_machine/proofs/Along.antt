@@ -1,46 +1,43 @@
 -- What is left of an instruction or of reset, on the bus: from here the steps that are left lead to the end, or to the first access that
 -- is not served. The bus rule is never opened here.
-use Rattle.std.proofs.Common.{append-nil, eqb-true, ◌≡◌, ℕ, ◌<◌, Bool, true, false, List, [], ◌∷◌, ◌++◌, length, map, refl, ap, ◌∙◌, sym, subst}
+use Rattle.std.proofs.Common.{append-nil, eqb-true, ◌≡◌, ℕ, ◌<◌, Bool, true, false, List, [], ◌∷◌, ◌++◌, length, map}
+use Rattle.std.proofs.Common.{refl, ap, ◌∙◌, sym, subst}
 use Rattle.std.specs.Prelude.{◌==◌, if◌then◌else◌, Option, Some, None}
 use Rattle.std.specs.List.{enumerate_from}
 use Rattle.std.proofs.lemmas.List.{append_assoc}
 use Rattle.f8_spec.specs.BusCodes.{Count, driver_of, moved_by}
 use Rattle.f8_spec.specs.ChipState.{ChipView, after_step}
-use Rattle.f8_spec.specs.BusArbitration.{Verdict, Served, Conflict, Undriven, Astray, Seat, PlacedSeat, place_in, parties, bystanders, lowest, judged, rule_by, rule_of, view_verdict, bus_byte}
+use Rattle.f8_spec.specs.BusArbitration.{Verdict, Served, Conflict, Undriven, Astray, Seat, PlacedSeat, place_in}
+use Rattle.f8_spec.specs.BusArbitration.{parties, bystanders, lowest, judged, rule_by, rule_of, view_verdict, bus_byte}
 use Rattle.f8_spec.specs.MicroSteps.{Step}
 use Rattle.f8_spec.specs.declared.bus.Driver.{Driver}
-use Rattle.f8_spec.specs.declared.bus.Driver.TheVariants.{Memory, CounterByte, Vector as VectorDriver, Port, Cpu, Nobody}
+use Rattle.f8_spec.specs.declared.bus.Driver.TheVariants.{Memory, CounterByte, Vector as VectorDriver, Port, Cpu}
+use Rattle.f8_spec.specs.declared.bus.Driver.TheVariants.{Nobody}
 use Rattle.f8_spec.specs.declared.bus.BusRule.{BusRule}
-use Rattle.f8_spec.specs.declared.bus.BusRule.TheVariants.{Read, Store, PortRead, PortWrite as WriteRule, Vector, NoChip}
+use Rattle.f8_spec.specs.declared.bus.BusRule.TheVariants.{Read, Store, PortRead, PortWrite as WriteRule, Vector}
+use Rattle.f8_spec.specs.declared.bus.BusRule.TheVariants.{NoChip}
 use Rattle.console_spec.specs.Processor.{Flow, Inputs, byte_of}
 use Rattle.console_spec.specs.FlatMemory.{stored_at}
 use Rattle.console_spec.specs.CounterCopies.{Copy}
 use Rattle.console_spec.specs.BusAccesses.{Access}
 use Rattle.console_spec.specs.Services.{Fault, fault_by, access_verdict, first_fault}
-use Rattle.console_spec.specs.BusTrace.{TracedStep, Course, traced, with_step, stopped_by, course_by, course_of, is_access, who_of}
+use Rattle.console_spec.specs.BusTrace.{TracedStep, Course, traced, with_step, stopped_by, course_by, course_of}
+use Rattle.console_spec.specs.BusTrace.{is_access}
 use Rattle.console_spec.specs.Run.{Position, seats_of}
 use Rattle.console_spec.specs.CounterCopies.{fetched}
 use Rattle.console_spec.proofs.Walks.{moved_along}
 use Rattle.cpu3850.specs.Reaching.{is_placed_by, Places}
 use Rattle.probe.specs.ProbeState.{ProbeState}
-use Rattle.f8_machine.specs.FlatViews.{HoldsFlat}
-use Rattle.f8_machine.specs.PortViews.{HoldsPorts}
+use Rattle.f8_machine.specs.RackViews.{HoldsFlat, HoldsPorts, AreCopies}
 use Rattle.console_spec.specs.declared.PortWrite.{PortWrite}
 use Rattle.f8_machine.proofs.PortValues.{PortValues, writes_along}
-use Rattle.f8_machine.specs.Traces.{told_who}
 use Rattle.f8_machine.proofs.Places.{places_along, named_place}
 use Rattle.f8_machine.proofs.Values.{Values, ValueIs, memory_along}
 use Rattle.f8_machine.proofs.Bounds.{AreAt}
 use Rattle.f8_machine.proofs.ServedReads.{read_value, served_read}
 use Rattle.f8_machine.proofs.Slots.{plain_step}
 use Rattle.f8_machine.proofs.Stores.{keeps_flat, store_keeps_flat, stored_long}
-use Rattle.f8_machine.specs.ChipCopies.{AreCopies}
 use Rattle.f8_machine.proofs.Copies.{seats_same, all_filled}
-
--- the trace of each step tells who drives by the code
-abbrev pub Quiet : List Step → Type 0
-Quiet [] = Unit {0}
-Quiet (s ∷ later) = ((socket : Option ℕ) → who_of s socket ≡ told_who s.romc s.long socket) × Quiet later
 
 -- steps before others in a course
 abbrev pub with_steps : List TracedStep → Course → Course
@@ -55,13 +52,15 @@ pub record Aim : Type 0 where
   pub phi : ℕ
   pub flow : Bool → Flow → Flow
 
-pub record Along (i : Inputs) (x : Position) (aim : Aim) (rest : List Step) (probe : ProbeState) (vs : List ChipView) (so_far : List TracedStep) : Type 0 where
+pub record Along (i : Inputs) (x : Position) (aim : Aim) (rest : List Step) (probe : ProbeState) (vs : List ChipView)
+    (so_far : List TracedStep) : Type 0 where
   -- the counters after the steps so far, as a function of a set; the memory and the writes after them; and the accesses that are left
   pub now : Bool → Flow → Count
   pub memory : List ℕ
   pub writes : List PortWrite
   pub accesses : List Access
-  pub places : (second : Bool) (c : Flow) → places_along second i rest (now second c) probe.last ≡ map (named_place second c) accesses
+  pub places : (second : Bool) (c : Flow) → places_along second i rest (now second c) probe.last
+      ≡ map (named_place second c) accesses
   pub moves : (second : Bool) (c : Flow) → moved_along second i rest (now second c) ≡ fetched (aim.flow second c)
   pub reference : probe.count ≡ now true x.flat.state.flow
   pub copies : AreCopies now probe.last x.copies vs
@@ -70,7 +69,6 @@ pub record Along (i : Inputs) (x : Position) (aim : Aim) (rest : List Step) (pro
   pub whole : length memory ≡ 65536
   pub values : Values (seats_of x.copies) i rest probe.count probe.last memory
   pub port_values : PortValues (seats_of x.copies) x.flat.state.keys aim.phi i rest probe.last writes
-  pub quiet : Quiet rest
   pub small : AreAt x.flat.state.flow accesses
   pub fault : first_fault x.flat.state.flow x.copies accesses ≡ aim.fault
   pub course : with_steps so_far (course_of i x.flat.state.flow x.copies rest accesses) ≡ aim.course
@@ -86,16 +84,22 @@ cons_tail : {A : Type 0} (x y : A) (xs ys : List A) → x ∷ xs ≡ y ∷ ys �
 cons_tail x y xs ys e = cc
 
 -- the first of the accesses that are left is that of the step
-pub record AtAccess (i : Inputs) (s : Step) (later : List Step) (now : Bool → Flow → Count) (last : ℕ) (accesses : List Access) : Type 0 where
+pub record AtAccess (i : Inputs) (s : Step) (later : List Step) (now : Bool → Flow → Count) (last : ℕ)
+    (accesses : List Access) : Type 0 where
   pub a : Access
   pub behind : List Access
   pub are : accesses ≡ a ∷ behind
   pub code : a.romc ≡ s.romc
   pub place : (second : Bool) (c : Flow) → place_in s.romc (now second c) last ≡ a.place second c
-  pub places : (second : Bool) (c : Flow) → places_along second i later (moved_by s.romc (byte_of i s.source) second (now second c)) (byte_of i s.source) ≡ map (named_place second c) behind
+  pub places : (second : Bool) (c : Flow) → places_along second i later
+      (moved_by s.romc (byte_of i s.source) second (now second c)) (byte_of i s.source)
+      ≡ map (named_place second c) behind
 
-pub at_access : (i : Inputs) (s : Step) (later : List Step) (now : Bool → Flow → Count) (last : ℕ) (c : Flow) (accesses : List Access) →
-    ((second : Bool) (c : Flow) → (s.romc, place_in s.romc (now second c) last) ∷ places_along second i later (moved_by s.romc (byte_of i s.source) second (now second c)) (byte_of i s.source) ≡ map (named_place second c) accesses) →
+pub at_access : (i : Inputs) (s : Step) (later : List Step) (now : Bool → Flow → Count) (last : ℕ) (c : Flow)
+    (accesses : List Access) →
+    ((second : Bool) (c : Flow) → (s.romc, place_in s.romc (now second c) last) ∷
+    places_along second i later (moved_by s.romc (byte_of i s.source) second (now second c)) (byte_of i s.source)
+    ≡ map (named_place second c) accesses) →
     AtAccess i s later now last accesses
 at_access i s later now last c [] places = let none = places true c in cc
 at_access i s later now last c (a ∷ behind) places = record {
@@ -109,11 +113,15 @@ at_access i s later now last c (a ∷ behind) places = record {
 
 -- ---- one step of what is left
 
-pub fault_stops : (i : Inputs) (s : Step) (v : Verdict) (rest : Course) (fault : Fault) → fault_by s.romc v ≡ Some fault → course_by i s v rest ≡ stopped_by fault s.long
+pub fault_stops : (i : Inputs) (s : Step) (v : Verdict) (rest : Course) (fault : Fault) →
+    fault_by s.romc v ≡ Some fault → course_by i s v rest ≡ stopped_by fault s.long
 fault_stops i s (Served socket) rest fault e = cc
-fault_stops i s (Conflict parties) rest fault e = let same : Fault.Conflict s.romc parties ≡ fault = cc in ap (λ (f : Fault). stopped_by f s.long) same
-fault_stops i s (Undriven at) rest fault e = let same : Fault.Undriven s.romc at ≡ fault = cc in ap (λ (f : Fault). stopped_by f s.long) same
-fault_stops i s (Astray socket at reference) rest fault e = let same : Fault.Astray s.romc socket at reference ≡ fault = cc in ap (λ (f : Fault). stopped_by f s.long) same
+fault_stops i s (Conflict parties) rest fault e = let same : Fault.Conflict s.romc parties ≡ fault = cc in
+    ap (λ (f : Fault). stopped_by f s.long) same
+fault_stops i s (Undriven at) rest fault e = let same : Fault.Undriven s.romc at ≡ fault = cc in
+    ap (λ (f : Fault). stopped_by f s.long) same
+fault_stops i s (Astray socket at reference) rest fault e =
+    let same : Fault.Astray s.romc socket at reference ≡ fault = cc in ap (λ (f : Fault). stopped_by f s.long) same
 
 pub no_fault : (romc : ℕ) (v : Verdict) (socket : Option ℕ) → v ≡ Served socket → fault_by romc v ≡ None
 no_fault romc v socket e = ap (fault_by romc) e
@@ -129,43 +137,57 @@ no_access Vector romc reference xs e = refl
 no_access NoChip romc reference xs e = refl
 
 -- the course of a step that is no access
-pub course_idle : (i : Inputs) (c : Flow) (copies : List Copy) (s : Step) (later : List Step) (accesses : List Access) → is_access (rule_of s.romc) ≡ false →
+pub course_idle : (i : Inputs) (c : Flow) (copies : List Copy) (s : Step) (later : List Step) (accesses : List Access) →
+    is_access (rule_of s.romc) ≡ false →
     course_of i c copies (s ∷ later) accesses ≡ with_step (traced i s None) (course_of i c copies later accesses)
 course_idle i c copies s later [] e = refl
 course_idle i c copies s later (a ∷ behind) e = rw e refl
 
 -- and of one that is
-pub course_access : (i : Inputs) (c : Flow) (copies : List Copy) (s : Step) (later : List Step) (a : Access) (behind : List Access) → is_access (rule_of s.romc) ≡ true →
-    course_of i c copies (s ∷ later) (a ∷ behind) ≡ course_by i s (access_verdict c copies a) (course_of i c copies later behind)
+pub course_access : (i : Inputs) (c : Flow) (copies : List Copy) (s : Step) (later : List Step) (a : Access)
+    (behind : List Access) → is_access (rule_of s.romc) ≡ true →
+    course_of i c copies (s ∷ later) (a ∷ behind)
+    ≡ course_by i s (access_verdict c copies a) (course_of i c copies later behind)
 course_access i c copies s later a behind e = rw e refl
 
-pub with_steps-step : (so_far : List TracedStep) (t : TracedStep) (rest : Course) → with_steps so_far (with_step t rest) ≡ with_steps (so_far ++ t ∷ []) rest
-with_steps-step so_far t rest = ap (λ steps. record rest { steps = steps }) (sym (append_assoc so_far (t ∷ []) rest.steps))
+pub with_steps-step : (so_far : List TracedStep) (t : TracedStep) (rest : Course) →
+    with_steps so_far (with_step t rest) ≡ with_steps (so_far ++ t ∷ []) rest
+with_steps-step so_far t rest = ap (λ steps. record rest { steps = steps })
+    (sym (append_assoc so_far (t ∷ []) rest.steps))
 
-pub with_steps-stop : (so_far : List TracedStep) (fault : Fault) (long : Bool) → with_steps so_far (stopped_by fault long) ≡ record { steps = so_far; fault = Some (fault, long) }
-with_steps-stop so_far fault long = ap (λ steps. record { steps = steps; fault = Some (fault, long) }) (append-nil so_far)
+pub with_steps-stop : (so_far : List TracedStep) (fault : Fault) (long : Bool) →
+    with_steps so_far (stopped_by fault long) ≡ record { steps = so_far; fault = Some (fault, long) }
+with_steps-stop so_far fault long = ap (λ steps. record { steps = steps; fault = Some (fault, long) })
+    (append-nil so_far)
 
 -- ---- the memory after a step
 
-pub flat_more : (b : Bool) (i : Inputs) (s : Step) (clocks : ℕ) (socket : Option ℕ) (now : Bool → Flow → Count) (probe : ProbeState) (cs : List Copy) (vs : List ChipView) (memory : List ℕ) →
+pub flat_more : (b : Bool) (i : Inputs) (s : Step) (clocks : ℕ) (socket : Option ℕ) (now : Bool → Flow → Count)
+    (probe : ProbeState) (cs : List Copy) (vs : List ChipView) (memory : List ℕ) →
     (s.romc == 0x05) ≡ b → AreCopies now probe.last cs vs → length memory ≡ 65536 → HoldsFlat memory vs →
     view_verdict s.romc None (place_in s.romc probe.count probe.last) (enumerate_from 0 vs) ≡ Served socket →
-    HoldsFlat (if b then stored_at (seats_of cs) (place_in s.romc probe.count probe.last) (byte_of i s.source) memory else memory)
+    HoldsFlat (if b then stored_at (seats_of cs) (place_in s.romc probe.count probe.last)
+    (byte_of i s.source) memory else memory)
     (map (after_step 0 (plain_step s.romc (byte_of i s.source) clocks)) vs)
 flat_more true i s clocks socket now probe cs vs memory is copies whole flat served =
     let code : s.romc ≡ 0x05 = eqb-true s.romc 0x05 is in
-    rw code (subst (λ seats. HoldsFlat (stored_at seats (place_in 0x05 probe.count probe.last) (byte_of i s.source) memory) (map (after_step 0 (plain_step 0x05 (byte_of i s.source) clocks)) vs))
+    rw code (subst (λ seats. HoldsFlat (stored_at seats (place_in 0x05 probe.count probe.last)
+    (byte_of i s.source) memory) (map (after_step 0 (plain_step 0x05 (byte_of i s.source) clocks)) vs))
     (seats_same now probe.last cs vs copies)
-    (store_keeps_flat (byte_of i s.source) clocks (place_in 0x05 probe.count probe.last) socket vs memory whole (all_filled now probe.last cs vs copies) flat (rw code at served)))
-flat_more false i s clocks socket now probe cs vs memory is copies whole flat served = keeps_flat s.romc (byte_of i s.source) clocks vs memory is flat
+    (store_keeps_flat (byte_of i s.source) clocks (place_in 0x05 probe.count probe.last) socket vs memory whole
+    (all_filled now probe.last cs vs copies) flat (rw code at served)))
+flat_more false i s clocks socket now probe cs vs memory is copies whole flat served =
+    keeps_flat s.romc (byte_of i s.source) clocks vs memory is flat
 
-pub long_more : (b : Bool) (seats : List Seat) (at byte : ℕ) (memory : List ℕ) → length memory ≡ 65536 → length (if b then stored_at seats at byte memory else memory) ≡ 65536
+pub long_more : (b : Bool) (seats : List Seat) (at byte : ℕ) (memory : List ℕ) → length memory ≡ 65536 →
+    length (if b then stored_at seats at byte memory else memory) ≡ 65536
 long_more true seats at byte memory whole = stored_long seats at byte memory ∙ whole
 long_more false seats at byte memory whole = whole
 
 -- ---- the byte of a step
 
-read_rule : (b c : Bool) (romc : ℕ) (d : Driver) → (romc == 0x05) ≡ b → (romc == 0x1A) ≡ c → driver_of romc ≡ d → rule_by d ≡ Read → rule_of romc ≡ Read
+read_rule : (b c : Bool) (romc : ℕ) (d : Driver) → (romc == 0x05) ≡ b → (romc == 0x1A) ≡ c → driver_of romc ≡ d →
+    rule_by d ≡ Read → rule_of romc ≡ Read
 read_rule true c romc d five port driver read =
     let code : romc ≡ 0x05 = eqb-true romc 0x05 five in
     let cpu : Cpu ≡ d = subst (λ (n : ℕ). driver_of n ≡ d) code driver in
@@ -176,8 +198,10 @@ read_rule false true romc d five port driver read =
     let none : rule_by Cpu ≡ Read = ap rule_by cpu ∙ read in cc
 read_rule false false romc d five port driver read = rw (five, port, driver) read
 
-pub byte_is : (d : Driver) (romc placed value reference : ℕ) (socket : Option ℕ) (vs : List ChipView) (memory : List ℕ) →
-    driver_of romc ≡ d → Places (is_placed_by d) placed value → ValueIs d romc memory reference value → HoldsFlat memory vs →
+pub byte_is : (d : Driver) (romc placed value reference : ℕ) (socket : Option ℕ) (vs : List ChipView)
+    (memory : List ℕ) →
+    driver_of romc ≡ d → Places (is_placed_by d) placed value → ValueIs d romc memory reference value →
+    HoldsFlat memory vs →
     (rule_of romc ≡ Read → reference < 65536) →
     (driver_of romc ≡ Port → bus_byte romc None placed (enumerate_from 0 vs) ≡ value) →
     view_verdict romc None reference (enumerate_from 0 vs) ≡ Served socket →

@@ -13,18 +13,20 @@ use Rattle.console_spec.specs.Services.{placed_copy, access_verdict}
 use Rattle.console_spec.specs.Run.{seats_of}
 use Rattle.console_spec.specs.CounterCopies.{fetched}
 use Rattle.f8_spec.specs.ChipState.{IsFilled}
-use Rattle.f8_machine.specs.ChipCopies.{IsCopy, AreCopies}
+use Rattle.f8_machine.specs.RackViews.{IsCopy, AreCopies}
 use Rattle.f8_machine.proofs.Slots.{plain_step, seat_of-after, counters-after, filled-after}
 
 -- ---- what the bus reads of them
 
-pub seats_same : (now : Bool → Flow → Count) (last : ℕ) (cs : List Copy) (vs : List ChipView) → AreCopies now last cs vs → map seat_of vs ≡ seats_of cs
+pub seats_same : (now : Bool → Flow → Count) (last : ℕ) (cs : List Copy) (vs : List ChipView) →
+    AreCopies now last cs vs → map seat_of vs ≡ seats_of cs
 seats_same now last [] [] are = refl
 seats_same now last [] (v ∷ vs) are = absurd are
 seats_same now last (c ∷ cs) [] are = absurd are
 seats_same now last (c ∷ cs) (v ∷ vs) are = rw (are.0.seat, seats_same now last cs vs are.1) refl
 
-pub all_filled : (now : Bool → Flow → Count) (last : ℕ) (cs : List Copy) (vs : List ChipView) → AreCopies now last cs vs →
+pub all_filled : (now : Bool → Flow → Count) (last : ℕ) (cs : List Copy) (vs : List ChipView) →
+    AreCopies now last cs vs →
     (k : ℕ) (v : ChipView) → slice_get vs k ≡ Some v → IsFilled v
 all_filled now last [] [] are k v here = cc
 all_filled now last [] (w ∷ vs) are k v here = absurd are
@@ -32,12 +34,14 @@ all_filled now last (c ∷ cs) [] are k v here = absurd are
 all_filled now last (c ∷ cs) (w ∷ vs) are zero v here = let same : w ≡ v = cc in subst IsFilled same are.0.filled
 all_filled now last (c ∷ cs) (w ∷ vs) are (suc k) v here = all_filled now last cs vs are.1 k v here
 
-pub all_heard : (now : Bool → Flow → Count) (last : ℕ) (cs : List Copy) (vs : List ChipView) → AreCopies now last cs vs →
+pub all_heard : (now : Bool → Flow → Count) (last : ℕ) (cs : List Copy) (vs : List ChipView) →
+    AreCopies now last cs vs →
     (k : ℕ) (v : ChipView) → slice_get vs k ≡ Some v → v.last ≡ last
 all_heard now last [] [] are k v here = cc
 all_heard now last [] (w ∷ vs) are k v here = absurd are
 all_heard now last (c ∷ cs) [] are k v here = absurd are
-all_heard now last (c ∷ cs) (w ∷ vs) are zero v here = let same : w ≡ v = cc in ap (λ (x : ChipView). x.last) (sym same) ∙ are.0.heard
+all_heard now last (c ∷ cs) (w ∷ vs) are zero v here = let same : w ≡ v = cc in
+    ap (λ (x : ChipView). x.last) (sym same) ∙ are.0.heard
 all_heard now last (c ∷ cs) (w ∷ vs) are (suc k) v here = all_heard now last cs vs are.1 k v here
 
 -- a chip's own place in a step is the place of the access on its copy
@@ -49,11 +53,19 @@ placed_same now last romc a place n [] [] are = refl
 placed_same now last romc a place n [] (v ∷ vs) are = absurd are
 placed_same now last romc a place n (c ∷ cs) [] are = absurd are
 placed_same now last romc a place n (c ∷ cs) (v ∷ vs) are =
-    rw (are.0.seat, are.0.counters, are.0.heard, place (has_second_counter c.seat.kind) c.flow, placed_same now last romc a place (n + 1) cs vs are.1) refl
+    rw (
+      are.0.seat,
+      are.0.counters,
+      are.0.heard,
+      place (has_second_counter c.seat.kind) c.flow,
+      placed_same now last romc a place (n + 1) cs vs are.1,
+    ) refl
 
 -- the bus rule on the chips is the rule on the access
-pub verdict_same : (now : Bool → Flow → Count) (last romc reference : ℕ) (a : Access) (c : Flow) (cs : List Copy) (vs : List ChipView) →
-    a.romc ≡ romc → ((second : Bool) (x : Flow) → place_in romc (now second x) last ≡ a.place second x) → reference ≡ a.place true c → AreCopies now last cs vs →
+pub verdict_same : (now : Bool → Flow → Count) (last romc reference : ℕ) (a : Access) (c : Flow) (cs : List Copy)
+    (vs : List ChipView) →
+    a.romc ≡ romc → ((second : Bool) (x : Flow) → place_in romc (now second x) last ≡ a.place second x) →
+    reference ≡ a.place true c → AreCopies now last cs vs →
     view_verdict romc None reference (enumerate_from 0 vs) ≡ access_verdict c cs a
 verdict_same now last romc reference a c cs vs code place at are =
     ap (λ xs. verdict romc None reference xs) (placed_same now last romc a place 0 cs vs are)
@@ -73,8 +85,10 @@ copy_more now last romc byte clocks c v is = record {
   filled = filled-after romc byte clocks v is.filled;
 }
 
-pub copies_more : (now : Bool → Flow → Count) (last romc byte clocks : ℕ) (cs : List Copy) (vs : List ChipView) → AreCopies now last cs vs →
-    AreCopies (λ second x. moved_by romc byte second (now second x)) byte cs (map (after_step 0 (plain_step romc byte clocks)) vs)
+pub copies_more : (now : Bool → Flow → Count) (last romc byte clocks : ℕ) (cs : List Copy) (vs : List ChipView) →
+    AreCopies now last cs vs →
+    AreCopies (λ second x. moved_by romc byte second (now second x)) byte cs
+    (map (after_step 0 (plain_step romc byte clocks)) vs)
 copies_more now last romc byte clocks [] [] are = tt
 copies_more now last romc byte clocks [] (v ∷ vs) are = absurd are
 copies_more now last romc byte clocks (c ∷ cs) [] are = absurd are
@@ -89,7 +103,12 @@ copies_end now last row i [] [] moves are = tt
 copies_end now last row i [] (v ∷ vs) moves are = absurd are
 copies_end now last row i (c ∷ cs) [] moves are = absurd are
 copies_end now last row i (c ∷ cs) (v ∷ vs) moves are = (
-  record { seat = are.0.seat; counters = are.0.counters ∙ moves (has_second_counter c.seat.kind) c.flow; heard = are.0.heard; filled = are.0.filled },
+  record {
+    seat = are.0.seat;
+    counters = are.0.counters ∙ moves (has_second_counter c.seat.kind) c.flow;
+    heard = are.0.heard;
+    filled = are.0.filled;
+  },
   copies_end now last row i cs vs moves are.1,
 )
 
@@ -100,6 +119,11 @@ copies_same now then last [] [] same are = tt
 copies_same now then last [] (v ∷ vs) same are = absurd are
 copies_same now then last (c ∷ cs) [] same are = absurd are
 copies_same now then last (c ∷ cs) (v ∷ vs) same are = (
-  record { seat = are.0.seat; counters = are.0.counters ∙ same (has_second_counter c.seat.kind) c.flow; heard = are.0.heard; filled = are.0.filled },
+  record {
+    seat = are.0.seat;
+    counters = are.0.counters ∙ same (has_second_counter c.seat.kind) c.flow;
+    heard = are.0.heard;
+    filled = are.0.filled;
+  },
   copies_same now then last cs vs same are.1,
 )

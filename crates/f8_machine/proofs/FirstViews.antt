@@ -1,32 +1,40 @@
 -- Power-on: the chips of a rack hold the first memory of the flat machine.
-use Rattle.std.proofs.Common.{◌≡◌, ℕ, zero, suc, ◌+◌, ◌*◌, ◌/◌, ◌%◌, ◌<◌, ◌≤◌, Bool, true, false, List, [], ◌∷◌, ◌++◌, map, length, get_or, take, drop, refl, sym, ap, ap₂, subst, ◌∙◌, ⊎_elim, arith, length-append, length-drop}
-use Rattle.std.specs.Prelude.{if◌then◌else◌, Option, Some, None, option_map, is_some, filter_map, replicate, slice_get, slice_index}
+use Rattle.std.proofs.Common.{◌≡◌, ℕ, zero, suc, ◌+◌, ◌*◌, ◌/◌, ◌%◌, ◌<◌, ◌≤◌, Bool, true, false, List, [], ◌∷◌, ◌++◌}
+use Rattle.std.proofs.Common.{map, length, get_or, take, drop, refl, sym, ap, ap₂, subst, ◌∙◌, ⊎_elim, arith}
+use Rattle.std.proofs.Common.{length-append, length-drop}
+use Rattle.std.specs.Prelude.{if◌then◌else◌, Option, Some, None, option_map, is_some, filter_map, replicate, slice_get}
+use Rattle.std.specs.Prelude.{slice_index}
 use Rattle.std.specs.List.{enumerate_from}
 use Rattle.std.proofs.lemmas.Bool.{cases_lt}
-use Rattle.std.proofs.lemmas.List.{get_or_past, get_or-replicate, get_or-take, get_or-drop, get_or-append-add, length-replicate, length-take-le}
+use Rattle.std.proofs.lemmas.List.{get_or_past, get_or-replicate, get_or-take, get_or-drop, get_or-append-add}
+use Rattle.std.proofs.lemmas.List.{length-replicate, length-take-le}
 use Rattle.std.proofs.lemmas.List.FromFn.{length-map-range_with_len, get_or-map-range_with_len}
 use Rattle.std.proofs.lemmas.Option.{slice_get-map}
-use Rattle.f8_spec.specs.ChipState.{ChipView, ChipState, byte_in, held_byte, holds, place_of, filled_bytes, is_ram, powered}
+use Rattle.f8_spec.specs.ChipState.{ChipView, ChipState, byte_in, held_byte, holds, place_of, filled_bytes, is_ram}
+use Rattle.f8_spec.specs.ChipState.{powered}
 use Rattle.f8_spec.specs.BusArbitration.{seat_of}
 use Rattle.f8_spec.specs.declared.chips.Page.{Page}
 use Rattle.f8_spec.specs.declared.chips.PageSort.{PageSort}
 use Rattle.f8_spec.specs.declared.chips.PageSort.TheVariants.{Rom, Ram, Void}
 use Rattle.data_bus.specs.Racks.{NumberedZip, views}
 use Rattle.console_spec.specs.declared.Sort.{Sort}
-use Rattle.console_spec.specs.declared.Sort.TheVariants.{Rom as RomSort, Ram as RamSort, Void as VoidSort, Nothing, Shared}
+use Rattle.console_spec.specs.declared.Sort.TheVariants.{Rom as RomSort, Ram as RamSort, Void as VoidSort, Nothing}
+use Rattle.console_spec.specs.declared.Sort.TheVariants.{Shared}
 use Rattle.console_spec.specs.AddressSpace.{byte_at}
 use Rattle.console_spec.specs.CounterCopies.{power_start}
-use Rattle.console_spec.specs.FlatMemory.{sort_among, sort_of, only_of, fixed_byte_by, first_byte_by, first_byte, first_memory}
+use Rattle.console_spec.specs.FlatMemory.{sort_among, sort_of, only_of, fixed_byte_by, first_byte_by, first_byte}
+use Rattle.console_spec.specs.FlatMemory.{first_memory}
 use Rattle.f8_spec.specs.ChipState.{IsFilled}
 use Rattle.f8_machine.specs.Rounds.{PowersInSocket}
-use Rattle.f8_machine.specs.FlatViews.{HeldOnce, HoldsFlat}
+use Rattle.f8_machine.specs.RackViews.{HeldOnce, HoldsFlat}
 use Rattle.f8_machine.proofs.Kept.{OneKept, one_kept, keeps_one, slice_get-enumerate_from, Comes, comes}
 use Rattle.f8_machine.proofs.Holding.{Held, held_in, not_held, sort_of-once, holds_flat_by}
 
 -- ---- the RAM of one chip
 
 -- a page at power-on has as many bytes
-length-own : (ram : Bool) (fill : ℕ) (bytes : List ℕ) → 256 ≤ length bytes → length (if ram then replicate 256 fill else take 256 bytes) ≡ 256
+length-own : (ram : Bool) (fill : ℕ) (bytes : List ℕ) → 256 ≤ length bytes →
+    length (if ram then replicate 256 fill else take 256 bytes) ≡ 256
 length-own true fill bytes whole = length-replicate 256 fill
 length-own false fill bytes whole = length-take-le 256 bytes whole
 
@@ -43,11 +51,13 @@ get_or-append_left (x ∷ xs) ys zero below = refl
 get_or-append_left (x ∷ xs) ys (suc i) below = get_or-append_left xs ys i (omega arith)
 
 -- the bytes at power-on are as many
-pub length-filled_bytes : (fill : ℕ) (pages : List Page) (bytes : List ℕ) → length bytes ≡ length pages * 256 → length (filled_bytes fill pages bytes) ≡ length pages * 256
+pub length-filled_bytes : (fill : ℕ) (pages : List Page) (bytes : List ℕ) → length bytes ≡ length pages * 256 →
+    length (filled_bytes fill pages bytes) ≡ length pages * 256
 length-filled_bytes fill [] bytes size = size
 length-filled_bytes fill (p ∷ ps) bytes size =
     let whole : 256 ≤ length bytes = omega arith in
-    let rest : length (filled_bytes fill ps (drop 256 bytes)) ≡ length ps * 256 = length-filled_bytes fill ps (drop 256 bytes) (omega (arith, length-drop 256 bytes)) in
+    let rest : length (filled_bytes fill ps (drop 256 bytes)) ≡ length ps * 256 =
+    length-filled_bytes fill ps (drop 256 bytes) (omega (arith, length-drop 256 bytes)) in
     length-append (if is_ram p.sort then replicate 256 fill else take 256 bytes) (filled_bytes fill ps (drop 256 bytes))
     ∙ ap₂ (λ m n. m + n) (length-own (is_ram p.sort) fill bytes whole) rest
     ∙ omega arith
@@ -56,18 +66,22 @@ length-filled_bytes fill (p ∷ ps) bytes size =
 filled_first : (fill : ℕ) (q : Page) (ps : List Page) (bytes : List ℕ) → 256 ≤ length bytes → (n : ℕ) → n < 256 →
     get_or (filled_bytes fill (q ∷ ps) bytes) n 0 ≡ (if is_ram q.sort then fill else get_or bytes n 0)
 filled_first fill q ps bytes whole n below =
-    let within : n < length (if is_ram q.sort then replicate 256 fill else take 256 bytes) = omega (arith, length-own (is_ram q.sort) fill bytes whole) in
-    get_or-append_left (if is_ram q.sort then replicate 256 fill else take 256 bytes) (filled_bytes fill ps (drop 256 bytes)) n within
+    let within : n < length (if is_ram q.sort then replicate 256 fill else take 256 bytes) =
+    omega (arith, length-own (is_ram q.sort) fill bytes whole) in
+    get_or-append_left (if is_ram q.sort then replicate 256 fill else take 256 bytes)
+    (filled_bytes fill ps (drop 256 bytes)) n within
     ∙ get_or-own (is_ram q.sort) fill bytes n below
 
 -- a byte at power-on, by the page that it lies in
-filled_at : (fill : ℕ) (pages : List Page) (bytes : List ℕ) → length bytes ≡ length pages * 256 → (place : ℕ) (p : Page) (i n : ℕ) →
+filled_at : (fill : ℕ) (pages : List Page) (bytes : List ℕ) → length bytes ≡ length pages * 256 →
+    (place : ℕ) (p : Page) (i n : ℕ) →
     slice_get pages place ≡ Some p → i < 256 → n ≡ place * 256 + i →
     get_or (filled_bytes fill pages bytes) n 0 ≡ (if is_ram p.sort then fill else get_or bytes n 0)
 filled_at fill [] bytes size place p i n lies below e = cc
 filled_at fill (q ∷ ps) bytes size zero p i n lies below e =
     let same : q ≡ p = cc in
-    filled_first fill q ps bytes (omega arith) n (omega arith) ∙ ap (λ (r : Page). if is_ram r.sort then fill else get_or bytes n 0) same
+    filled_first fill q ps bytes (omega arith) n (omega arith)
+    ∙ ap (λ (r : Page). if is_ram r.sort then fill else get_or bytes n 0) same
 filled_at fill (q ∷ ps) bytes size (suc place) p i n lies below e =
     let own : List ℕ = if is_ram q.sort then replicate 256 fill else take 256 bytes in
     let long : length own ≡ 256 = length-own (is_ram q.sort) fill bytes (omega arith) in
@@ -75,17 +89,21 @@ filled_at fill (q ∷ ps) bytes size (suc place) p i n lies below e =
     let there : 256 + (place * 256 + i) ≡ n = omega arith in
     ap (λ k. get_or (filled_bytes fill (q ∷ ps) bytes) k 0) here
     ∙ get_or-append-add own (filled_bytes fill ps (drop 256 bytes)) (place * 256 + i) 0
-    ∙ filled_at fill ps (drop 256 bytes) (omega (arith, length-drop 256 bytes)) place p i (place * 256 + i) lies below refl
-    ∙ ap (λ b. if is_ram p.sort then fill else b) (get_or-drop 256 bytes (place * 256 + i) 0 ∙ ap (λ k. get_or bytes k 0) there)
+    ∙ filled_at fill ps (drop 256 bytes) (omega (arith, length-drop 256 bytes)) place p i
+    (place * 256 + i) lies below refl
+    ∙ ap (λ b. if is_ram p.sort then fill else b)
+    (get_or-drop 256 bytes (place * 256 + i) 0 ∙ ap (λ k. get_or bytes k 0) there)
 
 -- what the chip holds at an address at power-on
-powered_byte : (fill : ℕ) (v : ChipView) (at : ℕ) → IsFilled v → (held : Held v.pages at) (b : ℕ) → held_byte v at ≡ Some b →
+powered_byte : (fill : ℕ) (v : ChipView) (at : ℕ) → IsFilled v → (held : Held v.pages at) (b : ℕ) →
+    held_byte v at ≡ Some b →
     byte_in v.pages (filled_bytes fill v.pages v.bytes) at ≡ Some (if is_ram held.page.sort then fill else b)
 powered_byte fill v at filled held b before =
     let byte : Some (slice_index v.bytes (held.place * 256 + at % 256)) ≡ Some b = rw held.placed at before in
     let same : slice_index v.bytes (held.place * 256 + at % 256) ≡ b = cc in
     rw held.placed (ap Some (
-    filled_at fill v.pages v.bytes filled held.place held.page (at % 256) (held.place * 256 + at % 256) held.lies (omega arith) refl
+    filled_at fill v.pages v.bytes filled held.place held.page (at % 256) (held.place * 256 + at % 256) held.lies
+    (omega arith) refl
     ∙ ap (λ x. if is_ram held.page.sort then fill else x) same))
 
 -- ---- the first memory
@@ -96,34 +114,41 @@ unfolding first_memory
 length-first_memory vs fill = length-map-range_with_len (first_byte vs fill) 0 65536
 
 -- each by its address
-pub byte_at-first_memory : (vs : List ChipView) (fill at : ℕ) → at < 65536 → byte_at (first_memory vs fill) at ≡ first_byte vs fill at
+pub byte_at-first_memory : (vs : List ChipView) (fill at : ℕ) → at < 65536 →
+    byte_at (first_memory vs fill) at ≡ first_byte vs fill at
 unfolding first_memory
-byte_at-first_memory vs fill at small = get_or-map-range_with_len (first_byte vs fill) 0 65536 at at 255 small (omega arith)
+byte_at-first_memory vs fill at small = get_or-map-range_with_len (first_byte vs fill) 0 65536 at at 255 small
+    (omega arith)
 
 -- an address that a chip doesn't hold has no byte there
 unheld_byteless : (v : ChipView) (at : ℕ) → holds v at ≡ false → held_byte v at ≡ None
 unheld_byteless v at unheld = step (place_of v.pages (at / 256)) unheld
   where
-    step : (o : Option ℕ) → is_some o ≡ false → option_map (λ place. slice_index v.bytes (place * 256 + at % 256)) o ≡ None
+    step : (o : Option ℕ) → is_some o ≡ false →
+        option_map (λ place. slice_index v.bytes (place * 256 + at % 256)) o ≡ None
     step None unheld = refl
     step (Some place) unheld = cc
 
 -- at an address that one chip holds alone it is the power byte in RAM, and elsewhere the chip's
-first_byte-once : (vs : List ChipView) (fill at place : ℕ) (v : ChipView) → slice_get vs place ≡ Some v → HeldOnce vs at place → (held : Held v.pages at) (b : ℕ) →
+first_byte-once : (vs : List ChipView) (fill at place : ℕ) (v : ChipView) → slice_get vs place ≡ Some v →
+    HeldOnce vs at place → (held : Held v.pages at) (b : ℕ) →
     held_byte v at ≡ Some b → first_byte vs fill at ≡ (if is_ram held.page.sort then fill else b)
 first_byte-once vs fill at place v lies once held b before =
-    let sort : sort_of (map seat_of vs) at ≡ sort_among (held.page.sort ∷ []) = sort_of-once vs at place v lies once held.page.sort held.sorted in
+    let sort : sort_of (map seat_of vs) at ≡ sort_among (held.page.sort ∷ []) =
+    sort_of-once vs at place v lies once held.page.sort held.sorted in
     let bytes : filter_map (λ w. held_byte w at) vs ≡ b ∷ [] = keeps_one (λ w. held_byte w at) vs place v b lies before
     (λ j w lies_other other. unheld_byteless w at (not_held vs at place once j w lies_other other)) in
     ap₂ (λ s o. first_byte_by s fill (fixed_byte_by s o)) sort (ap only_of bytes) ∙ by held.page.sort
   where
-    by : (sort : PageSort) → first_byte_by (sort_among (sort ∷ [])) fill (fixed_byte_by (sort_among (sort ∷ [])) (Some b)) ≡ (if is_ram sort then fill else b)
+    by : (sort : PageSort) → first_byte_by (sort_among (sort ∷ [])) fill
+        (fixed_byte_by (sort_among (sort ∷ [])) (Some b)) ≡ (if is_ram sort then fill else b)
     by Rom = refl
     by Ram = refl
     by Void = refl
 
 -- its bytes are below 256, where the power byte and those of the chips are
-pub first_bytes : (vs : List ChipView) (fill : ℕ) → fill < 256 → ((k : ℕ) (v : ChipView) → slice_get vs k ≡ Some v → (i : ℕ) → slice_index v.bytes i < 256) →
+pub first_bytes : (vs : List ChipView) (fill : ℕ) → fill < 256 →
+    ((k : ℕ) (v : ChipView) → slice_get vs k ≡ Some v → (i : ℕ) → slice_index v.bytes i < 256) →
     (at : ℕ) → byte_at (first_memory vs fill) at < 256
 first_bytes vs fill small bytes at = ⊎_elim within past (cases_lt at 65536)
   where
@@ -140,10 +165,12 @@ first_bytes vs fill small bytes at = ⊎_elim within past (cases_lt at 65536)
     only_below (x ∷ []) b is e =
         let one : OneKept (λ (v : ChipView). held_byte v at) vs x = one_kept (λ v. held_byte v at) vs x is in
         let same : x ≡ b = cc in
-        subst (λ n. n < 256) same (of_chip one.element (bytes one.place one.element one.lies) (place_of one.element.pages (at / 256)) x one.kept)
+        subst (λ n. n < 256) same (of_chip one.element (bytes one.place one.element one.lies)
+        (place_of one.element.pages (at / 256)) x one.kept)
     only_below (x ∷ (y ∷ xs)) b is e = cc
 
-    by : (sort : Sort) (only : Option ℕ) → ((b : ℕ) → only ≡ Some b → b < 256) → first_byte_by sort fill (fixed_byte_by sort only) < 256
+    by : (sort : Sort) (only : Option ℕ) → ((b : ℕ) → only ≡ Some b → b < 256) →
+        first_byte_by sort fill (fixed_byte_by sort only) < 256
     by RamSort only below = small
     by RomSort None below = omega arith
     by RomSort (Some b) below = below b refl
@@ -154,11 +181,13 @@ first_bytes vs fill small bytes at = ⊎_elim within past (cases_lt at 65536)
 
     within : at < 65536 → byte_at (first_memory vs fill) at < 256
     within low = subst (λ b. b < 256) (sym (byte_at-first_memory vs fill at low))
-        (by (sort_of (map seat_of vs) at) (only_of (filter_map (λ v. held_byte v at) vs)) (λ b e. only_below (filter_map (λ v. held_byte v at) vs) b refl e))
+        (by (sort_of (map seat_of vs) at) (only_of (filter_map (λ v. held_byte v at) vs))
+        (λ b e. only_below (filter_map (λ v. held_byte v at) vs) b refl e))
 
     past : 65536 ≤ at → byte_at (first_memory vs fill) at < 256
     past high =
-        let none : byte_at (first_memory vs fill) at ≡ 255 = get_or_past (first_memory vs fill) at 255 (omega (arith, length-first_memory vs fill)) in
+        let none : byte_at (first_memory vs fill) at ≡ 255 =
+        get_or_past (first_memory vs fill) at 255 (omega (arith, length-first_memory vs fill)) in
         omega arith
 
 -- ---- the rack
@@ -168,22 +197,27 @@ abbrev pub powered_views : ℕ → List ChipView → List ChipView
 powered_views fill vs = map (λ x. powered fill (power_start fill x.0) x.1) (enumerate_from 0 vs)
 
 -- a chip by its place
-pub slice_get-powered_views : (fill : ℕ) (vs : List ChipView) (k : ℕ) → slice_get (powered_views fill vs) k ≡ option_map (powered fill (power_start fill k)) (slice_get vs k)
+pub slice_get-powered_views : (fill : ℕ) (vs : List ChipView) (k : ℕ) →
+    slice_get (powered_views fill vs) k ≡ option_map (powered fill (power_start fill k)) (slice_get vs k)
 slice_get-powered_views fill vs k =
     let power : ℕ × ChipView → ChipView = λ x. powered fill (power_start fill x.0) x.1 in
-    slice_get-map power (enumerate_from 0 vs) k ∙ ap (option_map power) (slice_get-enumerate_from vs k) ∙ numbered (slice_get vs k)
+    slice_get-map power (enumerate_from 0 vs) k ∙ ap (option_map power) (slice_get-enumerate_from vs k)
+    ∙ numbered (slice_get vs k)
   where
-    numbered : (o : Option ChipView) → option_map (λ (x : ℕ × ChipView). powered fill (power_start fill x.0) x.1) (option_map (λ v. (k, v)) o) ≡ option_map (powered fill (power_start fill k)) o
+    numbered : (o : Option ChipView) → option_map (λ (x : ℕ × ChipView). powered fill (power_start fill x.0) x.1)
+        (option_map (λ v. (k, v)) o) ≡ option_map (powered fill (power_start fill k)) o
     numbered None = refl
     numbered (Some v) = refl
 
 -- a chip of them comes of the chip at its place
 powered_comes : (fill : ℕ) (vs : List ChipView) (k : ℕ) (w : ChipView) → slice_get (powered_views fill vs) k ≡ Some w →
     Comes (powered fill (power_start fill k)) (slice_get vs k) w
-powered_comes fill vs k w lies = comes (powered fill (power_start fill k)) (slice_get vs k) w (sym (slice_get-powered_views fill vs k) ∙ lies)
+powered_comes fill vs k w lies = comes (powered fill (power_start fill k)) (slice_get vs k) w
+    (sym (slice_get-powered_views fill vs k) ∙ lies)
 
 -- their seats, from a socket on
-seats_from : (fill n : ℕ) (vs : List ChipView) → map seat_of (map (λ x. powered fill (power_start fill x.0) x.1) (enumerate_from n vs)) ≡ map seat_of vs
+seats_from : (fill n : ℕ) (vs : List ChipView) →
+    map seat_of (map (λ x. powered fill (power_start fill x.0) x.1) (enumerate_from n vs)) ≡ map seat_of vs
 seats_from fill n [] = refl
 seats_from fill n (v ∷ vs) = ap (λ ss. seat_of v ∷ ss) (seats_from fill (n + 1) vs)
 
@@ -194,12 +228,15 @@ seats-powered_views fill vs = seats_from fill 0 vs
 -- they hold the first memory
 pub first_flat : (fill : ℕ) (vs : List ChipView) → ((k : ℕ) (v : ChipView) → slice_get vs k ≡ Some v → IsFilled v) →
     HoldsFlat (first_memory vs fill) (powered_views fill vs)
-first_flat fill vs filled = holds_flat_by vs (powered_views fill vs) (seats-powered_views fill vs) (first_memory vs fill) at_chip
+first_flat fill vs filled = holds_flat_by vs (powered_views fill vs) (seats-powered_views fill vs)
+    (first_memory vs fill) at_chip
   where
-    at_chip : (place : ℕ) (v w : ChipView) (at : ℕ) → at < 65536 → slice_get vs place ≡ Some v → slice_get (powered_views fill vs) place ≡ Some w →
+    at_chip : (place : ℕ) (v w : ChipView) (at : ℕ) → at < 65536 → slice_get vs place ≡ Some v →
+        slice_get (powered_views fill vs) place ≡ Some w →
         holds v at ≡ true → HeldOnce vs at place → byte_in v.pages w.bytes at ≡ Some (byte_at (first_memory vs fill) at)
     at_chip place v w at small lies lies_after held once =
-        let chip : Comes (powered fill (power_start fill place)) (slice_get vs place) w = powered_comes fill vs place w lies_after in
+        let chip : Comes (powered fill (power_start fill place)) (slice_get vs place) w =
+        powered_comes fill vs place w lies_after in
         let both : Some chip.from ≡ Some v = sym chip.is ∙ lies in
         let same : chip.from ≡ v = cc in
         let here : Held v.pages at = held_in v.pages at held in
@@ -207,7 +244,9 @@ first_flat fill vs filled = holds_flat_by vs (powered_views fill vs) (seats-powe
         ap (λ (u : ChipView). byte_in v.pages u.bytes at) chip.gives
         ∙ ap (λ (u : ChipView). byte_in v.pages (filled_bytes fill u.pages u.bytes) at) same
         ∙ powered_byte fill v at (filled place v lies) here (slice_index v.bytes (here.place * 256 + at % 256)) byte
-        ∙ ap Some (sym (byte_at-first_memory vs fill at small ∙ first_byte-once vs fill at place v lies once here (slice_index v.bytes (here.place * 256 + at % 256)) byte))
+        ∙ ap Some (sym (byte_at-first_memory vs fill at small
+        ∙ first_byte-once vs fill at place v lies once here
+        (slice_index v.bytes (here.place * 256 + at % 256)) byte))
 
 -- the views from a socket on
 powered_from : (fill n : ℕ) (olds news : List ChipState) → NumberedZip (PowersInSocket fill) n olds news →
@@ -215,7 +254,8 @@ powered_from : (fill n : ℕ) (olds news : List ChipState) → NumberedZip (Powe
 powered_from fill n [] [] all = refl
 powered_from fill n [] (new ∷ news) all = absurd all
 powered_from fill n (old ∷ olds) [] all = absurd all
-powered_from fill n (old ∷ olds) (new ∷ news) all = ap₂ (λ v vs. v ∷ vs) all.0.view (powered_from fill (n + 1) olds news all.1)
+powered_from fill n (old ∷ olds) (new ∷ news) all =
+    ap₂ (λ v vs. v ∷ vs) all.0.view (powered_from fill (n + 1) olds news all.1)
 
 -- the views of a rack whose chips were powered
 pub views_powered : (fill : ℕ) (olds news : List ChipState) → NumberedZip (PowersInSocket fill) 0 olds news →

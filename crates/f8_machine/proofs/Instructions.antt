@@ -1,5 +1,6 @@
 -- An instruction of a machine, from the position that it stands for to the next one.
-use Rattle.std.proofs.Common.{◌≡◌, ℕ, ◌+◌, ◌%◌, ◌<◌, Bool, true, false, List, [], ◌∷◌, map, length, Option, Some, None, refl, sym, ap, ◌∙◌, subst, arith}
+use Rattle.std.proofs.Common.{◌≡◌, ℕ, ◌+◌, ◌%◌, ◌<◌, Bool, true, false, List, [], ◌∷◌, map, length, Option, Some, None}
+use Rattle.std.proofs.Common.{refl, sym, ap, ◌∙◌, subst, arith}
 use Rattle.std.specs.Prelude.{IsSome, sum_by, option_map, if◌then◌else◌, slice_index, slice_set}
 use Rattle.f8_spec.specs.BusArbitration.{Seat}
 use Rattle.f8_spec.specs.ChipState.{ChipState}
@@ -12,8 +13,7 @@ use Rattle.f8_spec.specs.declared.instructions.Row.TheVariants.{StoreData, Branc
 use Rattle.console_spec.specs.Processor.{Flow, Registers, Inputs, is_taken, result_of, own_inputs, with_write, write_of}
 use Rattle.cpu3850.specs.CpuPorts.{PortBytes, put_by, with_latch}
 use Rattle.cpu3850.proofs.PortLaws.{own_ports-after_instruction}
-use Rattle.f8_machine.proofs.PortEnds.{port_gets}
-use Rattle.f8_machine.proofs.Written.{OwnLatch, op_write}
+use Rattle.f8_machine.proofs.PortEnds.{OwnLatch, port_gets, op_write}
 use Rattle.std.proofs.lemmas.List.{get_or-set_same}
 use Rattle.std.proofs.lemmas.Bool.{ltb-true}
 use Rattle.console_spec.specs.declared.PortWrite.{PortWrite}
@@ -24,23 +24,25 @@ use Rattle.console_spec.specs.CounterCopies.{Copy, fetched, copies_after}
 use Rattle.console_spec.specs.FlatMachine.{FlatState, memory_after, gets, gets_all}
 use Rattle.console_spec.specs.Services.{Fault}
 use Rattle.console_spec.specs.BusTrace.{Course}
-use Rattle.console_spec.specs.Run.{Position, goes_unless, decided, next, opcode_at, seats_of, instruction_fault, position_after, course_as, turn_course}
+use Rattle.console_spec.specs.Run.{Position, goes_unless, decided, next, opcode_at, seats_of, instruction_fault}
+use Rattle.console_spec.specs.Run.{position_after, course_as, turn_course}
 use Rattle.console_spec.proofs.InputLaws.{result_of-with_opcode, flow_after-with_opcode}
 use Rattle.cpu3850.specs.declared.steps.Step.{Step}
 use Rattle.cpu3850.specs.CpuSteps.{CpuState, AreInRange, bus_step, planned_as, planned}
 use Rattle.cpu3850.specs.Keeping.{KeptRegisters, kept_of, restored, IsRestorable}
 use Rattle.probe.specs.ProbeState.{ProbeState}
 use Rattle.data_bus.specs.declared.fault.BusFault.{BusFault}
-use Rattle.f8_machine.specs.Carrying.{Holds, IsCarriedOut, IsCutShort}
+use Rattle.f8_machine.specs.Carrying.{HoldsInstruction, IsCarriedOut, IsCutShort}
 use Rattle.f8_machine.specs.Faults.{fault_of}
-use Rattle.f8_machine.specs.MachineState.{MachineState, unfetched, halted, steps_in}
+use Rattle.f8_machine.specs.MachineState.{MachineState, flow_before_fetch, outcome_again, steps_in}
 use Rattle.f8_machine.specs.Refinement.{AreAddresses, IsMemory, Represents, IsDone, IsFaulted}
 use Rattle.f8_machine.specs.Rounds.{heard_of}
 use Rattle.f8_machine.specs.declared.heard.Heard.{Heard}
-use Rattle.f8_machine.specs.declared.mode.Mode.TheVariants.{Stopped}
-use Rattle.f8_machine.specs.declared.mode.Halt.{Halt}
-use Rattle.f8_machine.specs.declared.mode.Halt.TheVariants.{Fault as FaultHalt, Reserved as ReservedHalt}
-use Rattle.f8_machine.proofs.Bounds.{GetsBytes, gets_bytes, flow_small}
+use Rattle.f8_machine.specs.declared.outcome.Mode.TheVariants.{Stopped}
+use Rattle.f8_machine.specs.declared.outcome.StoppedBy.{StoppedBy}
+use Rattle.f8_machine.specs.declared.outcome.StoppedBy.TheVariants.{Fault as ByFault, Reserved as ByOpcode}
+use Rattle.f8_machine.proofs.Bounds.{GetsBytes, gets_bytes}
+use Rattle.f8_machine.proofs.Rows.{clocks_listed, row_facts}
 use Rattle.f8_machine.proofs.Stores.{stored_long, stored_bytes}
 
 -- ---- the opcode
@@ -53,39 +55,37 @@ some_of (Some op) some = (op, refl)
 turn_with : (x : Position) (code : ℕ) (found : Option Op) → code ≡ opcode_at x → decoded code ≡ found →
     next x ≡ decided (λ op. goes_unless (instruction_fault op x) (position_after op x)) x.flat.state.flow.p code found
 turn_with x code found opcode held =
-    ap (λ (k : ℕ). decided (λ op. goes_unless (instruction_fault op x) (position_after op x)) x.flat.state.flow.p k (decoded k)) (sym opcode)
-    ∙ ap (λ (o : Option Op). decided (λ op. goes_unless (instruction_fault op x) (position_after op x)) x.flat.state.flow.p code o) held
+    ap (λ (k : ℕ). decided (λ op. goes_unless (instruction_fault op x) (position_after op x)) x.flat.state.flow.p k
+    (decoded k)) (sym opcode)
+    ∙ ap (λ (o : Option Op). decided (λ op. goes_unless (instruction_fault op x) (position_after op x))
+    x.flat.state.flow.p code o) held
 
-course_with : (x : Position) (code : ℕ) (found : Option Op) → code ≡ opcode_at x → decoded code ≡ found → turn_course x ≡ course_as x found
+course_with : (x : Position) (code : ℕ) (found : Option Op) → code ≡ opcode_at x → decoded code ≡ found →
+    turn_course x ≡ course_as x found
 course_with x code found opcode held =
     ap (λ (k : ℕ). course_as x (decoded k)) (sym opcode)
     ∙ ap (λ (o : Option Op). course_as x o) held
 
 -- ---- clocks, counters and memory
 
-clocks_listed : (row : Row) (branched : Bool) → sum_by (λ (step : Step). step_clocks step.long) (map bus_step (steps_of row branched)) ≡ row_clocks row branched
-clocks_listed Branch true = refl
-clocks_listed Branch false = refl
-clocks_listed BranchIsar true = refl
-clocks_listed BranchIsar false = refl
-clocks_listed row branched = refl
-
 pub clocks_planned : (cpu : CpuState) (op : Op) → decoded cpu.opcode ≡ Some op →
     sum_by (λ (step : Step). step_clocks step.long) (planned cpu) ≡ row_clocks (row_of op) (is_taken op cpu.registers)
 clocks_planned cpu op held =
-    ap (λ (found : Option Op). sum_by (λ (step : Step). step_clocks step.long) (planned_as found cpu.registers)) held ∙ clocks_listed (row_of op) (is_taken op cpu.registers)
+    ap (λ (found : Option Op). sum_by (λ (step : Step). step_clocks step.long) (planned_as found cpu.registers)) held
+    ∙ clocks_listed (row_of op) (is_taken op cpu.registers)
 
 own_taken : (op : Op) (seats : List Seat) (f : FlatState) → (gets op seats f).taken ≡ is_taken op f.state.registers
 unfolding own_inputs
 own_taken op seats f = refl
 
 -- the counters, from the probe's
-pub unfetched-fetched : (c : Flow) → AreAddresses c → unfetched (fetched c) ≡ c
-unfetched-fetched c small =
+pub flow_before_fetch-fetched : (c : Flow) → AreAddresses c → flow_before_fetch (fetched c) ≡ c
+flow_before_fetch-fetched c small =
     let back : ((c.p + 1) % 65536 + 65535) % 65536 ≡ c.p = (let p : c.p < 65536 = small.p in omega arith) in
     ap (λ (n : ℕ). record c { p = n }) back
 
-stored_memory : (row : Row) (seats : List Seat) (i : Inputs) (c : Flow) (memory : List ℕ) → i.accumulator < 256 → IsMemory memory → IsMemory (memory_after row seats i c memory)
+stored_memory : (row : Row) (seats : List Seat) (i : Inputs) (c : Flow) (memory : List ℕ) → i.accumulator < 256 →
+    IsMemory memory → IsMemory (memory_after row seats i c memory)
 stored_memory StoreData seats i c memory small is = record {
   whole = stored_long seats c.d0 i.accumulator memory ∙ is.whole;
   bytes = stored_bytes seats c.d0 i.accumulator memory small is.bytes;
@@ -98,13 +98,16 @@ seats_after : (row : Row) (i : Inputs) (cs : List Copy) → seats_of (copies_aft
 seats_after row i [] = refl
 seats_after row i (c ∷ cs) = ap (λ (ss : List Seat). c.seat ∷ ss) (seats_after row i cs)
 
-own_accumulator : (op : Op) (seats : List Seat) (f : FlatState) → (gets_all op seats f).accumulator ≡ f.state.registers.accumulator
+own_accumulator : (op : Op) (seats : List Seat) (f : FlatState) →
+    (gets_all op seats f).accumulator ≡ f.state.registers.accumulator
 unfolding own_inputs
 own_accumulator op seats f = refl
 
 -- the ports of the processor's own are the flat machine's
-own_done : (op : Op) (x : Position) (start cpu : CpuState) → start.ports ≡ own_ports x.flat.state → LeaveOwnPorts (seats_of x.copies) →
-    cpu ≡ done op (gets_all op (seats_of x.copies) x.flat) start → cpu.ports ≡ own_ports (position_after op x).flat.state
+own_done : (op : Op) (x : Position) (start cpu : CpuState) → start.ports ≡ own_ports x.flat.state →
+    LeaveOwnPorts (seats_of x.copies) →
+    cpu ≡ done op (gets_all op (seats_of x.copies) x.flat) start →
+    cpu.ports ≡ own_ports (position_after op x).flat.state
 own_done op x start cpu own free is =
     ap (λ (k : CpuState). k.ports) is
     ∙ ap (λ (n : ℕ). put_by op n start.ports) (own_accumulator op (seats_of x.copies) x.flat)
@@ -112,140 +115,165 @@ own_done op x start cpu own free is =
     ∙ sym (own_ports-after_instruction op x.flat.memory (seats_of x.copies) x.flat.state free)
 
 -- `OUTS` of port 0 or 1 leaves the accumulator in its latch
-own_latch : (op : Op) (accumulator : ℕ) (p : PortBytes) (latches : List ℕ) → latches ≡ (put_by op accumulator p).latches → length p.latches ≡ 2 → OwnLatch op accumulator latches
+own_latch : (op : Op) (accumulator : ℕ) (p : PortBytes) (latches : List ℕ) →
+    latches ≡ (put_by op accumulator p).latches → length p.latches ≡ 2 → OwnLatch op accumulator latches
 own_latch (Outs n) accumulator p latches are two = λ own.
     let small : n < length p.latches = omega (arith, ltb-true n 2 own, two) in
-    let put : latches ≡ slice_set p.latches n accumulator = are ∙ ap (λ b. (if b then with_latch n accumulator p else p).latches) own in
+    let put : latches ≡ slice_set p.latches n accumulator =
+    are ∙ ap (λ b. (if b then with_latch n accumulator p else p).latches) own in
     ap (λ (l : List ℕ). slice_index l n) put ∙ get_or-set_same p.latches n accumulator 0 small
 own_latch op accumulator p latches are two = tt
 
 -- the write that is told, by the processor and the record of the machine
-pub told_of : (told : Option PortWrite) (found : Option Op) (op : Op) (phi : ℕ) (latches own : List ℕ) (steps steps_told : List Heard) →
-    told ≡ done_write found phi latches steps → found ≡ Some op → latches ≡ own → steps ≡ steps_told → told ≡ done_write (Some op) phi own steps_told
+pub told_of : (told : Option PortWrite) (found : Option Op) (op : Op) (phi : ℕ) (latches own : List ℕ)
+    (steps steps_told : List Heard) →
+    told ≡ done_write found phi latches steps → found ≡ Some op → latches ≡ own → steps ≡ steps_told →
+    told ≡ done_write (Some op) phi own steps_told
 told_of told found op phi latches own steps steps_told e held same same_steps =
-    e ∙ ap (λ (o : Option Op). done_write o phi latches steps) held ∙ ap (λ (l : List ℕ). done_write (Some op) phi l steps) same ∙ ap (done_write (Some op) phi own) same_steps
+    e ∙ ap (λ (o : Option Op). done_write o phi latches steps) held
+    ∙ ap (λ (l : List ℕ). done_write (Some op) phi l steps) same ∙ ap (done_write (Some op) phi own) same_steps
 
 -- the write that is told is the flat machine's
-written_done : (op : Op) (x : Position) (start cpu : CpuState) (steps : List Heard) (wrote : Option PortWrite) (phi : ℕ) → phi ≡ (position_after op x).flat.state.phi → start.ports ≡ own_ports x.flat.state →
-    {probe : ProbeState} {news : List ChipState} → IsCarriedOut start cpu probe news steps op x → wrote ≡ done_write (Some op) phi cpu.ports.latches steps →
+written_done : (op : Op) (x : Position) (start cpu : CpuState) (steps : List Heard) (wrote : Option PortWrite)
+    (phi : ℕ) → phi ≡ (position_after op x).flat.state.phi → start.ports ≡ own_ports x.flat.state →
+    {probe : ProbeState} {news : List ChipState} → IsCarriedOut start cpu probe news steps op x →
+    wrote ≡ done_write (Some op) phi cpu.ports.latches steps →
     (position_after op x).flat.state.writes ≡ with_write wrote x.flat.state.writes
 written_done op x start cpu steps wrote phi spent own carried told =
     let seats = seats_of x.copies in
     let i = gets_all op seats x.flat in
     let latch : OwnLatch op i.accumulator cpu.ports.latches =
-    own_latch op i.accumulator start.ports cpu.ports.latches (ap (λ (k : CpuState). k.ports.latches) carried.processor) (ap (λ (p : PortBytes). length p.latches) own) in
+    own_latch op i.accumulator start.ports cpu.ports.latches (ap (λ (k : CpuState). k.ports.latches) carried.processor)
+    (ap (λ (p : PortBytes). length p.latches) own) in
     ap (λ (o : Option PortWrite). with_write o x.flat.state.writes) (sym (told
     ∙ ap (done_write (Some op) phi cpu.ports.latches) carried.recorded
-    ∙ op_write op i x.flat.state.flow x.copies phi cpu.ports.latches carried.so_far (port_gets op seats x.flat) latch carried.trace
+    ∙ op_write op i x.flat.state.flow x.copies phi cpu.ports.latches carried.so_far
+    (port_gets op seats x.flat) latch carried.trace
     ∙ ap (write_of op i seats) spent))
 
-pub holds_of : (m : MachineState) (states : List ChipState) (op : Op) (x : Position) → decoded m.cpu.opcode ≡ Some op → AreInRange m.cpu.registers →
-    Represents m states x → Holds m.cpu m.probe states op x
-holds_of m states op x held range r = record {
-  instruction = held;
-  registers = r.stands.registers;
-  own = r.stands.own;
-  range = range;
-  reference = r.stands.reference;
-  copies = r.stands.copies;
-  flat = r.stands.flat;
-  ports = r.stands.ports;
-  free = r.stands.free;
-  memory = r.stands.memory;
-  addresses = r.stands.addresses;
-}
+pub holds_of : (m : MachineState) (states : List ChipState) (op : Op) (x : Position) → decoded m.cpu.opcode ≡ Some op →
+    AreInRange m.cpu.registers →
+    Represents m states x → HoldsInstruction m.cpu m.probe states op x
+holds_of m states op x held range r = record { instruction = held; range = range; holds = r.stands.holds }
 
-module _ (m : MachineState) (states news : List ChipState) (op : Op) (x : Position) (held : decoded m.cpu.opcode ≡ Some op) (r : Represents m states x) where
-  pub done_of : (cpu : CpuState) (probe : ProbeState) (flow : Flow) (clocks : ℕ) (wrote : Option PortWrite) (steps : List Heard) → AreInRange m.cpu.registers →
-      IsCarriedOut m.cpu cpu probe news steps op x → flow ≡ unfetched probe.count → clocks ≡ row_clocks (row_of op) (is_taken op m.cpu.registers) →
+module _ (m : MachineState) (states news : List ChipState) (op : Op) (x : Position)
+    (held : decoded m.cpu.opcode ≡ Some op) (r : Represents m states x) where
+  pub done_of : (cpu : CpuState) (probe : ProbeState) (flow : Flow) (clocks : ℕ) (wrote : Option PortWrite)
+      (steps : List Heard) → AreInRange m.cpu.registers →
+      IsCarriedOut m.cpu cpu probe news steps op x → flow ≡ flow_before_fetch probe.count →
+      clocks ≡ row_clocks (row_of op) (is_taken op m.cpu.registers) →
       wrote ≡ done_write (Some op) (m.phi + clocks) cpu.ports.latches steps →
-      IsDone (record m { probe = probe; cpu = cpu; flow = flow; phi = m.phi + clocks }) news (next x) (turn_course x) x.flat.state.writes wrote steps
+      IsDone (record m { probe = probe; cpu = cpu; flow = flow; phi = m.phi + clocks }) news (next x)
+      (turn_course x) x.flat.state.writes wrote steps
   done_of cpu probe flow clocks wrote steps range carried moved spent told =
+      let there = r.stands.holds in
       let seats = seats_of x.copies in
       let i = gets_all op seats x.flat in
       let y = position_after op x in
-      let registers_in_range : AreInRange x.flat.state.registers = subst AreInRange r.stands.registers range in
-      let bytes : GetsBytes i = gets_bytes op seats x.flat registers_in_range r.stands.memory.bytes in
+      let registers_in_range : AreInRange x.flat.state.registers = subst AreInRange there.registers range in
+      let bytes : GetsBytes i = gets_bytes op seats x.flat registers_in_range there.memory.bytes in
       let small : AreAddresses y.flat.state.flow =
-      subst AreAddresses (flow_after-with_opcode (row_of op) i.opcode (gets op seats x.flat) true x.flat.state.flow) (flow_small (row_of op) i true x.flat.state.flow bytes r.stands.addresses) in
-      let same_flow : flow ≡ y.flat.state.flow = moved ∙ ap unfetched carried.reference ∙ unfetched-fetched y.flat.state.flow small in
+      subst AreAddresses (flow_after-with_opcode (row_of op) i.opcode (gets op seats x.flat) true x.flat.state.flow)
+      ((row_facts (row_of op)).flow i true x.flat.state.flow bytes there.addresses) in
+      let same_flow : flow ≡ y.flat.state.flow =
+      moved ∙ ap flow_before_fetch carried.rack.reference ∙ flow_before_fetch-fetched y.flat.state.flow small in
       let same_registers : cpu.registers ≡ y.flat.state.registers =
       ap (λ (k : CpuState). k.registers) carried.processor
-      ∙ ap (λ (regs : Registers). result_of op i regs) r.stands.registers
+      ∙ ap (λ (regs : Registers). result_of op i regs) there.registers
       ∙ result_of-with_opcode op i.opcode (gets op seats x.flat) x.flat.state.registers in
       let same_clocks : m.phi + clocks ≡ y.flat.state.phi =
       ap (λ (n : ℕ). n + clocks) r.stands.phi
-      ∙ ap (λ (n : ℕ). x.flat.state.phi + n) (spent ∙ ap (λ (regs : Registers). row_clocks (row_of op) (is_taken op regs)) r.stands.registers ∙ ap (row_clocks (row_of op)) (sym (own_taken op seats x.flat))) in
+      ∙ ap (λ (n : ℕ). x.flat.state.phi + n) (spent
+      ∙ ap (λ (regs : Registers). row_clocks (row_of op) (is_taken op regs)) there.registers
+      ∙ ap (row_clocks (row_of op)) (sym (own_taken op seats x.flat))) in
       let trace = course_with x m.cpu.opcode (Some op) r.opcode held ∙ carried.trace in
       record {
         after = y;
-        turns = turn_with x m.cpu.opcode (Some op) r.opcode held ∙ ap (λ (f : Option Fault). goes_unless f y) carried.served;
+        turns = turn_with x m.cpu.opcode (Some op) r.opcode held
+            ∙ ap (λ (f : Option Fault). goes_unless f y) carried.served;
         represents = record {
           stands = record {
-            registers = same_registers;
-            own = own_done op x m.cpu cpu r.stands.own r.stands.free carried.processor;
+            holds = record {
+              registers = same_registers;
+              own = own_done op x m.cpu cpu there.own there.free carried.processor;
+              rack = carried.rack;
+              free = subst LeaveOwnPorts (sym (seats_after (row_of op) (gets op seats x.flat) x.copies)) there.free;
+              memory = stored_memory (row_of op) seats
+                  (gets op seats x.flat) x.flat.state.flow x.flat.memory bytes.accumulator there.memory;
+              addresses = small;
+            };
             flow = same_flow;
             phi = same_clocks;
             chain = r.stands.chain;
-            reference = carried.reference;
-            copies = carried.copies;
-            flat = carried.flat;
-            ports = carried.ports;
             keys = r.stands.keys;
-            free = subst LeaveOwnPorts (sym (seats_after (row_of op) (gets op seats x.flat) x.copies)) r.stands.free;
-            memory = stored_memory (row_of op) seats (gets op seats x.flat) x.flat.state.flow x.flat.memory bytes.accumulator r.stands.memory;
-            addresses = small;
           };
           opcode = ap (λ (k : CpuState). k.opcode) carried.processor;
           running = r.running;
         };
-        written = written_done op x m.cpu cpu steps wrote (m.phi + clocks) same_clocks r.stands.own carried told;
+        written = written_done op x m.cpu cpu steps wrote (m.phi + clocks) same_clocks there.own carried told;
         trace = trace ∙ ap (λ (c : Course). record { steps = c.steps; fault = None }) (sym trace);
         recorded = carried.recorded ∙ ap (λ (c : Course). map heard_of c.steps) (sym trace);
       }
 
   -- ---- and one that is not
 
-  pub faulted_of : (after : MachineState) (fault : BusFault) (long : Bool) (steps : List Heard) → IsCutShort steps fault long op x →
-      after ≡ record m { probe = after.probe; mode = Stopped (FaultHalt fault long) } → IsFaulted m after (next x) (turn_course x) fault long steps
+  pub faulted_of : (after : MachineState) (fault : BusFault) (long : Bool) (steps : List Heard) →
+      IsCutShort steps fault long op x →
+      after ≡ record m { probe = after.probe; mode = Stopped (ByFault fault long) } →
+      IsFaulted m after (next x) (turn_course x) fault long steps
   faulted_of after fault long steps cut kept =
       let trace = course_with x m.cpu.opcode (Some op) r.opcode held ∙ cut.trace in
       record {
-        turns = turn_with x m.cpu.opcode (Some op) r.opcode held ∙ ap (λ (f : Option Fault). goes_unless f (position_after op x)) cut.unserved;
-        trace = trace ∙ ap (λ (c : Course). record { steps = c.steps; fault = Some (fault_of fault, long) }) (sym trace);
+        turns = turn_with x m.cpu.opcode (Some op) r.opcode held
+            ∙ ap (λ (f : Option Fault). goes_unless f (position_after op x)) cut.unserved;
+        trace = trace ∙ ap (λ (c : Course). record { steps = c.steps; fault = Some (fault_of fault, long) })
+            (sym trace);
         recorded = cut.recorded ∙ ap (λ (c : Course). map heard_of c.steps) (sym trace);
         kept = kept;
       }
 
 -- ---- the same of a machine whose state is read before it is changed
 
-pub done_from : (m k : MachineState) → k ≡ m → (states news : List ChipState) (op : Op) (x : Position) → decoded k.cpu.opcode ≡ Some op → Represents m states x →
-    (cpu : CpuState) (probe : ProbeState) (flow : Flow) (clocks : ℕ) (wrote : Option PortWrite) (steps : List Heard) → AreInRange k.cpu.registers →
-    (Holds k.cpu k.probe states op x → IsCarriedOut k.cpu cpu probe news steps op x) → flow ≡ unfetched probe.count → clocks ≡ row_clocks (row_of op) (is_taken op k.cpu.registers) →
+pub done_from : (m k : MachineState) → k ≡ m → (states news : List ChipState) (op : Op) (x : Position) →
+    decoded k.cpu.opcode ≡ Some op → Represents m states x →
+    (cpu : CpuState) (probe : ProbeState) (flow : Flow) (clocks : ℕ) (wrote : Option PortWrite) (steps : List Heard) →
+    AreInRange k.cpu.registers →
+    (HoldsInstruction k.cpu k.probe states op x → IsCarriedOut k.cpu cpu probe news steps op x) →
+    flow ≡ flow_before_fetch probe.count → clocks ≡ row_clocks (row_of op) (is_taken op k.cpu.registers) →
     wrote ≡ done_write (Some op) (k.phi + clocks) cpu.ports.latches steps →
-    IsDone (record k { probe = probe; cpu = cpu; flow = flow; phi = k.phi + clocks }) news (next x) (turn_course x) x.flat.state.writes wrote steps
+    IsDone (record k { probe = probe; cpu = cpu; flow = flow; phi = k.phi + clocks }) news (next x)
+    (turn_course x) x.flat.state.writes wrote steps
 done_from m k same states news op x held r cpu probe flow clocks wrote steps range carried moved spent told =
     let there : Represents k states x = subst (λ (y : MachineState). Represents y states x) (sym same) r in
-    done_of k states news op x held there cpu probe flow clocks wrote steps range (carried (holds_of k states op x held range there)) moved spent told
+    done_of k states news op x held there cpu probe flow clocks wrote steps range
+    (carried (holds_of k states op x held range there)) moved spent told
 
 -- what was kept is put back
-restored_same : (start cpu now : CpuState) (kept : KeptRegisters) → kept ≡ kept_of start → now ≡ restored kept cpu → IsRestorable start cpu → now ≡ start
-restored_same start cpu now kept kept_is now_is restorable = now_is ∙ ap (λ (k : KeptRegisters). restored k cpu) kept_is ∙ restorable
+restored_same : (start cpu now : CpuState) (kept : KeptRegisters) → kept ≡ kept_of start → now ≡ restored kept cpu →
+    IsRestorable start cpu → now ≡ start
+restored_same start cpu now kept kept_is now_is restorable =
+    now_is ∙ ap (λ (k : KeptRegisters). restored k cpu) kept_is ∙ restorable
 
-pub faulted_from : (m k : MachineState) → k ≡ m → (states : List ChipState) (op : Op) (x : Position) → decoded k.cpu.opcode ≡ Some op → Represents m states x →
-    (cpu now : CpuState) (probe : ProbeState) (kept : KeptRegisters) (fault : BusFault) (halt : Halt) (long : Bool) (steps : List Heard) → AreInRange k.cpu.registers →
-    (Holds k.cpu k.probe states op x → IsCutShort steps fault long op x) → kept ≡ kept_of k.cpu → now ≡ restored kept cpu → IsRestorable k.cpu cpu → halt ≡ FaultHalt fault long →
-    IsFaulted m (record k { probe = probe; cpu = now; mode = Stopped halt }) (next x) (turn_course x) fault long steps
-faulted_from m k same states op x held r cpu now probe kept fault halt long steps range cut kept_is now_is restorable stopped =
+pub faulted_from : (m k : MachineState) → k ≡ m → (states : List ChipState) (op : Op) (x : Position) →
+    decoded k.cpu.opcode ≡ Some op → Represents m states x →
+    (cpu now : CpuState) (probe : ProbeState) (kept : KeptRegisters) (fault : BusFault) (why : StoppedBy) (long : Bool)
+    (steps : List Heard) → AreInRange k.cpu.registers →
+    (HoldsInstruction k.cpu k.probe states op x → IsCutShort steps fault long op x) → kept ≡ kept_of k.cpu →
+    now ≡ restored kept cpu → IsRestorable k.cpu cpu → why ≡ ByFault fault long →
+    IsFaulted m (record k { probe = probe; cpu = now; mode = Stopped why }) (next x) (turn_course x) fault long steps
+faulted_from m k same states op x held r cpu now probe kept fault why long steps range cut kept_is now_is restorable
+    stopped =
     let there : Represents k states x = subst (λ (y : MachineState). Represents y states x) (sym same) r in
-    let after : MachineState = record k { probe = probe; cpu = now; mode = Stopped halt } in
-    let put_back : after ≡ record k { probe = probe; mode = Stopped (FaultHalt fault long) } =
-    ap (λ (c : CpuState). record k { probe = probe; cpu = c; mode = Stopped halt }) (restored_same k.cpu cpu now kept kept_is now_is restorable)
-    ∙ ap (λ (h : Halt). record k { probe = probe; mode = Stopped h }) stopped in
+    let after : MachineState = record k { probe = probe; cpu = now; mode = Stopped why } in
+    let put_back : after ≡ record k { probe = probe; mode = Stopped (ByFault fault long) } =
+    ap (λ (c : CpuState). record k { probe = probe; cpu = c; mode = Stopped why })
+    (restored_same k.cpu cpu now kept kept_is now_is restorable)
+    ∙ ap (λ (h : StoppedBy). record k { probe = probe; mode = Stopped h }) stopped in
     subst (λ (y : MachineState). IsFaulted y after (next x) (turn_course x) fault long steps) same
-    (faulted_of k states states op x held there after fault long steps (cut (holds_of k states op x held range there)) put_back)
+    (faulted_of k states states op x held there after fault long steps
+    (cut (holds_of k states op x held range there)) put_back)
 
 -- a stopped machine tells no step
-pub no_steps : (halt : Halt) → steps_in (halted halt) ≡ []
-no_steps (FaultHalt fault long) = refl
-no_steps (ReservedHalt at code) = refl
+pub no_steps : (why : StoppedBy) → steps_in (outcome_again why) ≡ []
+no_steps (ByFault fault long) = refl
+no_steps (ByOpcode at code) = refl

@@ -26,7 +26,8 @@ module _ {A B : Type 0} (f : A → Option B) where
   -- nothing is kept: of no element
   pub none_kept : (xs : List A) → filter_map f xs ≡ [] → (j : ℕ) (w : A) → slice_get xs j ≡ Some w → f w ≡ None
   none_kept [] e j w lies = cc
-  none_kept (x ∷ xs) e zero w lies = let same : x ≡ w = cc in subst (λ a. f a ≡ None) same (none_first (f x) (filter_map f xs) e)
+  none_kept (x ∷ xs) e zero w lies = let same : x ≡ w = cc in
+      subst (λ a. f a ≡ None) same (none_first (f x) (filter_map f xs) e)
   none_kept (x ∷ xs) e (suc j) w lies = none_kept xs (none_later (f x) (filter_map f xs) e) j w lies
 
   -- of no element: nothing is kept
@@ -39,12 +40,20 @@ module _ {A B : Type 0} (f : A → Option B) where
   one_kept [] y e = cc
   one_kept (x ∷ xs) y e = step (f x) refl e (one_kept xs y)
     where
-      step : (o : Option B) → f x ≡ o → cons_option o (filter_map f xs) ≡ y ∷ [] → (filter_map f xs ≡ y ∷ [] → OneKept f xs y) → OneKept f (x ∷ xs) y
+      step : (o : Option B) → f x ≡ o → cons_option o (filter_map f xs) ≡ y ∷ [] →
+          (filter_map f xs ≡ y ∷ [] → OneKept f xs y) → OneKept f (x ∷ xs) y
       step None is all later =
           let found : OneKept f xs y = later all in
-          record { place = suc found.place; element = found.element; lies = found.lies; kept = found.kept; others = others found }
+          record {
+            place = suc found.place;
+            element = found.element;
+            lies = found.lies;
+            kept = found.kept;
+            others = others found;
+          }
         where
-          others : (found : OneKept f xs y) (j : ℕ) (w : A) → slice_get (x ∷ xs) j ≡ Some w → (j ≡ suc found.place → ⊥) → f w ≡ None
+          others : (found : OneKept f xs y) (j : ℕ) (w : A) → slice_get (x ∷ xs) j ≡ Some w →
+              (j ≡ suc found.place → ⊥) → f w ≡ None
           others found zero w lies other = let same : x ≡ w = cc in subst (λ a. f a ≡ None) same is
           others found (suc j) w lies other = found.others j w lies (λ e. other (ap suc e))
       step (Some z) is all later =
@@ -57,7 +66,8 @@ module _ {A B : Type 0} (f : A → Option B) where
           others rest (suc j) w lies other = none_kept xs rest j w lies
 
   -- what is kept of any element is that one
-  pub kept_is : (xs : List A) (y : B) → OneKept f xs y → (j : ℕ) (w : A) (z : B) → slice_get xs j ≡ Some w → f w ≡ Some z → z ≡ y
+  pub kept_is : (xs : List A) (y : B) → OneKept f xs y → (j : ℕ) (w : A) (z : B) → slice_get xs j ≡ Some w →
+      f w ≡ Some z → z ≡ y
   kept_is xs y one j w z lies kept = ⊎_elim here elsewhere (cases_eq j one.place)
     where
       here : j ≡ one.place → z ≡ y
@@ -84,13 +94,15 @@ module _ {A B : Type 0} (f : A → Option B) where
       (keeps_one xs k v y lies kept (λ j w at other. others (suc j) w at (λ e. other (omega arith))))
 
 -- an element with its number, from a number on
-numbered_from : {A : Type 0} (n m : ℕ) (xs : List A) (j : ℕ) → n + j ≡ m → slice_get (enumerate_from n xs) j ≡ option_map (λ w. (m, w)) (slice_get xs j)
+numbered_from : {A : Type 0} (n m : ℕ) (xs : List A) (j : ℕ) → n + j ≡ m →
+    slice_get (enumerate_from n xs) j ≡ option_map (λ w. (m, w)) (slice_get xs j)
 numbered_from n m [] j e = refl
 numbered_from n m (x ∷ xs) zero e = let same : n ≡ m = omega arith in ap (λ k. Some (k, x)) same
 numbered_from n m (x ∷ xs) (suc j) e = numbered_from (n + 1) m xs j (omega arith)
 
 -- from 0 on
-pub slice_get-enumerate_from : {A : Type 0} (xs : List A) (j : ℕ) → slice_get (enumerate_from 0 xs) j ≡ option_map (λ w. (j, w)) (slice_get xs j)
+pub slice_get-enumerate_from : {A : Type 0} (xs : List A) (j : ℕ) →
+    slice_get (enumerate_from 0 xs) j ≡ option_map (λ w. (j, w)) (slice_get xs j)
 slice_get-enumerate_from xs j = numbered_from 0 j xs j (omega arith)
 
 -- an element that a function was mapped to comes of one

@@ -1,5 +1,6 @@
 pub mod Chains
 pub mod Places
+pub mod StepTests
 pub mod Values
 pub mod PortValues
 pub mod Bounds
@@ -8,6 +9,8 @@ pub mod ServedSteps
 pub mod ServedReads
 pub mod Slots
 pub mod PortReads
+pub mod Written
+pub mod Rows
 pub mod Holding
 pub mod Stores
 pub mod FirstViews
@@ -17,12 +20,10 @@ pub mod PortEnds
 pub mod Along
 pub mod Turns
 pub mod Starts
-pub mod Takers
 pub mod BusAnswers
 pub mod RackLaws
 pub mod Remains
 pub mod Carried
-pub mod Written
 pub mod Instructions
 pub mod Resets
 pub mod ResetPositions

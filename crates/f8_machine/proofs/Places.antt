@@ -28,13 +28,15 @@ abbrev pub last_along : Inputs → List Step → ℕ → ℕ
 last_along i [] last = last
 last_along i (s ∷ later) last = last_along i later (byte_of i s.source)
 
-with_place-append : (test : Bool) (place : ℕ × ℕ) (xs ys : List (ℕ × ℕ)) → with_place test place (xs ++ ys) ≡ with_place test place xs ++ ys
+with_place-append : (test : Bool) (place : ℕ × ℕ) (xs ys : List (ℕ × ℕ)) →
+    with_place test place (xs ++ ys) ≡ with_place test place xs ++ ys
 with_place-append true place xs ys = refl
 with_place-append false place xs ys = refl
 
 places_along-append : (second : Bool) (i : Inputs) (first later : List Step) (c : Count) (last : ℕ) →
     places_along second i (first ++ later) c last
-    ≡ places_along second i first c last ++ places_along second i later (moved_along second i first c) (last_along i first last)
+    ≡ places_along second i first c last ++ places_along second i later (moved_along second i first c)
+    (last_along i first last)
 places_along-append second i [] later c last = refl
 places_along-append second i (s ∷ first) later c last =
     ap (with_place (is_access (rule_of s.romc)) (s.romc, place_in s.romc c last))
@@ -46,18 +48,21 @@ abbrev pub named_place : Bool → Flow → Access → ℕ × ℕ
 named_place second c a = (a.romc, a.place second c)
 
 branch_places : (i : Inputs) (taken second : Bool) (c : Flow) (last : ℕ) → i.taken ≡ taken →
-    places_along second i (steps_before_fetch Branch i.taken) (fetched c) last ≡ map (named_place second c) (accesses_before_fetch Branch i)
+    places_along second i (steps_before_fetch Branch i.taken) (fetched c) last
+    ≡ map (named_place second c) (accesses_before_fetch Branch i)
 branch_places i true second c last e = rw e refl
 branch_places i false second c last e = rw e refl
 
 branch_isar_places : (i : Inputs) (taken second : Bool) (c : Flow) (last : ℕ) → i.taken ≡ taken →
-    places_along second i (steps_before_fetch BranchIsar i.taken) (fetched c) last ≡ map (named_place second c) (accesses_before_fetch BranchIsar i)
+    places_along second i (steps_before_fetch BranchIsar i.taken) (fetched c) last
+    ≡ map (named_place second c) (accesses_before_fetch BranchIsar i)
 branch_isar_places i true second c last e = rw e refl
 branch_isar_places i false second c last e = rw e refl
 
 -- the steps before the last fetch
 places_before : (row : Row) (i : Inputs) (second : Bool) (c : Flow) (last : ℕ) →
-    places_along second i (steps_before_fetch row i.taken) (fetched c) last ≡ map (named_place second c) (accesses_before_fetch row i)
+    places_along second i (steps_before_fetch row i.taken) (fetched c) last
+    ≡ map (named_place second c) (accesses_before_fetch row i)
 places_before Call i second c last = rw places_on-places_on
 places_before Jump i second c last = rw places_on-places_on
 places_before LoadData i second c last = rw places_on-places_on
@@ -71,6 +76,10 @@ pub places_follow : (row : Row) (i : Inputs) → HasBytes i → (second : Bool) 
     ≡ map (named_place second c) (accesses_before_fetch row i ++ last_access row i ∷ [])
 places_follow row i b second c last =
     places_along-append second i (steps_before_fetch row i.taken) (last_fetch row ∷ []) (fetched c) last
-    ∙ ap (λ places. places ++ places_along second i (last_fetch row ∷ []) (moved_along second i (steps_before_fetch row i.taken) (fetched c)) (last_along i (steps_before_fetch row i.taken) last)) (places_before row i second c last)
-    ∙ ap (λ (d : Count). map (named_place second c) (accesses_before_fetch row i) ++ places_along second i (last_fetch row ∷ []) d (last_along i (steps_before_fetch row i.taken) last)) (rests row i b second c)
+    ∙ ap (λ places. places ++ places_along second i (last_fetch row ∷ [])
+    (moved_along second i (steps_before_fetch row i.taken) (fetched c))
+    (last_along i (steps_before_fetch row i.taken) last)) (places_before row i second c last)
+    ∙ ap (λ (d : Count). map (named_place second c) (accesses_before_fetch row i)
+    ++ places_along second i (last_fetch row ∷ []) d (last_along i (steps_before_fetch row i.taken) last))
+    (rests row i b second c)
     ∙ sym (map-append (named_place second c) (accesses_before_fetch row i) (last_access row i ∷ []))

@@ -9,9 +9,11 @@ use Rattle.probe.specs.ProbeState.{ProbeState, probe_after}
 use Rattle.f8_machine.specs.MachineState.{probe_after_steps}
 use Rattle.f8_machine.specs.Rounds.{heard_in, after_steps, Runs, RackRuns}
 
-after_steps-append : (socket : ℕ) (first later : List Heard) (v : ChipView) → after_steps socket (first ++ later) v ≡ after_steps socket later (after_steps socket first v)
+after_steps-append : (socket : ℕ) (first later : List Heard) (v : ChipView) →
+    after_steps socket (first ++ later) v ≡ after_steps socket later (after_steps socket first v)
 after_steps-append socket [] later v = refl
-after_steps-append socket (h ∷ first) later v = after_steps-append socket first later (after_step 0 (heard_in socket h) v)
+after_steps-append socket (h ∷ first) later v =
+    after_steps-append socket first later (after_step 0 (heard_in socket h) v)
 
 runs_none : (socket : ℕ) (s : ChipState) → Runs [] socket s s
 runs_none socket s = record {
@@ -24,9 +26,11 @@ pub rack_runs_none : (n : ℕ) (states : List ChipState) → NumberedZip (Runs [
 rack_runs_none n [] = tt
 rack_runs_none n (s ∷ states) = (runs_none n s, rack_runs_none (n + 1) states)
 
-runs_more : (socket : ℕ) (steps : List Heard) (h : Heard) (a b c : ChipState) → Runs steps socket a b → SettlesStep h.romc h.long None h.byte socket b c → Runs (steps ++ h ∷ []) socket a c
+runs_more : (socket : ℕ) (steps : List Heard) (h : Heard) (a b c : ChipState) → Runs steps socket a b →
+    SettlesStep h.romc h.long None h.byte socket b c → Runs (steps ++ h ∷ []) socket a c
 runs_more socket steps h a b c ran settles = record {
-  view = settles.view ∙ ap (after_step 0 (heard_in socket h)) ran.view ∙ sym (after_steps-append socket steps (h ∷ []) a.view);
+  view = settles.view ∙ ap (after_step 0 (heard_in socket h)) ran.view
+      ∙ sym (after_steps-append socket steps (h ∷ []) a.view);
   heard = record {
     told = λ now is.
         let last = settles.heard.told now is in
@@ -35,14 +39,16 @@ runs_more socket steps h a b c ran settles = record {
           first.1,
           last.2
               ∙ ap (λ l. l ++ told_step (heard_in socket h) ∷ []) first.2
-              ∙ append_assoc first.0 (map (λ k. told_step (heard_in socket k)) steps) (told_step (heard_in socket h) ∷ [])
+              ∙ append_assoc first.0 (map (λ k. told_step (heard_in socket k)) steps)
+              (told_step (heard_in socket h) ∷ [])
               ∙ ap (λ l. first.0 ++ l) (sym (map-append (λ k. told_step (heard_in socket k)) steps (h ∷ []))),
         );
   };
   patch = settles.patch ∙ ran.patch;
 }
 
-pub rack_runs_more : (n : ℕ) (steps : List Heard) (h : Heard) (xs ys zs : List ChipState) → NumberedZip (Runs steps) n xs ys →
+pub rack_runs_more : (n : ℕ) (steps : List Heard) (h : Heard) (xs ys zs : List ChipState) →
+    NumberedZip (Runs steps) n xs ys →
     NumberedZip (SettlesStep h.romc h.long None h.byte) n ys zs → NumberedZip (Runs (steps ++ h ∷ [])) n xs zs
 rack_runs_more n steps h [] [] [] ran settles = tt
 rack_runs_more n steps h [] [] (z ∷ zs) ran settles = absurd settles
@@ -53,13 +59,16 @@ rack_runs_more n steps h (x ∷ xs) (y ∷ ys) (z ∷ zs) ran settles =
     (runs_more n steps h x y z ran.0 settles.0, rack_runs_more (n + 1) steps h xs ys zs ran.1 settles.1)
 
 -- a rack on which nothing happens
-pub rack_runs_stays : (steps : List Heard) (xs ys zs : List ChipState) → NumberedZip (Runs steps) 0 xs ys → zs ≡ ys → NumberedZip (Runs steps) 0 xs zs
+pub rack_runs_stays : (steps : List Heard) (xs ys zs : List ChipState) → NumberedZip (Runs steps) 0 xs ys → zs ≡ ys →
+    NumberedZip (Runs steps) 0 xs zs
 rack_runs_stays steps xs ys zs ran same = subst (λ (l : List ChipState). NumberedZip (Runs steps) 0 xs l) (sym same) ran
 
 pub rack_runs_nothing : (steps : List Heard) (states : List ChipState) → steps ≡ [] → RackRuns steps states states
-rack_runs_nothing steps states none = subst (λ (l : List Heard). RackRuns l states states) (sym none) (rack_runs_none 0 states)
+rack_runs_nothing steps states none = subst (λ (l : List Heard). RackRuns l states states) (sym none)
+    (rack_runs_none 0 states)
 
 -- the probe after one more step
-pub probe_after_steps-more : (steps : List Heard) (h : Heard) (p : ProbeState) → probe_after_steps (steps ++ h ∷ []) p ≡ probe_after h.romc h.byte (probe_after_steps steps p)
+pub probe_after_steps-more : (steps : List Heard) (h : Heard) (p : ProbeState) →
+    probe_after_steps (steps ++ h ∷ []) p ≡ probe_after h.romc h.byte (probe_after_steps steps p)
 probe_after_steps-more [] h p = refl
 probe_after_steps-more (k ∷ steps) h p = probe_after_steps-more steps h (probe_after k.romc k.byte p)

@@ -1,17 +1,19 @@
 -- A served read: the byte on the bus is the flat machine's at the probe's place, by the chips' own memory or by that place itself.
-use Rattle.std.proofs.Common.{◌≡◌, ℕ, ◌+◌, ◌*◌, ◌/◌, ◌%◌, ◌<◌, Bool, true, false, ◌||◌, List, [], ◌∷◌, refl, sym, ap, subst, ◌∙◌, ⊎_elim, eqb-true}
+use Rattle.std.proofs.Common.{◌≡◌, ℕ, ◌+◌, ◌*◌, ◌/◌, ◌%◌, ◌<◌, Bool, true, false, ◌||◌, List, [], ◌∷◌, refl, sym, ap}
+use Rattle.std.proofs.Common.{subst, ◌∙◌, ⊎_elim, eqb-true}
 use Rattle.std.specs.Prelude.{◌==◌, if◌then◌else◌, Option, Some, None, option_map, is_some, slice_get, slice_index}
 use Rattle.std.specs.List.{enumerate_from}
 use Rattle.std.proofs.lemmas.Bool.{cases_eq, or_cases}
 use Rattle.f8_spec.specs.BusCodes.{driver_of}
 use Rattle.f8_spec.specs.ChipState.{ChipView, byte_offer, counter_byte, held_byte, holds, offered, offered_at, place_of}
-use Rattle.f8_spec.specs.BusArbitration.{Served, place_in, parties, bystanders, lowest, read_verdict, judged, rule_by, rule_of, offer_of, offers, bus_byte, view_verdict}
+use Rattle.f8_spec.specs.BusArbitration.{Served, place_in, parties, bystanders, lowest, read_verdict, judged, rule_by}
+use Rattle.f8_spec.specs.BusArbitration.{rule_of, offer_of, offers, bus_byte, view_verdict}
 use Rattle.f8_spec.specs.declared.bus.BusRule.TheVariants.{Read, Store, PortWrite}
 use Rattle.f8_spec.specs.declared.bus.Driver.{Driver}
 use Rattle.f8_spec.specs.declared.bus.Driver.TheVariants.{Memory, CounterByte, Vector, Port, Cpu, Nobody}
 use Rattle.f8_spec.specs.declared.chips.Offer.{Offer}
 use Rattle.console_spec.specs.AddressSpace.{byte_at}
-use Rattle.f8_machine.specs.FlatViews.{HeldOnce, HoldsFlat}
+use Rattle.f8_machine.specs.RackViews.{HeldOnce, HoldsFlat}
 use Rattle.f8_machine.proofs.Kept.{keeps_one, slice_get-enumerate_from, Comes, comes}
 use Rattle.f8_machine.proofs.ServedSteps.{Agrees, OneAnswers, named_seats, one_answers, agrees_one, read_served}
 
@@ -39,15 +41,18 @@ AllOf P [] = Unit {0}
 AllOf P (k ∷ ks) = P k × AllOf P ks
 
 -- what holds of each of some codes, and where what is told before does, holds where either does
-told_or : (P : ℕ → Type 0) (told : Bool) (romc : ℕ) (ks : List ℕ) → is_told_or told romc ks ≡ true → (told ≡ true → P romc) → AllOf P ks → P romc
+told_or : (P : ℕ → Type 0) (told : Bool) (romc : ℕ) (ks : List ℕ) → is_told_or told romc ks ≡ true →
+    (told ≡ true → P romc) → AllOf P ks → P romc
 told_or P told romc [] is before all = before is
 told_or P told romc (k ∷ ks) is before all =
-    told_or P (told || romc == k) romc ks is (λ now. ⊎_elim before (λ here. subst P (sym (eqb-true romc k here)) all.0) (or_cases told (romc == k) now)) all.1
+    told_or P (told || romc == k) romc ks is (λ now. ⊎_elim before (λ here. subst P (sym (eqb-true romc k here)) all.0)
+    (or_cases told (romc == k) now)) all.1
 
 -- what holds of each of some codes holds of a code that is one of them
 one_of : (P : ℕ → Type 0) (romc : ℕ) (ks : List ℕ) → is_one_of romc ks ≡ true → AllOf P ks → P romc
 one_of P romc [] is all = cc
-one_of P romc (k ∷ ks) is all = told_or P (romc == k) romc ks is (λ here. subst P (sym (eqb-true romc k here)) all.0) all.1
+one_of P romc (k ∷ ks) is all = told_or P (romc == k) romc ks is
+    (λ here. subst P (sym (eqb-true romc k here)) all.0) all.1
 
 -- the codes whose byte memory drives
 memory_codes : List ℕ
@@ -59,17 +64,20 @@ counter_codes = 0x06 ∷ 0x07 ∷ 0x09 ∷ 0x0B ∷ 0x1E ∷ 0x1F ∷ []
 
 -- in a step with the code each chip offers what the driver says at the chip's own place
 abbrev OffersOwnPlace : Driver → ℕ → Type 0
-OffersOwnPlace driver romc = (v : ChipView) → offered romc false v ≡ offered_at driver romc v (place_in romc v.counters v.last)
+OffersOwnPlace driver romc = (v : ChipView) →
+    offered romc false v ≡ offered_at driver romc v (place_in romc v.counters v.last)
 
 -- a byte of memory
 offers_memory : (romc : ℕ) → is_one_of romc memory_codes ≡ true → OffersOwnPlace Memory romc
 unfolding memory_codes
-offers_memory romc is = one_of (OffersOwnPlace Memory) romc memory_codes is (λ v. refl, (λ v. refl, (λ v. refl, (λ v. refl, (λ v. refl, (λ v. refl, (λ v. refl, tt)))))))
+offers_memory romc is = one_of (OffersOwnPlace Memory) romc memory_codes is
+    (λ v. refl, (λ v. refl, (λ v. refl, (λ v. refl, (λ v. refl, (λ v. refl, (λ v. refl, tt)))))))
 
 -- a byte of the counter
 offers_counter : (romc : ℕ) → is_one_of romc counter_codes ≡ true → OffersOwnPlace CounterByte romc
 unfolding counter_codes
-offers_counter romc is = one_of (OffersOwnPlace CounterByte) romc counter_codes is (λ v. refl, (λ v. refl, (λ v. refl, (λ v. refl, (λ v. refl, (λ v. refl, tt))))))
+offers_counter romc is = one_of (OffersOwnPlace CounterByte) romc counter_codes is
+    (λ v. refl, (λ v. refl, (λ v. refl, (λ v. refl, (λ v. refl, (λ v. refl, tt))))))
 
 -- a code whose byte a chip reads: its driver is one of two
 pub data ReadBy (romc : ℕ) : Type 0 where
@@ -91,12 +99,16 @@ not_read false false false e = cc
 read_by : (romc : ℕ) → rule_of romc ≡ Read → ReadBy romc
 unfolding memory_codes counter_codes
 read_by romc reads =
-    step (romc == 0x05) (romc == 0x1A) (is_one_of romc memory_codes) (is_one_of romc counter_codes) _ refl refl refl reads
-    (not_read (romc == 0x0F || romc == 0x13) (romc == 0x1B) (romc == 0x04 || romc == 0x0D || romc == 0x10 || romc == 0x1D))
+    step (romc == 0x05) (romc == 0x1A) (is_one_of romc memory_codes)
+    (is_one_of romc counter_codes) _ refl refl refl reads
+    (not_read (romc == 0x0F || romc == 0x13) (romc == 0x1B)
+    (romc == 0x04 || romc == 0x0D || romc == 0x10 || romc == 0x1D))
   where
-    step : (store write memory counter : Bool) (rest : Driver) → is_one_of romc memory_codes ≡ memory → is_one_of romc counter_codes ≡ counter →
+    step : (store write memory counter : Bool) (rest : Driver) → is_one_of romc memory_codes ≡ memory →
+        is_one_of romc counter_codes ≡ counter →
         driver_of romc ≡ (if memory then Memory else if counter then CounterByte else rest) →
-        (if store then Store else if write then PortWrite else rule_by (if memory then Memory else if counter then CounterByte else rest)) ≡ Read →
+        (if store then Store else if write then PortWrite else rule_by
+        (if memory then Memory else if counter then CounterByte else rest)) ≡ Read →
         (rule_by rest ≡ Read → ⊥) → ReadBy romc
     step true write memory counter rest m c driven reads other = cc
     step false true memory counter rest m c driven reads other = cc
@@ -110,7 +122,8 @@ read_by romc reads =
 memory_unheld : (v : ChipView) (romc at : ℕ) → holds v at ≡ false → offered_at Memory romc v at ≡ None
 memory_unheld v romc at unheld = step (place_of v.pages (at / 256)) unheld
   where
-    step : (o : Option ℕ) → is_some o ≡ false → option_map (byte_offer at) (option_map (λ place. slice_index v.bytes (place * 256 + at % 256)) o) ≡ None
+    step : (o : Option ℕ) → is_some o ≡ false →
+        option_map (byte_offer at) (option_map (λ place. slice_index v.bytes (place * 256 + at % 256)) o) ≡ None
     step None unheld = refl
     step (Some place) unheld = cc
 
@@ -126,12 +139,15 @@ pub record Driven (romc reference : ℕ) (vs : List ChipView) : Type 0 where
   pub there : place_in romc chip.counters chip.last ≡ reference
   pub held : holds chip reference ≡ true
   pub once : HeldOnce vs reference place
-  pub others : (j : ℕ) (w : ChipView) → slice_get vs j ≡ Some w → (j ≡ place → ⊥) → holds w (place_in romc w.counters w.last) ≡ false
+  pub others : (j : ℕ) (w : ChipView) → slice_get vs j ≡ Some w → (j ≡ place → ⊥) →
+      holds w (place_in romc w.counters w.last) ≡ false
 
 -- that is so where the chips agree with the probe and one answers
-driven_by : (romc reference : ℕ) (vs : List ChipView) → Agrees Read romc reference vs → OneAnswers Read romc vs → Driven romc reference vs
+driven_by : (romc reference : ℕ) (vs : List ChipView) → Agrees Read romc reference vs → OneAnswers Read romc vs →
+    Driven romc reference vs
 driven_by romc reference vs agrees one =
-    let there : place_in romc one.chip.counters one.chip.last ≡ reference = agrees.there one.place one.chip one.lies one.answers_it in
+    let there : place_in romc one.chip.counters one.chip.last ≡ reference =
+    agrees.there one.place one.chip one.lies one.answers_it in
     record {
       place = one.place;
       chip = one.chip;
@@ -155,29 +171,39 @@ driven_by romc reference vs agrees one =
 pub driven_read : (romc reference : ℕ) (socket : Option ℕ) (vs : List ChipView) → rule_of romc ≡ Read →
     view_verdict romc None reference (enumerate_from 0 vs) ≡ Served socket → Driven romc reference vs
 driven_read romc reference socket vs reads served =
-    let by_rule : read_verdict reference (parties Read (named_seats romc vs)) (lowest (bystanders Read reference (named_seats romc vs))) ≡ Served socket =
-    subst (λ r. judged r None reference (parties r (named_seats romc vs)) (lowest (bystanders r reference (named_seats romc vs))) ≡ Served socket) reads served in
-    let one = read_served reference socket (parties Read (named_seats romc vs)) (lowest (bystanders Read reference (named_seats romc vs))) by_rule in
-    driven_by romc reference vs (agrees_one Read romc reference vs one) (one_answers Read romc reference vs one.party one.only)
+    let by_rule : read_verdict reference (parties Read (named_seats romc vs))
+    (lowest (bystanders Read reference (named_seats romc vs))) ≡ Served socket =
+    subst (λ r. judged r None reference (parties r (named_seats romc vs))
+    (lowest (bystanders r reference (named_seats romc vs))) ≡ Served socket) reads served in
+    let one = read_served reference socket (parties Read (named_seats romc vs))
+    (lowest (bystanders Read reference (named_seats romc vs))) by_rule in
+    driven_by romc reference vs (agrees_one Read romc reference vs one)
+    (one_answers Read romc reference vs one.party one.only)
 
 -- ---- the byte
 
 module _ (romc reference : ℕ) (vs : List ChipView) (driven : Driven romc reference vs) where
   -- its offer is the only one
-  only_offer : (driver : Driver) → OffersOwnPlace driver romc → ((v : ChipView) (at : ℕ) → holds v at ≡ false → offered_at driver romc v at ≡ None) → (o : Offer) →
+  only_offer : (driver : Driver) → OffersOwnPlace driver romc →
+      ((v : ChipView) (at : ℕ) → holds v at ≡ false → offered_at driver romc v at ≡ None) → (o : Offer) →
       offered_at driver romc driven.chip reference ≡ Some o → offers romc None (enumerate_from 0 vs) ≡ o ∷ []
-  only_offer driver own silent o says = keeps_one (offer_of romc None) (enumerate_from 0 vs) driven.place (driven.place, driven.chip) o
+  only_offer driver own silent o says = keeps_one (offer_of romc None) (enumerate_from 0 vs) driven.place
+      (driven.place, driven.chip) o
       (slice_get-enumerate_from vs driven.place ∙ ap (option_map (λ v. (driven.place, v))) driven.lies)
       (own driven.chip ∙ rw driven.there says) others
     where
-      others : (j : ℕ) (x : ℕ × ChipView) → slice_get (enumerate_from 0 vs) j ≡ Some x → (j ≡ driven.place → ⊥) → offer_of romc None x ≡ None
+      others : (j : ℕ) (x : ℕ × ChipView) → slice_get (enumerate_from 0 vs) j ≡ Some x → (j ≡ driven.place → ⊥) →
+          offer_of romc None x ≡ None
       others j x lies other =
-          let chip : Comes (λ (w : ChipView). (j, w)) (slice_get vs j) x = comes (λ w. (j, w)) (slice_get vs j) x (sym (slice_get-enumerate_from vs j) ∙ lies) in
+          let chip : Comes (λ (w : ChipView). (j, w)) (slice_get vs j) x =
+          comes (λ w. (j, w)) (slice_get vs j) x (sym (slice_get-enumerate_from vs j) ∙ lies) in
           let unheld = driven.others j chip.from chip.is other in
-          ap (offer_of romc None) chip.gives ∙ own chip.from ∙ silent chip.from (place_in romc chip.from.counters chip.from.last) unheld
+          ap (offer_of romc None) chip.gives ∙ own chip.from
+          ∙ silent chip.from (place_in romc chip.from.counters chip.from.last) unheld
 
 -- the byte of a served read is the flat machine's
-pub served_read : (romc byte reference : ℕ) (socket : Option ℕ) (vs : List ChipView) (memory : List ℕ) → rule_of romc ≡ Read → reference < 65536 →
+pub served_read : (romc byte reference : ℕ) (socket : Option ℕ) (vs : List ChipView) (memory : List ℕ) →
+    rule_of romc ≡ Read → reference < 65536 →
     HoldsFlat memory vs → view_verdict romc None reference (enumerate_from 0 vs) ≡ Served socket →
     bus_byte romc None byte (enumerate_from 0 vs) ≡ read_value (driver_of romc) romc memory reference
 served_read romc byte reference socket vs memory reads small flat served = step (read_by romc reads)
@@ -185,9 +211,19 @@ served_read romc byte reference socket vs memory reads small flat served = step 
     driven : Driven romc reference vs
     driven = driven_read romc reference socket vs reads served
 
-    step : ReadBy romc → bus_byte romc None byte (enumerate_from 0 vs) ≡ read_value (driver_of romc) romc memory reference
+    step : ReadBy romc → bus_byte romc None byte (enumerate_from 0 vs)
+        ≡ read_value (driver_of romc) romc memory reference
     step (ByMemory is own) =
-        let held : held_byte driven.chip reference ≡ Some (byte_at memory reference) = flat driven.place driven.chip reference small driven.lies driven.held driven.once in
-        rw (is, only_offer romc reference vs driven Memory own (λ v at. memory_unheld v romc at) (byte_offer reference (byte_at memory reference)) (ap (option_map (byte_offer reference)) held)) refl
+        let held : held_byte driven.chip reference ≡ Some (byte_at memory reference) =
+        flat driven.place driven.chip reference small driven.lies driven.held driven.once in
+        rw (
+          is,
+          only_offer romc reference vs driven Memory own (λ v at. memory_unheld v romc at)
+              (byte_offer reference (byte_at memory reference)) (ap (option_map (byte_offer reference)) held),
+        ) refl
     step (ByCounter is own) =
-        rw (is, only_offer romc reference vs driven CounterByte own (λ v at. counter_unheld v romc at) (byte_offer reference (counter_byte romc reference)) (rw driven.held refl)) refl
+        rw (
+          is,
+          only_offer romc reference vs driven CounterByte own (λ v at. counter_unheld v romc at)
+              (byte_offer reference (counter_byte romc reference)) (rw driven.held refl),
+        ) refl

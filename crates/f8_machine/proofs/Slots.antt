@@ -1,9 +1,13 @@
 -- What a bus step makes of a chip, and of a rack: its seat stays, its counters move by the code, and only a store changes its bytes.
-use Rattle.std.proofs.Common.{◌≡◌, ℕ, ◌+◌, ◌*◌, ◌/◌, ◌%◌, Bool, true, false, List, [], ◌∷◌, map, length, refl, sym, ap, ap₂, subst, ◌∙◌, eqb-true, length-set}
+use Rattle.std.proofs.Common.{◌≡◌, ℕ, ◌+◌, ◌*◌, ◌/◌, ◌%◌, Bool, true, false, List, [], ◌∷◌, map, length, refl, sym, ap}
+use Rattle.std.proofs.Common.{ap₂, subst, ◌∙◌, eqb-true, length-set}
 use Rattle.std.specs.Prelude.{◌==◌, if◌then◌else◌, Option, Some, None, option_map, slice_get}
 use Rattle.std.proofs.lemmas.Option.{slice_get-map}
 use Rattle.f8_spec.specs.BusCodes.{Count, moved_by}
-use Rattle.f8_spec.specs.ChipState.{ChipView, ChipState, HeardStep, PortRole, DataPort, VectorHigh, VectorLow, ControlPort, TimerPort, has_counters, has_second_counter, has_ram_at, place_of, bytes_with_at, bytes_with, stored, port_role, port_written, port_written_if, effect, after_step}
+use Rattle.f8_spec.specs.ChipState.{ChipView, ChipState, HeardStep, PortRole, DataPort, VectorHigh, VectorLow}
+use Rattle.f8_spec.specs.ChipState.{ControlPort, TimerPort, has_counters, has_second_counter, has_ram_at, place_of}
+use Rattle.f8_spec.specs.ChipState.{bytes_with_at, bytes_with, stored, port_role, port_written, port_written_if, effect}
+use Rattle.f8_spec.specs.ChipState.{after_step}
 use Rattle.f8_spec.specs.BusArbitration.{Seat, seat_of}
 use Rattle.f8_spec.specs.MicroSteps.{step_clocks}
 use Rattle.f8_spec.specs.declared.chips.ChipKind.{ChipKind}
@@ -57,7 +61,8 @@ effect_leaves : (romc byte : ℕ) (v : ChipView) → Leaves v (effect romc byte 
 effect_leaves romc byte v = step (romc == 0x05) (romc == 0x13) (romc == 0x1A)
   where
     step : (store ends write : Bool) → Leaves v (
-        if store then stored v.counters.dc0 byte v else if ends then v else if write then port_written_if (port_role v v.last) byte v else v)
+        if store then stored v.counters.dc0 byte v else if ends then v else if write then port_written_if
+        (port_role v v.last) byte v else v)
     step true ends write = stored_leaves v.counters.dc0 byte v
     step false true write = (leaves_all v).rest
     step false false true = (written_if_leaves (port_role v v.last) byte v).rest
@@ -67,7 +72,8 @@ effect_leaves romc byte v = step (romc == 0x05) (romc == 0x13) (romc == 0x1A)
 effect_bytes : (romc byte : ℕ) (v : ChipView) → (romc == 0x05) ≡ false → (effect romc byte false v).bytes ≡ v.bytes
 effect_bytes romc byte v other = rw other (step (romc == 0x13) (romc == 0x1A)).bytes
   where
-    step : (ends write : Bool) → LeavesBytes v (if ends then v else if write then port_written_if (port_role v v.last) byte v else v)
+    step : (ends write : Bool) → LeavesBytes v
+        (if ends then v else if write then port_written_if (port_role v v.last) byte v else v)
     step true write = leaves_all v
     step false true = written_if_leaves (port_role v v.last) byte v
     step false false = leaves_all v
@@ -76,12 +82,14 @@ effect_bytes romc byte v other = rw other (step (romc == 0x13) (romc == 0x1A)).b
 
 -- every kind of chip has counters
 counters_move : (kind : ChipKind) (romc byte : ℕ) (c : Count) →
-    (if has_counters kind then moved_by romc byte (has_second_counter kind) c else c) ≡ moved_by romc byte (has_second_counter kind) c
+    (if has_counters kind then moved_by romc byte (has_second_counter kind) c else c)
+    ≡ moved_by romc byte (has_second_counter kind) c
 counters_move Psu romc byte c = refl
 counters_move Smi romc byte c = refl
 
 -- the seat stays: the kind, the pages and the first port
-pub seat_of-after : (romc byte clocks : ℕ) (v : ChipView) → seat_of (after_step 0 (plain_step romc byte clocks) v) ≡ seat_of v
+pub seat_of-after : (romc byte clocks : ℕ) (v : ChipView) →
+    seat_of (after_step 0 (plain_step romc byte clocks) v) ≡ seat_of v
 seat_of-after romc byte clocks v = (effect_leaves romc byte v).seat
 
 -- the pages
@@ -97,7 +105,8 @@ counters-after romc byte clocks v =
     ∙ ap₂ (λ (s : Seat) (c : Count). moved_by romc byte (has_second_counter s.kind) c) left.seat left.counters
 
 -- only a store changes bytes
-pub bytes-after : (romc byte clocks : ℕ) (v : ChipView) → (romc == 0x05) ≡ false → (after_step 0 (plain_step romc byte clocks) v).bytes ≡ v.bytes
+pub bytes-after : (romc byte clocks : ℕ) (v : ChipView) → (romc == 0x05) ≡ false →
+    (after_step 0 (plain_step romc byte clocks) v).bytes ≡ v.bytes
 bytes-after romc byte clocks v other = effect_bytes romc byte v other
 
 -- a store changes the byte at the chip's own data counter, where the chip has RAM there
@@ -111,7 +120,8 @@ bytes-stored byte clocks v = step (has_ram_at v v.counters.dc0)
     step false = refl
 
 -- the bytes stay as many
-pub length-bytes_with : (pages : List Page) (bytes : List ℕ) (at byte : ℕ) → length (bytes_with pages bytes at byte) ≡ length bytes
+pub length-bytes_with : (pages : List Page) (bytes : List ℕ) (at byte : ℕ) →
+    length (bytes_with pages bytes at byte) ≡ length bytes
 length-bytes_with pages bytes at byte = step (place_of pages (at / 256))
   where
     step : (place : Option ℕ) → length (bytes_with_at bytes at byte place) ≡ length bytes
@@ -119,51 +129,65 @@ length-bytes_with pages bytes at byte = step (place_of pages (at / 256))
     step (Some place) = length-set bytes (place * 256 + at % 256) byte
 
 -- after a store
-length-stored : (byte clocks : ℕ) (v : ChipView) → length (after_step 0 (plain_step 0x05 byte clocks) v).bytes ≡ length v.bytes
+length-stored : (byte clocks : ℕ) (v : ChipView) →
+    length (after_step 0 (plain_step 0x05 byte clocks) v).bytes ≡ length v.bytes
 length-stored byte clocks v = ap length (bytes-stored byte clocks v) ∙ step (has_ram_at v v.counters.dc0)
   where
-    step : (ram : Bool) → length (if ram then bytes_with v.pages v.bytes v.counters.dc0 byte else v.bytes) ≡ length v.bytes
+    step : (ram : Bool) → length (if ram then bytes_with v.pages v.bytes v.counters.dc0 byte else v.bytes)
+        ≡ length v.bytes
     step true = length-bytes_with v.pages v.bytes v.counters.dc0 byte
     step false = refl
 
 -- after any code
-length-after : (romc byte clocks : ℕ) (v : ChipView) → length (after_step 0 (plain_step romc byte clocks) v).bytes ≡ length v.bytes
+length-after : (romc byte clocks : ℕ) (v : ChipView) →
+    length (after_step 0 (plain_step romc byte clocks) v).bytes ≡ length v.bytes
 length-after romc byte clocks v = step (romc == 0x05) refl
   where
-    step : (store : Bool) → (romc == 0x05) ≡ store → length (after_step 0 (plain_step romc byte clocks) v).bytes ≡ length v.bytes
-    step true is = subst (λ code. length (after_step 0 (plain_step code byte clocks) v).bytes ≡ length v.bytes) (sym (eqb-true romc 0x05 is)) (length-stored byte clocks v)
+    step : (store : Bool) → (romc == 0x05) ≡ store →
+        length (after_step 0 (plain_step romc byte clocks) v).bytes ≡ length v.bytes
+    step true is = subst (λ code. length (after_step 0 (plain_step code byte clocks) v).bytes ≡ length v.bytes)
+        (sym (eqb-true romc 0x05 is)) (length-stored byte clocks v)
     step false is = ap length (bytes-after romc byte clocks v is)
 
 -- so a chip has 256 for each page
-pub filled-after : (romc byte clocks : ℕ) (v : ChipView) → IsFilled v → IsFilled (after_step 0 (plain_step romc byte clocks) v)
+pub filled-after : (romc byte clocks : ℕ) (v : ChipView) → IsFilled v →
+    IsFilled (after_step 0 (plain_step romc byte clocks) v)
 filled-after romc byte clocks v filled =
     length-after romc byte clocks v ∙ filled ∙ ap (λ pages. length pages * 256) (sym (pages-after romc byte clocks v))
 
 -- ---- the step on a rack
 
 -- the seats of a list of chips stay
-pub seats-after : (romc byte clocks : ℕ) (vs : List ChipView) → map seat_of (map (after_step 0 (plain_step romc byte clocks)) vs) ≡ map seat_of vs
+pub seats-after : (romc byte clocks : ℕ) (vs : List ChipView) →
+    map seat_of (map (after_step 0 (plain_step romc byte clocks)) vs) ≡ map seat_of vs
 seats-after romc byte clocks [] = refl
-seats-after romc byte clocks (v ∷ vs) = ap₂ (λ s ss. s ∷ ss) (seat_of-after romc byte clocks v) (seats-after romc byte clocks vs)
+seats-after romc byte clocks (v ∷ vs) = ap₂ (λ s ss. s ∷ ss) (seat_of-after romc byte clocks v)
+    (seats-after romc byte clocks vs)
 
 -- a chip after a step comes of the chip at its place
-pub comes_after : (romc byte clocks : ℕ) (vs : List ChipView) (place : ℕ) (v w : ChipView) → slice_get vs place ≡ Some v →
-    slice_get (map (after_step 0 (plain_step romc byte clocks)) vs) place ≡ Some w → after_step 0 (plain_step romc byte clocks) v ≡ w
+pub comes_after : (romc byte clocks : ℕ) (vs : List ChipView) (place : ℕ) (v w : ChipView) →
+    slice_get vs place ≡ Some v →
+    slice_get (map (after_step 0 (plain_step romc byte clocks)) vs) place ≡ Some w →
+    after_step 0 (plain_step romc byte clocks) v ≡ w
 comes_after romc byte clocks vs place v w lies lies_after =
     let step : ChipView → ChipView = after_step 0 (plain_step romc byte clocks) in
-    let both : Some (step v) ≡ Some w = ap (option_map step) (sym lies) ∙ sym (slice_get-map step vs place) ∙ lies_after in
+    let both : Some (step v) ≡ Some w = ap (option_map step) (sym lies) ∙ sym (slice_get-map step vs place)
+    ∙ lies_after in
     cc
 
 -- the views from a socket on
-settled_from : (romc : ℕ) (long : Bool) (byte n : ℕ) (olds news : List ChipState) → NumberedZip (SettlesStep romc long None byte) n olds news →
+settled_from : (romc : ℕ) (long : Bool) (byte n : ℕ) (olds news : List ChipState) →
+    NumberedZip (SettlesStep romc long None byte) n olds news →
     views news ≡ map (after_step 0 (plain_step romc byte (step_clocks long))) (views olds)
 settled_from romc long byte n [] [] all = refl
 settled_from romc long byte n [] (new ∷ news) all = absurd all
 settled_from romc long byte n (old ∷ olds) [] all = absurd all
-settled_from romc long byte n (old ∷ olds) (new ∷ news) all = ap₂ (λ v vs. v ∷ vs) all.0.view (settled_from romc long byte (n + 1) olds news all.1)
+settled_from romc long byte n (old ∷ olds) (new ∷ news) all =
+    ap₂ (λ v vs. v ∷ vs) all.0.view (settled_from romc long byte (n + 1) olds news all.1)
 
 -- the views of a rack that heard a step
-pub views_settled : (romc : ℕ) (long : Bool) (byte : ℕ) (olds news : List ChipState) → RackSettles romc long None byte olds news →
+pub views_settled : (romc : ℕ) (long : Bool) (byte : ℕ) (olds news : List ChipState) →
+    RackSettles romc long None byte olds news →
     map (λ s. s.view) news ≡ map (after_step 0 (plain_step romc byte (step_clocks long))) (map (λ s. s.view) olds)
 views_settled romc long byte olds news all = settled_from romc long byte 0 olds news all
 

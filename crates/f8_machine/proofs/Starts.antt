@@ -1,68 +1,34 @@
 -- How an instruction and reset begin and end on the bus.
-use Rattle.std.proofs.Common.{◌≡◌, Bool, true, false, List, [], ◌∷◌, ◌++◌, append-nil, length, map, refl, ap, ◌∙◌, sym, subst, arith}
+use Rattle.std.proofs.Common.{◌≡◌, Bool, true, false, List, [], ◌∷◌, ◌++◌, append-nil, length, map, refl, ap, ◌∙◌, sym}
+use Rattle.std.proofs.Common.{subst, arith}
 use Rattle.std.specs.Prelude.{None}
 use Rattle.f8_spec.specs.BusCodes.{Count}
-use Rattle.f8_spec.specs.ChipState.{ChipView}
+use Rattle.f8_spec.specs.ChipState.{ChipView, ChipState}
 use Rattle.f8_spec.specs.Instructions.{row_of}
 use Rattle.f8_spec.specs.MicroSteps.{steps_of, reset_steps}
 use Rattle.f8_spec.specs.declared.instructions.Op.{Op}
-use Rattle.f8_spec.specs.declared.instructions.Row.{Row}
-use Rattle.f8_spec.specs.declared.instructions.Row.TheVariants.{StackToK, StackFromK, CallK, JumpQ, DataToPair, DataFromQ, DataFromH, ReadData, StoreData, Return, Immediate, PortIn, PortOut, Call, Jump, LoadData, Exchange, AddData, Branch, BranchIsar, ShortIn, ShortOut, Idle}
 use Rattle.console_spec.specs.Processor.{Flow, Inputs, flow_after, write_at, with_write}
 use Rattle.console_spec.specs.FlatMachine.{gets, gets_all, flat_after}
 use Rattle.console_spec.specs.BusAccesses.{Access, accesses_before_fetch, last_access}
 use Rattle.console_spec.specs.Services.{first_fault}
 use Rattle.console_spec.specs.BusTrace.{TracedStep}
-use Rattle.console_spec.specs.Run.{Position, seats_of, instruction_fault, instruction_course, reset_fault, reset_access, reset_gets, reset_course}
+use Rattle.console_spec.specs.Run.{Position, seats_of, instruction_fault, instruction_course, reset_fault, reset_access}
+use Rattle.console_spec.specs.Run.{reset_gets, reset_course}
 use Rattle.console_spec.proofs.InputLaws.{accesses-with_opcode}
 use Rattle.console_spec.specs.CounterCopies.{fetched, unreset}
 use Rattle.console_spec.proofs.Walks.{follows}
 use Rattle.probe.specs.ProbeState.{ProbeState}
-use Rattle.f8_machine.specs.FlatViews.{HoldsFlat}
-use Rattle.f8_machine.specs.PortViews.{HoldsPorts}
-use Rattle.f8_machine.proofs.PortValues.{bus_port, writes_go, port_values_of, from_port}
+use Rattle.data_bus.specs.Racks.{views}
+use Rattle.f8_machine.specs.RackViews.{HoldsFlat, HoldsPorts, AreCopies}
+use Rattle.f8_machine.proofs.PortValues.{bus_port, from_port}
 use Rattle.f8_machine.proofs.Places.{places_follow, named_place}
-use Rattle.f8_machine.proofs.Values.{Values, memory_along, memory_goes, memory_after-with_opcode, values_of, from_flat}
-use Rattle.f8_machine.specs.Refinement.{AreAddresses}
-use Rattle.f8_machine.proofs.Bounds.{GetsBytes, places_small}
-use Rattle.f8_machine.specs.ChipCopies.{AreCopies}
-use Rattle.f8_machine.proofs.Along.{Quiet, Aim, Along}
+use Rattle.f8_machine.proofs.Values.{Values, memory_along, memory_after-with_opcode, from_flat}
+use Rattle.f8_machine.specs.Refinement.{AreAddresses, RackStands}
+use Rattle.f8_machine.proofs.Bounds.{GetsBytes}
+use Rattle.f8_machine.proofs.Along.{Aim, Along}
+use Rattle.f8_machine.proofs.Rows.{row_facts, usual_steps, memory_goes, values_of, places_small}
 
 -- ---- an instruction
-
-quiet_branch : (taken : Bool) → Quiet (steps_of Branch taken)
-quiet_branch true = ((λ k. refl), ((λ k. refl), ((λ k. refl), tt)))
-quiet_branch false = ((λ k. refl), ((λ k. refl), ((λ k. refl), tt)))
-
-quiet_branch_isar : (taken : Bool) → Quiet (steps_of BranchIsar taken)
-quiet_branch_isar true = ((λ k. refl), ((λ k. refl), tt))
-quiet_branch_isar false = ((λ k. refl), ((λ k. refl), tt))
-
-quiet_of : (row : Row) (taken : Bool) → Quiet (steps_of row taken)
-quiet_of StackToK taken = ((λ k. refl), ((λ k. refl), ((λ k. refl), tt)))
-quiet_of StackFromK taken = ((λ k. refl), ((λ k. refl), ((λ k. refl), tt)))
-quiet_of CallK taken = ((λ k. refl), ((λ k. refl), ((λ k. refl), tt)))
-quiet_of JumpQ taken = ((λ k. refl), ((λ k. refl), ((λ k. refl), tt)))
-quiet_of DataToPair taken = ((λ k. refl), ((λ k. refl), ((λ k. refl), tt)))
-quiet_of DataFromQ taken = ((λ k. refl), ((λ k. refl), ((λ k. refl), tt)))
-quiet_of DataFromH taken = ((λ k. refl), ((λ k. refl), ((λ k. refl), tt)))
-quiet_of ReadData taken = ((λ k. refl), ((λ k. refl), tt))
-quiet_of StoreData taken = ((λ k. refl), ((λ k. refl), tt))
-quiet_of Return taken = ((λ k. refl), ((λ k. refl), tt))
-quiet_of Immediate taken = ((λ k. refl), ((λ k. refl), tt))
-quiet_of PortIn taken = ((λ k. refl), ((λ k. refl), ((λ k. refl), tt)))
-quiet_of PortOut taken = ((λ k. refl), ((λ k. refl), ((λ k. refl), tt)))
-quiet_of Call taken = ((λ k. refl), ((λ k. refl), ((λ k. refl), ((λ k. refl), ((λ k. refl), tt)))))
-quiet_of Jump taken = ((λ k. refl), ((λ k. refl), ((λ k. refl), ((λ k. refl), tt))))
-quiet_of LoadData taken = ((λ k. refl), ((λ k. refl), ((λ k. refl), ((λ k. refl), ((λ k. refl), tt)))))
-quiet_of Exchange taken = ((λ k. refl), ((λ k. refl), tt))
-quiet_of AddData taken = ((λ k. refl), ((λ k. refl), tt))
-quiet_of Branch taken = quiet_branch taken
-quiet_of BranchIsar taken = quiet_branch_isar taken
-quiet_of ShortIn taken = ((λ k. refl), ((λ k. refl), ((λ k. refl), tt)))
-quiet_of ShortOut taken = ((λ k. refl), ((λ k. refl), ((λ k. refl), tt)))
-quiet_of Idle taken = ((λ k. refl), ((λ k. refl), tt))
-quiet_of row taken = ((λ k. refl), tt)
 
 -- where an instruction leads to
 abbrev pub instruction_aim : Op → Position → Aim
@@ -70,20 +36,23 @@ instruction_aim op x = record {
   fault = instruction_fault op x;
   course = instruction_course op x;
   memory = (flat_after op (seats_of x.copies) x.flat).memory;
-  writes = with_write (write_at (flat_after op (seats_of x.copies) x.flat).state.phi (gets_all op (seats_of x.copies) x.flat).accumulator (bus_port (row_of op) (gets_all op (seats_of x.copies) x.flat) (seats_of x.copies))) x.flat.state.writes;
+  writes = with_write (write_at (flat_after op (seats_of x.copies) x.flat).state.phi
+      (gets_all op (seats_of x.copies) x.flat).accumulator
+      (bus_port (row_of op) (gets_all op (seats_of x.copies) x.flat) (seats_of x.copies))) x.flat.state.writes;
   phi = (flat_after op (seats_of x.copies) x.flat).state.phi;
   flow = flow_after (row_of op) (gets_all op (seats_of x.copies) x.flat);
 }
 
-pub along-starts : (op : Op) (x : Position) (probe : ProbeState) (vs : List ChipView) →
+pub along-starts : (op : Op) (x : Position) (probe : ProbeState) (states : List ChipState) →
     GetsBytes (gets_all op (seats_of x.copies) x.flat) → AreAddresses x.flat.state.flow →
-    probe.count ≡ fetched x.flat.state.flow → AreCopies (λ second c. fetched c) probe.last x.copies vs →
-    HoldsFlat x.flat.memory vs → HoldsPorts x.flat.state.keys x.flat.state.writes vs → length x.flat.memory ≡ 65536 →
-    Along (gets_all op (seats_of x.copies) x.flat) x (instruction_aim op x) (steps_of (row_of op) (gets_all op (seats_of x.copies) x.flat).taken) probe vs []
-along-starts op x probe vs bytes addresses reference copies flat ports whole =
+    RackStands fetched probe states x → length x.flat.memory ≡ 65536 →
+    Along (gets_all op (seats_of x.copies) x.flat) x (instruction_aim op x)
+    (steps_of (row_of op) (gets_all op (seats_of x.copies) x.flat).taken) probe (views states) []
+along-starts op x probe states bytes addresses rack whole =
     let seats = seats_of x.copies in
     let i = gets_all op seats x.flat in
     let row = row_of op in
+    let facts = row_facts row in
     let c = x.flat.state.flow in
     record {
       now = λ second d. fetched d;
@@ -92,20 +61,23 @@ along-starts op x probe vs bytes addresses reference copies flat ports whole =
       accesses = accesses_before_fetch row i ++ last_access row i ∷ [];
       places = λ second d. places_follow row i bytes.low second d probe.last;
       moves = λ second d. follows row i bytes.low second d;
-      reference = reference;
-      copies = copies;
-      flat = flat;
-      ports = ports;
+      reference = rack.reference;
+      copies = rack.copies;
+      flat = rack.flat;
+      ports = rack.ports;
       whole = whole;
-      values = subst (λ (k : Count). Values seats i (steps_of row i.taken) k probe.last x.flat.memory) (sym reference)
+      values = subst (λ (k : Count). Values seats i (steps_of row i.taken) k probe.last x.flat.memory)
+          (sym rack.reference)
           (values_of seats row i bytes.low c probe.last x.flat.memory (from_flat op seats x.flat));
-      port_values = port_values_of seats x.flat.state.keys (flat_after op seats x.flat).state.phi (row_of op) i probe.last x.flat.state.writes (from_port op seats x.flat);
-      writes_later = writes_go seats (flat_after op seats x.flat).state.phi (row_of op) i probe.last x.flat.state.writes;
-      quiet = quiet_of row i.taken;
+      port_values = facts.ports.port_values i.taken seats x.flat.state.keys
+          (flat_after op seats x.flat).state.phi i probe.last x.flat.state.writes
+          (from_port op seats x.flat);
+      writes_later = facts.ports.writes i.taken seats
+          (flat_after op seats x.flat).state.phi i probe.last x.flat.state.writes;
       small = places_small row i c bytes addresses;
       fault = ap (first_fault c x.copies) (accesses-with_opcode row i.opcode (gets op (seats_of x.copies) x.flat));
       course = refl;
-      later = ap (λ (k : Count). memory_along seats i (steps_of row i.taken) k probe.last x.flat.memory) reference
+      later = ap (λ (k : Count). memory_along seats i (steps_of row i.taken) k probe.last x.flat.memory) rack.reference
           ∙ memory_goes seats row i c probe.last x.flat.memory
           ∙ memory_after-with_opcode seats row i.opcode (gets op (seats_of x.copies) x.flat) c x.flat.memory;
     }
@@ -114,28 +86,32 @@ along-starts op x probe vs bytes addresses reference copies flat ports whole =
 
 -- where reset leads to
 abbrev pub reset_aim : Position → Aim
-reset_aim x = record { fault = reset_fault x; course = reset_course x; memory = x.flat.memory; writes = x.flat.state.writes; phi = 0; flow = λ second c. record c { p = 0 } }
+reset_aim x = record {
+  fault = reset_fault x;
+  course = reset_course x;
+  memory = x.flat.memory;
+  writes = x.flat.state.writes;
+  phi = 0;
+  flow = λ second c. record c { p = 0 };
+}
 
-pub reset-starts : (x : Position) (probe : ProbeState) (vs : List ChipView) →
-    probe.count ≡ unreset x.flat.state.flow → AreCopies (λ second c. unreset c) probe.last x.copies vs →
-    HoldsFlat x.flat.memory vs → HoldsPorts x.flat.state.keys x.flat.state.writes vs → length x.flat.memory ≡ 65536 →
-    Along (reset_gets x.flat.memory) x (reset_aim x) reset_steps probe vs []
-reset-starts x probe vs reference copies flat ports whole = record {
+pub reset-starts : (x : Position) (probe : ProbeState) (states : List ChipState) → RackStands unreset probe states x →
+    length x.flat.memory ≡ 65536 → Along (reset_gets x.flat.memory) x (reset_aim x) reset_steps probe (views states) []
+reset-starts x probe states rack whole = record {
   now = λ second c. unreset c;
   memory = x.flat.memory;
   writes = x.flat.state.writes;
   accesses = reset_access ∷ [];
   places = λ second c. refl;
   moves = λ second c. refl;
-  reference = reference;
-  copies = copies;
-  flat = flat;
-  ports = ports;
+  reference = rack.reference;
+  copies = rack.copies;
+  flat = rack.flat;
+  ports = rack.ports;
   whole = whole;
   values = (tt, (tt, (refl, tt)));
   port_values = (tt, (tt, (tt, tt)));
   writes_later = refl;
-  quiet = ((λ k. refl), ((λ k. refl), ((λ k. refl), tt)));
   small = (λ read. omega arith, tt);
   fault = refl;
   course = refl;
@@ -145,7 +121,8 @@ reset-starts x probe vs reference copies flat ports whole = record {
 -- ---- the end
 
 -- all steps are served: the counters and the memory are those that the steps lead to
-pub record Ended (x : Position) (aim : Aim) (probe : ProbeState) (vs : List ChipView) (so_far : List TracedStep) : Type 0 where
+pub record Ended (x : Position) (aim : Aim) (probe : ProbeState) (vs : List ChipView)
+    (so_far : List TracedStep) : Type 0 where
   pub now : Bool → Flow → Count
   pub moves : (second : Bool) (c : Flow) → now second c ≡ fetched (aim.flow second c)
   pub reference : probe.count ≡ fetched (aim.flow true x.flat.state.flow)
@@ -155,7 +132,9 @@ pub record Ended (x : Position) (aim : Aim) (probe : ProbeState) (vs : List Chip
   pub fault : aim.fault ≡ None
   pub course : aim.course ≡ record { steps = so_far; fault = None }
 
-ended_by : (i : Inputs) (x : Position) (aim : Aim) (probe : ProbeState) (vs : List ChipView) (so_far : List TracedStep) (left : Along i x aim [] probe vs so_far) (accesses : List Access) → left.accesses ≡ accesses → Ended x aim probe vs so_far
+ended_by : (i : Inputs) (x : Position) (aim : Aim) (probe : ProbeState) (vs : List ChipView) (so_far : List TracedStep)
+    (left : Along i x aim [] probe vs so_far) (accesses : List Access) → left.accesses ≡ accesses →
+    Ended x aim probe vs so_far
 ended_by i x aim probe vs so_far left [] none = record {
   now = left.now;
   moves = left.moves;
@@ -167,8 +146,10 @@ ended_by i x aim probe vs so_far left [] none = record {
   course = sym left.course ∙ ap (λ (l : List TracedStep). record { steps = l; fault = None }) (append-nil so_far);
 }
 ended_by i x aim probe vs so_far left (a ∷ later) some =
-    let none : [] ≡ map (named_place true x.flat.state.flow) (a ∷ later) = left.places true x.flat.state.flow ∙ ap (map (named_place true x.flat.state.flow)) some in
+    let none : [] ≡ map (named_place true x.flat.state.flow) (a ∷ later) =
+    left.places true x.flat.state.flow ∙ ap (map (named_place true x.flat.state.flow)) some in
     cc
 
-pub along-ends : (i : Inputs) (x : Position) (aim : Aim) (probe : ProbeState) (vs : List ChipView) (so_far : List TracedStep) → Along i x aim [] probe vs so_far → Ended x aim probe vs so_far
+pub along-ends : (i : Inputs) (x : Position) (aim : Aim) (probe : ProbeState) (vs : List ChipView)
+    (so_far : List TracedStep) → Along i x aim [] probe vs so_far → Ended x aim probe vs so_far
 along-ends i x aim probe vs so_far left = ended_by i x aim probe vs so_far left left.accesses refl

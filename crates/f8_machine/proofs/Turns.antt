@@ -24,7 +24,9 @@ use Rattle.f8_machine.proofs.PortSteps.{ports_more}
 use Rattle.f8_spec.specs.declared.bus.Driver.{Driver}
 use Rattle.f8_spec.specs.declared.bus.Driver.TheVariants.{Port}
 use Rattle.console_spec.specs.Writes.{chip_port_byte}
-use Rattle.f8_machine.proofs.Along.{Aim, Along, AtAccess, at_access, with_steps, with_steps-step, with_steps-stop, fault_stops, no_fault, no_access, course_idle, course_access, flat_more, long_more, byte_is}
+use Rattle.f8_machine.proofs.Along.{Aim, Along, AtAccess, at_access, with_steps, with_steps-step, with_steps-stop}
+use Rattle.f8_machine.proofs.Along.{fault_stops, no_fault, no_access, course_idle, course_access, flat_more, long_more}
+use Rattle.f8_machine.proofs.Along.{byte_is}
 
 -- the bus rule on a step
 abbrev pub step_verdict : Step → ProbeState → List ChipView → Verdict
@@ -34,45 +36,60 @@ step_verdict s probe vs = view_verdict s.romc None (place_in s.romc probe.count 
 abbrev pub stepped : Step → ℕ → ℕ → List ChipView → List ChipView
 stepped s byte clocks vs = map (after_step 0 (plain_step s.romc byte clocks)) vs
 
-module _ (i : Inputs) (x : Position) (aim : Aim) (s : Step) (later : List Step) (probe : ProbeState) (vs : List ChipView) (so_far : List TracedStep) where
+module _ (i : Inputs) (x : Position) (aim : Aim) (s : Step) (later : List Step) (probe : ProbeState)
+    (vs : List ChipView) (so_far : List TracedStep) where
   -- the step as an access, or as none
-  accessed : (left : Along i x aim (s ∷ later) probe vs so_far) → is_access (rule_of s.romc) ≡ true → AtAccess i s later left.now probe.last left.accesses
+  accessed : (left : Along i x aim (s ∷ later) probe vs so_far) → is_access (rule_of s.romc) ≡ true →
+      AtAccess i s later left.now probe.last left.accesses
   accessed left e = at_access i s later left.now probe.last x.flat.state.flow left.accesses
-      (λ second c. subst (λ (b : Bool). with_place b (s.romc, place_in s.romc (left.now second c) probe.last) (places_along second i later (moved_by s.romc (byte_of i s.source) second (left.now second c)) (byte_of i s.source)) ≡ map (named_place second c) left.accesses) e (left.places second c))
+      (λ second c. subst (λ (b : Bool). with_place b (s.romc, place_in s.romc (left.now second c) probe.last)
+      (places_along second i later (moved_by s.romc (byte_of i s.source) second (left.now second c))
+      (byte_of i s.source)) ≡ map (named_place second c) left.accesses) e (left.places second c))
 
-  idle_places : (left : Along i x aim (s ∷ later) probe vs so_far) → is_access (rule_of s.romc) ≡ false → (second : Bool) (c : Flow) →
-      places_along second i later (moved_by s.romc (byte_of i s.source) second (left.now second c)) (byte_of i s.source) ≡ map (named_place second c) left.accesses
+  idle_places : (left : Along i x aim (s ∷ later) probe vs so_far) → is_access (rule_of s.romc) ≡ false →
+      (second : Bool) (c : Flow) →
+      places_along second i later (moved_by s.romc (byte_of i s.source) second (left.now second c)) (byte_of i s.source)
+      ≡ map (named_place second c) left.accesses
   idle_places left e second c =
-      subst (λ (b : Bool). with_place b (s.romc, place_in s.romc (left.now second c) probe.last) (places_along second i later (moved_by s.romc (byte_of i s.source) second (left.now second c)) (byte_of i s.source)) ≡ map (named_place second c) left.accesses) e (left.places second c)
+      subst (λ (b : Bool). with_place b (s.romc, place_in s.romc (left.now second c) probe.last)
+      (places_along second i later (moved_by s.romc (byte_of i s.source) second (left.now second c))
+      (byte_of i s.source)) ≡ map (named_place second c) left.accesses) e (left.places second c)
 
   same_place : (left : Along i x aim (s ∷ later) probe vs so_far) (e : is_access (rule_of s.romc) ≡ true) →
       place_in s.romc probe.count probe.last ≡ (accessed left e).a.place true x.flat.state.flow
-  same_place left e = ap (λ (c : Count). place_in s.romc c probe.last) left.reference ∙ (accessed left e).place true x.flat.state.flow
+  same_place left e = ap (λ (c : Count). place_in s.romc c probe.last) left.reference
+      ∙ (accessed left e).place true x.flat.state.flow
 
   same_verdict : (left : Along i x aim (s ∷ later) probe vs so_far) (e : is_access (rule_of s.romc) ≡ true) →
       step_verdict s probe vs ≡ access_verdict x.flat.state.flow x.copies (accessed left e).a
   same_verdict left e =
       let at = accessed left e in
-      verdict_same left.now probe.last s.romc (place_in s.romc probe.count probe.last) at.a x.flat.state.flow x.copies vs at.code at.place (same_place left e) left.copies
+      verdict_same left.now probe.last s.romc (place_in s.romc probe.count probe.last) at.a x.flat.state.flow x.copies
+      vs at.code at.place (same_place left e) left.copies
 
   idle_verdict : is_access (rule_of s.romc) ≡ false → step_verdict s probe vs ≡ Served None
   idle_verdict e = no_access (rule_of s.romc) s.romc (place_in s.romc probe.count probe.last) _ e
 
   -- the faults that are left, by those of the step
   access_faults : (left : Along i x aim (s ∷ later) probe vs so_far) (e : is_access (rule_of s.romc) ≡ true) →
-      or_later (fault_by s.romc (step_verdict s probe vs)) (first_fault x.flat.state.flow x.copies (accessed left e).behind) ≡ aim.fault
+      or_later (fault_by s.romc (step_verdict s probe vs))
+      (first_fault x.flat.state.flow x.copies (accessed left e).behind) ≡ aim.fault
   access_faults left e =
       let at = accessed left e in
-      ap (λ (v : Verdict). or_later (fault_by s.romc v) (first_fault x.flat.state.flow x.copies at.behind)) (same_verdict left e)
-      ∙ ap (λ (romc : ℕ). or_later (fault_by romc (access_verdict x.flat.state.flow x.copies at.a)) (first_fault x.flat.state.flow x.copies at.behind)) (sym at.code)
+      ap (λ (v : Verdict). or_later (fault_by s.romc v) (first_fault x.flat.state.flow x.copies at.behind))
+      (same_verdict left e)
+      ∙ ap (λ (romc : ℕ). or_later (fault_by romc (access_verdict x.flat.state.flow x.copies at.a))
+      (first_fault x.flat.state.flow x.copies at.behind)) (sym at.code)
       ∙ ap (λ (l : List Access). first_fault x.flat.state.flow x.copies l) (sym at.are)
       ∙ left.fault
 
   access_course : (left : Along i x aim (s ∷ later) probe vs so_far) (e : is_access (rule_of s.romc) ≡ true) →
-      with_steps so_far (course_by i s (step_verdict s probe vs) (course_of i x.flat.state.flow x.copies later (accessed left e).behind)) ≡ aim.course
+      with_steps so_far (course_by i s (step_verdict s probe vs)
+      (course_of i x.flat.state.flow x.copies later (accessed left e).behind)) ≡ aim.course
   access_course left e =
       let at = accessed left e in
-      ap (λ (v : Verdict). with_steps so_far (course_by i s v (course_of i x.flat.state.flow x.copies later at.behind))) (same_verdict left e)
+      ap (λ (v : Verdict). with_steps so_far (course_by i s v (course_of i x.flat.state.flow x.copies later at.behind)))
+      (same_verdict left e)
       ∙ ap (with_steps so_far) (sym (course_access i x.flat.state.flow x.copies s later at.a at.behind e))
       ∙ ap (λ (l : List Access). with_steps so_far (course_of i x.flat.state.flow x.copies (s ∷ later) l)) (sym at.are)
       ∙ left.course
@@ -83,35 +100,46 @@ module _ (i : Inputs) (x : Position) (aim : Aim) (s : Step) (later : List Step) 
     pub fault_is : aim.fault ≡ Some fault
     pub course_is : aim.course ≡ record { steps = so_far; fault = Some (fault, s.long) }
 
-  stops_by : (b : Bool) → is_access (rule_of s.romc) ≡ b → Along i x aim (s ∷ later) probe vs so_far → (fault : Fault) → fault_by s.romc (step_verdict s probe vs) ≡ Some fault → Stopped fault
+  stops_by : (b : Bool) → is_access (rule_of s.romc) ≡ b → Along i x aim (s ∷ later) probe vs so_far → (fault : Fault) →
+      fault_by s.romc (step_verdict s probe vs) ≡ Some fault → Stopped fault
   stops_by true e left fault f = record {
-    fault_is = sym (access_faults left e) ∙ ap (λ (o : Option Fault). or_later o (first_fault x.flat.state.flow x.copies (accessed left e).behind)) f;
+    fault_is = sym (access_faults left e) ∙ ap (λ (o : Option Fault). or_later o
+        (first_fault x.flat.state.flow x.copies (accessed left e).behind)) f;
     course_is = sym (access_course left e)
-        ∙ ap (with_steps so_far) (fault_stops i s (step_verdict s probe vs) (course_of i x.flat.state.flow x.copies later (accessed left e).behind) fault f)
+        ∙ ap (with_steps so_far) (fault_stops i s (step_verdict s probe vs)
+        (course_of i x.flat.state.flow x.copies later (accessed left e).behind) fault f)
         ∙ with_steps-stop so_far fault s.long;
   }
   stops_by false e left fault f =
-      let none : fault_by s.romc (step_verdict s probe vs) ≡ None = no_fault s.romc (step_verdict s probe vs) None (idle_verdict e) in cc
+      let none : fault_by s.romc (step_verdict s probe vs) ≡ None =
+      no_fault s.romc (step_verdict s probe vs) None (idle_verdict e) in cc
 
-  pub along-stops : Along i x aim (s ∷ later) probe vs so_far → (fault : Fault) → fault_by s.romc (step_verdict s probe vs) ≡ Some fault → Stopped fault
+  pub along-stops : Along i x aim (s ∷ later) probe vs so_far → (fault : Fault) →
+      fault_by s.romc (step_verdict s probe vs) ≡ Some fault → Stopped fault
   along-stops left fault f = stops_by (is_access (rule_of s.romc)) refl left fault f
 
   -- ---- a step that is served
 
   -- the byte of a port
-  port_byte : (left : Along i x aim (s ∷ later) probe vs so_far) → (placed : ℕ) (socket : Option ℕ) → driver_of s.romc ≡ Port →
+  port_byte : (left : Along i x aim (s ∷ later) probe vs so_far) → (placed : ℕ) (socket : Option ℕ) →
+      driver_of s.romc ≡ Port →
       step_verdict s probe vs ≡ Served socket → bus_byte s.romc None placed (enumerate_from 0 vs) ≡ byte_of i s.source
   port_byte left placed socket by_port served =
       let is : PortIs Port (seats_of x.copies) x.flat.state.keys left.writes probe.last (byte_of i s.source) =
-      subst (λ (d : Driver). PortIs d (seats_of x.copies) x.flat.state.keys left.writes probe.last (byte_of i s.source)) by_port left.port_values.0 in
-      served_port probe.last vs (all_heard left.now probe.last x.copies vs left.copies) s.romc placed (place_in s.romc probe.count probe.last) socket x.flat.state.keys left.writes by_port left.ports served
-      ∙ ap (λ seats. chip_port_byte probe.last seats x.flat.state.keys left.writes) (seats_same left.now probe.last x.copies vs left.copies)
+      subst (λ (d : Driver). PortIs d (seats_of x.copies) x.flat.state.keys left.writes probe.last (byte_of i s.source))
+      by_port left.port_values.0 in
+      served_port probe.last vs (all_heard left.now probe.last x.copies vs left.copies) s.romc placed
+      (place_in s.romc probe.count probe.last) socket x.flat.state.keys left.writes by_port left.ports served
+      ∙ ap (λ seats. chip_port_byte probe.last seats x.flat.state.keys left.writes)
+      (seats_same left.now probe.last x.copies vs left.copies)
       ∙ sym is
 
-  pub along-byte : Along i x aim (s ∷ later) probe vs so_far → (placed : ℕ) (socket : Option ℕ) → Places (is_placed_by (driver_of s.romc)) placed (byte_of i s.source) →
+  pub along-byte : Along i x aim (s ∷ later) probe vs so_far → (placed : ℕ) (socket : Option ℕ) →
+      Places (is_placed_by (driver_of s.romc)) placed (byte_of i s.source) →
       step_verdict s probe vs ≡ Served socket → bus_byte s.romc None placed (enumerate_from 0 vs) ≡ byte_of i s.source
   along-byte left placed socket places served =
-      byte_is (driver_of s.romc) s.romc placed (byte_of i s.source) (place_in s.romc probe.count probe.last) socket vs left.memory refl places left.values.0 left.flat
+      byte_is (driver_of s.romc) s.romc placed (byte_of i s.source)
+      (place_in s.romc probe.count probe.last) socket vs left.memory refl places left.values.0 left.flat
       (λ reads. let e : is_access (rule_of s.romc) ≡ true = ap is_access reads in
       let at = accessed left e in
       let small = subst (λ (l : List Access). AreAt x.flat.state.flow l) at.are left.small in
@@ -122,22 +150,31 @@ module _ (i : Inputs) (x : Position) (aim : Aim) (s : Step) (later : List Step) 
   -- what an access, or a step that is none, leaves of the accesses
   record Behind (left : Along i x aim (s ∷ later) probe vs so_far) (socket : Option ℕ) : Type 0 where
     accesses : List Access
-    places : (second : Bool) (c : Flow) → places_along second i later (moved_by s.romc (byte_of i s.source) second (left.now second c)) (byte_of i s.source) ≡ map (named_place second c) accesses
+    places : (second : Bool) (c : Flow) → places_along second i later
+        (moved_by s.romc (byte_of i s.source) second (left.now second c)) (byte_of i s.source)
+        ≡ map (named_place second c) accesses
     small : AreAt x.flat.state.flow accesses
     fault : first_fault x.flat.state.flow x.copies accesses ≡ aim.fault
-    course : with_steps (so_far ++ traced i s socket ∷ []) (course_of i x.flat.state.flow x.copies later accesses) ≡ aim.course
+    course : with_steps (so_far ++ traced i s socket ∷ []) (course_of i x.flat.state.flow x.copies later accesses)
+        ≡ aim.course
 
-  behind_by : (b : Bool) → is_access (rule_of s.romc) ≡ b → (left : Along i x aim (s ∷ later) probe vs so_far) (socket : Option ℕ) → step_verdict s probe vs ≡ Served socket → Behind left socket
+  behind_by : (b : Bool) → is_access (rule_of s.romc) ≡ b →
+      (left : Along i x aim (s ∷ later) probe vs so_far) (socket : Option ℕ) → step_verdict s probe vs ≡ Served socket →
+      Behind left socket
   behind_by true e left socket served =
       let at = accessed left e in
-      let small : AreAt x.flat.state.flow (at.a ∷ at.behind) = subst (λ (l : List Access). AreAt x.flat.state.flow l) at.are left.small in
+      let small : AreAt x.flat.state.flow (at.a ∷ at.behind) =
+      subst (λ (l : List Access). AreAt x.flat.state.flow l) at.are left.small in
       record {
         accesses = at.behind;
         places = at.places;
         small = small.1;
-        fault = ap (λ (o : Option Fault). or_later o (first_fault x.flat.state.flow x.copies at.behind)) (sym (no_fault s.romc (step_verdict s probe vs) socket served)) ∙ access_faults left e;
-        course = sym (with_steps-step so_far (traced i s socket) (course_of i x.flat.state.flow x.copies later at.behind))
-            ∙ ap (λ (v : Verdict). with_steps so_far (course_by i s v (course_of i x.flat.state.flow x.copies later at.behind))) (sym served)
+        fault = ap (λ (o : Option Fault). or_later o (first_fault x.flat.state.flow x.copies at.behind))
+            (sym (no_fault s.romc (step_verdict s probe vs) socket served)) ∙ access_faults left e;
+        course = sym (with_steps-step so_far (traced i s socket)
+            (course_of i x.flat.state.flow x.copies later at.behind))
+            ∙ ap (λ (v : Verdict). with_steps so_far
+            (course_by i s v (course_of i x.flat.state.flow x.copies later at.behind))) (sym served)
             ∙ access_course left e;
       }
   behind_by false e left socket served =
@@ -148,32 +185,40 @@ module _ (i : Inputs) (x : Position) (aim : Aim) (s : Step) (later : List Step) 
         places = idle_places left e;
         small = left.small;
         fault = left.fault;
-        course = sym (with_steps-step so_far (traced i s socket) (course_of i x.flat.state.flow x.copies later left.accesses))
-            ∙ ap (λ (o : Option ℕ). with_steps so_far (with_step (traced i s o) (course_of i x.flat.state.flow x.copies later left.accesses))) (sym same)
+        course = sym (with_steps-step so_far (traced i s socket)
+            (course_of i x.flat.state.flow x.copies later left.accesses))
+            ∙ ap (λ (o : Option ℕ). with_steps so_far
+            (with_step (traced i s o) (course_of i x.flat.state.flow x.copies later left.accesses))) (sym same)
             ∙ ap (with_steps so_far) (sym (course_idle i x.flat.state.flow x.copies s later left.accesses e))
             ∙ left.course;
       }
 
-  pub along-more : Along i x aim (s ∷ later) probe vs so_far → (clocks : ℕ) (socket : Option ℕ) → step_verdict s probe vs ≡ Served socket →
-      Along i x aim later (probe_after s.romc (byte_of i s.source) probe) (stepped s (byte_of i s.source) clocks vs) (so_far ++ traced i s socket ∷ [])
+  pub along-more : Along i x aim (s ∷ later) probe vs so_far → (clocks : ℕ) (socket : Option ℕ) →
+      step_verdict s probe vs ≡ Served socket →
+      Along i x aim later (probe_after s.romc (byte_of i s.source) probe) (stepped s (byte_of i s.source) clocks vs)
+      (so_far ++ traced i s socket ∷ [])
   along-more left clocks socket served =
       let behind = behind_by (is_access (rule_of s.romc)) refl left socket served in
       record {
         now = λ second c. moved_by s.romc (byte_of i s.source) second (left.now second c);
-        memory = if s.romc == 0x05 then stored_at (seats_of x.copies) (place_in s.romc probe.count probe.last) (byte_of i s.source) left.memory else left.memory;
+        memory = if s.romc == 0x05 then stored_at (seats_of x.copies) (place_in s.romc probe.count probe.last)
+            (byte_of i s.source) left.memory else left.memory;
         accesses = behind.accesses;
         places = behind.places;
         moves = left.moves;
         reference = ap (moved_by s.romc (byte_of i s.source) true) left.reference;
         copies = copies_more left.now probe.last s.romc (byte_of i s.source) clocks x.copies vs left.copies;
         writes = writes_by s.romc (seats_of x.copies) aim.phi probe.last (byte_of i s.source) left.writes;
-        ports = ports_more s.romc (byte_of i s.source) clocks aim.phi (place_in s.romc probe.count probe.last) left.now probe.last socket x.copies vs x.flat.state.keys left.writes left.copies left.ports served;
+        ports = ports_more s.romc (byte_of i s.source) clocks aim.phi
+            (place_in s.romc probe.count probe.last) left.now probe.last socket x.copies vs x.flat.state.keys
+            left.writes left.copies left.ports served;
         port_values = left.port_values.1;
         writes_later = left.writes_later;
-        flat = flat_more (s.romc == 0x05) i s clocks socket left.now probe x.copies vs left.memory refl left.copies left.whole left.flat served;
-        whole = long_more (s.romc == 0x05) (seats_of x.copies) (place_in s.romc probe.count probe.last) (byte_of i s.source) left.memory left.whole;
+        flat = flat_more (s.romc == 0x05) i s clocks socket left.now probe x.copies vs left.memory refl left.copies
+            left.whole left.flat served;
+        whole = long_more (s.romc == 0x05) (seats_of x.copies) (place_in s.romc probe.count probe.last)
+            (byte_of i s.source) left.memory left.whole;
         values = left.values.1;
-        quiet = left.quiet.1;
         small = behind.small;
         fault = behind.fault;
         course = behind.course;

@@ -6,19 +6,19 @@ use Rattle.f8_spec.specs.BusCodes.{Count, driver_of, moved_by}
 use Rattle.f8_spec.specs.BusArbitration.{Seat, place_in}
 use Rattle.f8_spec.specs.ChipState.{counter_byte}
 use Rattle.f8_spec.specs.Instructions.{row_of}
-use Rattle.f8_spec.specs.MicroSteps.{Step, steps_before_fetch, last_fetch, steps_of}
+use Rattle.f8_spec.specs.MicroSteps.{Step}
 use Rattle.f8_spec.specs.declared.bus.Driver.{Driver}
 use Rattle.f8_spec.specs.declared.bus.Driver.TheVariants.{Memory, CounterByte, Vector, Port, Cpu, Nobody}
 use Rattle.f8_spec.specs.declared.instructions.Op.{Op}
 use Rattle.f8_spec.specs.declared.instructions.Row.{Row}
-use Rattle.f8_spec.specs.declared.instructions.Row.TheVariants.{Idle, StackToK, StackFromK, CallK, JumpQ, DataToPair, DataFromQ, DataFromH, ReadData, StoreData, Return, Immediate, PortIn, PortOut, Call, Jump, LoadData, Exchange, AddData, Branch, BranchIsar, ShortIn, ShortOut}
+use Rattle.f8_spec.specs.declared.instructions.Row.TheVariants.{StoreData}
 use Rattle.console_spec.specs.AddressSpace.{byte_at}
 use Rattle.console_spec.specs.FlatMemory.{stored_at}
 use Rattle.console_spec.specs.FlatMachine.{FlatState, memory_after, gets, gets_all}
 use Rattle.console_spec.specs.Processor.{Flow, Inputs, byte_of, flow_after, own_inputs}
 use Rattle.console_spec.proofs.InputLaws.{with_opcode, flow_after-with_opcode}
 use Rattle.console_spec.specs.CounterCopies.{fetched}
-use Rattle.console_spec.proofs.Walks.{HasBytes, moved_along, rests, places_on-places_on}
+use Rattle.console_spec.proofs.Walks.{moved_along}
 use Rattle.f8_machine.proofs.Places.{last_along}
 
 -- ---- the memory along the steps
@@ -33,35 +33,13 @@ memory_along seats i (s ∷ later) c last memory =
     memory_along seats i later (moved_by s.romc (byte_of i s.source) true c) (byte_of i s.source)
     (memory_by s.romc seats (place_in s.romc c last) (byte_of i s.source) memory)
 
-memory_along-append : (seats : List Seat) (i : Inputs) (first later : List Step) (c : Count) (last : ℕ) (memory : List ℕ) →
+pub memory_along-append : (seats : List Seat) (i : Inputs) (first later : List Step) (c : Count) (last : ℕ)
+    (memory : List ℕ) →
     memory_along seats i (first ++ later) c last memory
-    ≡ memory_along seats i later (moved_along true i first c) (last_along i first last) (memory_along seats i first c last memory)
+    ≡ memory_along seats i later (moved_along true i first c) (last_along i first last)
+    (memory_along seats i first c last memory)
 memory_along-append seats i [] later c last memory = refl
 memory_along-append seats i (s ∷ first) later c last memory = memory_along-append seats i first later _ _ _
-
-branch_memory : (seats : List Seat) (i : Inputs) (taken : Bool) (c : Flow) (last : ℕ) (memory : List ℕ) → i.taken ≡ taken →
-    memory_along seats i (steps_before_fetch Branch i.taken) (fetched c) last memory ≡ memory
-branch_memory seats i true c last memory e = rw e refl
-branch_memory seats i false c last memory e = rw e refl
-
-branch_isar_memory : (seats : List Seat) (i : Inputs) (taken : Bool) (c : Flow) (last : ℕ) (memory : List ℕ) → i.taken ≡ taken →
-    memory_along seats i (steps_before_fetch BranchIsar i.taken) (fetched c) last memory ≡ memory
-branch_isar_memory seats i true c last memory e = rw e refl
-branch_isar_memory seats i false c last memory e = rw e refl
-
--- before the last fetch the memory is that after the instruction
-memory_before : (seats : List Seat) (row : Row) (i : Inputs) (c : Flow) (last : ℕ) (memory : List ℕ) →
-    memory_along seats i (steps_before_fetch row i.taken) (fetched c) last memory ≡ memory_after row seats i c memory
-memory_before seats StoreData i c last memory = refl
-memory_before seats Branch i c last memory = branch_memory seats i i.taken c last memory refl
-memory_before seats BranchIsar i c last memory = branch_isar_memory seats i i.taken c last memory refl
-memory_before seats row i c last memory = refl
-
-pub memory_goes : (seats : List Seat) (row : Row) (i : Inputs) (c : Flow) (last : ℕ) (memory : List ℕ) →
-    memory_along seats i (steps_of row i.taken) (fetched c) last memory ≡ memory_after row seats i c memory
-memory_goes seats row i c last memory =
-    memory_along-append seats i (steps_before_fetch row i.taken) (last_fetch row ∷ []) (fetched c) last memory
-    ∙ memory_before seats row i c last memory
 
 -- ---- the bytes along the steps
 
@@ -81,12 +59,15 @@ Values seats i (s ∷ later) c last memory =
     × Values seats i later (moved_by s.romc (byte_of i s.source) true c) (byte_of i s.source)
     (memory_by s.romc seats (place_in s.romc c last) (byte_of i s.source) memory)
 
-Values-append : (seats : List Seat) (i : Inputs) (first later : List Step) (c : Count) (last : ℕ) (memory : List ℕ) →
+pub Values-append : (seats : List Seat) (i : Inputs) (first later : List Step) (c : Count) (last : ℕ)
+    (memory : List ℕ) →
     Values seats i first c last memory →
-    Values seats i later (moved_along true i first c) (last_along i first last) (memory_along seats i first c last memory) →
+    Values seats i later (moved_along true i first c) (last_along i first last)
+    (memory_along seats i first c last memory) →
     Values seats i (first ++ later) c last memory
 Values-append seats i [] later c last memory front back = back
-Values-append seats i (s ∷ first) later c last memory front back = (front.0, Values-append seats i first later _ _ _ front.1 back)
+Values-append seats i (s ∷ first) later c last memory front back =
+    (front.0, Values-append seats i first later _ _ _ front.1 back)
 
 -- what an instruction gets from the memory and from the counters
 pub record FromFlat (row : Row) (seats : List Seat) (i : Inputs) (memory : List ℕ) (c : Flow) : Type 0 where
@@ -99,52 +80,6 @@ pub record FromFlat (row : Row) (seats : List Seat) (i : Inputs) (memory : List 
   pub stack_low : i.stack_low ≡ c.p1 % 256
   pub opcode : i.opcode ≡ byte_at (memory_after row seats i c memory) (flow_after row i true c).p
 
-branch_values : (seats : List Seat) (i : Inputs) (taken : Bool) (c : Flow) (last : ℕ) (memory : List ℕ) → i.taken ≡ taken →
-    FromFlat Branch seats i memory c → Values seats i (steps_before_fetch Branch i.taken) (fetched c) last memory
-branch_values seats i true c last memory e f = rw e (tt, (f.operand, tt))
-branch_values seats i false c last memory e f = rw e (tt, (f.operand, tt))
-
-branch_isar_values : (seats : List Seat) (i : Inputs) (taken : Bool) (c : Flow) (last : ℕ) (memory : List ℕ) → i.taken ≡ taken →
-    FromFlat BranchIsar seats i memory c → Values seats i (steps_before_fetch BranchIsar i.taken) (fetched c) last memory
-branch_isar_values seats i true c last memory e f = rw e (f.operand, tt)
-branch_isar_values seats i false c last memory e f = rw e (f.operand, tt)
-
-values_before : (seats : List Seat) (row : Row) (i : Inputs) (c : Flow) (last : ℕ) (memory : List ℕ) →
-    FromFlat row seats i memory c → Values seats i (steps_before_fetch row i.taken) (fetched c) last memory
-values_before seats StackToK i c last memory f = (f.stack_high, (f.stack_low, tt))
-values_before seats StackFromK i c last memory f = (tt, (tt, tt))
-values_before seats CallK i c last memory f = (tt, (tt, tt))
-values_before seats JumpQ i c last memory f = (tt, (tt, tt))
-values_before seats DataToPair i c last memory f = (f.data_high, (f.data_low, tt))
-values_before seats DataFromQ i c last memory f = (tt, (tt, tt))
-values_before seats DataFromH i c last memory f = (tt, (tt, tt))
-values_before seats ReadData i c last memory f = (f.data_byte, tt)
-values_before seats StoreData i c last memory f = (tt, tt)
-values_before seats Return i c last memory f = (refl, tt)
-values_before seats Immediate i c last memory f = (f.operand, tt)
-values_before seats PortIn i c last memory f = (f.operand, (tt, tt))
-values_before seats PortOut i c last memory f = (f.operand, (tt, tt))
-values_before seats Call i c last memory f = (f.operand, (refl, (rw places_on-places_on f.second, (tt, tt))))
-values_before seats Jump i c last memory f = (f.operand, (rw places_on-places_on f.second, (tt, tt)))
-values_before seats LoadData i c last memory f =
-    (f.operand, (f.operand, (rw places_on-places_on f.second, (rw places_on-places_on f.second, tt))))
-values_before seats Exchange i c last memory f = (refl, tt)
-values_before seats AddData i c last memory f = (tt, tt)
-values_before seats Branch i c last memory f = branch_values seats i i.taken c last memory refl f
-values_before seats BranchIsar i c last memory f = branch_isar_values seats i i.taken c last memory refl f
-values_before seats Idle i c last memory f = (tt, tt)
-values_before seats ShortIn i c last memory f = (tt, (tt, tt))
-values_before seats ShortOut i c last memory f = (tt, (tt, tt))
-values_before seats row i c last memory f = tt
-
--- all steps of an instruction
-pub values_of : (seats : List Seat) (row : Row) (i : Inputs) → HasBytes i → (c : Flow) (last : ℕ) (memory : List ℕ) →
-    FromFlat row seats i memory c → Values seats i (steps_of row i.taken) (fetched c) last memory
-values_of seats row i b c last memory f =
-    Values-append seats i (steps_before_fetch row i.taken) (last_fetch row ∷ []) (fetched c) last memory
-    (values_before seats row i c last memory f)
-    (rw (rests row i b true c, memory_before seats row i c last memory) (f.opcode, tt))
-
 -- ---- the flat machine's own inputs
 
 pub memory_after-with_opcode : (seats : List Seat) (row : Row) (code : ℕ) (i : Inputs) (c : Flow) (memory : List ℕ) →
@@ -154,12 +89,15 @@ memory_after-with_opcode seats row code i c memory = refl
 
 own_opcode : (row : Row) (seats : List Seat) (own : Inputs) (c : Flow) (memory : List ℕ) (code : ℕ) →
     code ≡ byte_at (memory_after row seats own c memory) (flow_after row own true c).p →
-    code ≡ byte_at (memory_after row seats (with_opcode code own) c memory) (flow_after row (with_opcode code own) true c).p
+    code ≡ byte_at (memory_after row seats (with_opcode code own) c memory)
+    (flow_after row (with_opcode code own) true c).p
 own_opcode row seats own c memory code e =
-    e ∙ sym (ap (λ m. byte_at m (flow_after row (with_opcode code own) true c).p) (memory_after-with_opcode seats row code own c memory)
+    e ∙ sym (ap (λ m. byte_at m (flow_after row (with_opcode code own) true c).p)
+    (memory_after-with_opcode seats row code own c memory)
     ∙ ap (λ (x : Flow). byte_at (memory_after row seats own c memory) x.p) (flow_after-with_opcode row code own true c))
 
-pub from_flat : (op : Op) (seats : List Seat) (f : FlatState) → FromFlat (row_of op) seats (gets_all op seats f) f.memory f.state.flow
+pub from_flat : (op : Op) (seats : List Seat) (f : FlatState) →
+    FromFlat (row_of op) seats (gets_all op seats f) f.memory f.state.flow
 unfolding own_inputs
 from_flat op seats f = record {
   operand = refl;

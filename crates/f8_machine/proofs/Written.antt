@@ -1,16 +1,14 @@
--- The port write that a machine finds in the record of an instruction's bus steps, or in the processor's own latch, is the flat machine's.
-use Rattle.std.proofs.Common.{◌≡◌, ℕ, ◌+◌, Bool, true, false, List, [], ◌∷◌, ◌++◌, map, length, Option, Some, None, refl, sym, ap, ◌∙◌, subst}
+-- The port write that a machine finds in the record of an instruction's bus steps is that which one chip took.
+use Rattle.std.proofs.Common.{◌≡◌, ℕ, ◌+◌, Bool, true, false, List, [], ◌∷◌, ◌++◌, map, length, Option, Some, None}
+use Rattle.std.proofs.Common.{refl, sym, ap, ◌∙◌, subst}
 use Rattle.std.specs.Prelude.{◌==◌, nat_lt, if◌then◌else◌, option_map, slice_index}
-use Rattle.std.specs.List.{enumerate_from}
-use Rattle.f8_spec.specs.BusArbitration.{Seat, Verdict, Served, Conflict, Undriven, Astray, seat_has_port, parties, port_write_verdict, rule_of}
+use Rattle.std.specs.List.{enumerate_from, list_all}
+use Rattle.f8_spec.specs.BusArbitration.{Seat, Verdict, Served, Conflict, Undriven, Astray, seat_has_port, parties}
+use Rattle.f8_spec.specs.BusArbitration.{port_write_verdict, rule_of}
 use Rattle.f8_spec.specs.declared.bus.BusRule.TheVariants.{PortWrite as WriteRule}
 use Rattle.f8_spec.specs.declared.bus.Party.{Party}
-use Rattle.f8_spec.specs.Instructions.{row_of}
 use Rattle.f8_spec.specs.MicroSteps.{Operand, Accumulator, PortNumber, Step, long_step, last_fetch, steps_of}
-use Rattle.f8_spec.specs.declared.instructions.Op.{Op}
-use Rattle.f8_spec.specs.declared.instructions.Op.TheVariants.{Ins, Outs}
 use Rattle.f8_spec.specs.declared.instructions.Row.{Row}
-use Rattle.f8_spec.specs.declared.instructions.Row.TheVariants.{Idle, StackToK, StackFromK, CallK, JumpQ, DataToPair, DataFromQ, DataFromH, ReadData, StoreData, Return, Immediate, PortIn, PortOut, Call, Jump, LoadData, Exchange, AddData, Branch, BranchIsar, ShortIn, ShortOut}
 use Rattle.console_spec.specs.Processor.{Flow, Inputs, byte_of, if_taken, write_at, write_of, port_field}
 use Rattle.console_spec.specs.CounterCopies.{Copy}
 use Rattle.console_spec.specs.BusAccesses.{Access, ahead, at_port, accesses_before_fetch, last_access}
@@ -22,20 +20,21 @@ use Rattle.console_spec.specs.declared.PortWrite.{PortWrite}
 use Rattle.f8_machine.specs.PortWrites.{chip_write, done_write}
 use Rattle.f8_machine.specs.Rounds.{heard_of}
 use Rattle.f8_machine.proofs.PortReads.{counted}
-use Rattle.f8_machine.proofs.PortValues.{bus_port}
+use Rattle.f8_machine.proofs.StepTests.{both_true, is_portless, writes_no_port}
 
 -- ---- a course in which every step is served
 
-abbrev ends : List TracedStep → Course
+abbrev pub ends : List TracedStep → Course
 ends so_far = record { steps = so_far; fault = None }
 
 -- its first step, and the others
-record FirstServed (i : Inputs) (s : Step) (rest : Course) (so_far : List TracedStep) : Type 0 where
-  socket : Option ℕ
-  are : so_far ≡ traced i s socket ∷ rest.steps
-  rest_ends : rest ≡ ends rest.steps
+pub record FirstServed (i : Inputs) (s : Step) (rest : Course) (so_far : List TracedStep) : Type 0 where
+  pub socket : Option ℕ
+  pub are : so_far ≡ traced i s socket ∷ rest.steps
+  pub rest_ends : rest ≡ ends rest.steps
 
-first_idle : (i : Inputs) (s : Step) (socket : Option ℕ) (rest : Course) (so_far : List TracedStep) → with_step (traced i s socket) rest ≡ ends so_far → FirstServed i s rest so_far
+pub first_idle : (i : Inputs) (s : Step) (socket : Option ℕ) (rest : Course) (so_far : List TracedStep) →
+    with_step (traced i s socket) rest ≡ ends so_far → FirstServed i s rest so_far
 first_idle i s socket rest so_far e = record {
   socket = socket;
   are = sym (ap (λ (c : Course). c.steps) e);
@@ -43,13 +42,14 @@ first_idle i s socket rest so_far e = record {
 }
 
 -- a step by its verdict, which is served
-record FirstBy (i : Inputs) (s : Step) (v : Verdict) (rest : Course) (so_far : List TracedStep) : Type 0 where
-  socket : Option ℕ
-  served : v ≡ Served socket
-  are : so_far ≡ traced i s socket ∷ rest.steps
-  rest_ends : rest ≡ ends rest.steps
+pub record FirstBy (i : Inputs) (s : Step) (v : Verdict) (rest : Course) (so_far : List TracedStep) : Type 0 where
+  pub socket : Option ℕ
+  pub served : v ≡ Served socket
+  pub are : so_far ≡ traced i s socket ∷ rest.steps
+  pub rest_ends : rest ≡ ends rest.steps
 
-first_by : (i : Inputs) (s : Step) (v : Verdict) (rest : Course) (so_far : List TracedStep) → course_by i s v rest ≡ ends so_far → FirstBy i s v rest so_far
+pub first_by : (i : Inputs) (s : Step) (v : Verdict) (rest : Course) (so_far : List TracedStep) →
+    course_by i s v rest ≡ ends so_far → FirstBy i s v rest so_far
 first_by i s (Served socket) rest so_far e =
     let first = first_idle i s socket rest so_far e in
     record { socket = socket; served = refl; are = sym (ap (λ (c : Course). c.steps) e); rest_ends = first.rest_ends }
@@ -66,25 +66,31 @@ Told i [] (t ∷ ts) = ⊥
 Told i (s ∷ ss) [] = ⊥
 Told i (s ∷ ss) (t ∷ ts) = ((socket : Option ℕ) × (t ≡ traced i s socket)) × Told i ss ts
 
-told_more : (i : Inputs) (s : Step) (ss : List Step) (socket : Option ℕ) (rest so_far : List TracedStep) → so_far ≡ traced i s socket ∷ rest → Told i ss rest → Told i (s ∷ ss) so_far
+told_more : (i : Inputs) (s : Step) (ss : List Step) (socket : Option ℕ) (rest so_far : List TracedStep) →
+    so_far ≡ traced i s socket ∷ rest → Told i ss rest → Told i (s ∷ ss) so_far
 told_more i s ss socket rest [] e told = cc
 told_more i s ss socket rest (t ∷ ts) e told =
     let first : t ≡ traced i s socket = cc in
     let later : ts ≡ rest = cc in
     ((socket, first), subst (λ (l : List TracedStep). Told i ss l) (sym later) told)
 
-course_told : (i : Inputs) (c : Flow) (copies : List Copy) (steps : List Step) (accesses : List Access) (so_far : List TracedStep) → course_of i c copies steps accesses ≡ ends so_far → Told i steps so_far
+course_told : (i : Inputs) (c : Flow) (copies : List Copy) (steps : List Step) (accesses : List Access)
+    (so_far : List TracedStep) → course_of i c copies steps accesses ≡ ends so_far → Told i steps so_far
 course_told i c copies [] accesses [] e = tt
 course_told i c copies [] accesses (t ∷ ts) e = let none = ap (λ (k : Course). k.steps) e in cc
 course_told i c copies (s ∷ later) [] so_far e =
     let first = first_idle i s None (course_of i c copies later []) so_far e in
     told_more i s later first.socket _ so_far first.are (course_told i c copies later [] _ first.rest_ends)
 course_told i c copies (s ∷ later) (a ∷ accesses) so_far e = by (is_access (rule_of s.romc)) e
-    (λ ts there. course_told i c copies later accesses ts there) (λ ts there. course_told i c copies later (a ∷ accesses) ts there)
+    (λ ts there. course_told i c copies later accesses ts there)
+    (λ ts there. course_told i c copies later (a ∷ accesses) ts there)
   where
-    by : (b : Bool) → (if b then course_by i s (access_verdict c copies a) (course_of i c copies later accesses) else with_step (traced i s None) (course_of i c copies later (a ∷ accesses))) ≡ ends so_far →
+    by : (b : Bool) → (if b then course_by i s (access_verdict c copies a)
+        (course_of i c copies later accesses) else with_step (traced i s None)
+        (course_of i c copies later (a ∷ accesses))) ≡ ends so_far →
         ((ts : List TracedStep) → course_of i c copies later accesses ≡ ends ts → Told i later ts) →
-        ((ts : List TracedStep) → course_of i c copies later (a ∷ accesses) ≡ ends ts → Told i later ts) → Told i (s ∷ later) so_far
+        ((ts : List TracedStep) → course_of i c copies later (a ∷ accesses) ≡ ends ts → Told i later ts) →
+        Told i (s ∷ later) so_far
     by true e access idle =
         let first = first_by i s (access_verdict c copies a) (course_of i c copies later accesses) so_far e in
         told_more i s later first.socket _ so_far first.are (access _ first.rest_ends)
@@ -93,12 +99,13 @@ course_told i c copies (s ∷ later) (a ∷ accesses) so_far e = by (is_access (
         told_more i s later first.socket _ so_far first.are (idle _ first.rest_ends)
 
 -- the second step is no port write
-abbrev PutsNothing : List Step → Type 0
+abbrev pub PutsNothing : List Step → Type 0
 PutsNothing [] = Unit {0}
 PutsNothing (s ∷ []) = Unit {0}
 PutsNothing (s ∷ (t ∷ later)) = (t.romc == 0x1A) ≡ false
 
-no_write : (i : Inputs) (steps : List Step) (so_far : List TracedStep) (phi : ℕ) → Told i steps so_far → PutsNothing steps → chip_write phi (map heard_of so_far) ≡ None
+no_write : (i : Inputs) (steps : List Step) (so_far : List TracedStep) (phi : ℕ) → Told i steps so_far →
+    PutsNothing steps → chip_write phi (map heard_of so_far) ≡ None
 no_write i [] [] phi told puts = refl
 no_write i [] (t ∷ ts) phi told puts = absurd told
 no_write i (s ∷ ss) [] phi told puts = absurd told
@@ -109,22 +116,24 @@ no_write i (s ∷ (r ∷ ss)) (t ∷ (u ∷ ts)) phi told puts =
     let romc : (u.romc == 0x1A) ≡ false = ap (λ (w : TracedStep). w.romc == 0x1A) told.1.0.1 ∙ puts in
     rw romc refl
 
-branch_puts : (taken : Bool) → PutsNothing (steps_of Branch taken)
-branch_puts true = refl
-branch_puts false = refl
-
-branch_isar_puts : (taken : Bool) → PutsNothing (steps_of BranchIsar taken)
-branch_isar_puts true = refl
-branch_isar_puts false = refl
+pub puts_nothing : (steps : List Step) → list_all is_portless steps ≡ true → PutsNothing steps
+puts_nothing [] all = tt
+puts_nothing (s ∷ []) all = tt
+puts_nothing (s ∷ (t ∷ later)) all =
+    let behind = both_true (is_portless s) (list_all is_portless (t ∷ later)) all in
+    writes_no_port t (both_true (is_portless t) (list_all is_portless later) behind.1).0
 
 -- ---- a port write
 
 -- as many copies take the byte as have the port
-copies_count : (port n : ℕ) (cs : List Copy) → length (parties WriteRule (enumerate_from n (map (placed_copy (at_port 0x1A port)) cs))) ≡ takers port (seats_of cs)
+copies_count : (port n : ℕ) (cs : List Copy) →
+    length (parties WriteRule (enumerate_from n (map (placed_copy (at_port 0x1A port)) cs))) ≡ takers port (seats_of cs)
 copies_count port n [] = refl
-copies_count port n (c ∷ cs) = counted (seat_has_port c.seat port) (seat_has_port c.seat port) refl n port _ c.seat _ (copies_count port (n + 1) cs)
+copies_count port n (c ∷ cs) = counted (seat_has_port c.seat port) (seat_has_port c.seat port) refl n port _ c.seat _
+    (copies_count port (n + 1) cs)
 
-taken_by_one : (phi port byte : ℕ) (ps : List Party) (socket : Option ℕ) (seats : List Seat) → port_write_verdict ps ≡ Served socket → length ps ≡ takers port seats →
+taken_by_one : (phi port byte : ℕ) (ps : List Party) (socket : Option ℕ) (seats : List Seat) →
+    port_write_verdict ps ≡ Served socket → length ps ≡ takers port seats →
     option_map (λ k. record { phi = phi; port = port; byte = byte }) socket ≡ write_at phi byte (if_taken port seats)
 taken_by_one phi port byte [] socket seats served count =
     let none : None ≡ socket = cc in
@@ -137,81 +146,31 @@ taken_by_one phi port byte (p ∷ []) socket seats served count =
 taken_by_one phi port byte (p ∷ (q ∷ ps)) socket seats served count = cc
 
 -- a step that names the port, and the port write
-written_by : (phi : ℕ) (i : Inputs) (names : Step) (port : ℕ) (c : Flow) (copies : List Copy) (socket : Option ℕ) (rest : Course) (so_far : List TracedStep) →
-    so_far ≡ traced i names socket ∷ (course_by i (long_step 0x1A Accumulator) (access_verdict c copies (at_port 0x1A port)) rest).steps →
-    course_by i (long_step 0x1A Accumulator) (access_verdict c copies (at_port 0x1A port)) rest ≡ ends (course_by i (long_step 0x1A Accumulator) (access_verdict c copies (at_port 0x1A port)) rest).steps →
-    byte_of i names.source ≡ port → chip_write phi (map heard_of so_far) ≡ write_at phi i.accumulator (if_taken port (seats_of copies))
+pub written_by : (phi : ℕ) (i : Inputs) (names : Step) (port : ℕ) (c : Flow) (copies : List Copy) (socket : Option ℕ)
+    (rest : Course) (so_far : List TracedStep) →
+    so_far ≡ traced i names socket ∷ (course_by i (long_step 0x1A Accumulator)
+    (access_verdict c copies (at_port 0x1A port)) rest).steps →
+    course_by i (long_step 0x1A Accumulator) (access_verdict c copies (at_port 0x1A port)) rest
+    ≡ ends (course_by i (long_step 0x1A Accumulator) (access_verdict c copies (at_port 0x1A port)) rest).steps →
+    byte_of i names.source ≡ port → chip_write phi (map heard_of so_far)
+    ≡ write_at phi i.accumulator (if_taken port (seats_of copies))
 written_by phi i names port c copies socket rest so_far are put named =
-    let second : FirstBy i (long_step 0x1A Accumulator) (access_verdict c copies (at_port 0x1A port)) rest (course_by i (long_step 0x1A Accumulator) (access_verdict c copies (at_port 0x1A port)) rest).steps =
-    first_by i (long_step 0x1A Accumulator) (access_verdict c copies (at_port 0x1A port)) rest (course_by i (long_step 0x1A Accumulator) (access_verdict c copies (at_port 0x1A port)) rest).steps put in
-    ap (λ (l : List TracedStep). chip_write phi (map heard_of l)) (are ∙ ap (λ (l : List TracedStep). traced i names socket ∷ l) second.are)
+    let second : FirstBy i (long_step 0x1A Accumulator) (access_verdict c copies (at_port 0x1A port)) rest
+    (course_by i (long_step 0x1A Accumulator) (access_verdict c copies (at_port 0x1A port)) rest).steps =
+    first_by i (long_step 0x1A Accumulator) (access_verdict c copies (at_port 0x1A port)) rest
+    (course_by i (long_step 0x1A Accumulator) (access_verdict c copies (at_port 0x1A port)) rest).steps put in
+    ap (λ (l : List TracedStep). chip_write phi (map heard_of l))
+    (are ∙ ap (λ (l : List TracedStep). traced i names socket ∷ l) second.are)
     ∙ ap (λ (n : ℕ). option_map (λ (k : ℕ). record { phi = phi; port = n; byte = i.accumulator }) second.socket) named
-    ∙ taken_by_one phi port i.accumulator (parties WriteRule (enumerate_from 0 (map (placed_copy (at_port 0x1A port)) copies))) second.socket (seats_of copies) second.served (copies_count port 0 copies)
+    ∙ taken_by_one phi port i.accumulator (parties WriteRule
+    (enumerate_from 0 (map (placed_copy (at_port 0x1A port)) copies))) second.socket (seats_of copies) second.served
+    (copies_count port 0 copies)
 
-row_none : (row : Row) (i : Inputs) (c : Flow) (copies : List Copy) (phi : ℕ) (so_far : List TracedStep) →
-    course_of i c copies (steps_of row i.taken) (accesses_before_fetch row i ++ last_access row i ∷ []) ≡ ends so_far → PutsNothing (steps_of row i.taken) →
-    chip_write phi (map heard_of so_far) ≡ None
-row_none row i c copies phi so_far e puts =
-    no_write i (steps_of row i.taken) so_far phi (course_told i c copies (steps_of row i.taken) (accesses_before_fetch row i ++ last_access row i ∷ []) so_far e) puts
-
--- the write in the steps of a row
-row_write : (row : Row) (i : Inputs) (c : Flow) (copies : List Copy) (phi : ℕ) (so_far : List TracedStep) →
+-- the steps of a row in which none writes a port
+pub row_none : (row : Row) (i : Inputs) (c : Flow) (copies : List Copy) (phi : ℕ) (so_far : List TracedStep) →
     course_of i c copies (steps_of row i.taken) (accesses_before_fetch row i ++ last_access row i ∷ []) ≡ ends so_far →
-    chip_write phi (map heard_of so_far) ≡ write_at phi i.accumulator (bus_port row i (seats_of copies))
-row_write PortOut i c copies phi so_far e =
-    let rest : Course = course_of i c copies (last_fetch PortOut ∷ []) (last_access PortOut i ∷ []) in
-    let put : Course = course_by i (long_step 0x1A Accumulator) (access_verdict c copies (at_port 0x1A i.operand)) rest in
-    let first : FirstBy i (long_step 0x03 Operand) (access_verdict c copies (ahead 0x03 1)) put so_far = first_by i (long_step 0x03 Operand) (access_verdict c copies (ahead 0x03 1)) put so_far e in
-    written_by phi i (long_step 0x03 Operand) i.operand c copies first.socket rest so_far first.are first.rest_ends refl
-row_write ShortOut i c copies phi so_far e =
-    let rest : Course = course_of i c copies (last_fetch ShortOut ∷ []) (last_access ShortOut i ∷ []) in
-    let put : Course = course_by i (long_step 0x1A Accumulator) (access_verdict c copies (at_port 0x1A i.port)) rest in
-    let first : FirstServed i (long_step 0x1C PortNumber) put so_far = first_idle i (long_step 0x1C PortNumber) None put so_far e in
-    written_by phi i (long_step 0x1C PortNumber) i.port c copies first.socket rest so_far first.are first.rest_ends refl
-row_write StackToK i c copies phi so_far e = row_none StackToK i c copies phi so_far e refl
-row_write StackFromK i c copies phi so_far e = row_none StackFromK i c copies phi so_far e refl
-row_write CallK i c copies phi so_far e = row_none CallK i c copies phi so_far e refl
-row_write JumpQ i c copies phi so_far e = row_none JumpQ i c copies phi so_far e refl
-row_write DataToPair i c copies phi so_far e = row_none DataToPair i c copies phi so_far e refl
-row_write DataFromQ i c copies phi so_far e = row_none DataFromQ i c copies phi so_far e refl
-row_write DataFromH i c copies phi so_far e = row_none DataFromH i c copies phi so_far e refl
-row_write ReadData i c copies phi so_far e = row_none ReadData i c copies phi so_far e refl
-row_write StoreData i c copies phi so_far e = row_none StoreData i c copies phi so_far e refl
-row_write Return i c copies phi so_far e = row_none Return i c copies phi so_far e refl
-row_write Immediate i c copies phi so_far e = row_none Immediate i c copies phi so_far e refl
-row_write PortIn i c copies phi so_far e = row_none PortIn i c copies phi so_far e refl
-row_write Call i c copies phi so_far e = row_none Call i c copies phi so_far e refl
-row_write Jump i c copies phi so_far e = row_none Jump i c copies phi so_far e refl
-row_write LoadData i c copies phi so_far e = row_none LoadData i c copies phi so_far e refl
-row_write Exchange i c copies phi so_far e = row_none Exchange i c copies phi so_far e refl
-row_write AddData i c copies phi so_far e = row_none AddData i c copies phi so_far e refl
-row_write Branch i c copies phi so_far e = row_none Branch i c copies phi so_far e (branch_puts i.taken)
-row_write BranchIsar i c copies phi so_far e = row_none BranchIsar i c copies phi so_far e (branch_isar_puts i.taken)
-row_write ShortIn i c copies phi so_far e = row_none ShortIn i c copies phi so_far e refl
-row_write Idle i c copies phi so_far e = row_none Idle i c copies phi so_far e refl
-row_write row i c copies phi so_far e = row_none row i c copies phi so_far e tt
-
--- ---- an instruction
-
--- `OUTS` of port 0 or 1 leaves the accumulator in the latch
-abbrev pub OwnLatch : Op → ℕ → List ℕ → Type 0
-OwnLatch (Outs n) accumulator latches = nat_lt n 2 ≡ true → slice_index latches n ≡ accumulator
-OwnLatch op accumulator latches = Unit {0}
-
-ins_nothing : (b : Bool) (i : Inputs) (seats : List Seat) (phi : ℕ) → write_at phi i.accumulator (bus_port (if b then Idle else ShortIn) i seats) ≡ None
-ins_nothing true i seats phi = refl
-ins_nothing false i seats phi = refl
-
-outs_done : (b : Bool) (n : ℕ) (i : Inputs) (seats : List Seat) (phi : ℕ) (latches : List ℕ) (found : Option PortWrite) → i.port ≡ n → (b ≡ true → slice_index latches n ≡ i.accumulator) →
-    found ≡ write_at phi i.accumulator (bus_port (if b then Idle else ShortOut) i seats) →
-    (if b then Some (record { phi = phi; port = n; byte = slice_index latches n }) else found) ≡ write_at phi i.accumulator (if b then Some n else if_taken n seats)
-outs_done true n i seats phi latches found port latch e = ap (λ (k : ℕ). Some (record { phi = phi; port = n; byte = k })) (latch refl)
-outs_done false n i seats phi latches found port latch e = e ∙ ap (λ (p : ℕ). write_at phi i.accumulator (if_taken p seats)) port
-
-pub op_write : (op : Op) (i : Inputs) (c : Flow) (copies : List Copy) (phi : ℕ) (latches : List ℕ) (so_far : List TracedStep) → i.port ≡ port_field op → OwnLatch op i.accumulator latches →
-    course_of i c copies (steps_of (row_of op) i.taken) (accesses_before_fetch (row_of op) i ++ last_access (row_of op) i ∷ []) ≡ record { steps = so_far; fault = None } →
-    done_write (Some op) phi latches (map heard_of so_far) ≡ write_of op i (seats_of copies) phi
-op_write (Ins n) i c copies phi latches so_far port latch e = row_write (row_of (Ins n)) i c copies phi so_far e ∙ ins_nothing (nat_lt n 2) i (seats_of copies) phi
-op_write (Outs n) i c copies phi latches so_far port latch e =
-    outs_done (nat_lt n 2) n i (seats_of copies) phi latches (chip_write phi (map heard_of so_far)) port latch (row_write (row_of (Outs n)) i c copies phi so_far e)
-op_write op i c copies phi latches so_far port latch e = row_write (row_of op) i c copies phi so_far e
+    PutsNothing (steps_of row i.taken) → chip_write phi (map heard_of so_far) ≡ None
+row_none row i c copies phi so_far e puts =
+    no_write i (steps_of row i.taken) so_far phi
+    (course_told i c copies (steps_of row i.taken) (accesses_before_fetch row i ++ last_access row i ∷ []) so_far e)
+    puts

@@ -2,7 +2,7 @@
 use Rattle.std.specs.Prelude.{◌≡◌, ℕ, false, ◌==◌, ◌||◌, List, [], ◌∷◌, ◌++◌, Option, Some, None}
 use Rattle.f8_spec.specs.ChipState.{ChipState}
 use Rattle.f8_spec.specs.BusArbitration.{Served, rule_of, view_verdict, bus_byte}
-use Rattle.console_spec.specs.BusTrace.{taker_by}
+use Rattle.console_spec.specs.BusTrace.{taker_by, who_by}
 use Rattle.console_spec.specs.Services.{fault_by}
 use Rattle.probe.specs.ProbeState.{ProbeState, probe_after}
 use Rattle.cpu3850.specs.declared.steps.Step.{Step}
@@ -10,7 +10,6 @@ use Rattle.data_bus.specs.Racks.{RackSettles, RackStays, named_views}
 use Rattle.data_bus.specs.Steps.{probe_place}
 use Rattle.data_bus.specs.declared.fault.BusFault.{BusFault}
 use Rattle.f8_machine.specs.Faults.{fault_of}
-use Rattle.f8_machine.specs.Traces.{told_who}
 use Rattle.f8_machine.specs.declared.heard.Heard.{Heard}
 
 -- a code of no acknowledgement
@@ -18,27 +17,30 @@ abbrev pub IsPlain : ℕ → Type 0
 IsPlain romc = (romc == 0x0F || romc == 0x13) ≡ false
 
 -- a served step, as it is told
-abbrev pub told : Step → ℕ → Option ℕ → Heard
-told step byte socket = record {
+abbrev pub heard_served : Step → ℕ → Option ℕ → Heard
+heard_served step byte socket = record {
   romc = step.romc;
   long = step.long;
   byte = byte;
-  who = told_who step.romc step.long socket;
+  who = who_by step.driver socket;
   taker = taker_by (rule_of step.romc) socket;
 }
 
 -- served: one chip answers, or none has to; the byte is the bus rule's, and every chip and the probe hear it
-pub record IsServed (step : Step) (placed : ℕ) (before after : ProbeState) (olds news : List ChipState) (earlier now : List Heard) (byte : ℕ) : Type 0 where
+pub record IsServed (step : Step) (placed : ℕ) (before after : ProbeState) (olds news : List ChipState)
+    (earlier now : List Heard) (byte : ℕ) : Type 0 where
   pub socket : Option ℕ
   pub verdict : view_verdict step.romc None (probe_place step.romc before) (named_views olds) ≡ Served socket
   pub driven : byte ≡ bus_byte step.romc None placed (named_views olds)
   pub settled : RackSettles step.romc step.long None byte olds news
   pub heard : after ≡ probe_after step.romc byte before
-  pub recorded : now ≡ earlier ++ told step byte socket ∷ []
+  pub recorded : now ≡ earlier ++ heard_served step byte socket ∷ []
 
 -- not served: the fault is the bus rule's, and nothing changes
-pub record IsRefused (step : Step) (fault : BusFault) (before after : ProbeState) (olds news : List ChipState) (earlier now : List Heard) : Type 0 where
-  pub verdict : fault_by step.romc (view_verdict step.romc None (probe_place step.romc before) (named_views olds)) ≡ Some (fault_of fault)
+pub record IsRefused (step : Step) (fault : BusFault) (before after : ProbeState) (olds news : List ChipState)
+    (earlier now : List Heard) : Type 0 where
+  pub verdict : fault_by step.romc (view_verdict step.romc None (probe_place step.romc before) (named_views olds))
+      ≡ Some (fault_of fault)
   pub stays : RackStays olds news
   pub unheard : after ≡ before
   pub recorded : now ≡ earlier

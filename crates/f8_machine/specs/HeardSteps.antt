@@ -1,4 +1,4 @@
--- A served bus step as the definitions of a run have it.
+-- A served bus step as a machine tells it, and as the definitions of a run have it.
 use Rattle.console_spec.specs.BusTrace.{TracedStep}
 use Rattle.f8_machine.specs.declared.heard.Heard.{Heard}
 

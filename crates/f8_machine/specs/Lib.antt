@@ -1,14 +1,13 @@
-pub mod FlatViews
-pub mod PortViews
-pub mod ChipCopies
+pub mod Chains
+pub mod RackViews
 pub mod Faults
 pub mod HeardSteps
-pub mod Traces
 pub mod BusSteps
 pub mod Rounds
 pub mod PortWrites
 pub mod MachineState
 pub mod Keying
 pub mod Refinement
+pub mod Advancing
 pub mod Carrying
 pub mod Resetting

@@ -6,10 +6,10 @@ use Rattle.probe.specs.ProbeState.{ProbeState, new_probe, probe_after}
 use Rattle.cpu3850.specs.CpuSteps.{CpuState, powered}
 use Rattle.f8_machine.specs.declared.flow.Flow.{Flow as KeptFlow}
 use Rattle.f8_machine.specs.declared.heard.Heard.{Heard}
-use Rattle.f8_machine.specs.declared.mode.Mode.{Mode}
-use Rattle.f8_machine.specs.declared.mode.Mode.TheVariants.{Powered, Running, Stopped}
-use Rattle.f8_machine.specs.declared.mode.Halt.{Halt}
-use Rattle.f8_machine.specs.declared.mode.Halt.TheVariants.{Fault as FaultHalt, Reserved as ReservedHalt}
+use Rattle.f8_machine.specs.declared.outcome.Mode.{Mode}
+use Rattle.f8_machine.specs.declared.outcome.Mode.TheVariants.{Powered, Running, Stopped}
+use Rattle.f8_machine.specs.declared.outcome.StoppedBy.{StoppedBy}
+use Rattle.f8_machine.specs.declared.outcome.StoppedBy.TheVariants.{Fault as ByFault, Reserved as ByOpcode}
 use Rattle.f8_machine.specs.declared.outcome.Outcome.{Outcome}
 use Rattle.f8_machine.specs.declared.outcome.Outcome.TheVariants.{Done, Fault, Reserved}
 
@@ -17,8 +17,8 @@ abbrev pub flow_of : KeptFlow → Flow
 flow_of kept = record { p = kept.p; p1 = kept.p1; d0 = kept.d0; d1 = kept.d1 }
 
 -- the counters before the opcode was fetched
-abbrev pub unfetched : Count → Flow
-unfetched c = record { p = (c.pc0 + 65535) % 65536; p1 = c.pc1; d0 = c.dc0; d1 = c.dc1 }
+abbrev pub flow_before_fetch : Count → Flow
+flow_before_fetch c = record { p = (c.pc0 + 65535) % 65536; p1 = c.pc1; d0 = c.dc0; d1 = c.dc1 }
 
 -- the probe, the processor, the counters of the flat machine as the last instruction left them, the clocks in Φ, the sockets of the
 -- chips described, and what the machine may do
@@ -31,9 +31,9 @@ pub record MachineState : Type 0 where
   pub mode : Mode
 
 -- the outcome on a machine that was stopped
-abbrev pub halted : Halt → Outcome
-halted (FaultHalt fault long) = Fault fault long []
-halted (ReservedHalt at code) = Reserved at code
+abbrev pub outcome_again : StoppedBy → Outcome
+outcome_again (ByFault fault long) = Fault fault long []
+outcome_again (ByOpcode at code) = Reserved at code
 
 -- the served steps of an outcome
 abbrev pub steps_in : Outcome → List Heard
@@ -45,7 +45,7 @@ steps_in (Reserved at code) = []
 abbrev pub IsReset : Mode → Type 0
 IsReset Powered = ⊥
 IsReset Running = Unit {0}
-IsReset (Stopped halt) = Unit {0}
+IsReset (Stopped why) = Unit {0}
 
 -- the probe after the steps of a record
 abbrev pub probe_after_steps : List Heard → ProbeState → ProbeState

@@ -7,20 +7,21 @@ use Rattle.console_spec.specs.Processor.{Flow, with_write}
 use Rattle.console_spec.specs.declared.PortWrite.{PortWrite}
 use Rattle.console_spec.specs.CounterCopies.{Copy, fetched, unreset}
 use Rattle.console_spec.specs.BusTrace.{Course}
-use Rattle.console_spec.specs.Run.{Position, Stop, Unserved as UnservedStop, Reserved as ReservedStop, Turn, Goes, Stops, goes_unless, next, opcode_at, seats_of, turn_course, reset_fault, reset_course, position_after_reset}
+use Rattle.console_spec.specs.Run.{Position, Unserved as UnservedStop, Reserved as ReservedStop, Turn, Goes, Stops}
+use Rattle.console_spec.specs.Run.{goes_unless, next, opcode_at, seats_of, turn_course, reset_fault, reset_course}
+use Rattle.console_spec.specs.Run.{position_after_reset}
+use Rattle.probe.specs.ProbeState.{ProbeState}
 use Rattle.data_bus.specs.Racks.{views}
 use Rattle.data_bus.specs.declared.fault.BusFault.{BusFault}
+use Rattle.cpu3850.specs.CpuSteps.{CpuState}
 use Rattle.cpu3850.specs.OwnWrites.{own_ports, LeaveOwnPorts}
-use Rattle.f8_machine.specs.FlatViews.{HoldsFlat}
-use Rattle.f8_machine.specs.PortViews.{HoldsPorts}
-use Rattle.f8_machine.specs.ChipCopies.{AreCopies}
+use Rattle.f8_machine.specs.RackViews.{HoldsFlat, HoldsPorts, AreCopies}
 use Rattle.f8_machine.specs.Faults.{fault_of}
 use Rattle.f8_machine.specs.Rounds.{heard_of}
 use Rattle.f8_machine.specs.MachineState.{MachineState}
 use Rattle.f8_machine.specs.declared.heard.Heard.{Heard}
-use Rattle.f8_machine.specs.declared.mode.Mode.TheVariants.{Powered, Running, Stopped}
-use Rattle.f8_machine.specs.declared.mode.Halt.{Halt}
-use Rattle.f8_machine.specs.declared.mode.Halt.TheVariants.{Fault as FaultHalt, Reserved as ReservedHalt}
+use Rattle.f8_machine.specs.declared.outcome.Mode.TheVariants.{Powered, Running, Stopped}
+use Rattle.f8_machine.specs.declared.outcome.StoppedBy.TheVariants.{Fault as ByFault, Reserved as ByOpcode}
 use Rattle.f8_machine.specs.declared.outcome.Outcome.{Outcome}
 use Rattle.f8_machine.specs.declared.outcome.Outcome.TheVariants.{Done, Fault as FaultOutcome, Reserved}
 
@@ -36,23 +37,32 @@ pub record IsMemory (memory : List ℕ) : Type 0 where
   pub whole : length memory ≡ 65536
   pub bytes : (at : ℕ) → byte_at memory at < 256
 
--- What a machine and its rack have of a position, before reset and after it: between instructions the counters of the probe and of each
--- chip are those of the flat machine and of the copies. The ports of the processor's own are the flat machine's ports 0 and 1, which no
--- chip has.
-pub record Stands (now : Flow → Count) (m : MachineState) (states : List ChipState) (x : Position) : Type 0 where
-  pub registers : m.cpu.registers ≡ x.flat.state.registers
-  pub own : m.cpu.ports ≡ own_ports x.flat.state
-  pub flow : m.flow ≡ x.flat.state.flow
-  pub phi : m.phi ≡ x.flat.state.phi
-  pub chain : m.chain ≡ x.chain
-  pub reference : m.probe.count ≡ now x.flat.state.flow
-  pub copies : AreCopies (λ second c. now c) m.probe.last x.copies (views states)
+-- The probe and the chips of a rack stand at a position: the counters of the probe and of each chip are those of the flat machine and of
+-- the
+-- copies, as a function of them, and the chips hold its memory and its ports.
+pub record RackStands (now : Flow → Count) (probe : ProbeState) (states : List ChipState) (x : Position) : Type 0 where
+  pub reference : probe.count ≡ now x.flat.state.flow
+  pub copies : AreCopies (λ second c. now c) probe.last x.copies (views states)
   pub flat : HoldsFlat x.flat.memory (views states)
   pub ports : HoldsPorts x.flat.state.keys x.flat.state.writes (views states)
-  pub keys : length x.flat.state.keys ≡ 256
+
+-- And so does the processor. The ports of its own are the flat machine's ports 0 and 1, which no chip has.
+pub record Holds (now : Flow → Count) (cpu : CpuState) (probe : ProbeState) (states : List ChipState)
+    (x : Position) : Type 0 where
+  pub registers : cpu.registers ≡ x.flat.state.registers
+  pub own : cpu.ports ≡ own_ports x.flat.state
+  pub rack : RackStands now probe states x
   pub free : LeaveOwnPorts (seats_of x.copies)
   pub memory : IsMemory x.flat.memory
   pub addresses : AreAddresses x.flat.state.flow
+
+-- What a machine and its rack have of a position, before reset and after it
+pub record Stands (now : Flow → Count) (m : MachineState) (states : List ChipState) (x : Position) : Type 0 where
+  pub holds : Holds now m.cpu m.probe states x
+  pub flow : m.flow ≡ x.flat.state.flow
+  pub phi : m.phi ≡ x.flat.state.phi
+  pub chain : m.chain ≡ x.chain
+  pub keys : length x.flat.state.keys ≡ 256
 
 -- after reset, as long as nothing stops the machine
 pub record Represents (m : MachineState) (states : List ChipState) (x : Position) : Type 0 where
@@ -76,7 +86,8 @@ pub record IsPowered (m : MachineState) (states : List ChipState) (x : Position)
 
 -- done: the machine stands for the next position, the write told is the one that the flat machine has more, with the clocks at the end,
 -- and the steps are those of the definitions
-pub record IsDone (m : MachineState) (states : List ChipState) (turn : Turn) (course : Course) (writes : List PortWrite) (wrote : Option PortWrite) (steps : List Heard) : Type 0 where
+pub record IsDone (m : MachineState) (states : List ChipState) (turn : Turn) (course : Course) (writes : List PortWrite)
+    (wrote : Option PortWrite) (steps : List Heard) : Type 0 where
   pub after : Position
   pub turns : turn ≡ Goes after
   pub represents : Represents m states after
@@ -85,27 +96,31 @@ pub record IsDone (m : MachineState) (states : List ChipState) (turn : Turn) (co
   pub recorded : steps ≡ map heard_of course.steps
 
 -- not done: the fault is that of the first access which is not served; the registers, the counters and the clocks stay as they were
-pub record IsFaulted (before after : MachineState) (turn : Turn) (course : Course) (fault : BusFault) (long : Bool) (steps : List Heard) : Type 0 where
+pub record IsFaulted (before after : MachineState) (turn : Turn) (course : Course) (fault : BusFault) (long : Bool)
+    (steps : List Heard) : Type 0 where
   pub turns : turn ≡ Stops (UnservedStop (fault_of fault))
   pub trace : course ≡ record { steps = course.steps; fault = Some (fault_of fault, long) }
   pub recorded : steps ≡ map heard_of course.steps
-  pub kept : after ≡ record before { probe = after.probe; mode = Stopped (FaultHalt fault long) }
+  pub kept : after ≡ record before { probe = after.probe; mode = Stopped (ByFault fault long) }
 
 -- an opcode that stops the run: nothing is done
-pub record IsHalted (before after : MachineState) (turn : Turn) (stop : Stop) (halt : Halt) : Type 0 where
-  pub turns : turn ≡ Stops stop
-  pub kept : after ≡ record before { mode = Stopped halt }
+pub record IsReserved (before after : MachineState) (turn : Turn) (at code : ℕ) : Type 0 where
+  pub turns : turn ≡ Stops (ReservedStop at code)
+  pub kept : after ≡ record before { mode = Stopped (ByOpcode at code) }
 
 -- what an instruction answers, where the machine and its rack stand for a position
 abbrev pub Refines : Outcome → MachineState → MachineState → List ChipState → Position → Type 0
-Refines (Done wrote steps) before after states x = IsDone after states (next x) (turn_course x) x.flat.state.writes wrote steps
-Refines (FaultOutcome fault long steps) before after states x = IsFaulted before after (next x) (turn_course x) fault long steps
-Refines (Reserved at code) before after states x = IsHalted before after (next x) (ReservedStop at code) (ReservedHalt at code)
+Refines (Done wrote steps) before after states x =
+    IsDone after states (next x) (turn_course x) x.flat.state.writes wrote steps
+Refines (FaultOutcome fault long steps) before after states x =
+    IsFaulted before after (next x) (turn_course x) fault long steps
+Refines (Reserved at code) before after states x = IsReserved before after (next x) at code
 
 -- what reset answers, on a machine that is powered
 abbrev pub ResetRefines : Outcome → MachineState → MachineState → List ChipState → Position → Type 0
 ResetRefines (Done wrote steps) before after states x =
-    IsDone after states (goes_unless (reset_fault x) (position_after_reset x)) (reset_course x) x.flat.state.writes wrote steps
+    IsDone after states (goes_unless (reset_fault x) (position_after_reset x))
+    (reset_course x) x.flat.state.writes wrote steps
 ResetRefines (FaultOutcome fault long steps) before after states x =
     IsFaulted before after (goes_unless (reset_fault x) (position_after_reset x)) (reset_course x) fault long steps
 ResetRefines (Reserved at code) before after states x = ⊥

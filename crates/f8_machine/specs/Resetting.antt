@@ -6,30 +6,22 @@ use Rattle.console_spec.specs.CounterCopies.{fetched, unreset}
 use Rattle.console_spec.specs.BusTrace.{TracedStep}
 use Rattle.console_spec.specs.Run.{Position, reset_fault, reset_course}
 use Rattle.probe.specs.ProbeState.{ProbeState}
-use Rattle.data_bus.specs.Racks.{views}
 use Rattle.data_bus.specs.declared.fault.BusFault.{BusFault}
-use Rattle.f8_machine.specs.FlatViews.{HoldsFlat}
-use Rattle.f8_machine.specs.PortViews.{HoldsPorts}
-use Rattle.f8_machine.specs.ChipCopies.{AreCopies}
 use Rattle.f8_machine.specs.Faults.{fault_of}
+use Rattle.f8_machine.specs.Refinement.{RackStands}
 use Rattle.f8_machine.specs.Rounds.{heard_of}
 use Rattle.f8_machine.specs.declared.heard.Heard.{Heard}
 
 -- the probe and the chips stand where power-on left them
 pub record IsAtPower (probe : ProbeState) (states : List ChipState) (x : Position) : Type 0 where
-  pub reference : probe.count ≡ unreset x.flat.state.flow
-  pub copies : AreCopies (λ second c. unreset c) probe.last x.copies (views states)
-  pub flat : HoldsFlat x.flat.memory (views states)
-  pub ports : HoldsPorts x.flat.state.keys x.flat.state.writes (views states)
+  pub rack : RackStands unreset probe states x
   pub whole : length x.flat.memory ≡ 65536
 
 -- the opcode at 0 was fetched, and every counter set goes on from there
-pub record IsFetched (opcode : ℕ) (probe : ProbeState) (states : List ChipState) (steps : List Heard) (x : Position) : Type 0 where
+pub record IsFetched (opcode : ℕ) (probe : ProbeState) (states : List ChipState) (steps : List Heard)
+    (x : Position) : Type 0 where
   pub opcode_is : opcode ≡ byte_at x.flat.memory 0
-  pub reference : probe.count ≡ fetched (record x.flat.state.flow { p = 0 })
-  pub copies : AreCopies (λ second c. fetched (record c { p = 0 })) probe.last x.copies (views states)
-  pub flat : HoldsFlat x.flat.memory (views states)
-  pub ports : HoldsPorts x.flat.state.keys x.flat.state.writes (views states)
+  pub rack : RackStands (λ c. fetched (record c { p = 0 })) probe states x
   pub served : reset_fault x ≡ None
   pub so_far : List TracedStep
   pub recorded : steps ≡ map heard_of so_far

@@ -1,7 +1,8 @@
+//! One bus step of a machine.
 ghost use Rattle.std.specs.Prelude.{◌≡◌, ◌<◌, ◌≤◌, length, map, IfOk, IfErr};
 ghost use Rattle.f8_machine.specs.BusSteps.{IsPlain, IsServed, IsRefused};
 
-use super::heard::{Heard, taker, who};
+use super::heard::{Heard, taker, who_drove};
 use super::record::Record;
 use chip_face::{Chip, MOST_CHIPS};
 use cpu3850::Step;
@@ -21,8 +22,10 @@ pub(crate) fn bus_step(
     requires few { length rack.old.items ≤ MOST_CHIPS }
     requires room { length steps.old < 9 }
     requires plain { IsPlain step.romc }
-    ensures served { IfOk result (λ byte. IsServed step placed probe.old probe.new (map state rack.old.items) (map state rack.new.items) steps.old steps.new byte) }
-    ensures refused { IfErr result (λ fault. IsRefused step fault probe.old probe.new (map state rack.old.items) (map state rack.new.items) steps.old steps.new) }
+    ensures served { IfOk result (λ byte. IsServed step placed probe.old probe.new
+        (map state rack.old.items) (map state rack.new.items) steps.old steps.new byte) }
+    ensures refused { IfErr result (λ fault. IsRefused step fault probe.old probe.new
+        (map state rack.old.items) (map state rack.new.items) steps.old steps.new) }
     ensures chips { length rack.new.items ≡ length rack.old.items }
 {
     let cycle = Cycle {
@@ -36,7 +39,7 @@ pub(crate) fn bus_step(
         romc: step.romc,
         long: step.long,
         byte: served.byte,
-        who: who(step.romc, step.long, served.socket),
+        who: who_drove(step.driver, served.socket),
         taker: taker(step.romc, served.socket),
     });
     Ok(served.byte)

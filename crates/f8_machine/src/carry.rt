@@ -1,14 +1,15 @@
+//! The bus steps of an instruction.
 ghost use Rattle.std.specs.Prelude.{◌≡◌, ◌≤◌, [], length, map, IfErr, OnOk, OnErr};
 ghost use Rattle.f8_spec.specs.declared.instructions.Op.{Op};
 ghost use Rattle.console_spec.specs.Run.{Position};
 ghost use Rattle.cpu3850.specs.CpuSteps.{planned};
 ghost use Rattle.cpu3850.specs.Keeping.{IsRestorable};
-ghost use Rattle.f8_machine.specs.Carrying.{Holds, IsCarriedOut, IsCutShort};
+ghost use Rattle.f8_machine.specs.Carrying.{HoldsInstruction, IsCarriedOut, IsCutShort};
 ghost use Rattle.f8_machine.specs.MachineState.{probe_after_steps};
 ghost use Rattle.f8_machine.specs.Rounds.{RackRuns};
 
 use super::bus_step::bus_step;
-use super::mode::Halt;
+use super::outcome::StoppedBy;
 use super::record::Record;
 use chip_face::{Chip, MOST_CHIPS};
 use cpu3850::{Cpu, Step};
@@ -24,10 +25,10 @@ pub(crate) struct Unserved {
 
 impl Unserved {
     /// What it stops a machine with.
-    pub(crate) fn halt(&self) -> Halt
-        ensures { result ≡ Halt.Fault self.now.fault self.now.long }
+    pub(crate) fn to_stopped_by(&self) -> StoppedBy
+        ensures { result ≡ StoppedBy.Fault self.now.fault self.now.long }
     {
-        Halt::Fault {
+        StoppedBy::Fault {
             fault: self.fault.copy(),
             long: self.long,
         }
@@ -47,8 +48,10 @@ pub(crate) fn carry_out(
     requires plan { plan.now ≡ planned cpu.old }
     requires short { length plan.now ≤ 5 }
     requires none { steps.old ≡ [] }
-    ensures done { (op : Op) (x : Position) → Holds cpu.old probe.old (map state rack.old.items) op x → OnOk result (IsCarriedOut cpu.old cpu.new probe.new (map state rack.new.items) steps.new op x) }
-    ensures cut { (op : Op) (x : Position) → Holds cpu.old probe.old (map state rack.old.items) op x → IfErr result (λ unserved. IsCutShort steps.new unserved.fault unserved.long op x) }
+    ensures done { (op : Op) (x : Position) → HoldsInstruction cpu.old probe.old (map state rack.old.items) op x →
+        OnOk result (IsCarriedOut cpu.old cpu.new probe.new (map state rack.new.items) steps.new op x) }
+    ensures cut { (op : Op) (x : Position) → HoldsInstruction cpu.old probe.old (map state rack.old.items) op x →
+        IfErr result (λ unserved. IsCutShort steps.new unserved.fault unserved.long op x) }
     ensures restorable { OnErr result (IsRestorable cpu.old cpu.new) }
     ensures ran { RackRuns steps.new (map state rack.old.items) (map state rack.new.items) }
     ensures reference { probe.new ≡ probe_after_steps steps.new probe.old }

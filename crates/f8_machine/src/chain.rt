@@ -1,6 +1,7 @@
 //! The chips described, by the sockets in which they stand.
-ghost use Rattle.std.specs.Prelude.{◌≡◌, ◌≢◌, ◌<◌, ◌≤◌, ◌==◌, false, ◌++◌, [], ◌∷◌, length, AllPairs};
+ghost use Rattle.std.specs.Prelude.{◌≡◌, ◌<◌, ◌≤◌, ◌==◌, false, ◌++◌, [], ◌∷◌, length};
 ghost use Rattle.std.specs.List.{list_any};
+ghost use Rattle.f8_machine.specs.Chains.{AreDistinct};
 
 use chip_face::MOST_CHIPS;
 use std::marker::Model;
@@ -13,15 +14,15 @@ pub struct Chain {
 }
 
 impl Model for Chain {
-    ghost use Rattle.std.specs.Prelude.{ℕ, List, ◌≤◌, ◌≡◌, ◌≢◌, length, take, AllPairs};
+    ghost use Rattle.std.specs.Prelude.{ℕ, List, ◌≤◌, ◌≡◌, length, take};
     ghost use Rattle.chip_face.specs.declared.sizes.TheConstants.{MOST_CHIPS};
+    ghost use Rattle.f8_machine.specs.Chains.{AreDistinct};
 
     ghost Value = { List ℕ };
 
     ghost view = { λ c. take c.len c.sockets };
 
-    ghost invariant = { λ c.
-        (c.len ≤ MOST_CHIPS) × (length c.sockets ≡ MOST_CHIPS) × AllPairs (λ one other. one ≢ other) (take c.len c.sockets) };
+    ghost invariant = { λ c. (c.len ≤ MOST_CHIPS) × (length c.sockets ≡ MOST_CHIPS) × AreDistinct (take c.len c.sockets) };
 }
 
 impl Chain {
@@ -57,7 +58,7 @@ impl Chain {
     pub fn as_slice(&self) -> &[u8]
         ensures value { result.now ≡ self.now }
         ensures few { length result.now ≤ MOST_CHIPS }
-        ensures distinct { AllPairs (λ one other. one ≢ other) result.now }
+        ensures distinct { AreDistinct result.now }
     {
         let len = self.len;
         &self.sockets[..len]

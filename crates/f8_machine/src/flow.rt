@@ -1,3 +1,4 @@
+//! The flat machine's counters, kept beside the probe's.
 ghost use Rattle.std.specs.Prelude.{◌≡◌};
 
 use romc_table::Counters;
@@ -14,7 +15,7 @@ pub(crate) struct Flow {
 
 impl Flow {
     ghost use Rattle.probe.specs.ProbeState.{ProbeState, probe_counters};
-    ghost use Rattle.f8_machine.specs.MachineState.{flow_of, unfetched};
+    ghost use Rattle.f8_machine.specs.MachineState.{flow_of, flow_before_fetch};
 
     /// All at 0, as at power-on.
     pub(crate) fn zero() -> Flow
@@ -30,7 +31,7 @@ impl Flow {
 
     /// The probe's counters, whose program counter is one past the next instruction.
     pub(crate) fn of(counters: Counters) -> Flow
-        ensures { (p : ProbeState) → counters ≡ probe_counters p → flow_of result ≡ unfetched p.count }
+        ensures { (p : ProbeState) → counters ≡ probe_counters p → flow_of result ≡ flow_before_fetch p.count }
     {
         Flow {
             p: counters.pc0.wrapping_sub(1),

@@ -2,16 +2,14 @@
 //! Mostek 3850, 3851 and 3853 data sheets).
 #![tactic(auto)]
 
+mod all_chips;
 mod bus_step;
 mod carry;
 mod chain;
 mod flow;
 mod heard;
-mod keys;
 mod machine;
-mod mode;
 mod outcome;
-mod power;
 mod record;
 mod reset;
 mod wrote;

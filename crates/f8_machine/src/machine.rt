@@ -1,10 +1,9 @@
+//! The machine: power, reset, instructions and key bytes.
+use super::all_chips::{key_all, power_all};
 use super::carry::{Unserved, carry_out};
 use super::chain::Chain;
 use super::flow::Flow;
-use super::keys::key_all;
-use super::mode::{Halt, Mode};
-use super::outcome::Outcome;
-use super::power::power_all;
+use super::outcome::{Mode, Outcome, StoppedBy};
 use super::record::Record;
 use super::reset::fetch_first;
 use super::wrote::done_write;
@@ -12,7 +11,7 @@ use chip_face::{Chip, Counters, MOST_CHIPS};
 use console_spec::Regs;
 use cpu3850::{Cpu, Steps};
 use data_bus::Rack;
-use f8_ops::{MOST_PHI, OWN_PORTS, RESET_PHI, Reserved};
+use f8_ops::{OWN_PORTS, RESET_PHI, Reserved};
 use probe::Probe;
 use std::marker::Model;
 
@@ -54,9 +53,10 @@ impl Machine {
     ghost use Rattle.cpu3850.specs.CpuSteps.{planned};
     ghost use Rattle.probe.specs.ProbeState.{probe_counters};
     ghost use Rattle.data_bus.specs.Racks.{views};
-    ghost use Rattle.f8_machine.specs.MachineState.{IsReset, halted, steps_in, powered_machine, probe_after_steps};
-    ghost use Rattle.f8_machine.specs.Refinement.{AreWhole, Represents, IsPowered, Refines, ResetRefines};
-    ghost use Rattle.f8_machine.specs.Rounds.{RackPowers, RackRuns};
+    ghost use Rattle.f8_machine.specs.MachineState.{IsReset, powered_machine};
+    ghost use Rattle.f8_machine.specs.Refinement.{AreWhole, Represents, IsPowered, ResetRefines};
+    ghost use Rattle.f8_machine.specs.Advancing.{Follows, Advances, StaysStopped};
+    ghost use Rattle.f8_machine.specs.Rounds.{RackPowers};
     ghost use Rattle.f8_machine.specs.Keying.{RackKeyed, keyed_machine};
     ghost use Rattle.console_spec.specs.declared.Event.TheVariants.{Keys};
     ghost use Rattle.console_spec.specs.Telling.{with_event};
@@ -69,7 +69,9 @@ impl Machine {
         requires few { length rack.old.items ≤ MOST_CHIPS }
         ensures machine { result ≡ powered_machine fill chain }
         ensures powered { RackPowers fill (map state rack.old.items) (map state rack.new.items) }
-        ensures pair { AreWhole (map state rack.old.items) → LeaveOwnPorts (map seat_of (views (map state rack.old.items))) → IsPowered result (map state rack.new.items) (power_position (views (map state rack.old.items)) chain fill) }
+        ensures pair { AreWhole (map state rack.old.items) →
+            LeaveOwnPorts (map seat_of (views (map state rack.old.items))) →
+            IsPowered result (map state rack.new.items) (power_position (views (map state rack.old.items)) chain fill) }
         ensures chips { length rack.new.items ≡ length rack.old.items }
     {
         power_all(rack, fill);
@@ -88,12 +90,10 @@ impl Machine {
         requires few { length rack.old.items ≤ MOST_CHIPS }
         requires mode { self.old.mode ≡ Mode.Powered }
         requires phi { self.old.phi < 2 ^ 62 }
-        ensures refines { (x : Position) → IsPowered self.old (map state rack.old.items) x → ResetRefines result self.old self.new (map state rack.new.items) x }
-        ensures ran { RackRuns (steps_in result) (map state rack.old.items) (map state rack.new.items) }
-        ensures reference { self.new.probe ≡ probe_after_steps (steps_in result) self.old.probe }
-        ensures clocks { self.new.phi ≤ self.old.phi + 14 }
-        ensures mode { IsReset self.new.mode }
-        ensures chain { self.new.chain ≡ self.old.chain }
+        ensures refines { (x : Position) → IsPowered self.old (map state rack.old.items) x →
+            ResetRefines result self.old self.new (map state rack.new.items) x }
+        ensures follows { Follows result self.old self.new (map state rack.old.items) (map state rack.new.items) }
+        ensures clocks { self.new.phi ≤ self.old.phi + RESET_PHI }
         ensures chips { length rack.new.items ≡ length rack.old.items }
     {
         let mut steps = Record::new();
@@ -106,7 +106,7 @@ impl Machine {
                 Outcome::Done { wrote: None, steps }
             }
             Err(unserved) => {
-                self.mode = Mode::Stopped(unserved.halt());
+                self.mode = Mode::Stopped(unserved.to_stopped_by());
                 let Unserved { fault, long } = unserved;
                 Outcome::Fault { fault, long, steps }
             }
@@ -122,19 +122,14 @@ impl Machine {
         requires few { length rack.old.items ≤ MOST_CHIPS }
         requires mode { IsReset self.old.mode }
         requires phi { self.old.phi < 2 ^ 62 }
-        ensures refines { (x : Position) → Represents self.old (map state rack.old.items) x → Refines result self.old self.new (map state rack.new.items) x }
-        ensures again { (halt : Halt) → self.old.mode ≡ Mode.Stopped halt → result ≡ halted halt }
-        ensures same { (halt : Halt) → self.old.mode ≡ Mode.Stopped halt → self.new ≡ self.old }
-        ensures ran { RackRuns (steps_in result) (map state rack.old.items) (map state rack.new.items) }
-        ensures reference { self.new.probe ≡ probe_after_steps (steps_in result) self.old.probe }
-        ensures clocks { self.new.phi ≤ self.old.phi + MOST_PHI }
-        ensures onward { self.old.phi ≤ self.new.phi }
-        ensures mode { IsReset self.new.mode }
-        ensures chain { self.new.chain ≡ self.old.chain }
+        ensures advances { Advances result self.old self.new (map state rack.old.items) (map state rack.new.items) }
+        ensures follows { Follows result self.old self.new (map state rack.old.items) (map state rack.new.items) }
+        ensures stopped { (why : StoppedBy) → self.old.mode ≡ Mode.Stopped why →
+            StaysStopped why result self.old self.new (map state rack.old.items) (map state rack.new.items) }
         ensures chips { length rack.new.items ≡ length rack.old.items }
     {
         match &self.mode {
-            Mode::Stopped(halt) => halt.outcome(),
+            Mode::Stopped(why) => why.outcome(),
             _ => self.next(rack),
         }
     }
@@ -144,19 +139,14 @@ impl Machine {
         requires few { length rack.old.items ≤ MOST_CHIPS }
         requires mode { IsReset self.old.mode }
         requires phi { self.old.phi < 2 ^ 62 }
-        ensures refines { (x : Position) → Represents self.old (map state rack.old.items) x → Refines result self.old self.new (map state rack.new.items) x }
-        ensures ran { RackRuns (steps_in result) (map state rack.old.items) (map state rack.new.items) }
-        ensures reference { self.new.probe ≡ probe_after_steps (steps_in result) self.old.probe }
-        ensures clocks { self.new.phi ≤ self.old.phi + MOST_PHI }
-        ensures onward { self.old.phi ≤ self.new.phi }
-        ensures mode { IsReset self.new.mode }
-        ensures chain { self.new.chain ≡ self.old.chain }
+        ensures advances { Advances result self.old self.new (map state rack.old.items) (map state rack.new.items) }
+        ensures follows { Follows result self.old self.new (map state rack.old.items) (map state rack.new.items) }
         ensures chips { length rack.new.items ≡ length rack.old.items }
     {
         match self.cpu.plan() {
             Ok(plan) => self.carry_plan(rack, plan),
             Err(Reserved { code }) => {
-                self.mode = Mode::Stopped(Halt::Reserved {
+                self.mode = Mode::Stopped(StoppedBy::Reserved {
                     at: self.flow.p,
                     code,
                 });
@@ -175,13 +165,8 @@ impl Machine {
         requires instruction { IsSome (decoded self.old.cpu.opcode) }
         requires mode { IsReset self.old.mode }
         requires phi { self.old.phi < 2 ^ 62 }
-        ensures refines { (x : Position) → Represents self.old (map state rack.old.items) x → Refines result self.old self.new (map state rack.new.items) x }
-        ensures ran { RackRuns (steps_in result) (map state rack.old.items) (map state rack.new.items) }
-        ensures reference { self.new.probe ≡ probe_after_steps (steps_in result) self.old.probe }
-        ensures clocks { self.new.phi ≤ self.old.phi + MOST_PHI }
-        ensures onward { self.old.phi ≤ self.new.phi }
-        ensures mode { IsReset self.new.mode }
-        ensures chain { self.new.chain ≡ self.old.chain }
+        ensures advances { Advances result self.old self.new (map state rack.old.items) (map state rack.new.items) }
+        ensures follows { Follows result self.old self.new (map state rack.old.items) (map state rack.new.items) }
         ensures chips { length rack.new.items ≡ length rack.old.items }
     {
         let code = self.cpu.opcode();
@@ -203,7 +188,7 @@ impl Machine {
             }
             Err(unserved) => {
                 self.cpu.restore(kept);
-                self.mode = Mode::Stopped(unserved.halt());
+                self.mode = Mode::Stopped(unserved.to_stopped_by());
                 let Unserved { fault, long } = unserved;
                 Outcome::Fault { fault, long, steps }
             }
@@ -216,8 +201,10 @@ impl Machine {
         requires few { length rack.old.items ≤ MOST_CHIPS }
         ensures machine { self.new ≡ keyed_machine port byte self.old }
         ensures keyed { RackKeyed port byte (map state rack.old.items) (map state rack.new.items) }
-        ensures powered { (x : Position) → IsPowered self.old (map state rack.old.items) x → IsPowered self.new (map state rack.new.items) (with_event (Keys port byte) x) }
-        ensures running { (x : Position) → Represents self.old (map state rack.old.items) x → Represents self.new (map state rack.new.items) (with_event (Keys port byte) x) }
+        ensures powered { (x : Position) → IsPowered self.old (map state rack.old.items) x →
+            IsPowered self.new (map state rack.new.items) (with_event (Keys port byte) x) }
+        ensures running { (x : Position) → Represents self.old (map state rack.old.items) x →
+            Represents self.new (map state rack.new.items) (with_event (Keys port byte) x) }
         ensures chips { length rack.new.items ≡ length rack.old.items }
     {
         if port < OWN_PORTS {
@@ -230,7 +217,14 @@ impl Machine {
     /// The registers, after the last instruction that was done: the address of the one that comes next, the stack register, the data
     /// counters, the accumulator, ISAR, the status word and the scratchpad.
     pub fn regs(&self) -> Regs
-        ensures regs { result ≡ shown (record { flow = self.now.flow; registers = self.now.cpu.registers; keys = []; writes = []; count = 0; phi = 0 }) }
+        ensures regs { result ≡ shown (record {
+          flow = self.now.flow;
+          registers = self.now.cpu.registers;
+          keys = [];
+          writes = [];
+          count = 0;
+          phi = 0;
+        }) }
         ensures isar { result.isar < 64 }
     {
         self.cpu

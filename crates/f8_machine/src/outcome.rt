@@ -1,3 +1,6 @@
+//! What becomes of an instruction, and where a machine is after it.
+ghost use Rattle.std.specs.Prelude.{◌≡◌};
+
 use super::Record;
 use console_board::PortWrite;
 use data_bus::BusFault;
@@ -21,4 +24,43 @@ pub enum Outcome {
         at: u16,
         code: u8,
     },
+}
+
+/// Where a machine is.
+#[derive(Debug, Drop)]
+pub(crate) enum Mode {
+    /// Powered, and not reset.
+    Powered,
+    /// Reset, so that it carries out instructions.
+    Running,
+    /// It carries out nothing more.
+    Stopped(StoppedBy),
+}
+
+/// What stopped a machine.
+#[derive(Debug, Drop)]
+pub(crate) enum StoppedBy {
+    Fault { fault: BusFault, long: bool },
+    Reserved { at: u16, code: u8 },
+}
+
+impl StoppedBy {
+    ghost use Rattle.f8_machine.specs.MachineState.{outcome_again};
+
+    /// The outcome of an instruction on a machine that was stopped: that which stopped it, and no step.
+    pub(crate) fn outcome(&self) -> Outcome
+        ensures { result ≡ outcome_again self.now }
+    {
+        match self {
+            StoppedBy::Fault { fault, long } => Outcome::Fault {
+                fault: fault.copy(),
+                long: *long,
+                steps: Record::new(),
+            },
+            StoppedBy::Reserved { at, code } => Outcome::Reserved {
+                at: *at,
+                code: *code,
+            },
+        }
+    }
 }

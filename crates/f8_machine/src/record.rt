@@ -1,3 +1,4 @@
+//! The bus steps of an instruction, in a record of its own.
 ghost use Rattle.std.specs.Prelude.{◌≡◌, ◌<◌, ◌≤◌, ◌==◌, ◌++◌, [], ◌∷◌, length};
 
 use super::Heard;

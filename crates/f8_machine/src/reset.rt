@@ -1,3 +1,4 @@
+//! The bus steps of reset.
 ghost use Rattle.std.specs.Prelude.{◌≡◌, ◌<◌, ◌≤◌, ◌+◌, [], length, map, IfOk, IfErr, OnOk};
 ghost use Rattle.console_spec.specs.Run.{Position};
 ghost use Rattle.f8_machine.specs.BusSteps.{IsPlain, IsServed, IsRefused};
@@ -12,21 +13,25 @@ use chip_face::{Chip, MOST_CHIPS};
 use cpu3850::{Romc, Step};
 use data_bus::Rack;
 use probe::Probe;
+use romc_table::Driver;
 
 /// The steps of reset: the CPU works by itself, the program counters go to 0, and the opcode there is fetched.
 const IDLE: Step = Step {
     romc: Romc::IDLE,
     long: false,
+    driver: Driver::Nobody,
 };
 
 const TO_ZERO: Step = Step {
     romc: Romc::RESET,
     long: true,
+    driver: Driver::Cpu,
 };
 
 const FETCH: Step = Step {
     romc: Romc::FETCH,
     long: false,
+    driver: Driver::Memory,
 };
 
 /// A bus step in which the CPU places 00.
@@ -39,9 +44,11 @@ fn quiet_step(
     requires few { length rack.old.items ≤ MOST_CHIPS }
     requires room { length steps.old < 9 }
     requires plain { IsPlain step.romc }
-    ensures served { IfOk result (λ byte. IsServed step 0 probe.old probe.new (map state rack.old.items) (map state rack.new.items) steps.old steps.new byte) }
-    ensures told { OnOk result (length steps.new ≡ length steps.old + 1) }
-    ensures refused { IfErr result (λ unserved. IsRefused step unserved.fault probe.old probe.new (map state rack.old.items) (map state rack.new.items) steps.old steps.new) }
+    ensures served { IfOk result (λ byte. IsServed step 0 probe.old probe.new
+        (map state rack.old.items) (map state rack.new.items) steps.old steps.new byte) }
+    ensures longer { OnOk result (length steps.new ≡ length steps.old + 1) }
+    ensures refused { IfErr result (λ unserved. IsRefused step unserved.fault probe.old probe.new
+        (map state rack.old.items) (map state rack.new.items) steps.old steps.new) }
     ensures long { IfErr result (λ unserved. unserved.long ≡ step.long) }
     ensures chips { length rack.new.items ≡ length rack.old.items }
 {
@@ -60,8 +67,10 @@ pub(crate) fn fetch_first(
 ) -> Result<u8, Unserved>
     requires few { length rack.old.items ≤ MOST_CHIPS }
     requires none { steps.old ≡ [] }
-    ensures fetched { (x : Position) → IsAtPower probe.old (map state rack.old.items) x → IfOk result (λ opcode. IsFetched opcode probe.new (map state rack.new.items) steps.new x) }
-    ensures cut { (x : Position) → IsAtPower probe.old (map state rack.old.items) x → IfErr result (λ unserved. IsNotFetched steps.new unserved.fault unserved.long x) }
+    ensures fetched { (x : Position) → IsAtPower probe.old (map state rack.old.items) x →
+        IfOk result (λ opcode. IsFetched opcode probe.new (map state rack.new.items) steps.new x) }
+    ensures cut { (x : Position) → IsAtPower probe.old (map state rack.old.items) x →
+        IfErr result (λ unserved. IsNotFetched steps.new unserved.fault unserved.long x) }
     ensures ran { RackRuns steps.new (map state rack.old.items) (map state rack.new.items) }
     ensures reference { probe.new ≡ probe_after_steps steps.new probe.old }
     ensures chips { length rack.new.items ≡ length rack.old.items }

@@ -1,3 +1,4 @@
+//! The port write of an instruction that is done.
 ghost use Rattle.std.specs.Prelude.{◌≡◌};
 ghost use Rattle.f8_spec.specs.Instructions.{decoded};
 ghost use Rattle.f8_machine.specs.PortWrites.{chip_write, done_write};
@@ -5,16 +6,14 @@ ghost use Rattle.f8_machine.specs.PortWrites.{chip_write, done_write};
 use super::heard::Heard;
 use console_board::PortWrite;
 use f8_ops::{OWN_PORTS, Op, decode};
-
-/// The code in which a chip takes the byte of a port.
-const PUT: u8 = 0x1A;
+use romc_table::Romc;
 
 /// The write that a chip took, in the steps of an instruction that is done: the step before it has named the port.
 fn chip_write(phi: u64, steps: &[Heard]) -> Option<PortWrite>
     ensures { result ≡ chip_write phi steps.now }
 {
     match steps {
-        [named, put, ..] if put.romc.number() == PUT => put.taker.map(|_| PortWrite {
+        [named, put, ..] if put.romc == Romc::WRITE_PORT => put.taker.map(|_| PortWrite {
             phi,
             port: named.byte,
             byte: put.byte,

@@ -7,7 +7,7 @@ use Rattle.chip_face.specs.declared.sizes.TheConstants.{MOST_CHIPS}
 use Rattle.chip_face.specs.declared.specification.ChipSpec.{ChipSpec}
 use Rattle.cartridge.specs.declared.finish.Cart.{Cart}
 use Rattle.cartridge.specs.declared.finish.Unfilled.{Unfilled}
-use Rattle.cartridge.specs.Carts.{finished, wants_image, cart_of, cart_without}
+use Rattle.cartridge.specs.Carts.{specification_of, wants_image, cart_of, cart_without}
 use Rattle.cartridge.specs.ChipTables.{DescribedSource}
 use Rattle.cartridge.specs.Filling.{Planned, filled_plan, source_at}
 use Rattle.console_spec.specs.Scripts.{Script as RunScript}
@@ -57,8 +57,8 @@ ordered_up_to (suc chip) plan =
 ordered_planned : (plan : Planned) → IsOrdered MOST_CHIPS (planned_chips plan)
 unfolding planned_chips
 ordered_planned plan =
-    ordered_then MOST_CHIPS (filled_up_to MOST_CHIPS plan) (λ filled. gives (map finished filled.chips))
-    (ordered_up_to MOST_CHIPS plan) (λ filled. ordered_gives MOST_CHIPS (map finished filled.chips))
+    ordered_then MOST_CHIPS (filled_up_to MOST_CHIPS plan) (λ filled. gives (map specification_of filled.chips))
+    (ordered_up_to MOST_CHIPS plan) (λ filled. ordered_gives MOST_CHIPS (map specification_of filled.chips))
 
 ordered_chips : (cart : List ℕ) → IsOrdered MOST_CHIPS (chips_of cart)
 unfolding chips_of
@@ -119,20 +119,20 @@ pub planned_stops : (a b : Input) (plan : Planned) (stop : Stop) →
     Works a b (filled_up_to MOST_CHIPS plan) (Err stop) → Works a b (planned_chips plan) (Err stop)
 unfolding planned_chips
 planned_stops a b plan stop works =
-    works_stop a b (filled_up_to MOST_CHIPS plan) (λ filled. gives (map finished filled.chips)) stop works
+    works_stop a b (filled_up_to MOST_CHIPS plan) (λ filled. gives (map specification_of filled.chips)) stop works
 
 pub planned_loaded : (a b : Input) (plan filled : Planned) → Works a b (filled_up_to MOST_CHIPS plan) (Ok filled) →
-    Works a b (planned_chips plan) (Ok (map finished filled.chips))
+    Works a b (planned_chips plan) (Ok (map specification_of filled.chips))
 unfolding planned_chips
 planned_loaded a b plan filled works =
-    works_done a b (filled_up_to MOST_CHIPS plan) filled (λ filled. map finished filled.chips) works
+    works_done a b (filled_up_to MOST_CHIPS plan) filled (λ filled. map specification_of filled.chips) works
 
 -- a plan in which every source has its image gives a cartridge
 pub cart_is : (plan : Planned) (cart : Cart) → position wants_image plan.chips ≡ None → Ok cart ≡ cart_of plan →
-    cart.chips ≡ map finished plan.chips
+    cart.chips ≡ map specification_of plan.chips
 cart_is plan cart none e = let is : Ok cart ≡ cart_without None plan = rw none at e in chips_in is
   where
-    chips_in : Ok cart ≡ cart_without None plan → cart.chips ≡ map finished plan.chips
+    chips_in : Ok cart ≡ cart_without None plan → cart.chips ≡ map specification_of plan.chips
     chips_in e = cc e
 
 pub cart_there : (plan : Planned) (unfilled : Unfilled) → position wants_image plan.chips ≡ None →

@@ -10,8 +10,7 @@ use Rattle.outside.specs.StoreRules.{NamedBytes, Input}
 use Rattle.cartridge.specs.Carts.{wants_image}
 use Rattle.cartridge.specs.ChipTables.{DescribedSource}
 use Rattle.cartridge.specs.Filling.{PlannedSource, PlannedChip, Planned, source_at, HasRoomFor, filled_source}
-use Rattle.cartridge.specs.Filling.{filled_chip}
-use Rattle.cartridge.specs.Filling.{filled_plan, changed_at}
+use Rattle.cartridge.specs.Filling.{filled_chip, filled_plan, with_change_at}
 use Rattle.cartridge.specs.Rooms.{LiesIn}
 use Rattle.f8_asm.specs.declared.answers.AsmFault.{AsmFault}
 use Rattle.f8_asm.specs.declared.answers.Room.{Room}
@@ -46,7 +45,7 @@ image_order chip room text seen (Err Memory) says = tt
 -- a chip without a source is as it was
 changed_same : (bytes : List (ℕ × ℕ)) (place : ℕ) (chips : List PlannedChip) →
     None ≡ option_and_then (λ c. option_map (λ s. s.source) c.source) (slice_get chips place) →
-    changed_at (filled_chip bytes) place chips ≡ chips
+    with_change_at (filled_chip bytes) place chips ≡ chips
 changed_same bytes place [] none = refl
 changed_same bytes zero (chip ∷ chips) none = by_source chip.source none
   where
@@ -170,7 +169,7 @@ filled_wants_none bytes chip = by_source chip.source
 
 -- one more chip doesn't
 wants_less : (bytes : List (ℕ × ℕ)) (place k : ℕ) (chips : List PlannedChip) (chip : PlannedChip) →
-    slice_get (changed_at (filled_chip bytes) place chips) k ≡ Some chip →
+    slice_get (with_change_at (filled_chip bytes) place chips) k ≡ Some chip →
     ((j : ℕ) (c : PlannedChip) → j < place → slice_get chips j ≡ Some c → wants_image c ≡ false) → k < place + 1 →
     wants_image chip ≡ false
 wants_less bytes place k [] chip here none below = cc here
@@ -214,7 +213,7 @@ none_wants_all n chips few none =
     none k chip (omega (arith, few, within)) here) in
     rw (all, lt_self (length chips)) refl
 
-changed_length : {A : Type 0} (f : A → A) (place : ℕ) (xs : List A) → length (changed_at f place xs) ≡ length xs
+changed_length : {A : Type 0} (f : A → A) (place : ℕ) (xs : List A) → length (with_change_at f place xs) ≡ length xs
 changed_length f place [] = refl
 changed_length f zero (x ∷ xs) = refl
 changed_length f (suc place) (x ∷ xs) = ap suc (changed_length f place xs)

@@ -2,7 +2,7 @@
 use Rattle.std.specs.Prelude.{ℕ, zero, suc, List, map, Option, Some, None}
 use Rattle.chip_face.specs.declared.sizes.TheConstants.{MOST_CHIPS}
 use Rattle.chip_face.specs.declared.specification.ChipSpec.{ChipSpec}
-use Rattle.cartridge.specs.Carts.{finished}
+use Rattle.cartridge.specs.Carts.{specification_of}
 use Rattle.cartridge.specs.ChipTables.{DescribedSource}
 use Rattle.cartridge.specs.Filling.{Planned, source_at, filled_plan}
 use Rattle.f8_asm.specs.declared.answers.Room.{Room}
@@ -35,7 +35,7 @@ filled_up_to (suc chip) plan = filled_up_to chip plan >>= filled_at chip
 
 -- the chips of a plan, at most `MOST_CHIPS`, with the images of their sources
 unfoldable pub planned_chips : Planned → Work (List ChipSpec)
-planned_chips plan = filled_up_to MOST_CHIPS plan >>= λ filled. gives (map finished filled.chips)
+planned_chips plan = filled_up_to MOST_CHIPS plan >>= λ filled. gives (map specification_of filled.chips)
 
 -- the chips of the description with this name
 unfoldable pub chips_of : List ℕ → Work (List ChipSpec)

@@ -1,3 +1,4 @@
+// The pages of a chip.
 ghost use Rattle.std.specs.Prelude.{◌≡◌, ◌*◌, ◌%◌, MatchOption, Some, None, length, count_by};
 ghost use Rattle.f8_spec.specs.ChipState.{is_rom};
 ghost use Rattle.chip_face.specs.Fitting.{IsSpec, psu_pages};

@@ -21,4 +21,4 @@ pub use law::{end_law, trace_law};
 pub use on_flat::{ReferFault, refer};
 pub use on_rack::play;
 pub use seat::fit_all;
-pub use sockets::{Shortage, first_shortage};
+pub use sockets::{Shortage, chain_of, first_shortage};

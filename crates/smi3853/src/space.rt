@@ -1,3 +1,4 @@
+// The pages of a 3853 and the bytes in them.
 ghost use Rattle.std.specs.Prelude.{ℕ, ◌≡◌, ◌*◌, ◌/◌, ◌<◌, IfOk, IfSome, length, is_some, slice_index, if◌then◌else◌};
 ghost use Rattle.f8_spec.specs.ChipState.{byte_in, bytes_with, filled_bytes, is_ram, is_sort_at, place_of};
 ghost use Rattle.chip_face.specs.Fitting.{IsSmiSpec, page_bytes};

@@ -1,3 +1,4 @@
+// The screen: video memory and the latches of its ports.
 use std::marker::Model;
 
 /// The screen of the console: video memory of 128 by 64 pixels of 2 bits, and the latches of the ports that write it. The rules are this

@@ -20,7 +20,7 @@ pub returns-then-not-rom : goal.returns-then-not-rom
 returns-then-not-rom c =
     first_unfilled (seen_chips c.args.specs.items c.args.sources.items) c.loop-index.index c.loop-index.specs.items c.loop-index.sources.items c.in-Some.rom
     c.loop-index.invariant (within (goal.at.returns-then-not-rom c).After-take)
-        (sym (rw (sym c.take.ensures.value ∙ c.in-Some.is) at c.index_mut.ensures.value))
+    (sym (rw (sym c.take.ensures.value ∙ c.in-Some.is) at c.index_mut.ensures.value))
     c.if-not-rom.true
 
 pub loop-index-preserved : goal.loop-index-preserved

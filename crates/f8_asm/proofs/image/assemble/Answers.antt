@@ -10,7 +10,7 @@ use Rattle.f8_asm.proofs.image.assemble.Goals as goal
 pub invariant_of-result : goal.invariant_of-result
 invariant_of-result c =
     let few = few_names 65536 c.args.text.now c.args.room c.in_ok-reading.reading c.in_ok-layout.layout
-        c.in_ok-reading.ensures (rw c.into_lines.ensures at c.in_ok-layout.ensures) in
+    c.in_ok-reading.ensures (rw c.into_lines.ensures at c.in_ok-layout.ensures) in
     rw c.into_symbols-symbols.ensures (omega arith)
 
 pub returns-clause-ascent : goal.returns-clause-ascent
@@ -20,14 +20,14 @@ pub returns-clause-room : goal.returns-clause-room
 returns-clause-room c =
     let laid = rw c.into_lines.ensures at c.in_ok-layout.ensures in
     let whole = image_whole c.args.text.now c.args.room c.in_ok-reading.reading c.in_ok-layout.layout
-        c.in_ok-table.table c.in_ok-reading.ensures laid c.in_ok-table.ensures in
+    c.in_ok-table.table c.in_ok-reading.ensures laid c.in_ok-table.ensures in
     rw c.in_ok-bytes.ensures (image_lies_in c.args.text.now c.args.room _ whole)
 
 pub returns-clause-law : goal.returns-clause-law
 returns-clause-law c =
     let laid = rw c.into_lines.ensures at c.in_ok-layout.ensures in
     let whole = image_whole c.args.text.now c.args.room c.in_ok-reading.reading c.in_ok-layout.layout
-        c.in_ok-table.table c.in_ok-reading.ensures laid c.in_ok-table.ensures in
+    c.in_ok-table.table c.in_ok-reading.ensures laid c.in_ok-table.ensures in
     let last : c.args.room.last ≤ 65535 = omega arith in
     rw (c.in_ok-bytes.ensures, c.into_symbols-symbols.ensures) (image_is c.args.text.now c.args.room _ last whole)
 
@@ -56,5 +56,5 @@ pub returns-clause-fault : goal.returns-clause-fault
 returns-clause-fault c =
     let laid = rw c.into_lines.ensures at c.in_ok-layout.ensures in
     let whole = image_whole c.args.text.now c.args.room c.in_ok-reading.reading c.in_ok-layout.layout
-        c.in_ok-table.table c.in_ok-reading.ensures laid c.in_ok-table.ensures in
+    c.in_ok-table.table c.in_ok-reading.ensures laid c.in_ok-table.ensures in
     no_fault_at c.args.text.now c.args.room _ whole

@@ -13,8 +13,8 @@ pub returns-in_err-read_line : goal.returns-in_err-read_line
 returns-in_err-read_line c =
     let told = err_from_is_err_and c.from_residual.result c.from_residual.ensures.1 in
     rw (told.1, told.2) (read_stops c.loop-rest.number c.loop-rest.reading c.read_line.new.self
-        c.first_line.result.0.now (lines c.first_line.result.1.now) c.in_err-read_line.field-0.0 _
-        (rw c.first_line.ensures.split at c.loop-rest.invariant.is) c.in_err-read_line.ensures)
+    c.first_line.result.0.now (lines c.first_line.result.1.now) c.in_err-read_line.field-0.0 _
+    (rw c.first_line.ensures.split at c.loop-rest.invariant.is) c.in_err-read_line.ensures)
 
 pub loop-rest-preserved : goal.loop-rest-preserved
 loop-rest-preserved c = record {

@@ -13,8 +13,8 @@ pub returns-in_err-place : goal.returns-in_err-place
 returns-in_err-place c =
     let told = err_from_is_err_and c.from_residual-in_err-place.result c.from_residual-in_err-place.ensures.1 in
     rw (told.1, told.2) (place_stops c.args.room c.loop-line.layout c.place.new.self c.in-Some.line
-        (into_iter_items c.next.new.self) c.in_err-place.field-0.0 _
-        (rw c.in-Some.ensures.steps.0 at c.loop-line.invariant) c.in_err-place.ensures)
+    (into_iter_items c.next.new.self) c.in_err-place.field-0.0 _
+    (rw c.in-Some.ensures.steps.0 at c.loop-line.invariant) c.in_err-place.ensures)
 
 pub returns : goal.returns
 returns c = sym c.loop-line.invariant ∙ (let none = nil_from_length (into_iter_items c.loop-line.line-iterator)

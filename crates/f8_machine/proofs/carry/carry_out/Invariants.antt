@@ -6,10 +6,11 @@ use Rattle.console_spec.specs.Run.{Position, seats_of}
 use Rattle.cpu3850.specs.CpuSteps.{planned}
 use Rattle.cpu3850.specs.Keeping.{IsRestorable}
 use Rattle.cpu3850.specs.Reaching.{done}
-use Rattle.f8_machine.specs.Carrying.{Holds}
+use Rattle.f8_machine.specs.Carrying.{HoldsInstruction}
 use Rattle.f8_machine.specs.MachineState.{probe_after_steps}
 use Rattle.f8_machine.specs.Rounds.{RackRuns}
-use Rattle.f8_machine.proofs.Remains.{ArePlain, Remaining}
+use Rattle.f8_machine.proofs.Remains.{Remaining}
+use Rattle.f8_machine.proofs.StepTests.{ArePlain}
 use Rattle.f8_machine.proofs.Starts.{instruction_aim}
 use Rattle.f8_machine.proofs.carry.carry_out.Given as goal
 
@@ -25,7 +26,9 @@ invariant-loop-index g l = record {
       (map (λ b. (goal.Chip-dyn g (b.vtable, b.value)).state b.value) l.fn.rack.items)
       (map (λ b. (goal.Chip-dyn g (b.vtable, b.value)).state b.value) l.rack.items);
   reference : l.probe ≡ probe_after_steps l.steps l.fn.probe;
-  left : (op : Op) (x : Position) → Holds l.fn.cpu l.fn.probe (map (λ b. (goal.Chip-dyn g (b.vtable, b.value)).state b.value) l.fn.rack.items) op x →
-      Remaining op x (gets_all op (seats_of x.copies) x.flat) (instruction_aim op x) (done op (gets_all op (seats_of x.copies) x.flat) l.fn.cpu) l.plan l.index l.cpu l.probe
+  left : (op : Op) (x : Position) → HoldsInstruction l.fn.cpu l.fn.probe
+      (map (λ b. (goal.Chip-dyn g (b.vtable, b.value)).state b.value) l.fn.rack.items) op x →
+      Remaining op x (gets_all op (seats_of x.copies) x.flat) (instruction_aim op x)
+      (done op (gets_all op (seats_of x.copies) x.flat) l.fn.cpu) l.plan l.index l.cpu l.probe
       (map (λ b. (goal.Chip-dyn g (b.vtable, b.value)).state b.value) l.rack.items) l.steps;
 }

@@ -2,22 +2,31 @@
 use Rattle.std.proofs.Common.{[], ◌∷◌, refl, sym}
 use Rattle.f8_spec.specs.MicroSteps.{Opcode, NoByte, short_step, long_step}
 use Rattle.f8_machine.proofs.RackLaws.{rack_runs_nothing}
-use Rattle.f8_machine.proofs.Resets.{reset_first, reset_more, reset_last, reset_stops, if_ok, if_err_both, rack_served, rack_ran}
+use Rattle.f8_machine.proofs.Resets.{reset_first, reset_more, reset_last, reset_stops, if_ok, if_err_both, rack_served}
+use Rattle.f8_machine.proofs.Resets.{rack_ran}
 use Rattle.f8_machine.proofs.reset.fetch_first.Goals as goal
 
 pub returns-clause-fetched : goal.returns-clause-fetched
 returns-clause-fetched g c = λ x at.
     let first = rw (sym c.requires.none) at (reset_first x c.args.probe.now _ at) in
-    let second = reset_more x (short_step 0x1C NoByte) (long_step 0x08 NoByte ∷ short_step 0x00 Opcode ∷ []) _ _ _ _ _ _ _ refl c.in_ok-quiet_step.ensures.served first in
-    let third = reset_more x (long_step 0x08 NoByte) (short_step 0x00 Opcode ∷ []) _ _ _ _ _ _ _ refl c.in_ok-quiet_step-2.ensures.served second in
-    if_ok _ _ c.quiet_step-3.result (λ byte served. reset_last x _ _ _ _ _ _ byte served third) c.quiet_step-3.ensures.served
+    let second = reset_more x (short_step 0x1C NoByte)
+    (long_step 0x08 NoByte ∷ short_step 0x00 Opcode ∷ []) _ _ _ _ _ _ _ refl c.in_ok-quiet_step.ensures.served first
+    in
+    let third = reset_more x (long_step 0x08 NoByte)
+    (short_step 0x00 Opcode ∷ []) _ _ _ _ _ _ _ refl c.in_ok-quiet_step-2.ensures.served second in
+    if_ok _ _ c.quiet_step-3.result (λ byte served. reset_last x _ _ _ _ _ _ byte served third)
+    c.quiet_step-3.ensures.served
 
 pub returns-clause-cut : goal.returns-clause-cut
 returns-clause-cut g c = λ x at.
     let first = rw (sym c.requires.none) at (reset_first x c.args.probe.now _ at) in
-    let second = reset_more x (short_step 0x1C NoByte) (long_step 0x08 NoByte ∷ short_step 0x00 Opcode ∷ []) _ _ _ _ _ _ _ refl c.in_ok-quiet_step.ensures.served first in
-    let third = reset_more x (long_step 0x08 NoByte) (short_step 0x00 Opcode ∷ []) _ _ _ _ _ _ _ refl c.in_ok-quiet_step-2.ensures.served second in
-    if_err_both _ _ _ c.quiet_step-3.result (λ unserved refused long. reset_stops x (short_step 0x00 Opcode) [] _ _ _ _ _ _ unserved.fault unserved.long refused long third)
+    let second = reset_more x (short_step 0x1C NoByte)
+    (long_step 0x08 NoByte ∷ short_step 0x00 Opcode ∷ []) _ _ _ _ _ _ _ refl c.in_ok-quiet_step.ensures.served first
+    in
+    let third = reset_more x (long_step 0x08 NoByte)
+    (short_step 0x00 Opcode ∷ []) _ _ _ _ _ _ _ refl c.in_ok-quiet_step-2.ensures.served second in
+    if_err_both _ _ _ c.quiet_step-3.result (λ unserved refused long. reset_stops x
+    (short_step 0x00 Opcode) [] _ _ _ _ _ _ unserved.fault unserved.long refused long third)
     c.quiet_step-3.ensures.refused c.quiet_step-3.ensures.long
 
 pub returns-clause-ran : goal.returns-clause-ran

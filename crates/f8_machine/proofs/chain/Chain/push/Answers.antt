@@ -10,5 +10,6 @@ invariant_of-self c =
     let long : length c.self.inside.sockets ≡ MOST_CHIPS = c.self.invariant.1 in (
       omega (arith, room),
       length-set c.self.inside.sockets c.self.inside.len c.args.socket ∙ long,
-      distinct_with c.self.inside.sockets c.self.inside.len c.args.socket (omega (arith, room, long)) (rw c.self.view_is c.requires.fresh) c.self.invariant.2,
+      distinct_with c.self.inside.sockets c.self.inside.len c.args.socket (omega (arith, room, long))
+          (rw c.self.view_is c.requires.fresh) c.self.invariant.2,
     )

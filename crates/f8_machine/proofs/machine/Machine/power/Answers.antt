@@ -6,4 +6,5 @@ use Rattle.f8_machine.proofs.machine.Machine.power.Goals as goal
 pub returns-clause-pair : goal.returns-clause-pair
 returns-clause-pair g c = λ whole free.
     let small : c.args.fill < 256 = search rules in
-    rw (c.new.ensures, c.power.ensures, c.zero.ensures) (powers_pair c.args.fill _ _ _ small whole free c.power_all.ensures.powered)
+    rw (c.new.ensures, c.power.ensures, c.zero.ensures)
+    (powers_pair c.args.fill _ _ _ small whole free c.power_all.ensures.powered)

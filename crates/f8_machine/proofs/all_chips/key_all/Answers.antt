@@ -1,0 +1,30 @@
+-- Each chip has the key byte, and the chips behind it are as they were.
+use Rattle.std.proofs.Common.{length, ◌≤◌, ◌≡◌, ◌∙◌, ap, vec_len}
+use Rattle.data_bus.proofs.Racks.{changed-none, changed-more, changed-written, whole_again}
+use Rattle.f8_machine.specs.Keying.{KeysInSocket}
+use Rattle.f8_machine.proofs.all_chips.key_all.Goals as goal
+
+pub loop-chip-init : goal.loop-chip-init
+loop-chip-init g c = changed-none _ _
+
+pub loop-chip-preserved : goal.loop-chip-preserved
+loop-chip-preserved g c =
+    changed-more (λ b. (goal.Chip-dyn g (b.vtable, b.value)).state b.value) (KeysInSocket c.args.port c.args.byte)
+    c.deref_mut-chip-items.result.now c.loop-chip.chip-items c.loop-chip.chip-index c.chip-item.result c.key_at.new.chip
+    c.loop-chip-test.true c.loop-chip.auto.chip-items c.loop-chip.invariant c.key_at.ensures
+
+pub returns : goal.returns
+returns g c =
+    let long : length c.loop-chip.chip-items ≡ length c.args.rack.now.items =
+    rw c.deref_mut-chip-items.ensures.value at c.loop-chip.auto.chip-items in
+    let count : length c.args.rack.now.items ≡ vec_len c.args.rack.now =
+    rw c.deref_mut-chip-items.ensures.value at c.deref_mut-chip-items.ensures.len in
+    let past : length c.args.rack.now.items ≤ c.loop-chip.chip-index =
+    rw c.deref_mut-chip-items.ensures.value at c.loop-chip-test.false in
+    record {
+      keyed = changed-written (λ b. (goal.Chip-dyn g (b.vtable, b.value)).state b.value)
+          (KeysInSocket c.args.port c.args.byte)
+          c.args.rack.now.items c.loop-chip.chip-items _ c.loop-chip.chip-index count long past
+          (rw c.deref_mut-chip-items.ensures.value at c.loop-chip.invariant);
+      chips = ap length (whole_again _ c.args.rack.now.items c.loop-chip.chip-items count long) ∙ long;
+    }

@@ -1,0 +1,30 @@
+-- What reset and an instruction leave of a machine and its rack, whatever they answer.
+use Rattle.std.specs.Prelude.{◌≡◌, ◌+◌, ◌≤◌, List}
+use Rattle.f8_spec.specs.ChipState.{ChipState}
+use Rattle.f8_ops.specs.declared.table.TheConstants.{MOST_PHI}
+use Rattle.console_spec.specs.Run.{Position}
+use Rattle.f8_machine.specs.MachineState.{MachineState, IsReset, outcome_again, probe_after_steps, steps_in}
+use Rattle.f8_machine.specs.Refinement.{Represents, Refines}
+use Rattle.f8_machine.specs.Rounds.{RackRuns}
+use Rattle.f8_machine.specs.declared.outcome.Outcome.{Outcome}
+use Rattle.f8_machine.specs.declared.outcome.StoppedBy.{StoppedBy}
+
+-- The chips and the probe have heard the steps told and nothing else; reset has been, and the sockets of the chips described stay.
+pub record Follows (result : Outcome) (old new : MachineState) (olds news : List ChipState) : Type 0 where
+  pub ran : RackRuns (steps_in result) olds news
+  pub reference : new.probe ≡ probe_after_steps (steps_in result) old.probe
+  pub mode : IsReset new.mode
+  pub chain : new.chain ≡ old.chain
+
+-- An instruction does what the flat machine's next one does, and the clocks go on by no more than an instruction's.
+pub record Advances (result : Outcome) (old new : MachineState) (olds news : List ChipState) : Type 0 where
+  pub refines : (x : Position) → Represents old olds x → Refines result old new news x
+  pub clocks : new.phi ≤ old.phi + MOST_PHI
+  pub onward : old.phi ≤ new.phi
+
+-- A machine that was stopped answers the same again, and nothing changes: neither the machine nor what its chips are and have heard.
+pub record StaysStopped (why : StoppedBy) (result : Outcome) (old new : MachineState)
+    (olds news : List ChipState) : Type 0 where
+  pub again : result ≡ outcome_again why
+  pub machine : new ≡ old
+  pub rack : news ≡ olds
