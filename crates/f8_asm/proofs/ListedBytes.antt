@@ -14,7 +14,7 @@ use Rattle.f8_spec.specs.Instructions.{decoded, mnemonic_of}
 use Rattle.f8_spec.specs.declared.instructions.Op.{Op}
 use Rattle.f8_spec.specs.declared.instructions.Op.TheVariants.{Nop}
 use Rattle.asm_text.proofs.Spelled.{hex2_read, hex4_read}
-use Rattle.f8_ops.proofs.ValuesBelow.{values_below, same_below}
+use Rattle.f8_spec.proofs.ValuesBelow.{values_below, same_below}
 use Rattle.f8_asm.specs.declared.operands.Effect.TheVariants.{Fills}
 use Rattle.f8_asm.specs.declared.operands.Statement.{Statement}
 use Rattle.f8_asm.specs.declared.operands.Statement.TheVariants.{Nothing}
