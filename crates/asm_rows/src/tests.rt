@@ -1,3 +1,4 @@
+// Worked assembly texts, each with its image or its first fault.
 use f8_asm::{AsmAnswer, AsmCause, AsmFault, Room, assemble, disassemble};
 use std::alloc::Global;
 use std::test::Fail;

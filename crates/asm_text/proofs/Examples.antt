@@ -21,7 +21,9 @@ unfolding tokens_at lexeme name_lexeme name_of
 label = refl
 
 -- a decimal and a hexadecimal number of either case
-numbers : tokens_of (codes " BT 1,$2aF") ≡ Ok (token 2 4 (kind.Name (codes "BT")) ∷ token 5 6 (kind.Number 1) ∷ token 6 7 (kind.Mark 44) ∷ token 7 11 (kind.Number 687) ∷ [])
+numbers : tokens_of (codes " BT 1,$2aF") ≡ Ok
+    (token 2 4 (kind.Name (codes "BT")) ∷ token 5 6 (kind.Number 1) ∷ token 6 7 (kind.Mark 44) ∷
+    token 7 11 (kind.Number 687) ∷ [])
 unfolding tokens_at lexeme name_lexeme name_of number_lexeme number_of value narrow
 numbers = refl
 
@@ -114,7 +116,11 @@ unfolding tokens_at lexeme
 first_fault = refl
 
 -- the marks
-marks : tokens_of (codes "+-*/&|()<>,.:") ≡ Ok (token 1 2 (kind.Mark 43) ∷ token 2 3 (kind.Mark 45) ∷ token 3 4 (kind.Mark 42) ∷ token 4 5 (kind.Mark 47) ∷ token 5 6 (kind.Mark 38) ∷ token 6 7 (kind.Mark 124) ∷ token 7 8 (kind.Mark 40) ∷ token 8 9 (kind.Mark 41) ∷ token 9 10 (kind.Mark 60) ∷ token 10 11 (kind.Mark 62) ∷ token 11 12 (kind.Mark 44) ∷ token 12 13 (kind.Mark 46) ∷ token 13 14 (kind.Mark 58) ∷ [])
+marks : tokens_of (codes "+-*/&|()<>,.:") ≡ Ok
+    (token 1 2 (kind.Mark 43) ∷ token 2 3 (kind.Mark 45) ∷ token 3 4 (kind.Mark 42) ∷ token 4 5 (kind.Mark 47) ∷
+    token 5 6 (kind.Mark 38) ∷ token 6 7 (kind.Mark 124) ∷ token 7 8 (kind.Mark 40) ∷ token 8 9 (kind.Mark 41) ∷
+    token 9 10 (kind.Mark 60) ∷ token 10 11 (kind.Mark 62) ∷ token 11 12 (kind.Mark 44) ∷ token 12 13 (kind.Mark 46) ∷
+    token 13 14 (kind.Mark 58) ∷ [])
 unfolding tokens_at lexeme
 marks = refl
 

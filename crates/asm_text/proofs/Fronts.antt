@@ -1,6 +1,8 @@
 -- What stands at the front of a rest, against the rules of the grammar: each rule is found, and what is found
 -- is by a rule.
-use Rattle.std.proofs.Common.{◌≡◌, ℕ, suc, ◌+◌, ◌^◌, ◌<◌, ◌≤◌, Bool, true, false, cond, ◌&&◌, List, [], ◌∷◌, ◌++◌, length, take, drop, Some, None, refl, sym, ◌∙◌, ap, subst, arith, zero-add, lit<, take-append-drop}
+use Rattle.std.proofs.Common.{◌≡◌, ℕ, suc, ◌+◌, ◌^◌, ◌<◌, ◌≤◌, Bool, true, false, cond, ◌&&◌, List, [], ◌∷◌, ◌++◌}
+use Rattle.std.proofs.Common.{length, take, drop, Some, None, refl, sym, ◌∙◌, ap, subst, arith, zero-add, lit<}
+use Rattle.std.proofs.Common.{take-append-drop}
 use Rattle.text_lines.specs.Printable.{is_printable}
 use Rattle.std.specs.Prelude.{◌==◌, nat_lt, nat_le}
 use Rattle.std.proofs.lemmas.List.Folds.{length-prefix_len}
@@ -12,7 +14,9 @@ use Rattle.std.proofs.lemmas.Bool.Decides.{nat_tests}
 use Rattle.std.proofs.lemmas.Grind.{common_steps}
 use Rattle.asm_text.specs.Bytes.{is_blank, is_letter, is_name_byte, is_name, is_mark, value, narrow, stops}
 use Rattle.asm_text.specs.Lexemes.{name_of, name_lexeme, number_of, sized_number, number_lexeme, quoted_lexeme, lexeme}
-use Rattle.asm_text.specs.Grammar.{AreDigits, Spells, spells_name, spells_decimal, spells_hexadecimal, spells_binary, spells_quoted, spells_mark, BeginsWide, wide_decimal, wide_hexadecimal, wide_binary, BeginsNothing}
+use Rattle.asm_text.specs.Grammar.{AreDigits, Spells, spells_name, spells_decimal, spells_hexadecimal, spells_binary}
+use Rattle.asm_text.specs.Grammar.{spells_quoted, spells_mark, BeginsWide, wide_decimal, wide_hexadecimal, wide_binary}
+use Rattle.asm_text.specs.Grammar.{BeginsNothing}
 use Rattle.asm_text.specs.declared.front.Lexeme.{Lexeme}
 use Rattle.asm_text.specs.declared.front.Lexeme.TheVariants.{Blank, End, Bad, Wide, Lexed}
 use Rattle.asm_text.specs.declared.answers.TokenKind.{TokenKind}
@@ -62,8 +66,12 @@ unfolding lexeme
 token_found {k} {text} {rest} (spells_name named stop) = name_found text rest named stop
 token_found {k} {text} {rest} (spells_decimal are fits) =
     decimal_front text rest are ∙ number_read 10 0 (value 10 text) text rest are.some are.each refl fits are.longest ∙ ap (Lexed k) (zero-add (length text))
-token_found (spells_hexadecimal {digits} {rest} are fits) = number_read 16 1 (value 16 digits) digits rest are.some are.each refl fits are.longest ∙ ap (Lexed (kind.Number (value 16 digits))) (next (length digits))
-token_found (spells_binary {digits} {rest} are fits) = number_read 2 1 (value 2 digits) digits rest are.some are.each refl fits are.longest ∙ ap (Lexed (kind.Number (value 2 digits))) (next (length digits))
+token_found (spells_hexadecimal {digits} {rest} are fits) =
+    number_read 16 1 (value 16 digits) digits rest are.some are.each refl fits are.longest
+    ∙ ap (Lexed (kind.Number (value 16 digits))) (next (length digits))
+token_found (spells_binary {digits} {rest} are fits) =
+    number_read 2 1 (value 2 digits) digits rest are.some are.each refl fits are.longest
+    ∙ ap (Lexed (kind.Number (value 2 digits))) (next (length digits))
 token_found (spells_quoted {c} {rest} printable) = quoted_found c rest printable
 token_found (spells_mark {mark} {rest} is) = mark_front mark rest is
 
@@ -123,13 +131,18 @@ digits_at base bytes some = record {
 }
 
 -- what is found where a number should stand
-number_front : (P : Lexeme → Type 0) (base before : ℕ) (bytes : List ℕ) → let n = prefix_len (λ b. is_digit b base) bytes in P Bad → (0 < n → 2 ^ 32 ≤ value base (take n bytes) → P Wide) → (0 < n → value base (take n bytes) < 2 ^ 32 → P (Lexed (kind.Number (value base (take n bytes))) (before + n))) → P (number_lexeme base before bytes)
+number_front : (P : Lexeme → Type 0) (base before : ℕ) (bytes : List ℕ) →
+    let n = prefix_len (λ b. is_digit b base) bytes in P Bad → (0 < n → 2 ^ 32 ≤ value base (take n bytes) → P Wide) →
+    (0 < n → value base (take n bytes) < 2 ^ 32 → P (Lexed (kind.Number (value base (take n bytes))) (before + n))) →
+    P (number_lexeme base before bytes)
 unfolding number_lexeme number_of narrow
 number_front P base before bytes bad wide fits =
     let n = prefix_len (λ b. is_digit b base) bytes in
     let v = value base (take n bytes) in
     choose P (n == 0) Bad (sized_number (narrow v) (before + n)) (λ _. bad)
-    (λ some. choose (λ o. P (sized_number o (before + n))) (nat_lt v (2 ^ 32)) (Some v) None (λ below. fits (grind (arith, nat_tests)) (grind (arith, nat_tests))) (λ above. wide (grind (arith, nat_tests)) (grind (arith, nat_tests))))
+    (λ some. choose (λ o. P (sized_number o (before + n))) (nat_lt v (2 ^ 32)) (Some v) None
+        (λ below. fits (grind (arith, nat_tests)) (grind (arith, nat_tests)))
+        (λ above. wide (grind (arith, nat_tests)) (grind (arith, nat_tests))))
 
 -- what is found where a name should stand
 name_front : (b : ℕ) (bs : List ℕ) → is_letter b ≡ true → StandsAt b bs (name_lexeme (b ∷ bs))
@@ -138,7 +151,8 @@ name_front b bs letter =
     let n = prefix_len is_name_byte (b ∷ bs) in
     let some : 0 < n = grind (arith, common_steps, nat_tests) in
     choose (StandsAt b bs) (nat_le n 32) (Lexed (kind.Name (take n (b ∷ bs))) n) Bad
-    (λ short. (spells_name (name_run (b ∷ bs) letter (grind (arith, nat_tests))) (run_ends is_name_byte (b ∷ bs)), some, prefix_len-le-length is_name_byte (b ∷ bs)))
+    (λ short. (spells_name (name_run (b ∷ bs) letter (grind (arith, nat_tests))) (run_ends is_name_byte (b ∷ bs)), some,
+        prefix_len-le-length is_name_byte (b ∷ bs)))
     (λ long. tt)
 
 -- what is found where a quoted character should stand
@@ -185,8 +199,12 @@ front_stands b bs =
     let P = StandsAt b bs in
     choose P (is_blank b) Blank _ (λ blank. blank) (λ _.
     choose P (b == 59) End _ (λ comment. eqb-true b 59 comment) (λ _.
-    choose P (b == 36) (number_lexeme 16 1 bs) _ (λ dollar. subst (λ c. StandsAt c bs (number_lexeme 16 1 bs)) (sym (eqb-true b 36 dollar)) (hexadecimal_front bs)) (λ _.
-    choose P (b == 37) (number_lexeme 2 1 bs) _ (λ percent. subst (λ c. StandsAt c bs (number_lexeme 2 1 bs)) (sym (eqb-true b 37 percent)) (binary_front bs)) (λ _.
+    choose P (b == 36) (number_lexeme 16 1 bs) _
+        (λ dollar. subst (λ c. StandsAt c bs (number_lexeme 16 1 bs)) (sym (eqb-true b 36 dollar))
+        (hexadecimal_front bs)) (λ _.
+    choose P (b == 37) (number_lexeme 2 1 bs) _
+        (λ percent. subst (λ c. StandsAt c bs (number_lexeme 2 1 bs)) (sym (eqb-true b 37 percent)) (binary_front bs))
+        (λ _.
     choose P (b == 39) (quoted_lexeme bs) _ (λ quote. subst (λ c. StandsAt c bs (quoted_lexeme bs)) (sym (eqb-true b 39 quote)) (quoted_front bs)) (λ _.
     choose P (is_digit b 10) (number_lexeme 10 0 (b ∷ bs)) _ (λ _. decimal_stands b bs) (λ _.
     choose P (is_letter b) (name_lexeme (b ∷ bs)) _ (λ letter. name_front b bs letter) (λ _.

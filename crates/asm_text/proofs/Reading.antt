@@ -1,10 +1,13 @@
 -- The tokens of a line, or its first fault, are what the rules of the grammar read.
-use Rattle.std.proofs.Common.{◌≡◌, true, ℕ, zero, suc, ◌+◌, ◌-◌, ◌<◌, List, [], ◌∷◌, ◌++◌, length, drop, Result, refl, sym, ◌∙◌, ap, arith, add-zero, lit<, take-append-drop, length-take-le}
+use Rattle.std.proofs.Common.{◌≡◌, true, ℕ, zero, suc, ◌+◌, ◌-◌, ◌<◌, List, [], ◌∷◌, ◌++◌, length, drop, Result, refl}
+use Rattle.std.proofs.Common.{sym, ◌∙◌, ap, arith, add-zero, lit<, take-append-drop, length-take-le}
 use Rattle.std.proofs.Math.Seq.{drop-append_seam}
 use Rattle.asm_text.specs.Bytes.{is_name}
 use Rattle.asm_text.specs.Lexemes.{lexeme}
 use Rattle.asm_text.specs.Tokens.{behind, tokens_at, tokens_of}
-use Rattle.asm_text.specs.Grammar.{Spells, spells_name, spells_decimal, spells_hexadecimal, spells_binary, spells_quoted, spells_mark, BeginsNothing, IsOnlyReading, Reads, reads_end, reads_comment, reads_blank, reads_token, reads_wide, reads_bad}
+use Rattle.asm_text.specs.Grammar.{Spells, spells_name, spells_decimal, spells_hexadecimal, spells_binary}
+use Rattle.asm_text.specs.Grammar.{spells_quoted, spells_mark, BeginsNothing, IsOnlyReading, Reads, reads_end}
+use Rattle.asm_text.specs.Grammar.{reads_comment, reads_blank, reads_token, reads_wide, reads_bad}
 use Rattle.asm_text.specs.declared.front.Lexeme.{Lexeme}
 use Rattle.asm_text.specs.declared.front.Lexeme.TheVariants.{Blank, End, Bad, Wide, Lexed}
 use Rattle.asm_text.specs.declared.answers.Token.{Token}
@@ -24,13 +27,19 @@ some_in_name [] named = cc
 some_in_name (b ∷ bs) named = omega arith
 
 -- a token at the front of bytes, with its length
-token_read : {kind : TokenKind} {text rest : List ℕ} {found : Result (List Token) TokenFault} (column len : ℕ) (bytes : List ℕ) → Spells kind text rest → text ++ rest ≡ bytes → length text ≡ len → Reads (column + len) rest found → Reads column bytes (behind (record { column = column; end = column + len; kind = kind }) found)
+token_read : {kind : TokenKind} {text rest : List ℕ} {found : Result (List Token) TokenFault} (column len : ℕ)
+    (bytes : List ℕ) → Spells kind text rest → text ++ rest ≡ bytes → length text ≡ len →
+    Reads (column + len) rest found → Reads column bytes
+    (behind (record { column = column; end = column + len; kind = kind }) found)
 token_read {kind} {text} {rest} {found} column len bytes spells split size others =
-    let whole : Reads column (text ++ rest) (behind (record { column = column; end = column + length text; kind = kind }) found) = reads_token spells (rw size others) in
+    let whole : Reads column (text ++ rest) (behind
+        (record { column = column; end = column + length text; kind = kind }) found) =
+        reads_token spells (rw size others) in
     rw (← split, ← size) whole
 
 -- the rules read what stands at the front, and then the rest
-front_read : (l : Lexeme) (column b : ℕ) (bs : List ℕ) → l ≡ lexeme (b ∷ bs) → StandsAt b bs l → ((k c : ℕ) → Reads (c + k) (drop k bs) (tokens_at k c bs)) → Reads column (b ∷ bs) (turn l column bs)
+front_read : (l : Lexeme) (column b : ℕ) (bs : List ℕ) → l ≡ lexeme (b ∷ bs) → StandsAt b bs l →
+    ((k c : ℕ) → Reads (c + k) (drop k bs) (tokens_at k c bs)) → Reads column (b ∷ bs) (turn l column bs)
 front_read Blank column b bs is stands rest = reads_blank stands (rw add-zero at (rest 0 (column + 1)))
 front_read End column b bs is stands rest = rw stands reads_comment
 front_read Bad column b bs is stands rest = reads_bad (nothing b bs is)
@@ -39,7 +48,8 @@ front_read (Lexed kind zero) column b bs is stands rest = absurd (omega (arith, 
 front_read (Lexed kind (suc k)) column b bs is stands rest =
     let less : suc k - 1 ≡ k = omega arith in
     let next : column + 1 + k ≡ column + suc k = omega arith in
-    rw less (token_read column (suc k) (b ∷ bs) stands.0 (take-append-drop (suc k) (b ∷ bs)) (length-take-le (suc k) (b ∷ bs) stands.2) (rw next at (rest k (column + 1))))
+    rw less (token_read column (suc k) (b ∷ bs) stands.0 (take-append-drop (suc k) (b ∷ bs))
+        (length-take-le (suc k) (b ∷ bs) stands.2) (rw next at (rest k (column + 1))))
 
 -- the rules read bytes if they read those behind the first
 reads_here : (column b : ℕ) (bs : List ℕ) → ((k c : ℕ) → Reads (c + k) (drop k bs) (tokens_at k c bs)) → Reads column (b ∷ bs) (tokens_at 0 column (b ∷ bs))
@@ -78,7 +88,9 @@ only_reading (reads_end {column}) = at_end column [] (sym end_front)
 only_reading (reads_comment {column} {bs}) = at_end column (59 ∷ bs) (sym (comment_found 59 bs refl))
 only_reading (reads_blank {column} {b} {bs} {found} blank others) = at_blank column (b ∷ bs) (sym (blank_found b bs blank)) (omega arith) ∙ only_reading others
 only_reading (reads_token {column} {kind} {text} {rest} {found} spells others) =
-    at_token column (text ++ rest) kind (length text) (sym (token_found spells)) (spelled_some spells) ∙ ap (behind (record { column = column; end = column + length text; kind = kind })) (ap (tokens_at 0 (column + length text)) (drop-append_seam text rest) ∙ only_reading others)
+    at_token column (text ++ rest) kind (length text) (sym (token_found spells)) (spelled_some spells)
+        ∙ ap (behind (record { column = column; end = column + length text; kind = kind }))
+        (ap (tokens_at 0 (column + length text)) (drop-append_seam text rest) ∙ only_reading others)
 only_reading (reads_wide {column} {bytes} wide) = at_wide column bytes (sym (wide_found wide))
 only_reading (reads_bad {column} {b} {bs} none) = at_bad column (b ∷ bs) (nothing_found (lexeme (b ∷ bs)) b bs refl (front_stands b bs) none)
 

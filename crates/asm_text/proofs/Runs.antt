@@ -1,5 +1,6 @@
 -- Runs of bytes of one class: names, and digits with the number that they spell.
-use Rattle.std.proofs.Common.{◌≡◌, ℕ, suc, ◌+◌, ◌*◌, ◌<◌, ◌≤◌, Bool, true, List, [], ◌∷◌, length, get_or, take, drop, IsUtf8, Some, None, ◌^◌, lit<, zero, refl, sym, ◌∙◌, ap, arith, take-append-drop}
+use Rattle.std.proofs.Common.{◌≡◌, ℕ, suc, ◌+◌, ◌*◌, ◌<◌, ◌≤◌, Bool, true, List, [], ◌∷◌, length, get_or, take, drop}
+use Rattle.std.proofs.Common.{IsUtf8, Some, None, ◌^◌, lit<, zero, refl, sym, ◌∙◌, ap, arith, take-append-drop}
 use Rattle.std.specs.List.{list_all, prefix_len, fold}
 use Rattle.std.specs.Char.{digit_value, is_digit}
 use Rattle.std.proofs.lemmas.List.{take_all}
@@ -42,7 +43,8 @@ unfolding value
 value_none base = refl
 
 -- one more digit
-pub value_more : (base : ℕ) (digits : List ℕ) (i : ℕ) → i < length digits → value base (take (i + 1) digits) ≡ value base (take i digits) * base + digit_value (get_or digits i 0)
+pub value_more : (base : ℕ) (digits : List ℕ) (i : ℕ) → i < length digits →
+    value base (take (i + 1) digits) ≡ value base (take i digits) * base + digit_value (get_or digits i 0)
 unfolding value
 value_more base digits i within = fold_more (λ sum digit. sum * base + digit_value digit) 0 digits i 0 within
 
@@ -56,7 +58,8 @@ value_front : (base : ℕ) (digits : List ℕ) (i : ℕ) → 1 ≤ base → valu
 unfolding value
 value_front base digits i positive =
     let f : ℕ → ℕ → ℕ = λ sum digit. sum * base + digit_value digit in
-    let whole : fold f 0 digits ≡ fold f (fold f 0 (take i digits)) (drop i digits) = ap (fold f 0) (sym (take-append-drop i digits)) ∙ fold-append f 0 (take i digits) (drop i digits) in
+    let whole : fold f 0 digits ≡ fold f (fold f 0 (take i digits)) (drop i digits) =
+        ap (fold f 0) (sym (take-append-drop i digits)) ∙ fold-append f 0 (take i digits) (drop i digits) in
     omega (arith, grows base positive (fold f 0 (take i digits)) (drop i digits))
 
 -- what 32 bits hold
@@ -65,14 +68,18 @@ unfolding narrow
 narrow_fits n new fits = grind (arith, nat_tests)
 
 -- the sum with one digit more, where 32 bits hold it
-pub one_more : (base sum digit new : ℕ) (digits : List ℕ) (i : ℕ) → sum ≡ value base (take i digits) → i < length digits → digit ≡ digit_value (get_or digits i 0) → Some new ≡ narrow (sum * base + digit) → new ≡ value base (take (i + 1) digits)
+pub one_more : (base sum digit new : ℕ) (digits : List ℕ) (i : ℕ) → sum ≡ value base (take i digits) →
+    i < length digits → digit ≡ digit_value (get_or digits i 0) → Some new ≡ narrow (sum * base + digit) →
+    new ≡ value base (take (i + 1) digits)
 unfolding narrow
 one_more base sum digit new digits i so_far within is_digit fits =
     let new_is : new ≡ sum * base + digit = grind (arith, nat_tests) in
     rw (value_more base digits i within, new_is, so_far, is_digit) refl
 
 -- a number is too wide where the sum with one digit more is
-pub too_wide : (base sum digit : ℕ) (digits : List ℕ) (i : ℕ) → 1 ≤ base → sum ≡ value base (take i digits) → i < length digits → digit ≡ digit_value (get_or digits i 0) → None ≡ narrow (sum * base + digit) → None ≡ narrow (value base digits)
+pub too_wide : (base sum digit : ℕ) (digits : List ℕ) (i : ℕ) → 1 ≤ base → sum ≡ value base (take i digits) →
+    i < length digits → digit ≡ digit_value (get_or digits i 0) → None ≡ narrow (sum * base + digit) →
+    None ≡ narrow (value base digits)
 unfolding narrow
 too_wide base sum digit digits i positive so_far within is_digit wide =
     let above : 2 ^ 32 ≤ sum * base + digit = grind (arith, nat_tests) in
@@ -81,7 +88,8 @@ too_wide base sum digit digits i positive so_far within is_digit wide =
     grind (arith, nat_tests)
 
 -- the number of all the digits, which 32 bits hold
-pub held : (base sum : ℕ) (digits : List ℕ) (i : ℕ) → sum < 2 ^ 32 → sum ≡ value base (take i digits) → length digits ≤ i → Some sum ≡ narrow (value base digits)
+pub held : (base sum : ℕ) (digits : List ℕ) (i : ℕ) → sum < 2 ^ 32 → sum ≡ value base (take i digits) →
+    length digits ≤ i → Some sum ≡ narrow (value base digits)
 unfolding narrow
 held base sum digits i fits so_far whole =
     let same : value base digits ≡ sum = ap (value base) (sym (take_all i digits whole)) ∙ sym so_far in

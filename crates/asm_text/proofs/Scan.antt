@@ -1,5 +1,6 @@
 -- One turn of the loop over a line, for each thing that may stand at the front of its rest.
-use Rattle.std.proofs.Common.{◌≡◌, ℕ, zero, suc, ◌+◌, ◌-◌, ◌<◌, List, [], ◌∷◌, ◌++◌, length, drop, Result, Ok, Err, refl, sym, ◌∙◌, ap, arith, append_assoc, append-nil, add-zero}
+use Rattle.std.proofs.Common.{◌≡◌, ℕ, zero, suc, ◌+◌, ◌-◌, ◌<◌, List, [], ◌∷◌, ◌++◌, length, drop, Result, Ok, Err}
+use Rattle.std.proofs.Common.{refl, sym, ◌∙◌, ap, arith, append_assoc, append-nil, add-zero}
 use Rattle.asm_text.specs.Lexemes.{lexeme}
 use Rattle.asm_text.specs.Tokens.{behind, tokens_at}
 use Rattle.asm_text.specs.declared.front.Lexeme.{Lexeme}
@@ -23,7 +24,8 @@ skipped : (k column : ℕ) (bs : List ℕ) → tokens_at k column bs ≡ tokens_
 unfolding tokens_at
 skipped zero column bs = rw (add-zero column) refl
 skipped (suc k) column [] = refl
-skipped (suc k) column (b ∷ bs) = let next : column + 1 + k ≡ column + suc k = omega arith in skipped k (column + 1) bs ∙ ap (λ c. tokens_at 0 c (drop k bs)) next
+skipped (suc k) column (b ∷ bs) = let next : column + 1 + k ≡ column + suc k = omega arith in
+    skipped k (column + 1) bs ∙ ap (λ c. tokens_at 0 c (drop k bs)) next
 
 -- what is told of a rest with this at its front
 abbrev pub turn : Lexeme → ℕ → List ℕ → Result (List Token) TokenFault
@@ -70,7 +72,9 @@ at_wide column [] is = cc
 at_wide column (b ∷ bs) is = at_front Wide column b bs is
 
 -- a token stands before those of the rest behind it
-pub at_token : (column : ℕ) (rest : List ℕ) (kind : TokenKind) (len : ℕ) → Lexed kind len ≡ lexeme rest → 0 < len → tokens_at 0 column rest ≡ behind (record { column = column; end = column + len; kind = kind }) (tokens_at 0 (column + len) (drop len rest))
+pub at_token : (column : ℕ) (rest : List ℕ) (kind : TokenKind) (len : ℕ) → Lexed kind len ≡ lexeme rest → 0 < len →
+    tokens_at 0 column rest ≡ behind (record { column = column; end = column + len; kind = kind })
+    (tokens_at 0 (column + len) (drop len rest))
 unfolding lexeme
 at_token column [] kind len is some = cc
 at_token column (b ∷ bs) kind zero is some = absurd (omega arith)
@@ -78,7 +82,9 @@ at_token column (b ∷ bs) kind (suc k) is some =
     let less : suc k - 1 ≡ k = omega arith in
     let next : column + 1 + k ≡ column + suc k = omega arith in
     let token : Token = record { column = column; end = column + suc k; kind = kind } in
-    at_front (Lexed kind (suc k)) column b bs is ∙ ap (behind token) (ap (λ n. tokens_at n (column + 1) bs) less ∙ skipped k (column + 1) bs ∙ ap (λ c. tokens_at 0 c (drop k bs)) next)
+    at_front (Lexed kind (suc k)) column b bs is
+        ∙ ap (behind token) (ap (λ n. tokens_at n (column + 1) bs) less ∙ skipped k (column + 1) bs
+        ∙ ap (λ c. tokens_at 0 c (drop k bs)) next)
 
 -- one token more, before what is found behind it
 after_more : (found : List Token) (t : Token) (r : Result (List Token) TokenFault) → after (found ++ t ∷ []) r ≡ after found (behind t r)
@@ -103,5 +109,8 @@ module _ {found : List Token} {column : ℕ} {rest : List ℕ} {whole : Result (
   on_wide is = sym so_far.is ∙ ap (after found) (at_wide column rest is)
 
   -- past a token
-  pub on_token : (kind : TokenKind) (len : ℕ) → Lexed kind len ≡ lexeme rest → 0 < len → SoFar (found ++ (record { column = column; end = column + len; kind = kind }) ∷ []) (column + len) (drop len rest) whole
-  on_token kind len is some = record { is = after_more found _ (tokens_at 0 (column + len) (drop len rest)) ∙ ap (after found) (sym (at_token column rest kind len is some)) ∙ so_far.is }
+  pub on_token : (kind : TokenKind) (len : ℕ) → Lexed kind len ≡ lexeme rest → 0 < len →
+      SoFar (found ++ (record { column = column; end = column + len; kind = kind }) ∷ []) (column + len)
+      (drop len rest) whole
+  on_token kind len is some = record { is = after_more found _ (tokens_at 0 (column + len) (drop len rest))
+      ∙ ap (after found) (sym (at_token column rest kind len is some)) ∙ so_far.is }

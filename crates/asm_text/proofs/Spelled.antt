@@ -25,12 +25,16 @@ unfolding narrow
 narrow_holds n fits = grind (arith, nat_tests)
 
 -- some digits whose number 32 bits hold
-number_of_digits : (base before n : ℕ) (bytes : List ℕ) (k : ℕ) → 0 < k → narrow (value base (take k bytes)) ≡ Some n → number_of base before bytes k ≡ Lexed (kind.Number n) (before + k)
+number_of_digits : (base before n : ℕ) (bytes : List ℕ) (k : ℕ) → 0 < k → narrow (value base (take k bytes)) ≡ Some n →
+    number_of base before bytes k ≡ Lexed (kind.Number n) (before + k)
 unfolding number_of
 number_of_digits base before n bytes k some held = rw held (grind (arith, nat_tests))
 
 -- digits that spell a number of 32 bits are read as it
-pub number_read : (base before n : ℕ) (digits rest : List ℕ) → 0 < length digits → list_all (λ b. is_digit b base) digits ≡ true → value base digits ≡ n → n < 2 ^ 32 → stops (λ b. is_digit b base) rest ≡ true → number_lexeme base before (digits ++ rest) ≡ Lexed (kind.Number n) (before + length digits)
+pub number_read : (base before n : ℕ) (digits rest : List ℕ) → 0 < length digits →
+    list_all (λ b. is_digit b base) digits ≡ true → value base digits ≡ n → n < 2 ^ 32 →
+    stops (λ b. is_digit b base) rest ≡ true →
+    number_lexeme base before (digits ++ rest) ≡ Lexed (kind.Number n) (before + length digits)
 unfolding number_lexeme
 number_read base before n digits rest some all spelled fits stop =
     let run = run_stops (λ b. is_digit b base) digits rest all stop in
@@ -48,7 +52,9 @@ unfolding narrow
 narrow_wide n wide = grind (arith, nat_tests)
 
 -- digits that spell a wider number are read as too wide
-pub wide_read : (base before : ℕ) (digits rest : List ℕ) → 0 < length digits → list_all (λ b. is_digit b base) digits ≡ true → 2 ^ 32 ≤ value base digits → stops (λ b. is_digit b base) rest ≡ true → number_lexeme base before (digits ++ rest) ≡ Wide
+pub wide_read : (base before : ℕ) (digits rest : List ℕ) → 0 < length digits →
+    list_all (λ b. is_digit b base) digits ≡ true → 2 ^ 32 ≤ value base digits →
+    stops (λ b. is_digit b base) rest ≡ true → number_lexeme base before (digits ++ rest) ≡ Wide
 unfolding number_lexeme
 wide_read base before digits rest some all wide stop =
     let run = run_stops (λ b. is_digit b base) digits rest all stop in
@@ -74,7 +80,8 @@ pub name_read : (name rest : List ℕ) → is_name name ≡ true → stops is_na
 unfolding name_lexeme
 name_read name rest named stop =
     let run = run_stops is_name_byte name rest (name_bytes name named) stop in
-    ap (name_of (name ++ rest)) run ∙ name_of_bytes (name ++ rest) (length name) (name_short name named) ∙ ap (λ s. Lexed (kind.Name s) (length name)) (take-append_seam name rest)
+    ap (name_of (name ++ rest)) run ∙ name_of_bytes (name ++ rest) (length name) (name_short name named)
+        ∙ ap (λ s. Lexed (kind.Name s) (length name)) (take-append_seam name rest)
 
 -- a hex digit is a digit of base 16, and has its value
 digit_again : (d : ℕ) → d < 16 → digit_value (hex_digit d) ≡ d
@@ -89,7 +96,8 @@ hex2_value b small = omega (arith, digit_again (b / 16) (omega arith), digit_aga
 pub hex4_value : (w : ℕ) → w < 65536 → value 16 (hex4 w) ≡ w
 unfolding value hex2 hex4
 hex4_value w small =
-    omega (arith, digit_again (w / 256 / 16) (omega arith), digit_again (w / 256 % 16) (omega arith), digit_again (w % 256 / 16) (omega arith), digit_again (w % 256 % 16) (omega arith))
+    omega (arith, digit_again (w / 256 / 16) (omega arith), digit_again (w / 256 % 16) (omega arith),
+        digit_again (w % 256 / 16) (omega arith), digit_again (w % 256 % 16) (omega arith))
 
 -- hex digits are digits of base 16
 hex_digit_is : (d : ℕ) → d < 16 → is_digit (hex_digit d) 16 ≡ true
@@ -106,5 +114,7 @@ hex2_read b rest small stop =
 pub hex4_read : (w : ℕ) (rest : List ℕ) → w < 65536 → stops (λ c. is_digit c 16) rest ≡ true → number_lexeme 16 1 (hex4 w ++ rest) ≡ Lexed (kind.Number w) 5
 unfolding hex2 hex4
 hex4_read w rest small stop =
-    let all : list_all (λ c. is_digit c 16) (hex4 w) ≡ true = rw (hex_digit_is (w / 256 / 16) (omega arith), hex_digit_is (w / 256 % 16) (omega arith), hex_digit_is (w % 256 / 16) (omega arith), hex_digit_is (w % 256 % 16) (omega arith)) refl in
+    let all : list_all (λ c. is_digit c 16) (hex4 w) ≡ true =
+        rw (hex_digit_is (w / 256 / 16) (omega arith), hex_digit_is (w / 256 % 16) (omega arith),
+        hex_digit_is (w % 256 / 16) (omega arith), hex_digit_is (w % 256 % 16) (omega arith)) refl in
     number_read 16 1 w (hex4 w) rest (lit< tt) all (hex4_value w small) (omega arith) stop

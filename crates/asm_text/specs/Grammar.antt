@@ -44,8 +44,11 @@ pub record BeginsNothing (b : ℕ) (bs : List ℕ) : Type 0 where
 pub data Reads : ℕ → List ℕ → Result (List Token) TokenFault → Type 0 where
   reads_end : {column : ℕ} → Reads column [] (Ok [])
   reads_comment : {column : ℕ} {bs : List ℕ} → Reads column (59 ∷ bs) (Ok [])
-  reads_blank : {column b : ℕ} {bs : List ℕ} {found : Result (List Token) TokenFault} → IsTrue (is_blank b) → Reads (column + 1) bs found → Reads column (b ∷ bs) found
-  reads_token : {column : ℕ} {kind : TokenKind} {text rest : List ℕ} {found : Result (List Token) TokenFault} → Spells kind text rest → Reads (column + length text) rest found → Reads column (text ++ rest) (behind (record { column = column; end = column + length text; kind = kind }) found)
+  reads_blank : {column b : ℕ} {bs : List ℕ} {found : Result (List Token) TokenFault} → IsTrue (is_blank b) →
+      Reads (column + 1) bs found → Reads column (b ∷ bs) found
+  reads_token : {column : ℕ} {kind : TokenKind} {text rest : List ℕ} {found : Result (List Token) TokenFault} →
+      Spells kind text rest → Reads (column + length text) rest found →
+      Reads column (text ++ rest) (behind (record { column = column; end = column + length text; kind = kind }) found)
   reads_wide : {column : ℕ} {bytes : List ℕ} → BeginsWide bytes → Reads column bytes (Err (fault.Wide column))
   reads_bad : {column b : ℕ} {bs : List ℕ} → BeginsNothing b bs → Reads column (b ∷ bs) (Err (fault.Bad column))
 

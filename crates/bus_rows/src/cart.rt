@@ -1,3 +1,4 @@
+// Worked bus steps on the chips of a small cartridge, one step after another.
 use super::seats::{PsuSeat, SmiSeat, clear, rom_of, seat_psu, seat_smi};
 use super::walk::{Row, walk};
 use data_bus::Rack;

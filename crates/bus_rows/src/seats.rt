@@ -1,3 +1,4 @@
+// Worked bus steps on chips in two to four sockets.
 ghost use Rattle.chip_face.specs.Fitting.{IsSpec};
 
 use chip_face::{Bytes, Chip, ChipSpec, Page, PageList, PageSort};

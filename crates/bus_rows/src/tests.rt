@@ -1,3 +1,4 @@
+// The worked steps, each on a rack made anew.
 use super::{acknowledgements, carts, free_steps, ports, reads, stores};
 use chip_fakes::Listener;
 use data_bus::Rack;

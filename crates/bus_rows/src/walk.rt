@@ -1,3 +1,4 @@
+// A worked bus step, and what is said of it as text.
 ghost use Rattle.std.specs.Prelude.{◌≡◌, true, map};
 ghost use Rattle.f8_spec.specs.ChipState.{is_asking};
 ghost use Rattle.data_bus.specs.Racks.{NamesAsking};

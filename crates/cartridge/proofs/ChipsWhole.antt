@@ -9,10 +9,10 @@ use Rattle.cartridge.specs.declared.refusal.CartCause.TheVariants.{TooMany}
 use Rattle.cartridge.specs.declared.refusal.KeyFault.{KeyFault}
 use Rattle.cartridge.specs.Faults.{of_chip}
 use Rattle.cartridge.specs.Keys.{known, top_keys, value_at}
-use Rattle.cartridge.specs.Values.{needed, usually, optional, number_in, split_in, typed, each, few_tables, tables_in}
+use Rattle.cartridge.specs.Values.{value_needed, usually, optional, number_in, split_in, value_of_type, each, few_tables, tables_in}
 use Rattle.cartridge.specs.ChipTables.{DescribedChip, chip_of}
-use Rattle.cartridge.specs.Description.{Described, Top, top_of, chips_from, described}
-use Rattle.cartridge.specs.Filling.{PlannedChip, IsPlannedChip, IsPlan, planned_chip, planned}
+use Rattle.cartridge.specs.Description.{Described, Top, top_of, chips_from, description_in}
+use Rattle.cartridge.specs.Filling.{PlannedChip, IsPlannedChip, IsPlan, planned_chip, plan_without_images}
 use Rattle.cartridge.proofs.Specified.{bind-ok, if-ok, at_key-ok, optional-ok, chip_of-whole}
 
 of_chip-ok : {A : Type 0} (chip : Option ℕ) (r : Result A KeyFault) (x : A) → of_chip chip r ≡ Ok x → r ≡ Ok x
@@ -30,7 +30,8 @@ cons_planned : (count : ℕ) (chip : PlannedChip) (chips : List PlannedChip) →
 cons_planned count chip chips one more =
     let rest = more.size in record { size = omega (arith, rest); each = All-cons IsPlannedChip chip chips one more.each }
 
-chips-whole : (i : ℕ) (tables : List Members) (chips : List DescribedChip) → chips_from i tables ≡ Ok chips → ArePlanned (length tables) (map planned_chip chips)
+chips-whole : (i : ℕ) (tables : List Members) (chips : List DescribedChip) → chips_from i tables ≡ Ok chips →
+    ArePlanned (length tables) (map planned_chip chips)
 unfolding chips_from
 chips-whole i [] chips h =
     let e : [] ≡ chips = cc h in
@@ -49,8 +50,8 @@ chips-whole i (table ∷ tables) chips h =
 
 tables-few : (d : Data) (tables : List Members) → tables_in d ≡ Ok tables → length tables ≤ 16
 tables-few d tables h =
-    bind-ok (length tables ≤ 16) (typed (as_array d)) _ tables h (λ ds at_ds h.
-    bind-ok (length tables ≤ 16) (typed (each as_table ds)) few_tables tables h (λ all at_all h.
+    bind-ok (length tables ≤ 16) (value_of_type (as_array d)) _ tables h (λ ds at_ds h.
+    bind-ok (length tables ≤ 16) (value_of_type (each as_table ds)) few_tables tables h (λ all at_all h.
     let (t, e) = if-ok (nat_le (length all) 16) all tables TooMany h in
     subst (λ (ts : List Members). length ts ≤ 16) e (leb-true (length all) 16 t)))
 
@@ -58,7 +59,7 @@ top-few : (table : Members) (top : Top) → top_of table ≡ Ok top → length t
 unfolding top_of
 top-few table top h =
     bind-ok (length top.tables ≤ 16) (known top_keys table) _ top h (λ _ at_known h.
-    bind-ok (length top.tables ≤ 16) (needed Format (number_in 1 1) table) _ top h (λ format at_format h.
+    bind-ok (length top.tables ≤ 16) (value_needed Format (number_in 1 1) table) _ top h (λ format at_format h.
     bind-ok (length top.tables ≤ 16) (usually Split [] split_in table) _ top h (λ split at_split h.
     bind-ok (length top.tables ≤ 16) (usually Chip [] tables_in table) _ top h (λ tables at_tables h.
     let e : tables ≡ top.tables = cc h in
@@ -68,11 +69,11 @@ top-few table top h =
     (λ none. subst (λ (ts : List Members). length ts ≤ 16) none (omega arith))
     (λ d at_list. tables-few d tables at_list))))))
 
-pub described_whole : (table : Members) (cart : Described) → described table ≡ Ok cart → IsPlan (planned cart).chips
-unfolding described
+pub described_whole : (table : Members) (cart : Described) → description_in table ≡ Ok cart → IsPlan (plan_without_images cart).chips
+unfolding description_in
 described_whole table cart h =
-    bind-ok (IsPlan (planned cart).chips) (of_chip None (top_of table)) _ cart h (λ top at_top h.
-    bind-ok (IsPlan (planned cart).chips) (chips_from 0 top.tables) _ cart h (λ chips at_chips h.
+    bind-ok (IsPlan (plan_without_images cart).chips) (of_chip None (top_of table)) _ cart h (λ top at_top h.
+    bind-ok (IsPlan (plan_without_images cart).chips) (chips_from 0 top.tables) _ cart h (λ chips at_chips h.
     let e : chips ≡ cart.chips = cc h in
     let all = chips-whole 0 top.tables chips at_chips in
     let few = top-few table top (of_chip-ok None (top_of table) top at_top) in

@@ -7,14 +7,14 @@ use Rattle.std.proofs.lemmas.Grind.{get_or-set_at}
 use Rattle.std.proofs.lemmas.List.Elements.{All-head, All-tail}
 use Rattle.f8_asm.specs.declared.answers.Room.{Room}
 use Rattle.cartridge.specs.Filled.{or_else, image_byte, HasImage, IsFilledChip, IsFilled}
-use Rattle.cartridge.specs.Filling.{PlannedSource, PlannedChip, Planned, HasRoomFor, written, filled_source, filled_chip, changed_at, filled_plan}
+use Rattle.cartridge.specs.Filling.{PlannedSource, PlannedChip, Planned, HasRoomFor, bytes_with, filled_source, filled_chip, with_change_at, filled_plan}
 use Rattle.cartridge.specs.Rooms.{LiesIn}
 
 -- ---- the bytes of a ROM
 
-length-written : (first : ℕ) (bs : List (ℕ × ℕ)) (rom : List ℕ) → length (written first bs rom) ≡ length rom
-length-written first [] rom = refl
-length-written first (b ∷ bs) rom = length-written first bs (set rom (b.0 - first) b.1) ∙ length-set rom (b.0 - first) b.1
+length-bytes_with : (first : ℕ) (bs : List (ℕ × ℕ)) (rom : List ℕ) → length (bytes_with first bs rom) ≡ length rom
+length-bytes_with first [] rom = refl
+length-bytes_with first (b ∷ bs) rom = length-bytes_with first bs (set rom (b.0 - first) b.1) ∙ length-set rom (b.0 - first) b.1
 
 -- one byte is put before others
 byte_before : (own : Bool) (later : Option ℕ) (rom : List ℕ) (place at v : ℕ) → (own ≡ true → at ≡ place) → (own ≡ false → at ≢ place) → at < length rom
@@ -25,13 +25,15 @@ byte_before true None rom place at v same other within =
     get_or-set_at rom place at v 0 e (omega arith)
 byte_before false None rom place at v same other within = get_or-set_other rom place at v 0 (other refl)
 
-byte-written : (room : Room) (bs : List (ℕ × ℕ)) (rom : List ℕ) (address : ℕ) → LiesIn room bs → room.first ≤ address → address < room.first + length rom
-    → slice_index (written room.first bs rom) (address - room.first) ≡ unwrap_or (image_byte bs address) (slice_index rom (address - room.first))
-byte-written room [] rom address inside above below = refl
-byte-written room (b ∷ bs) rom address inside above below =
+byte-bytes_with : (room : Room) (bs : List (ℕ × ℕ)) (rom : List ℕ) (address : ℕ) → LiesIn room bs → room.first ≤ address → address < room.first + length rom
+    → slice_index (bytes_with room.first bs rom) (address - room.first) ≡ unwrap_or (image_byte bs address) (slice_index rom (address - room.first))
+byte-bytes_with room [] rom address inside above below = refl
+byte-bytes_with room (b ∷ bs) rom address inside above below =
     let head = All-head (λ (b : ℕ × ℕ). (room.first ≤ b.0) × (b.0 ≤ room.last)) b bs inside in
     let size = length-set rom (b.0 - room.first) b.1 in
-    byte-written room bs (set rom (b.0 - room.first) b.1) address (All-tail (λ (b : ℕ × ℕ). (room.first ≤ b.0) × (b.0 ≤ room.last)) b bs inside) above (omega (arith, size, below))
+    byte-bytes_with room bs (set rom (b.0 - room.first) b.1) address
+    (All-tail (λ (b : ℕ × ℕ). (room.first ≤ b.0) × (b.0 ≤ room.last)) b bs inside) above
+    (omega (arith, size, below))
     ∙ byte_before (b.0 == address) (image_byte bs address) rom (b.0 - room.first) (address - room.first) b.1
     (λ t. same_place b.0 t) (λ t. other_place b.0 head.0 t) (omega (arith, above, below))
   where
@@ -45,18 +47,19 @@ source_filled : (bytes : List (ℕ × ℕ)) (s : PlannedSource) → LiesIn s.sou
 source_filled bytes s inside = record {
   source = refl;
   filled = refl;
-  size = length-written s.source.room.first bytes s.bytes;
-  each = λ address above below. byte-written s.source.room bytes s.bytes address inside above below;
+  size = length-bytes_with s.source.room.first bytes s.bytes;
+  each = λ address above below. byte-bytes_with s.source.room bytes s.bytes address inside above below;
 }
 
 -- ---- the chips of a plan
 
-length-changed_at : {A : Type 0} (change : A → A) (place : ℕ) (xs : List A) → length (changed_at change place xs) ≡ length xs
-length-changed_at change place [] = refl
-length-changed_at change zero (x ∷ xs) = refl
-length-changed_at change (suc place) (x ∷ xs) = let rest = length-changed_at change place xs in omega (arith, rest)
+length-with_change_at : {A : Type 0} (change : A → A) (place : ℕ) (xs : List A) → length (with_change_at change place xs) ≡ length xs
+length-with_change_at change place [] = refl
+length-with_change_at change zero (x ∷ xs) = refl
+length-with_change_at change (suc place) (x ∷ xs) = let rest = length-with_change_at change place xs in omega (arith, rest)
 
-changed_other : {A : Type 0} (change : A → A) (place other : ℕ) (xs : List A) → other ≢ place → slice_get (changed_at change place xs) other ≡ slice_get xs other
+changed_other : {A : Type 0} (change : A → A) (place other : ℕ) (xs : List A) → other ≢ place →
+    slice_get (with_change_at change place xs) other ≡ slice_get xs other
 changed_other change place other [] differs = refl
 changed_other change zero zero (x ∷ xs) differs = absurd (differs refl)
 changed_other change zero (suc other) (x ∷ xs) differs = refl
@@ -64,8 +67,9 @@ changed_other change (suc place) zero (x ∷ xs) differs = refl
 changed_other change (suc place) (suc other) (x ∷ xs) differs = changed_other change place other xs (λ same. differs (omega arith))
 
 own_changed : (bytes : List (ℕ × ℕ)) (place : ℕ) (chips : List PlannedChip)
-    → IsSomeAnd (option_and_then (λ (c : PlannedChip). option_map (λ (s : PlannedSource). s.source) c.source) (slice_get chips place)) (λ s. LiesIn s.room bytes)
-    → IsSomeAnd (slice_get chips place) (λ c. IsSomeAnd (slice_get (changed_at (filled_chip bytes) place chips) place) (λ d. IsFilledChip bytes c d))
+    → IsSomeAnd (option_and_then (λ (c : PlannedChip). option_map (λ (s : PlannedSource). s.source) c.source)
+    (slice_get chips place)) (λ s. LiesIn s.room bytes)
+    → IsSomeAnd (slice_get chips place) (λ c. IsSomeAnd (slice_get (with_change_at (filled_chip bytes) place chips) place) (λ d. IsFilledChip bytes c d))
 own_changed bytes place [] room = room
 own_changed bytes (suc place) (c ∷ chips) room = own_changed bytes place chips room
 own_changed bytes zero (c ∷ chips) room = record { spec = refl; rom = of_source c.source room }
@@ -78,7 +82,7 @@ own_changed bytes zero (c ∷ chips) room = record { spec = refl; rom = of_sourc
 pub plan_filled : (plan : Planned) (chip : ℕ) (bytes : List (ℕ × ℕ)) → HasRoomFor plan chip bytes → IsFilled plan chip bytes (filled_plan plan chip bytes)
 plan_filled plan chip bytes room = record {
   split = refl;
-  size = length-changed_at (filled_chip bytes) chip plan.chips;
+  size = length-with_change_at (filled_chip bytes) chip plan.chips;
   others = λ place differs. changed_other (filled_chip bytes) chip place plan.chips differs;
   own = own_changed bytes chip plan.chips room;
 }

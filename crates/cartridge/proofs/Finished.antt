@@ -1,5 +1,6 @@
 -- The chips of a plan are finished, one after another.
-use Rattle.std.proofs.Common.{◌≡◌, ℕ, ◌+◌, ◌<◌, ◌≤◌, true, false, cond, List, [], ◌∷◌, ◌++◌, length, map, get_or, set, take, drop, Option, Some, None, refl, sym, ap, ◌∙◌, arith, subst, length-set}
+use Rattle.std.proofs.Common.{◌≡◌, ℕ, ◌+◌, ◌<◌, ◌≤◌, true, false, cond, List, [], ◌∷◌, ◌++◌, length, map, get_or, set}
+use Rattle.std.proofs.Common.{take, drop, Option, Some, None, refl, sym, ap, ◌∙◌, arith, subst, length-set}
 use Rattle.std.specs.Prelude.{position, nat_lt, not}
 use Rattle.std.specs.List.{position_or_len}
 use Rattle.std.proofs.lemmas.Bool.Decides.{nat_tests}
@@ -11,7 +12,7 @@ use Rattle.chip_face.specs.declared.specification.ChipSpec.{ChipSpec}
 use Rattle.chip_face.specs.declared.specification.ChipSpec.TheVariants.{Blank}
 use Rattle.cartridge.specs.declared.rom_source.SourceRom.{SourceRom}
 use Rattle.cartridge.specs.Filling.{PlannedChip}
-use Rattle.cartridge.specs.Carts.{finished, wants_image}
+use Rattle.cartridge.specs.Carts.{specification_of, wants_image}
 use Rattle.cartridge.specs.Plans.{seen_chips}
 use Rattle.cartridge.proofs.PlannedChips.{seen_pair, length-seen_chips}
 
@@ -23,7 +24,7 @@ no_spec = Blank Psu
 pub record FinishedBelow (all : List PlannedChip) (i : ℕ) (specs : List ChipSpec) (roms : List (Option SourceRom)) : Type 0 where
   pub size : length specs ≡ length all
   pub paired : length roms ≡ length all
-  pub done : take i specs ≡ map finished (take i all)
+  pub done : take i specs ≡ map specification_of (take i all)
   pub rest : seen_chips (drop i specs) (drop i roms) ≡ drop i all
   pub filled : (d : PlannedChip) (k : ℕ) → k < i → wants_image (get_or all k d) ≡ false
 
@@ -49,8 +50,10 @@ here : (all : List PlannedChip) (i : ℕ) (specs : List ChipSpec) (roms : List (
 here all i specs roms spec rom so_far within at_spec at_rom =
     let size = so_far.size in
     let paired = so_far.paired in
-    let of_specs : drop i specs ≡ spec ∷ drop (i + 1) specs = drop_more specs i spec (omega (arith, size)) ∙ ap (λ (s : ChipSpec). s ∷ drop (i + 1) specs) at_spec in
-    let of_roms : drop i roms ≡ rom ∷ drop (i + 1) roms = drop_more roms i rom (omega (arith, paired)) ∙ ap (λ (r : Option SourceRom). r ∷ drop (i + 1) roms) at_rom in
+    let of_specs : drop i specs ≡ spec ∷ drop (i + 1) specs =
+    drop_more specs i spec (omega (arith, size)) ∙ ap (λ (s : ChipSpec). s ∷ drop (i + 1) specs) at_spec in
+    let of_roms : drop i roms ≡ rom ∷ drop (i + 1) roms =
+    drop_more roms i rom (omega (arith, paired)) ∙ ap (λ (r : Option SourceRom). r ∷ drop (i + 1) roms) at_rom in
     let both : seen_pair spec rom ∷ seen_chips (drop (i + 1) specs) (drop (i + 1) roms) ≡ drop i all = rw (of_specs, of_roms) at so_far.rest in
     record {
       chip = λ d. sym (heads _ _ _ _ (both ∙ drop_more all i d within)).0;
@@ -59,7 +62,7 @@ here all i specs roms spec rom so_far within at_spec at_rom =
 
 pub one_finished : (all : List PlannedChip) (i : ℕ) (specs : List ChipSpec) (roms : List (Option SourceRom)) (spec : ChipSpec) (rom : Option SourceRom)
     → FinishedBelow all i specs roms → i < length all → get_or specs i spec ≡ spec → get_or roms i rom ≡ rom → wants_image (seen_pair spec rom) ≡ false
-    → FinishedBelow all (i + 1) (set specs i (finished (seen_pair spec rom))) (set roms i None)
+    → FinishedBelow all (i + 1) (set specs i (specification_of (seen_pair spec rom))) (set roms i None)
 one_finished all i specs roms spec rom so_far within at_spec at_rom full =
     let pair : PlannedChip = seen_pair spec rom in
     let at = here all i specs roms spec rom so_far within at_spec at_rom in
@@ -67,15 +70,15 @@ one_finished all i specs roms spec rom so_far within at_spec at_rom full =
     let below : i < length specs = omega (arith, size) in
     let next : i < i + 1 = omega arith in
     record {
-      size = length-set specs i (finished pair) ∙ size;
+      size = length-set specs i (specification_of pair) ∙ size;
       paired = length-set roms i None ∙ so_far.paired;
       done =
-          take_more_set specs i (finished pair) below
-          ∙ ap (λ (front : List ChipSpec). front ++ finished pair ∷ []) so_far.done
-          ∙ ap (λ (c : PlannedChip). map finished (take i all) ++ finished c ∷ []) (sym (at.chip pair))
-          ∙ sym (map_more finished all i pair within);
+          take_more_set specs i (specification_of pair) below
+          ∙ ap (λ (front : List ChipSpec). front ++ specification_of pair ∷ []) so_far.done
+          ∙ ap (λ (c : PlannedChip). map specification_of (take i all) ++ specification_of c ∷ []) (sym (at.chip pair))
+          ∙ sym (map_more specification_of all i pair within);
       rest =
-          ap (λ (ss : List ChipSpec). seen_chips ss (drop (i + 1) (set roms i None))) (drop-set-lt (i + 1) specs i (finished pair) next)
+          ap (λ (ss : List ChipSpec). seen_chips ss (drop (i + 1) (set roms i None))) (drop-set-lt (i + 1) specs i (specification_of pair) next)
           ∙ ap (λ (rs : List (Option SourceRom)). seen_chips (drop (i + 1) specs) rs) (drop-set-lt (i + 1) roms i None next)
           ∙ at.behind;
       filled = λ d. below_more (λ (k : ℕ). wants_image (get_or all k d) ≡ false) i (so_far.filled d) (ap wants_image (at.chip d) ∙ full);
@@ -120,7 +123,7 @@ none_unfilled (c ∷ all) i specs roms so_far end =
     subst (λ (n : ℕ). cond (nat_lt n (length (c ∷ all))) (Some n) None ≡ None) (sym place) (chosen-past i (length (c ∷ all)) (omega arith))
 
 pub all_finished : (all : List PlannedChip) (i : ℕ) (specs : List ChipSpec) (roms : List (Option SourceRom)) → FinishedBelow all i specs roms → i ≡ length all
-    → specs ≡ map finished all
+    → specs ≡ map specification_of all
 all_finished all i specs roms so_far end =
     let size = so_far.size in
-    sym (take_all i specs (omega (arith, size))) ∙ so_far.done ∙ ap (map finished) (take_all i all (omega arith))
+    sym (take_all i specs (omega (arith, size))) ∙ so_far.done ∙ ap (map specification_of) (take_all i all (omega arith))

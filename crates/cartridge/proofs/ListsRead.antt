@@ -1,5 +1,6 @@
 -- The entries of a TOML list, one after another.
-use Rattle.std.proofs.Common.{◌≡◌, ℕ, ◌+◌, ◌<◌, List, [], ◌∷◌, ◌++◌, length, drop, get_or, Option, Some, None, refl, sym, ap, ◌∙◌, arith, append_assoc, append-nil}
+use Rattle.std.proofs.Common.{◌≡◌, ℕ, ◌+◌, ◌<◌, List, [], ◌∷◌, ◌++◌, length, drop, get_or, Option, Some, None, refl}
+use Rattle.std.proofs.Common.{sym, ap, ◌∙◌, arith, append_assoc, append-nil}
 use Rattle.std.specs.Prelude.{option_map}
 use Rattle.std.proofs.lemmas.List.{at_drop_all}
 use Rattle.toml.specs.Data.{Data, item}
@@ -42,7 +43,8 @@ read_bad part vs i v xs within at is read =
     let here : each part (items_view (drop i vs)) ≡ None = next part vs i v within at ∙ rw is refl in
     read ∙ ap (behind xs) here
 
-pub read_all : {A : Type 0} (part : Data → Option A) (vs : List Value) (i : ℕ) (xs : List A) → i ≡ length vs → HasRead part vs i xs → each part (items_view vs) ≡ Some xs
+pub read_all : {A : Type 0} (part : Data → Option A) (vs : List Value) (i : ℕ) (xs : List A) → i ≡ length vs →
+    HasRead part vs i xs → each part (items_view vs) ≡ Some xs
 read_all part vs i xs at read =
     read ∙ at_drop_all (λ (ws : List Value). behind xs (each part (items_view ws))) vs i (omega arith) ∙ ap Some (append-nil xs)
 

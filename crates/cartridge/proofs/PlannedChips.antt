@@ -1,5 +1,6 @@
 -- The chips of a plan, as lists of specifications and of the bytes of sources beside them.
-use Rattle.std.proofs.Common.{◌≡◌, ℕ, zero, suc, ◌+◌, ◌-◌, ◌<◌, ◌≤◌, List, [], ◌∷◌, ◌++◌, length, map, get_or, set, Option, Some, None, refl, sym, ap, ◌∙◌, arith, subst}
+use Rattle.std.proofs.Common.{◌≡◌, ℕ, zero, suc, ◌+◌, ◌-◌, ◌<◌, ◌≤◌, List, [], ◌∷◌, ◌++◌, length, map, get_or, set}
+use Rattle.std.proofs.Common.{Option, Some, None, refl, sym, ap, ◌∙◌, arith, subst}
 use Rattle.std.specs.Prelude.{All, option_map, option_and_then, slice_get, IsSomeAnd, false}
 use Rattle.std.proofs.lemmas.List.{length_push, length-set, map_push, map-id}
 use Rattle.std.proofs.lemmas.List.Elements.{All-nil, All-cons, All-head, All-tail}
@@ -9,8 +10,9 @@ use Rattle.chip_face.specs.declared.specification.ChipSpec.TheVariants.{Blank, P
 use Rattle.cartridge.specs.declared.chip_table.ChipPlan.{ChipPlan}
 use Rattle.cartridge.specs.declared.rom_source.SourceRom.{SourceRom}
 use Rattle.cartridge.specs.ChipTables.{DescribedSource}
-use Rattle.cartridge.specs.Filling.{PlannedSource, PlannedChip, IsPlannedChip, IsPlan, IsRomOf, HasRom, written, filled_source, filled_chip, changed_at, planned_chip, unfilled}
-use Rattle.cartridge.specs.Carts.{with_rom, spec_from, finished}
+use Rattle.cartridge.specs.Filling.{PlannedSource, PlannedChip, IsPlannedChip, IsPlan, IsRomOf, HasRom, bytes_with}
+use Rattle.cartridge.specs.Filling.{filled_source, filled_chip, with_change_at, planned_chip, without_image}
+use Rattle.cartridge.specs.Carts.{with_rom, spec_from, specification_of}
 use Rattle.cartridge.specs.Plans.{seen_chip, seen_rom, seen_chips, seen_source}
 
 abbrev pub seen_pair : ChipSpec → Option SourceRom → PlannedChip
@@ -36,7 +38,7 @@ pub record PlansOf (chips : List ChipPlan) (specs : List ChipSpec) (roms : List 
   pub is : seen_chips specs roms ≡ map planned_of chips
 
 pub plans_more : (chips : List ChipPlan) (specs : List ChipSpec) (roms : List (Option SourceRom)) (chip : ChipPlan) (rom : Option SourceRom)
-    → PlansOf chips specs roms → option_map seen_rom rom ≡ option_map unfilled (option_map seen_source chip.source)
+    → PlansOf chips specs roms → option_map seen_rom rom ≡ option_map without_image (option_map seen_source chip.source)
     → PlansOf (chips ++ chip ∷ []) (specs ++ chip.spec ∷ []) (roms ++ rom ∷ [])
 plans_more chips specs roms chip rom so_far is =
     let paired = so_far.paired in
@@ -51,14 +53,14 @@ plans_more chips specs roms chip rom so_far is =
           ∙ sym (map_push planned_of chips chip);
     }
 
-all-planned : (chips : List ChipPlan) → map planned_of chips ≡ map planned_chip (map seen_chip chips)
-all-planned [] = refl
-all-planned (c ∷ chips) = ap (λ (cs : List PlannedChip). planned_of c ∷ cs) (all-planned chips)
+all-plan_without_images : (chips : List ChipPlan) → map planned_of chips ≡ map planned_chip (map seen_chip chips)
+all-plan_without_images [] = refl
+all-plan_without_images (c ∷ chips) = ap (λ (cs : List PlannedChip). planned_of c ∷ cs) (all-plan_without_images chips)
 
 pub plans_all : (all chips : List ChipPlan) (specs : List ChipSpec) (roms : List (Option SourceRom)) → map (λ chip. chip) chips ≡ all
     → PlansOf chips specs roms → seen_chips specs roms ≡ map planned_chip (map seen_chip all)
 plans_all all chips specs roms whole so_far =
-    so_far.is ∙ ap (map planned_of) (sym (map-id chips) ∙ whole) ∙ all-planned all
+    so_far.is ∙ ap (map planned_of) (sym (map-id chips) ∙ whole) ∙ all-plan_without_images all
 
 pub length-seen_chips : (specs : List ChipSpec) (roms : List (Option SourceRom)) → length specs ≡ length roms → length (seen_chips specs roms) ≡ length specs
 length-seen_chips [] roms same = refl
@@ -120,33 +122,33 @@ rom_fits (s ∷ specs) (r ∷ roms) (suc i) rom all same within at =
 
 -- ---- bytes are put
 
-pub length-written : (first : ℕ) (bytes : List (ℕ × ℕ)) (rom : List ℕ) → length (written first bytes rom) ≡ length rom
-length-written first [] rom = refl
-length-written first (b ∷ bs) rom = length-written first bs (set rom (b.0 - first) b.1) ∙ length-set rom (b.0 - first) b.1
+pub length-bytes_with : (first : ℕ) (bytes : List (ℕ × ℕ)) (rom : List ℕ) → length (bytes_with first bytes rom) ≡ length rom
+length-bytes_with first [] rom = refl
+length-bytes_with first (b ∷ bs) rom = length-bytes_with first bs (set rom (b.0 - first) b.1) ∙ length-set rom (b.0 - first) b.1
 
-filled-planned : (bytes : List (ℕ × ℕ)) (chip : PlannedChip) → IsPlannedChip chip → IsPlannedChip (filled_chip bytes chip)
-filled-planned bytes chip is = record { specified = is.specified; no_blank = is.no_blank; has_rom = kept chip.source is.has_rom }
+filled-plan_without_images : (bytes : List (ℕ × ℕ)) (chip : PlannedChip) → IsPlannedChip chip → IsPlannedChip (filled_chip bytes chip)
+filled-plan_without_images bytes chip is = record { specified = is.specified; no_blank = is.no_blank; has_rom = kept chip.source is.has_rom }
   where
     kept : (source : Option PlannedSource) → HasRom chip.spec source → HasRom chip.spec (option_map (filled_source bytes) source)
     kept None has = tt
     kept (Some s) has =
-        let size = length-written s.source.room.first bytes s.bytes in
+        let size = length-bytes_with s.source.room.first bytes s.bytes in
         record { rom = size ∙ has.rom; room = ap (λ (n : ℕ). s.source.room.first + n) size ∙ has.room }
 
-changed-all : (bytes : List (ℕ × ℕ)) (i : ℕ) (chips : List PlannedChip) → All IsPlannedChip chips → All IsPlannedChip (changed_at (filled_chip bytes) i chips)
+changed-all : (bytes : List (ℕ × ℕ)) (i : ℕ) (chips : List PlannedChip) → All IsPlannedChip chips → All IsPlannedChip (with_change_at (filled_chip bytes) i chips)
 changed-all bytes i [] all = all
 changed-all bytes zero (c ∷ chips) all =
-    All-cons IsPlannedChip (filled_chip bytes c) chips (filled-planned bytes c (All-head IsPlannedChip c chips all)) (All-tail IsPlannedChip c chips all)
+    All-cons IsPlannedChip (filled_chip bytes c) chips (filled-plan_without_images bytes c (All-head IsPlannedChip c chips all)) (All-tail IsPlannedChip c chips all)
 changed-all bytes (suc i) (c ∷ chips) all =
-    All-cons IsPlannedChip c (changed_at (filled_chip bytes) i chips) (All-head IsPlannedChip c chips all)
+    All-cons IsPlannedChip c (with_change_at (filled_chip bytes) i chips) (All-head IsPlannedChip c chips all)
     (changed-all bytes i chips (All-tail IsPlannedChip c chips all))
 
-length-changed : {A : Type 0} (change : A → A) (i : ℕ) (xs : List A) → length (changed_at change i xs) ≡ length xs
+length-changed : {A : Type 0} (change : A → A) (i : ℕ) (xs : List A) → length (with_change_at change i xs) ≡ length xs
 length-changed change i [] = refl
 length-changed change zero (x ∷ xs) = refl
 length-changed change (suc i) (x ∷ xs) = ap suc (length-changed change i xs)
 
-filled-plan : (bytes : List (ℕ × ℕ)) (i : ℕ) (chips : List PlannedChip) → IsPlan chips → IsPlan (changed_at (filled_chip bytes) i chips)
+filled-plan : (bytes : List (ℕ × ℕ)) (i : ℕ) (chips : List PlannedChip) → IsPlan chips → IsPlan (with_change_at (filled_chip bytes) i chips)
 filled-plan bytes i chips is =
     let size = length-changed (filled_chip bytes) i chips in
     let few = is.few in
@@ -154,7 +156,7 @@ filled-plan bytes i chips is =
 
 pub seen-filled : (bytes : List (ℕ × ℕ)) (specs : List ChipSpec) (roms : List (Option SourceRom)) (i : ℕ) (old new : SourceRom) → length specs ≡ length roms
     → i < length roms → get_or roms i (Some old) ≡ Some old → seen_rom new ≡ filled_source bytes (seen_rom old)
-    → seen_chips specs (set roms i (Some new)) ≡ changed_at (filled_chip bytes) i (seen_chips specs roms)
+    → seen_chips specs (set roms i (Some new)) ≡ with_change_at (filled_chip bytes) i (seen_chips specs roms)
 seen-filled bytes specs [] i old new same within at is = absurd (omega arith)
 seen-filled bytes [] (r ∷ roms) i old new same within at is = absurd (omega arith)
 seen-filled bytes (s ∷ specs) (r ∷ roms) zero old new same within at is =
@@ -166,8 +168,11 @@ seen-filled bytes (s ∷ specs) (r ∷ roms) (suc i) old new same within at is =
 pub still_plan : (bytes : List (ℕ × ℕ)) (specs : List ChipSpec) (roms : List (Option SourceRom)) (i : ℕ) (old new : SourceRom) → length specs ≡ length roms
     → i < length roms → get_or roms i (Some old) ≡ Some old → seen_rom new ≡ filled_source bytes (seen_rom old) → IsPlan (seen_chips specs roms)
     → (length specs ≡ length (set roms i (Some new))) × IsPlan (seen_chips specs (set roms i (Some new)))
-still_plan bytes specs roms i old new same within at is plan =
-    (same ∙ sym (length-set roms i (Some new)), rw (seen-filled bytes specs roms i old new same within at is) (filled-plan bytes i (seen_chips specs roms) plan))
+still_plan bytes specs roms i old new same within at is plan = (
+  same ∙ sym (length-set roms i (Some new)),
+  rw (seen-filled bytes specs roms i old new same within at is)
+      (filled-plan bytes i (seen_chips specs roms) plan),
+)
 
 -- ---- the chips of a plan can be fitted, with the bytes of their sources too
 
@@ -201,17 +206,17 @@ record AreFit (count : ℕ) (specs : List ChipSpec) : Type 0 where
   specified : All IsSpec specs
   none_blank : All (λ s. is_blank s ≡ false) specs
 
-are-fit : (chips : List PlannedChip) → All IsPlannedChip chips → AreFit (length chips) (map finished chips)
+are-fit : (chips : List PlannedChip) → All IsPlannedChip chips → AreFit (length chips) (map specification_of chips)
 are-fit [] all = record { size = refl; specified = All-nil IsSpec; none_blank = All-nil (λ s. is_blank s ≡ false) }
 are-fit (c ∷ chips) all =
     let one = All-head IsPlannedChip c chips all in
     let rest = are-fit chips (All-tail IsPlannedChip c chips all) in record {
       size = ap suc rest.size;
-      specified = All-cons IsSpec (finished c) (map finished chips) (from-spec c.source c.spec one.has_rom one.specified) rest.specified;
-      none_blank = All-cons (λ s. is_blank s ≡ false) (finished c) (map finished chips) (from-blank c.source c.spec ∙ one.no_blank) rest.none_blank;
+      specified = All-cons IsSpec (specification_of c) (map specification_of chips) (from-spec c.source c.spec one.has_rom one.specified) rest.specified;
+      none_blank = All-cons (λ s. is_blank s ≡ false) (specification_of c) (map specification_of chips) (from-blank c.source c.spec ∙ one.no_blank) rest.none_blank;
     }
 
-pub finished_fit : (chips : List PlannedChip) → IsPlan chips → IsChipList (map finished chips)
+pub finished_fit : (chips : List PlannedChip) → IsPlan chips → IsChipList (map specification_of chips)
 finished_fit chips is =
     let fit = are-fit chips is.each in
     let size = fit.size in

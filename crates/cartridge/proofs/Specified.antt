@@ -1,5 +1,7 @@
 -- A table that describes a chip gives one that is as a specification has to be, not blank, and with a room for each byte of its source.
-use Rattle.std.proofs.Common.{◌≡◌, ℕ, ◌+◌, ◌*◌, ◌-◌, ◌%◌, ◌≤◌, Bool, true, false, ◌&&◌, ◌||◌, ◌==◌, List, [], ◌∷◌, length, replicate, Option, Some, None, is_some, Result, Ok, Err, refl, sym, ap, ◌∙◌, arith, length-append}
+use Rattle.std.proofs.Common.{◌≡◌, ℕ, ◌+◌, ◌*◌, ◌-◌, ◌%◌, ◌≤◌, Bool, true, false, ◌&&◌, ◌||◌, ◌==◌, List, [], ◌∷◌}
+use Rattle.std.proofs.Common.{length, replicate, Option, Some, None, is_some, Result, Ok, Err, refl, sym, ap, ◌∙◌}
+use Rattle.std.proofs.Common.{arith, length-append}
 use Rattle.std.specs.Prelude.{nat_le, not, option_map, if◌then◌else◌, pos, negsuc, ℤ}
 use Rattle.std.specs.List.{list_all}
 use Rattle.std.proofs.lemmas.Bool.{and_parts, eqb-true, leb-true}
@@ -23,10 +25,11 @@ use Rattle.cartridge.specs.declared.refusal.CartCause.TheVariants.{Range, Bounda
 use Rattle.cartridge.specs.declared.refusal.KeyFault.{KeyFault}
 use Rattle.cartridge.specs.Faults.{◌>>=◌, at_key}
 use Rattle.cartridge.specs.Keys.{value_at, known, chip_keys}
-use Rattle.cartridge.specs.Pages.{lies_within, lie_apart, placed, run_at, pages_of}
-use Rattle.cartridge.specs.Values.{required, optional, needed, usually, typed, text, within, number_in, multiple_of, multiple_in, kind_in, filled, fitting, rom_in, is_file_name, source_named, source_in}
+use Rattle.cartridge.specs.Pages.{lies_within, lie_apart, runs_with, run_at, pages_of}
+use Rattle.cartridge.specs.Values.{required_value, optional, value_needed, usually, value_of_type, text, within, number_in, multiple_of}
+use Rattle.cartridge.specs.Values.{multiple_in, kind_in, filled, fitting, rom_in, is_file_name, source_named, source_in}
 use Rattle.cartridge.specs.Rooms.{room_size, psu_room, run_room}
-use Rattle.cartridge.specs.Filling.{HasRom, IsPlannedChip, planned_chip, unfilled}
+use Rattle.cartridge.specs.Filling.{HasRom, IsPlannedChip, planned_chip, without_image}
 use Rattle.cartridge.specs.ChipTables.{DescribedChip, named_source, rom_of, mask_of, source_of, wired_of, psu_of, smi_of, chip_of_kind, chip_of}
 use Rattle.cartridge.proofs.PageNumbers.{AreSorted, pages_of-ascends, pages_of-rom_count}
 
@@ -44,10 +47,10 @@ pub at_key-ok : {A : Type 0} (key : Key) (r : Result A CartCause) (x : A) → at
 at_key-ok key (Ok y) x h = cc h
 at_key-ok key (Err cause) x h = cc h
 
-required-ok : {A : Type 0} (P : Type 0) (judge : Data → Result A CartCause) (o : Option Data) (x : A) → required judge o ≡ Ok x
+required_value-ok : {A : Type 0} (P : Type 0) (judge : Data → Result A CartCause) (o : Option Data) (x : A) → required_value judge o ≡ Ok x
     → ((d : Data) → judge d ≡ Ok x → P) → P
-required-ok P judge None x h k = cc h
-required-ok P judge (Some d) x h k = k d h
+required_value-ok P judge None x h k = cc h
+required_value-ok P judge (Some d) x h k = k d h
 
 pub optional-ok : {A : Type 0} (P : Type 0) (usual : A) (judge : Data → Result A CartCause) (o : Option Data) (x : A) → optional usual judge o ≡ Ok x
     → (usual ≡ x → P) → ((d : Data) → judge d ≡ Ok x → P) → P
@@ -72,7 +75,7 @@ within-ok first last (negsuc m) n h = cc h
 
 number-ok : (first last : ℕ) (d : Data) (n : ℕ) → number_in first last d ≡ Ok n → (first ≤ n) × (n ≤ last)
 number-ok first last d n h =
-    bind-ok ((first ≤ n) × (n ≤ last)) (typed (as_integer d)) (within first last) n h (λ z read e. within-ok first last z n e)
+    bind-ok ((first ≤ n) × (n ≤ last)) (value_of_type (as_integer d)) (within first last) n h (λ z read e. within-ok first last z n e)
 
 multiple-ok : (first last step : ℕ) (d : Data) (n : ℕ) → multiple_in first last step d ≡ Ok n → IsMultiple first last step n
 multiple-ok first last step d n h =
@@ -82,10 +85,11 @@ multiple-ok first last step d n h =
     let between = number-ok first last d m read in
     rw (← same) (record { above = between.0; below = between.1; even = eqb-true (m % step) 0 t }))
 
-pub needed-multiple : (key : Key) (first last step : ℕ) (table : Members) (n : ℕ) → needed key (multiple_in first last step) table ≡ Ok n → IsMultiple first last step n
-needed-multiple key first last step table n h =
-    required-ok (IsMultiple first last step n) (multiple_in first last step) (value_at key table) n
-    (at_key-ok key (required (multiple_in first last step) (value_at key table)) n h) (λ d e. multiple-ok first last step d n e)
+pub value_needed-multiple : (key : Key) (first last step : ℕ) (table : Members) (n : ℕ) →
+    value_needed key (multiple_in first last step) table ≡ Ok n → IsMultiple first last step n
+value_needed-multiple key first last step table n h =
+    required_value-ok (IsMultiple first last step n) (multiple_in first last step) (value_at key table) n
+    (at_key-ok key (required_value (multiple_in first last step) (value_at key table)) n h) (λ d e. multiple-ok first last step d n e)
 
 -- ---- bytes
 
@@ -142,10 +146,10 @@ source_of-some size table name h =
     (λ none. cc none)
     (λ d e. source_in-some size (is_some (value_at Rom table)) d name e)
 
-unfilled-rom : (spec : ChipSpec) (room : Room) (size : ℕ) (source : Option (List ℕ)) → length (rom_of_spec spec) ≡ size
-    → ((name : List ℕ) → source ≡ Some name → room.first + size ≡ room.last + 1) → HasRom spec (option_map unfilled (named_source room source))
-unfilled-rom spec room size None whole fits = tt
-unfilled-rom spec room size (Some name) whole fits =
+without_image-rom : (spec : ChipSpec) (room : Room) (size : ℕ) (source : Option (List ℕ)) → length (rom_of_spec spec) ≡ size
+    → ((name : List ℕ) → source ≡ Some name → room.first + size ≡ room.last + 1) → HasRom spec (option_map without_image (named_source room source))
+without_image-rom spec room size None whole fits = tt
+without_image-rom spec room size (Some name) whole fits =
     let room_fits = fits name refl in
     let bytes = length-replicate {A = ℕ} (room_size room) 255 in
     record { rom = omega (arith, bytes, whole, room_fits); room = omega (arith, bytes, room_fits) }
@@ -159,21 +163,21 @@ psu-whole base ports vector wired rom source space first size =
     record {
       specified = record { bytes = size; boundary = space.even; above_cpu = first.above; below_end = first.below; ports_boundary = first.even };
       no_blank = refl;
-      has_rom = unfilled-rom (Psu base rom ports vector wired) (psu_room base) 1024 source size (λ name at_name. omega arith);
+      has_rom = without_image-rom (Psu base rom ports vector wired) (psu_room base) 1024 source size (λ name at_name. omega arith);
     }
 
 psu_of-whole : (table : Members) (chip : DescribedChip) → psu_of table ≡ Ok chip → IsPlannedChip (planned_chip chip)
 unfolding psu_of
 psu_of-whole table chip h =
-    bind-ok (IsPlannedChip (planned_chip chip)) (needed Base (multiple_in 0 64512 1024) table) _ chip h (λ base at_base h.
-    bind-ok (IsPlannedChip (planned_chip chip)) (needed Ports (multiple_in 4 252 4) table) _ chip h (λ ports at_ports h.
+    bind-ok (IsPlannedChip (planned_chip chip)) (value_needed Base (multiple_in 0 64512 1024) table) _ chip h (λ base at_base h.
+    bind-ok (IsPlannedChip (planned_chip chip)) (value_needed Ports (multiple_in 4 252 4) table) _ chip h (λ ports at_ports h.
     bind-ok (IsPlannedChip (planned_chip chip)) (usually Vector 0 (number_in 0 65535) table) _ chip h (λ vector at_vector h.
     bind-ok (IsPlannedChip (planned_chip chip)) (wired_of table) _ chip h (λ wired at_wired h.
     bind-ok (IsPlannedChip (planned_chip chip)) (mask_of 1024 table) _ chip h (λ rom at_rom h.
     bind-ok (IsPlannedChip (planned_chip chip)) (source_of 1024 table) _ chip h (λ source at_source h.
     let e : record { spec = Psu base rom ports vector wired; source = named_source (psu_room base) source } ≡ chip = cc h in
-    rw (← e) (psu-whole base ports vector wired rom source (needed-multiple Base 0 64512 1024 table base at_base)
-    (needed-multiple Ports 4 252 4 table ports at_ports) (mask_of-length 1024 table rom at_rom))))))))
+    rw (← e) (psu-whole base ports vector wired rom source (value_needed-multiple Base 0 64512 1024 table base at_base)
+    (value_needed-multiple Ports 4 252 4 table ports at_ports) (mask_of-length 1024 table rom at_rom))))))))
 
 -- ---- a 3853
 
@@ -181,9 +185,9 @@ pub record IsRun (s : PageSort) (run : PageRun) : Type 0 where
   pub sorted : run.sort ≡ s
   pub inside : run.first + run.count ≤ 256
 
-placed-ok : (earlier : List PageRun) (s : PageSort) (first count : ℕ) (run : PageRun)
-    → placed earlier (record { sort = s; first = first; count = count }) ≡ Ok run → IsRun s run
-placed-ok earlier s first count run h =
+runs_with-ok : (earlier : List PageRun) (s : PageSort) (first count : ℕ) (run : PageRun)
+    → runs_with earlier (record { sort = s; first = first; count = count }) ≡ Ok run → IsRun s run
+runs_with-ok earlier s first count run h =
     let asked : PageRun = record { sort = s; first = first; count = count } in
     let (t, e) = if-ok (lies_within asked && list_all (lie_apart asked) earlier) asked run Boundary h in
     let both = and_parts (lies_within asked) (list_all (lie_apart asked) earlier) t in
@@ -194,8 +198,8 @@ pub run_at-ok : (s : PageSort) (first_key count_key : Key) (earlier : List PageR
 run_at-ok s first_key count_key earlier table run h =
     bind-ok (IsRun s run) (usually first_key 0 (number_in 0 255) table) _ run h (λ first at_first h.
     bind-ok (IsRun s run) (usually count_key 0 (number_in 0 256) table) _ run h (λ count at_count h.
-    placed-ok earlier s first count run
-    (at_key-ok count_key (placed earlier (record { sort = s; first = first; count = count })) run h)))
+    runs_with-ok earlier s first count run
+    (at_key-ok count_key (runs_with earlier (record { sort = s; first = first; count = count })) run h)))
 
 smi-whole : (rom ram void : PageRun) (wired : Bool) (bytes : List ℕ) (source : Option (List ℕ)) → IsRun sort.Rom rom → IsRun sort.Ram ram
     → IsRun sort.Void void → length bytes ≡ 256 * rom.count → ((name : List ℕ) → source ≡ Some name → 1 ≤ 256 * rom.count)
@@ -208,7 +212,7 @@ smi-whole rom ram void wired bytes source of_rom of_ram of_void size some =
         bytes = size ∙ ap (λ (n : ℕ). 256 * n) (sym (pages_of-rom_count rom ram void sorted of_rom.inside));
       };
       no_blank = refl;
-      has_rom = unfilled-rom (Smi (pages_of (rom ∷ ram ∷ void ∷ [])) bytes wired) (run_room rom) (256 * rom.count) source size
+      has_rom = without_image-rom (Smi (pages_of (rom ∷ ram ∷ void ∷ [])) bytes wired) (run_room rom) (256 * rom.count) source size
           (λ name at_name. let page = some name at_name in omega (arith, page));
     }
 
@@ -236,5 +240,5 @@ either-whole kind.Smi table chip h = smi_of-whole table chip h
 pub chip_of-whole : (table : Members) (chip : DescribedChip) → chip_of table ≡ Ok chip → IsPlannedChip (planned_chip chip)
 unfolding chip_of
 chip_of-whole table chip h =
-    bind-ok (IsPlannedChip (planned_chip chip)) (needed Kind kind_in table) _ chip h (λ k at_kind h.
+    bind-ok (IsPlannedChip (planned_chip chip)) (value_needed Kind kind_in table) _ chip h (λ k at_kind h.
     bind-ok (IsPlannedChip (planned_chip chip)) (known (chip_keys k) table) _ chip h (λ _ knows h. either-whole k table chip h))

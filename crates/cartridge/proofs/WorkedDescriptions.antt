@@ -10,7 +10,7 @@ use Rattle.cartridge.specs.declared.refusal.CartCause.{CartCause}
 use Rattle.cartridge.specs.declared.refusal.CartCause.TheVariants.{Missing, Unknown, WrongType, Range, Boundary, TooMany, BadHex, Both}
 use Rattle.cartridge.specs.declared.refusal.CartFault.{CartFault}
 use Rattle.cartridge.specs.ChipTables.{chip_of, psu_of, smi_of}
-use Rattle.cartridge.specs.Description.{Described, chips_from, described, top_of}
+use Rattle.cartridge.specs.Description.{Described, chips_from, description_in, top_of}
 
 -- ---- tables
 
@@ -55,82 +55,82 @@ at_chip key cause = Err (record { chip = Some 0; key = key; cause = cause })
 
 -- ---- what they say
 
-one_chip : described (with_chip (psu 0 4)) ≡ Ok (record {
+one_chip : description_in (with_chip (psu 0 4)) ≡ Ok (record {
   split = [];
   chips = record { spec = Psu 0 (0x71 ∷ 0x2B ∷ 0x90 ∷ 0xFE ∷ replicate 1020 255) 4 0 false; source = None } ∷ [];
 })
-unfolding described top_of chips_from chip_of psu_of decode_pairs
+unfolding description_in top_of chips_from chip_of psu_of decode_pairs
 one_chip = refl
 
 -- ---- faults at the top
 
-nothing : described no_members ≡ at_top key.Format Missing
-unfolding described top_of
+nothing : description_in no_members ≡ at_top key.Format Missing
+unfolding description_in top_of
 nothing = refl
 
-another_format : described (member (codes "format") (number 3) no_members) ≡ at_top key.Format Range
-unfolding described top_of
+another_format : description_in (member (codes "format") (number 3) no_members) ≡ at_top key.Format Range
+unfolding description_in top_of
 another_format = refl
 
-chips_no_list : described (with_chips (number 5)) ≡ at_top key.Chip WrongType
-unfolding described top_of
+chips_no_list : description_in (with_chips (number 5)) ≡ at_top key.Chip WrongType
+unfolding description_in top_of
 chips_no_list = refl
 
-chips_no_tables : described (with_chips (array (item (number 1) no_items))) ≡ at_top key.Chip WrongType
-unfolding described top_of
+chips_no_tables : description_in (with_chips (array (item (number 1) no_items))) ≡ at_top key.Chip WrongType
+unfolding description_in top_of
 chips_no_tables = refl
 
-seventeen_chips : described (with_chips (array (tables 17))) ≡ at_top key.Chip TooMany
-unfolding described top_of
+seventeen_chips : description_in (with_chips (array (tables 17))) ≡ at_top key.Chip TooMany
+unfolding description_in top_of
 seventeen_chips = refl
 
-equal_registers : described (member (codes "format") (number 1) (member (codes "split") (array (item (number 1) (item (number 1) no_items))) no_members))
+equal_registers : description_in (member (codes "format") (number 1) (member (codes "split") (array (item (number 1) (item (number 1) no_items))) no_members))
     ≡ at_top key.Split Range
-unfolding described top_of
+unfolding description_in top_of
 equal_registers = refl
 
 -- ---- faults of a chip
 
-base_off_its_boundary : described (with_chip (psu 0x200 4)) ≡ at_chip key.Base Boundary
-unfolding described top_of chips_from chip_of psu_of
+base_off_its_boundary : description_in (with_chip (psu 0x200 4)) ≡ at_chip key.Base Boundary
+unfolding description_in top_of chips_from chip_of psu_of
 base_off_its_boundary = refl
 
-ports_off_their_boundary : described (with_chip (psu 0 6)) ≡ at_chip key.Ports Boundary
-unfolding described top_of chips_from chip_of psu_of
+ports_off_their_boundary : description_in (with_chip (psu 0 6)) ≡ at_chip key.Ports Boundary
+unfolding description_in top_of chips_from chip_of psu_of
 ports_off_their_boundary = refl
 
-no_ports : described (with_chip (base 0 (kind (codes "3851") (rom (codes "712B90FE") no_members)))) ≡ at_chip key.Ports Missing
-unfolding described top_of chips_from chip_of psu_of
+no_ports : description_in (with_chip (base 0 (kind (codes "3851") (rom (codes "712B90FE") no_members)))) ≡ at_chip key.Ports Missing
+unfolding description_in top_of chips_from chip_of psu_of
 no_ports = refl
 
-ports_as_text : described (with_chip (base 0 (kind (codes "3851") (member (codes "ports") (text (codes "4")) (rom (codes "712B90FE") no_members)))))
+ports_as_text : description_in (with_chip (base 0 (kind (codes "3851") (member (codes "ports") (text (codes "4")) (rom (codes "712B90FE") no_members)))))
     ≡ at_chip key.Ports WrongType
-unfolding described top_of chips_from chip_of psu_of
+unfolding description_in top_of chips_from chip_of psu_of
 ports_as_text = refl
 
-no_bytes : described (with_chip (base 0 (kind (codes "3851") (ports 4 no_members)))) ≡ at_chip key.Rom Missing
-unfolding described top_of chips_from chip_of psu_of
+no_bytes : description_in (with_chip (base 0 (kind (codes "3851") (ports 4 no_members)))) ≡ at_chip key.Rom Missing
+unfolding description_in top_of chips_from chip_of psu_of
 no_bytes = refl
 
-three_digits : described (with_chip (base 0 (kind (codes "3851") (ports 4 (rom (codes "712") no_members))))) ≡ at_chip key.Rom BadHex
-unfolding described top_of chips_from chip_of psu_of
+three_digits : description_in (with_chip (base 0 (kind (codes "3851") (ports 4 (rom (codes "712") no_members))))) ≡ at_chip key.Rom BadHex
+unfolding description_in top_of chips_from chip_of psu_of
 three_digits = refl
 
-both_roms : described (with_chip (base 0 (kind (codes "3851") (ports 4 (rom (codes "712B90FE") (member (codes "source") (text (codes "a")) no_members))))))
+both_roms : description_in (with_chip (base 0 (kind (codes "3851") (ports 4 (rom (codes "712B90FE") (member (codes "source") (text (codes "a")) no_members))))))
     ≡ at_chip key.Source Both
-unfolding described top_of chips_from chip_of psu_of decode_pairs
+unfolding description_in top_of chips_from chip_of psu_of decode_pairs
 both_roms = refl
 
-another_kind : described (with_chip (base 0 (kind (codes "3850") (ports 4 (rom (codes "712B90FE") no_members))))) ≡ at_chip key.Kind Range
-unfolding described top_of chips_from chip_of
+another_kind : description_in (with_chip (base 0 (kind (codes "3850") (ports 4 (rom (codes "712B90FE") no_members))))) ≡ at_chip key.Kind Range
+unfolding description_in top_of chips_from chip_of
 another_kind = refl
 
-another_key : described (with_chip (base 0 (member (codes "colour") (number 1) (kind (codes "3851") (ports 4 (rom (codes "712B90FE") no_members))))))
+another_key : description_in (with_chip (base 0 (member (codes "colour") (number 1) (kind (codes "3851") (ports 4 (rom (codes "712B90FE") no_members))))))
     ≡ at_chip key.Other Unknown
-unfolding described top_of chips_from chip_of
+unfolding description_in top_of chips_from chip_of
 another_key = refl
 
-pages_past_the_end : described (with_chip (kind (codes "3853") (member (codes "ram_page") (number 0xFA) (member (codes "ram_pages") (number 10) no_members))))
+pages_past_the_end : description_in (with_chip (kind (codes "3853") (member (codes "ram_page") (number 0xFA) (member (codes "ram_pages") (number 10) no_members))))
     ≡ at_chip key.RamPages Boundary
-unfolding described top_of chips_from chip_of smi_of
+unfolding description_in top_of chips_from chip_of smi_of
 pages_past_the_end = refl

@@ -18,8 +18,8 @@ abbrev pub spec_from : Option PlannedSource → ChipSpec → ChipSpec
 spec_from None spec = spec
 spec_from (Some s) spec = with_rom s.bytes spec
 
-abbrev pub finished : PlannedChip → ChipSpec
-finished chip = spec_from chip.source chip.spec
+abbrev pub specification_of : PlannedChip → ChipSpec
+specification_of chip = spec_from chip.source chip.spec
 
 -- no image has been put into the chip, though it has a source
 abbrev pub wants_image : PlannedChip → Bool
@@ -27,7 +27,7 @@ wants_image chip = option_map_or (λ s. not s.filled) chip.source false
 
 abbrev pub cart_without : Option ℕ → Planned → Result Cart Unfilled
 cart_without (Some chip) plan = Err (record { chip = chip })
-cart_without None plan = Ok (record { split = plan.split; chips = map finished plan.chips })
+cart_without None plan = Ok (record { split = plan.split; chips = map specification_of plan.chips })
 
 -- the cartridge of a plan, or the lowest chip that wants an image
 abbrev pub cart_of : Planned → Result Cart Unfilled

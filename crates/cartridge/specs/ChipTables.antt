@@ -8,14 +8,15 @@ use Rattle.f8_spec.specs.declared.chips.PageSort.TheVariants as sort
 use Rattle.f8_asm.specs.declared.answers.Room.{Room}
 use Rattle.chip_face.specs.declared.specification.ChipSpec.{ChipSpec}
 use Rattle.chip_face.specs.declared.specification.ChipSpec.TheVariants.{Psu, Smi}
-use Rattle.cartridge.specs.declared.keys.Key.TheVariants.{Kind, Base, Ports, Vector, RomPage, RomPages, RamPage, RamPages, VoidPage, VoidPages, Interrupt, Rom, Source}
+use Rattle.cartridge.specs.declared.keys.Key.TheVariants.{Kind, Base, Ports, Vector, RomPage, RomPages, RamPage}
+use Rattle.cartridge.specs.declared.keys.Key.TheVariants.{RamPages, VoidPage, VoidPages, Interrupt, Rom, Source}
 use Rattle.cartridge.specs.declared.refusal.CartCause.TheVariants.{Missing}
 use Rattle.cartridge.specs.declared.refusal.KeyFault.{KeyFault}
 use Rattle.cartridge.specs.Faults.{◌>>=◌}
 use Rattle.cartridge.specs.Keys.{chip_keys, known, value_at}
 use Rattle.cartridge.specs.Pages.{run_at, pages_of}
 use Rattle.cartridge.specs.Rooms.{psu_room, run_room}
-use Rattle.cartridge.specs.Values.{needed, usually, number_in, multiple_in, truth, kind_in, rom_in, source_in, filled}
+use Rattle.cartridge.specs.Values.{value_needed, usually, number_in, multiple_in, truth, kind_in, rom_in, source_in, filled}
 
 -- where the bytes of a ROM come from: the name of an assembly file, and the addresses that its image may have
 pub record DescribedSource : Type 0 where
@@ -53,8 +54,8 @@ named_source room source = option_map (λ name. record { name = name; room = roo
 
 unfoldable pub psu_of : Members → Result DescribedChip KeyFault
 psu_of table =
-    needed Base (multiple_in 0 64512 1024) table >>= λ base.
-    needed Ports (multiple_in 4 252 4) table >>= λ ports.
+    value_needed Base (multiple_in 0 64512 1024) table >>= λ base.
+    value_needed Ports (multiple_in 4 252 4) table >>= λ ports.
     usually Vector 0 (number_in 0 65535) table >>= λ vector.
     wired_of table >>= λ wired.
     mask_of 1024 table >>= λ rom.
@@ -77,6 +78,6 @@ chip_of_kind kind.Smi table = smi_of table
 
 unfoldable pub chip_of : Members → Result DescribedChip KeyFault
 chip_of table =
-    needed Kind kind_in table >>= λ kind.
+    value_needed Kind kind_in table >>= λ kind.
     known (chip_keys kind) table >>= λ _.
     chip_of_kind kind table

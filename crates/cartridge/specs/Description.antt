@@ -7,7 +7,7 @@ use Rattle.cartridge.specs.declared.refusal.KeyFault.{KeyFault}
 use Rattle.cartridge.specs.declared.refusal.CartFault.{CartFault}
 use Rattle.cartridge.specs.Faults.{◌>>=◌, of_chip}
 use Rattle.cartridge.specs.Keys.{top_keys, known}
-use Rattle.cartridge.specs.Values.{needed, usually, number_in, split_in, tables_in}
+use Rattle.cartridge.specs.Values.{value_needed, usually, number_in, split_in, tables_in}
 use Rattle.cartridge.specs.ChipTables.{DescribedChip, chip_of}
 
 -- the registers that the checker tracks, and the chips
@@ -23,7 +23,7 @@ pub record Top : Type 0 where
 unfoldable pub top_of : Members → Result Top KeyFault
 top_of table =
     known top_keys table >>= λ _.
-    needed Format (number_in 1 1) table >>= λ _.
+    value_needed Format (number_in 1 1) table >>= λ _.
     usually Split [] split_in table >>= λ split.
     usually Chip [] tables_in table >>= λ tables.
     Ok (record { split = split; tables = tables })
@@ -37,8 +37,8 @@ chips_from i (table ∷ tables) =
     Ok (chip ∷ chips)
 
 -- what a table says, or its first fault
-unfoldable pub described : Members → Result Described CartFault
-described table =
+unfoldable pub description_in : Members → Result Described CartFault
+description_in table =
     of_chip None (top_of table) >>= λ top.
     chips_from 0 top.tables >>= λ chips.
     Ok (record { split = top.split; chips = chips })

@@ -49,6 +49,6 @@ SaysOfDescription seen (Err (answer.Fault fault)) said = said ≡ Err fault
 SaysOfDescription seen (Err answer.Memory) said = Unit {0}
 
 -- the fault of a chip's table, or of the table at the top, in a description; want of memory stays that
-abbrev pub told_at : Option ℕ → TableStop → CartAnswer
-told_at chip (stop.Fault fault) = answer.Fault (record { chip = chip; key = fault.key; cause = fault.cause })
-told_at chip stop.Memory = answer.Memory
+abbrev pub answer_at : Option ℕ → TableStop → CartAnswer
+answer_at chip (stop.Fault fault) = answer.Fault (record { chip = chip; key = fault.key; cause = fault.cause })
+answer_at chip stop.Memory = answer.Memory

@@ -1,5 +1,6 @@
 -- What the bytes of an image change in a plan. This is a law over `filled_plan`, and knows nothing of the order in which bytes are put.
-use Rattle.std.specs.Prelude.{◌≡◌, ℕ, ◌+◌, ◌-◌, ◌<◌, ◌≤◌, ◌≢◌, ◌==◌, if◌then◌else◌, true, List, [], ◌∷◌, length, slice_get, slice_index, Option, Some, None, unwrap_or, IsSomeAnd}
+use Rattle.std.specs.Prelude.{◌≡◌, ℕ, ◌+◌, ◌-◌, ◌<◌, ◌≤◌, ◌≢◌, ◌==◌, if◌then◌else◌, true, List, [], ◌∷◌, length}
+use Rattle.std.specs.Prelude.{slice_get, slice_index, Option, Some, None, unwrap_or, IsSomeAnd}
 use Rattle.cartridge.specs.Filling.{PlannedSource, PlannedChip, Planned}
 
 abbrev pub or_else : Option ℕ → Option ℕ → Option ℕ

@@ -1,13 +1,15 @@
 -- A plan: what a description says, with the bytes of its sources as they stand. They are FF until an image is put there. All of it is this
 -- project's own.
-use Rattle.std.specs.Prelude.{ℕ, zero, suc, ◌+◌, ◌-◌, ◌≡◌, ◌≤◌, Bool, true, false, All, List, [], ◌∷◌, length, map, replicate, slice_get, slice_set, Option, Some, None, option_map, option_and_then, IsSomeAnd, Result, Ok}
+use Rattle.std.specs.Prelude.{ℕ, zero, suc, ◌+◌, ◌-◌, ◌≡◌, ◌≤◌, Bool, true, false, All, List, [], ◌∷◌, length, map}
+use Rattle.std.specs.Prelude.{replicate, slice_get, slice_set, Option, Some, None, option_map, option_and_then}
+use Rattle.std.specs.Prelude.{IsSomeAnd, Result, Ok}
 use Rattle.toml.specs.Data.{Members}
 use Rattle.chip_face.specs.Fitting.{IsSpec, is_blank, rom_of}
 use Rattle.chip_face.specs.declared.specification.ChipSpec.{ChipSpec}
 use Rattle.cartridge.specs.ChipTables.{DescribedSource, DescribedChip}
 use Rattle.cartridge.specs.declared.refusal.CartFault.{CartFault}
 use Rattle.cartridge.specs.Faults.{◌>>=◌}
-use Rattle.cartridge.specs.Description.{Described, described}
+use Rattle.cartridge.specs.Description.{Described, description_in}
 use Rattle.cartridge.specs.Rooms.{room_size, LiesIn}
 
 -- a source, the bytes of its chip's ROM as they stand, and whether an image has been put there
@@ -27,18 +29,18 @@ pub record Planned : Type 0 where
 -- ---- the plan of a description
 
 -- no image has been put there
-abbrev pub unfilled : DescribedSource → PlannedSource
-unfilled source = record { source = source; bytes = replicate (room_size source.room) 255; filled = false }
+abbrev pub without_image : DescribedSource → PlannedSource
+without_image source = record { source = source; bytes = replicate (room_size source.room) 255; filled = false }
 
 abbrev pub planned_chip : DescribedChip → PlannedChip
-planned_chip chip = record { spec = chip.spec; source = option_map unfilled chip.source }
+planned_chip chip = record { spec = chip.spec; source = option_map without_image chip.source }
 
-abbrev pub planned : Described → Planned
-planned cart = record { split = cart.split; chips = map planned_chip cart.chips }
+abbrev pub plan_without_images : Described → Planned
+plan_without_images cart = record { split = cart.split; chips = map planned_chip cart.chips }
 
 -- the plan of a table, or the table's first fault
 abbrev pub plan_of : Members → Result Planned CartFault
-plan_of table = described table >>= λ cart. Ok (planned cart)
+plan_of table = description_in table >>= λ cart. Ok (plan_without_images cart)
 
 -- the source of a chip, where the chip is there and has one
 abbrev pub source_at : Planned → ℕ → Option DescribedSource
@@ -51,25 +53,25 @@ abbrev pub HasRoomFor : Planned → ℕ → List (ℕ × ℕ) → Type 0
 HasRoomFor plan chip bytes = IsSomeAnd (source_at plan chip) (λ s. LiesIn s.room bytes)
 
 -- bytes are put at their addresses, one after another, into a ROM that has this first address
-abbrev pub written : ℕ → List (ℕ × ℕ) → List ℕ → List ℕ
-written first [] rom = rom
-written first (b ∷ bs) rom = written first bs (slice_set rom (b.0 - first) b.1)
+abbrev pub bytes_with : ℕ → List (ℕ × ℕ) → List ℕ → List ℕ
+bytes_with first [] rom = rom
+bytes_with first (b ∷ bs) rom = bytes_with first bs (slice_set rom (b.0 - first) b.1)
 
 abbrev pub filled_source : List (ℕ × ℕ) → PlannedSource → PlannedSource
-filled_source bytes s = record { source = s.source; bytes = written s.source.room.first bytes s.bytes; filled = true }
+filled_source bytes s = record { source = s.source; bytes = bytes_with s.source.room.first bytes s.bytes; filled = true }
 
 abbrev pub filled_chip : List (ℕ × ℕ) → PlannedChip → PlannedChip
 filled_chip bytes chip = record { spec = chip.spec; source = option_map (filled_source bytes) chip.source }
 
 -- a list in which the item at one place is changed
-abbrev pub changed_at : {A : Type 0} → (A → A) → ℕ → List A → List A
-changed_at change place [] = []
-changed_at change zero (x ∷ xs) = change x ∷ xs
-changed_at change (suc place) (x ∷ xs) = x ∷ changed_at change place xs
+abbrev pub with_change_at : {A : Type 0} → (A → A) → ℕ → List A → List A
+with_change_at change place [] = []
+with_change_at change zero (x ∷ xs) = change x ∷ xs
+with_change_at change (suc place) (x ∷ xs) = x ∷ with_change_at change place xs
 
 -- the bytes of an image stand in a chip's ROM; where it has none, the byte that was there before stays
 abbrev pub filled_plan : Planned → ℕ → List (ℕ × ℕ) → Planned
-filled_plan plan chip bytes = record { split = plan.split; chips = changed_at (filled_chip bytes) chip plan.chips }
+filled_plan plan chip bytes = record { split = plan.split; chips = with_change_at (filled_chip bytes) chip plan.chips }
 
 -- ---- what holds of every plan
 

@@ -5,7 +5,9 @@ use Rattle.toml.specs.Data.{Data, Members, no_members, member, get_member}
 use Rattle.f8_spec.specs.declared.chips.ChipKind.{ChipKind}
 use Rattle.f8_spec.specs.declared.chips.ChipKind.TheVariants.{Psu, Smi}
 use Rattle.cartridge.specs.declared.keys.Key.{Key}
-use Rattle.cartridge.specs.declared.keys.Key.TheVariants.{Format, Split, Chip, Kind, Base, Ports, Vector, RomPage, RomPages, RamPage, RamPages, VoidPage, VoidPages, Interrupt, Rom, Source, Other}
+use Rattle.cartridge.specs.declared.keys.Key.TheVariants.{Format, Split, Chip, Kind, Base, Ports, Vector, RomPage}
+use Rattle.cartridge.specs.declared.keys.Key.TheVariants.{RomPages, RamPage, RamPages, VoidPage, VoidPages, Interrupt}
+use Rattle.cartridge.specs.declared.keys.Key.TheVariants.{Rom, Source, Other}
 use Rattle.cartridge.specs.declared.refusal.CartCause.TheVariants as cause
 use Rattle.cartridge.specs.declared.refusal.KeyFault.{KeyFault}
 

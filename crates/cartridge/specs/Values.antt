@@ -1,6 +1,8 @@
 -- What the values at the keys have to be. At one key the faults come in this order: the value is missing, of a wrong type, out of range,
 -- off its boundary, and last a text of bad digits or one that another key excludes.
-use Rattle.std.specs.Prelude.{ℕ, ℤ, pos, negsuc, ◌+◌, ◌-◌, ◌%◌, ◌==◌, ◌&&◌, nat_le, Bool, true, not, if◌then◌else◌, List, [], ◌∷◌, ◌++◌, length, replicate, codes, bytes_eq, Option, Some, None, option_map, option_and_then, Result, Ok, Err}
+use Rattle.std.specs.Prelude.{ℕ, ℤ, pos, negsuc, ◌+◌, ◌-◌, ◌%◌, ◌==◌, ◌&&◌, nat_le, Bool, true, not, if◌then◌else◌}
+use Rattle.std.specs.Prelude.{List, [], ◌∷◌, ◌++◌, length, replicate, codes, bytes_eq, Option, Some, None, option_map}
+use Rattle.std.specs.Prelude.{option_and_then, Result, Ok, Err}
 use Rattle.std.specs.List.{list_any, list_all}
 use Rattle.std.specs.Result.{result_ok}
 use Rattle.hex.specs.Hex.{decode_of}
@@ -18,31 +20,31 @@ use Rattle.cartridge.specs.Keys.{value_at}
 
 -- ---- a key that has to be there, and one that may be left out
 
-abbrev pub required : {A : Type 0} → (Data → Result A CartCause) → Option Data → Result A CartCause
-required judge None = Err Missing
-required judge (Some d) = judge d
+abbrev pub required_value : {A : Type 0} → (Data → Result A CartCause) → Option Data → Result A CartCause
+required_value judge None = Err Missing
+required_value judge (Some d) = judge d
 
 abbrev pub optional : {A : Type 0} → A → (Data → Result A CartCause) → Option Data → Result A CartCause
 optional usual judge None = Ok usual
 optional usual judge (Some d) = judge d
 
-abbrev pub needed : {A : Type 0} → Key → (Data → Result A CartCause) → Members → Result A KeyFault
-needed key judge table = at_key key (required judge (value_at key table))
+abbrev pub value_needed : {A : Type 0} → Key → (Data → Result A CartCause) → Members → Result A KeyFault
+value_needed key judge table = at_key key (required_value judge (value_at key table))
 
 abbrev pub usually : {A : Type 0} → Key → A → (Data → Result A CartCause) → Members → Result A KeyFault
 usually key usual judge table = at_key key (optional usual judge (value_at key table))
 
 -- ---- types
 
-abbrev pub typed : {A : Type 0} → Option A → Result A CartCause
-typed (Some x) = Ok x
-typed None = Err WrongType
+abbrev pub value_of_type : {A : Type 0} → Option A → Result A CartCause
+value_of_type (Some x) = Ok x
+value_of_type None = Err WrongType
 
 abbrev pub text : Data → Result (List ℕ) CartCause
-text d = typed (as_str d)
+text d = value_of_type (as_str d)
 
 abbrev pub truth : Data → Result Bool CartCause
-truth d = typed (as_bool d)
+truth d = value_of_type (as_bool d)
 
 -- ---- numbers
 
@@ -52,7 +54,7 @@ within first last (pos n) = if nat_le first n && nat_le n last then Ok n else Er
 within first last (negsuc n) = Err Range
 
 abbrev pub number_in : ℕ → ℕ → Data → Result ℕ CartCause
-number_in first last d = typed (as_integer d) >>= within first last
+number_in first last d = value_of_type (as_integer d) >>= within first last
 
 abbrev pub multiple_of : ℕ → ℕ → Result ℕ CartCause
 multiple_of step n = if n % step == 0 then Ok n else Err Boundary
@@ -130,11 +132,11 @@ abbrev pub split_of : Items → Result (List ℕ) CartCause
 split_of ds = if nat_le (count_of ds) 8 then registers (each register ds) else Err TooMany
 
 abbrev pub split_in : Data → Result (List ℕ) CartCause
-split_in d = typed (as_array d) >>= split_of
+split_in d = value_of_type (as_array d) >>= split_of
 
 -- a list of at most 16 tables; an entry of a wrong type goes before too many
 abbrev pub few_tables : List Members → Result (List Members) CartCause
 few_tables tables = if nat_le (length tables) 16 then Ok tables else Err TooMany
 
 abbrev pub tables_in : Data → Result (List Members) CartCause
-tables_in d = typed (as_array d) >>= λ ds. typed (each as_table ds) >>= few_tables
+tables_in d = value_of_type (as_array d) >>= λ ds. value_of_type (each as_table ds) >>= few_tables

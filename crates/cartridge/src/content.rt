@@ -87,7 +87,8 @@ fn is_file_name(name: &str) -> bool
 
 /// Judges the name of a source for so many bytes, beside which digits may be given.
 fn judge_source(name: &str, room: usize, has_digits: bool) -> Result<(), CartCause>
-    ensures { MatchResult result (λ _. source_judged room has_digits name.now ≡ Ok name.now) (λ cause. source_judged room has_digits name.now ≡ Err cause) }
+    ensures { MatchResult result (λ _. source_judged room has_digits name.now ≡ Ok name.now)
+        (λ cause. source_judged room has_digits name.now ≡ Err cause) }
 {
     if !(is_file_name(name) && 1 <= room) {
         return Err(CartCause::Range);
@@ -105,7 +106,8 @@ fn source_in(
     room: usize,
     has_digits: bool,
 ) -> Result<Option<String>, TableStop>
-    ensures { SaysOfTable (λ source. option_map string_bytes source) result (at_key Source (source_told room has_digits (view value.now))) }
+    ensures { SaysOfTable (λ source. option_map string_bytes source) result
+        (at_key Source (source_told room has_digits (view value.now))) }
 {
     let Some(name) = value.as_str() else {
         return Err(fault_at(Key::Source, CartCause::WrongType));
@@ -118,7 +120,8 @@ fn source_in(
 
 /// The name of the source of so many bytes, where the table has one.
 pub fn source_at(alloc: Global, table: &Table, room: usize) -> Result<Option<String>, TableStop>
-    ensures { SaysOfTable (λ source. option_map string_bytes source) result (source_of room (table_view table.now)) }
+    ensures { SaysOfTable (λ source. option_map string_bytes source) result
+        (source_of room (table_view table.now)) }
 {
     match value_at(table, Key::Source) {
         Some(value) => {

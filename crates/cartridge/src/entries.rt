@@ -74,7 +74,8 @@ pub fn tables_of<'a>(
     alloc: Global,
     entries: &'a [Value],
 ) -> Result<Option<Vec<&'a Table>>, AllocError>
-    ensures { IfOk result (λ tables. option_map (λ ts. map seen_table ts.items) tables ≡ each as_table (items_view entries.now)) }
+    ensures { IfOk result (λ tables. option_map (λ ts. map seen_table ts.items) tables
+        ≡ each as_table (items_view entries.now)) }
 {
     let mut tables = Vec::with_capacity(alloc, entries.len())?;
     for entry in entries {

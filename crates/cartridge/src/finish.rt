@@ -1,11 +1,11 @@
 // The cartridge of a plan.
 ghost use Rattle.std.specs.Prelude.{◌≡◌, ◌≤◌, length, map, position, MatchResult, Some, None};
-ghost use Rattle.cartridge.specs.Carts.{with_rom, finished, wants_image};
+ghost use Rattle.cartridge.specs.Carts.{with_rom, specification_of, wants_image};
 ghost use Rattle.cartridge.specs.Plans.{seen_chips};
 
 use super::rom_source::SourceRom;
 use super::split::Split;
-use chip_face::{Bytes, ChipList, ChipSpec};
+use chip_face::{Bytes, ChipList, ChipSpec, MOST_CHIPS};
 use thiserror::Error;
 
 /// A cartridge: the registers that the checker tracks, and the chips in the order of the description.
@@ -39,11 +39,11 @@ pub fn finished_specs(
     mut sources: Vec<Option<SourceRom>>,
 ) -> Result<Vec<ChipSpec>, Unfilled>
     requires paired { length specs.items ≡ length sources.items }
-    requires few { length specs.items ≤ 16 }
+    requires few { length specs.items ≤ MOST_CHIPS }
     ensures { let chips = seen_chips specs.items sources.items in
         MatchResult result
-        (λ specs. (position wants_image chips ≡ None) × (specs.items ≡ map finished chips))
-        (λ unfilled. position wants_image chips ≡ Some unfilled.chip) }
+        (λ specs. (position wants_image chips ≡ None) × (specs.items ≡ map specification_of chips))
+        (λ without_image. position wants_image chips ≡ Some without_image.chip) }
 {
     for index in 0..specs.len() {
         if let Some(rom) = sources[index].take() {

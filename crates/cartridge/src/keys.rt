@@ -1,3 +1,4 @@
+// The keys of a description, and their words.
 ghost use Rattle.std.specs.Prelude.{◌≡◌};
 ghost use Rattle.cartridge.specs.Keys.{key_word};
 

@@ -2,7 +2,7 @@
 ghost use Rattle.std.specs.Prelude.{◌≡◌, IfOk, option_map};
 ghost use Rattle.toml.specs.View.{table_view};
 ghost use Rattle.cartridge.specs.Faults.{SaysOfDescription};
-ghost use Rattle.cartridge.specs.Filling.{planned, plan_of as plan_told, source_at, HasRoomFor, filled_plan, IsPlan};
+ghost use Rattle.cartridge.specs.Filling.{plan_without_images, plan_of as plan_told, source_at, HasRoomFor, filled_plan, IsPlan};
 ghost use Rattle.cartridge.specs.Filled.{IsFilled};
 ghost use Rattle.cartridge.specs.Carts.{cart_of};
 ghost use Rattle.cartridge.specs.Plans.{seen_cart, seen_source, str_seen};
@@ -94,8 +94,8 @@ impl Plan {
 
 /// The plan of what a description says.
 fn plan_of(alloc: Global, cart: Described) -> Result<Plan, AllocError>
-    requires { IsPlan (planned (seen_cart cart)).chips }
-    ensures { IfOk result (λ plan. plan ≡ planned (seen_cart cart)) }
+    requires { IsPlan (plan_without_images (seen_cart cart)).chips }
+    ensures { IfOk result (λ plan. plan ≡ plan_without_images (seen_cart cart)) }
 {
     let mut specs = Vec::new(alloc);
     let mut sources = Vec::new(alloc);

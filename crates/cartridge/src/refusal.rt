@@ -1,3 +1,4 @@
+// Why a description is refused: the chip, the key and the cause.
 ghost use Rattle.std.specs.Prelude.{◌≡◌};
 ghost use Rattle.cartridge.specs.Faults.{cause_number};
 

@@ -1,6 +1,6 @@
 // Where the bytes of a ROM come from, and the bytes as they stand.
 ghost use Rattle.std.specs.Prelude.{◌≡◌, ◌+◌, ◌≤◌, ◌<◌, All, IfOk, length, option_map};
-ghost use Rattle.cartridge.specs.Filling.{unfilled, filled_source, written};
+ghost use Rattle.cartridge.specs.Filling.{without_image, filled_source, bytes_with};
 ghost use Rattle.cartridge.specs.Rooms.{LiesIn};
 ghost use Rattle.cartridge.specs.Plans.{seen_source, seen_rom};
 
@@ -25,7 +25,7 @@ pub struct SourceRom {
 /// Puts bytes at their addresses, one after another, into a ROM that has this first address.
 fn put(rom: &mut [u8], first: u16, bytes: &[(u16, u8)])
     requires { All (λ b. (first ≤ b.0) × (b.0 < first + length rom.old)) bytes.now }
-    ensures { rom.new ≡ written first bytes.now rom.old }
+    ensures { rom.new ≡ bytes_with first bytes.now rom.old }
 {
     for (address, byte) in bytes {
         rom[usize::from(*address - first)] = *byte;
@@ -35,7 +35,7 @@ fn put(rom: &mut [u8], first: u16, bytes: &[(u16, u8)])
 impl SourceRom {
     /// Bytes that are all FF.
     pub fn new(alloc: Global, source: ChipSource) -> Result<SourceRom, AllocError>
-        ensures { IfOk result (λ rom. seen_rom rom ≡ unfilled (seen_source source)) }
+        ensures { IfOk result (λ rom. seen_rom rom ≡ without_image (seen_source source)) }
     {
         let Room { first, last } = source.room;
         let size = (usize::from(last) + 1).saturating_sub(usize::from(first));
@@ -49,7 +49,8 @@ impl SourceRom {
     /// Puts the bytes of an image there.
     pub fn fill(&mut self, bytes: &[(u16, u8)])
         requires inside { LiesIn self.old.source.room bytes.now }
-        requires whole { self.old.source.room.first + length self.old.bytes.items ≡ self.old.source.room.last + 1 }
+        requires whole { self.old.source.room.first + length self.old.bytes.items
+            ≡ self.old.source.room.last + 1 }
         ensures { seen_rom self.new ≡ filled_source bytes.now (seen_rom self.old) }
     {
         put(self.bytes.as_mut_slice(), self.source.room.first, bytes);
@@ -62,7 +63,8 @@ pub fn unfilled_rom(
     alloc: Global,
     source: Option<ChipSource>,
 ) -> Result<Option<SourceRom>, AllocError>
-    ensures { IfOk result (λ rom. option_map seen_rom rom ≡ option_map unfilled (option_map seen_source source)) }
+    ensures { IfOk result (λ rom. option_map seen_rom rom
+        ≡ option_map without_image (option_map seen_source source)) }
 {
     match source {
         Some(source) => Ok(Some(SourceRom::new(alloc, source)?)),

@@ -1,3 +1,4 @@
+// The tracked registers of a cartridge.
 ghost use Rattle.std.specs.Prelude.{◌≡◌, ◌<◌, ◌++◌, [], ◌∷◌, length, false};
 ghost use Rattle.cartridge.specs.Values.{is_among};
 ghost use Rattle.cartridge.specs.Splits.{IsSplit};

@@ -1,3 +1,4 @@
+// Descriptions and what is answered to them.
 use super::*;
 use chip_face::ChipSpec;
 use f8_asm::{Room, assemble};
@@ -199,7 +200,7 @@ fn the_lowest_unfilled_chip_is_told(rt: HostRuntime) -> Result<(), Fail> {
         put(rt.alloc(), &mut plan, filled, "")?;
         match plan.cart() {
             Ok(_) => assert!(rt; false),
-            Err(unfilled) => {
+            Err(without_image) => {
                 let told = format!(in rt.alloc(); "{unfilled}")?;
                 assert_eq!(rt; told.as_str(), want);
             }

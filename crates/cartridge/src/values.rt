@@ -3,7 +3,7 @@ ghost use Rattle.std.specs.Prelude.{◌≡◌, ◌<◌, option_map, false};
 ghost use Rattle.toml.specs.View.{view, table_view};
 ghost use Rattle.cartridge.specs.declared.keys.Key.TheVariants.{Kind};
 ghost use Rattle.cartridge.specs.Keys.{value_at as found_at};
-ghost use Rattle.cartridge.specs.Values.{needed, usually, within as lies_within, number_in as number_between, multiple_of as multiple_by, multiple_in as multiple_between, truth as truth_told, kind_named as kind_spelled, kind_in as kind_told};
+ghost use Rattle.cartridge.specs.Values.{value_needed, usually, within as lies_within, number_in as number_between, multiple_of as multiple_by, multiple_in as multiple_between, truth as truth_told, kind_named as kind_spelled, kind_in as kind_told};
 
 use super::keys::Key;
 use super::refusal::{CartCause, KeyFault};
@@ -89,7 +89,7 @@ fn kind_in(value: &Value) -> Result<ChipKind, CartCause>
 
 /// The kind of chip at the key of kinds, which has to be there.
 pub fn kind_at(table: &Table) -> Result<ChipKind, KeyFault>
-    ensures { result ≡ needed Kind kind_told (table_view table.now) }
+    ensures { result ≡ value_needed Kind kind_told (table_view table.now) }
 {
     let key = Key::Kind;
     let Some(value) = value_at(table, key) else {
@@ -110,7 +110,7 @@ pub fn multiple_at(
     step: u16,
 ) -> Result<u16, KeyFault>
     requires { 0 < step }
-    ensures { result ≡ needed key (multiple_between first last step) (table_view table.now) }
+    ensures { result ≡ value_needed key (multiple_between first last step) (table_view table.now) }
 {
     let Some(value) = value_at(table, key) else {
         return Err(KeyFault {
@@ -123,7 +123,7 @@ pub fn multiple_at(
 
 /// A number from `first` to `last` at a key that has to be there.
 pub fn needed_number(table: &Table, key: Key, first: u16, last: u16) -> Result<u16, KeyFault>
-    ensures { result ≡ needed key (number_between first last) (table_view table.now) }
+    ensures { result ≡ value_needed key (number_between first last) (table_view table.now) }
 {
     let Some(value) = value_at(table, key) else {
         return Err(KeyFault {

@@ -1,3 +1,4 @@
+// The chips of a description.
 ghost use Rattle.std.specs.Prelude.{◌≡◌, ◌==◌, false, length};
 ghost use Rattle.chip_face.specs.Fitting.{IsChipList, IsSpec, is_blank};
 

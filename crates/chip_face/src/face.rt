@@ -1,3 +1,4 @@
+// The trait of a storage chip: what the bus asks of it, and what it hears.
 use super::{ChipKind, ChipSpec, FitFault, Offer};
 use romc_table::{Counters, Romc};
 use std::alloc::Global;

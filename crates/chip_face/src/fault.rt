@@ -1,3 +1,4 @@
+// Why a chip wasn't fitted.
 use thiserror::Error;
 
 /// Why a chip wasn't fitted. It is then as it was.

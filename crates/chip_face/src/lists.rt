@@ -1,3 +1,4 @@
+// Lists of bytes and of pages.
 ghost use Rattle.std.specs.Prelude.{ℕ, ◌≡◌, ◌<◌, ◌==◌, IfOk, length, slice_get, slice_index};
 
 use f8_spec::{Memory, Page};

@@ -1,3 +1,4 @@
+// Sizes of racks, pages and ROMs.
 ghost use Rattle.std.specs.Prelude.{◌≡◌};
 ghost use Rattle.chip_face.specs.Fitting.{rom_size};
 

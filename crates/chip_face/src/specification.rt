@@ -1,3 +1,4 @@
+// What a chip is fitted as.
 use super::{Bytes, PageList};
 use f8_spec::ChipKind;
 

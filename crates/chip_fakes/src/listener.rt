@@ -1,3 +1,4 @@
+// A chip that tells the steps that it heard.
 ghost use Rattle.std.specs.Prelude.{◌≡◌, ◌≤◌, IfOk};
 ghost use Rattle.f8_spec.specs.ChipState.{told_step};
 ghost use Rattle.chip_fakes.specs.RecorderView.{heard_step};
@@ -49,9 +50,10 @@ impl Listener {
 
 /// A step as it is told: with the mark in the two codes of an acknowledgement alone.
 fn told(romc: Romc, byte: u8, phi: u8, first: bool) -> Heard
-    ensures { heard_step result ≡ told_step (record { romc = romc; byte = byte; clocks = phi; first = first }) }
+    ensures { heard_step result ≡ told_step
+        (record { romc = romc; byte = byte; clocks = phi; first = first }) }
 {
-    let acknowledges = romc.number() == 0x0F || romc.number() == 0x13;
+    let acknowledges = matches!(romc, Romc::VECTOR_LOW | Romc::VECTOR_HIGH);
     Heard {
         romc,
         byte,
@@ -76,9 +78,11 @@ impl Chip for Listener {
 
     fn fit(&mut self, alloc: Global, spec: &ChipSpec) -> Result<(), FitFault>
         requires { IsSpec spec.now }
-        ensures ok { OnOk result (Fits spec.now (listener_state self.old) (listener_state self.new)) }
+        ensures ok { OnOk result (Fits spec.now (listener_state self.old)
+            (listener_state self.new)) }
         ensures whole { OnOk result (IsWhole (listener_state self.new).view) }
-        ensures wrong_kind { IsErrOf result FitFault.WrongKind ↔ (kind_of spec.now ≢ (listener_state self.old).view.kind) }
+        ensures wrong_kind { IsErrOf result FitFault.WrongKind
+            ↔ (kind_of spec.now ≢ (listener_state self.old).view.kind) }
         ensures memory { IsErrOf result FitFault.Memory → is_blank spec.now ≡ false }
         ensures err { OnErr result (listener_state self.new ≡ listener_state self.old) }
         ensures recording { recording_of self.new ≡ recording_of self.old }
@@ -102,8 +106,19 @@ impl Chip for Listener {
     fn settle(&mut self, romc: Romc, byte: u8, phi: u8, first: bool)
         requires step_length { IsStepLength phi }
         requires may_hear { MayHear romc first (listener_state self.old).view }
-        ensures settles { Settles 0 (record { romc = romc; byte = byte; clocks = phi; first = first }) (listener_state self.old) (listener_state self.new) }
-        ensures recording { recording_of self.new ≡ recorded (told_step (record { romc = romc; byte = byte; clocks = phi; first = first })) (recording_of self.old) }
+        ensures settles { Settles 0 (record {
+          romc = romc;
+          byte = byte;
+          clocks = phi;
+          first = first;
+        }) (listener_state self.old) (listener_state self.new) }
+        ensures recording { recording_of self.new
+            ≡ recorded (told_step (record {
+              romc = romc;
+              byte = byte;
+              clocks = phi;
+              first = first;
+            })) (recording_of self.old) }
     {
         self.chip.settle(romc, byte, phi, first);
         self.recorder.hear(told(romc, byte, phi, first));

@@ -1,3 +1,4 @@
+// A 3851 with one changed byte.
 ghost use Rattle.std.specs.Prelude.{◌≡◌, ◌%◌, IfOk, length};
 ghost use Rattle.f8_spec.specs.ChipState.{patched_bytes};
 ghost use Rattle.chip_face.specs.Fitting.{psu_pages};
@@ -34,7 +35,8 @@ impl Patched {
 fn patched_rom(alloc: Global, base: u16, rom: &[u8], at: u16, byte: u8) -> Result<Bytes, Memory>
     requires size { length rom.now ≡ 1024 }
     requires boundary { base % 1024 ≡ 0 }
-    ensures { IfOk result (λ bytes. bytes ≡ patched_bytes (Some (at, byte)) (psu_pages base) rom.now) }
+    ensures { IfOk result (λ bytes. bytes
+        ≡ patched_bytes (Some (at, byte)) (psu_pages base) rom.now) }
 {
     let mut bytes = match rom.to_vec(alloc) {
         Ok(bytes) => bytes,

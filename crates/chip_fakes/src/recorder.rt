@@ -1,3 +1,4 @@
+// The steps that a chip heard, up to a room.
 ghost use Rattle.std.specs.Prelude.{◌≡◌, IfOk, Some, []};
 
 use chip_face::Memory;

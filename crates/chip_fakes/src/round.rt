@@ -1,3 +1,4 @@
+// A chip of one of the two kinds.
 use chip_face::{Chip, ChipKind, ChipSpec, FitFault, Offer};
 use psu3851::Psu;
 use romc_table::{Counters, Romc};
@@ -30,7 +31,8 @@ impl Chip for Round {
         requires { IsSpec spec.now }
         ensures ok { OnOk result (Fits spec.now (round_state self.old) (round_state self.new)) }
         ensures whole { OnOk result (IsWhole (round_state self.new).view) }
-        ensures wrong_kind { IsErrOf result FitFault.WrongKind ↔ (kind_of spec.now ≢ (round_state self.old).view.kind) }
+        ensures wrong_kind { IsErrOf result FitFault.WrongKind
+            ↔ (kind_of spec.now ≢ (round_state self.old).view.kind) }
         ensures memory { IsErrOf result FitFault.Memory → is_blank spec.now ≡ false }
         ensures err { OnErr result (round_state self.new ≡ round_state self.old) }
     {

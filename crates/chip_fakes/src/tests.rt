@@ -1,3 +1,4 @@
+// What a listener tells, and what a patch changes.
 use super::*;
 use chip_face::{Bytes, Chip, ChipKind, ChipSpec, PageList};
 use romc_table::Romc;

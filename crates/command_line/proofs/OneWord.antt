@@ -1,5 +1,6 @@
 -- The command of one word gives the one plain word.
-use Rattle.std.proofs.Common.{◌≡◌, ◌∙◌, true, List, [], ◌∷◌, Option, Some, None, IsUtf8, codes, drop, option_map, refl, ap}
+use Rattle.std.proofs.Common.{◌≡◌, ◌∙◌, true, List, [], ◌∷◌, Option, Some, None, IsUtf8, codes, drop, option_map, refl}
+use Rattle.std.proofs.Common.{ap}
 use Rattle.std.specs.Prelude.{option_and_then}
 use Rattle.std.specs.List.{All}
 use Rattle.std.proofs.lemmas.List.Elements.{All-drop}
@@ -34,10 +35,14 @@ module _ (name : Text) where
 
   -- what a parse of the words comes to
   pub one_word_read : (words : List Text) → All IsUtf8 words
-      → option_map word_row (rows_unless (fault_of (word_app name) words) (matches_of (word_app name) words)) ≡ option_map Some (one_of (drop 1 words))
-  one_word_read words utf8 = ap (option_map word_row) (told-apart app only at_first (drop 1 words) (All-drop IsUtf8 1 words utf8)) ∙ go (words_of (drop 1 words))
+      → option_map word_row (rows_unless (fault_of (word_app name) words) (matches_of (word_app name) words))
+      ≡ option_map Some (one_of (drop 1 words))
+  one_word_read words utf8 =
+      ap (option_map word_row) (told-apart app only at_first (drop 1 words) (All-drop IsUtf8 1 words utf8))
+      ∙ go (words_of (drop 1 words))
     where
-      go : (o : Option (List Word)) → option_map word_row (option_and_then (told app at_first) o) ≡ option_map Some (option_and_then one_in o)
+      go : (o : Option (List Word)) →
+          option_map word_row (option_and_then (told app at_first) o) ≡ option_map Some (option_and_then one_in o)
       go None = refl
       go (Some words) = one_told words
 

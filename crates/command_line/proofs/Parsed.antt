@@ -1,5 +1,6 @@
 -- From what clap ensures of a parse to what the words ask for.
-use Rattle.std.proofs.Common.{◌≡◌, ◌∙◌, ◌⊎◌, inl, inr, zero, suc, List, [], ◌∷◌, map, Option, Some, None, String, string_bytes, IsUtf8, option_map, arith, refl, sym, ap}
+use Rattle.std.proofs.Common.{◌≡◌, ◌∙◌, ◌⊎◌, inl, inr, zero, suc, List, [], ◌∷◌, map, Option, Some, None, String}
+use Rattle.std.proofs.Common.{string_bytes, IsUtf8, option_map, arith, refl, sym, ap}
 use Rattle.std.specs.List.{All}
 use Rattle.std.proofs.lemmas.Str.{IsUtf8-string_bytes}
 use Rattle.clap.specs.Walk.{Row}
@@ -24,7 +25,8 @@ module _ {A B : Type 0} (read : List Row → B) (seen : A → B) (kinds : Kinds)
   -- a parse that fails with memory at hand is one of words that ask for nothing
   pub refused_is : (e : Error) → HasKind kinds e → (kind_of e ≡ OutOfMemory) ⊎ (asked ≡ None)
   refused_is e (inl memory) = inl memory
-  refused_is e (inr among) = inr (go asked (sym known ∙ ap (option_map read) (rows-refused kinds rows (kind_of e) among)))
+  refused_is e (inr among) =
+      inr (go asked (sym known ∙ ap (option_map read) (rows-refused kinds rows (kind_of e) among)))
     where
       go : (o : Option A) → option_map seen o ≡ None → o ≡ None
       go None e = refl

@@ -1,5 +1,6 @@
 -- The command of a run gives its two files, and whether the flag stands among the words.
-use Rattle.std.proofs.Common.{◌≡◌, ◌∙◌, true, List, [], ◌∷◌, Option, Some, None, IsUtf8, codes, drop, option_map, refl, ap}
+use Rattle.std.proofs.Common.{◌≡◌, ◌∙◌, true, List, [], ◌∷◌, Option, Some, None, IsUtf8, codes, drop, option_map, refl}
+use Rattle.std.proofs.Common.{ap}
 use Rattle.std.specs.Prelude.{option_and_then}
 use Rattle.std.specs.List.{All}
 use Rattle.std.proofs.lemmas.List.Elements.{All-drop}
@@ -57,10 +58,14 @@ module _ (name : Text) where
 
   -- what a parse of the words comes to
   pub play_read : (words : List Text) → All IsUtf8 words
-      → option_map run_row (rows_unless (fault_of (play_app name) words) (matches_of (play_app name) words)) ≡ option_map run_given (run_of (drop 1 words))
-  play_read words utf8 = ap (option_map run_row) (told-apart app only at_first (drop 1 words) (All-drop IsUtf8 1 words utf8)) ∙ go (words_of (drop 1 words))
+      → option_map run_row (rows_unless (fault_of (play_app name) words) (matches_of (play_app name) words))
+      ≡ option_map run_given (run_of (drop 1 words))
+  play_read words utf8 =
+      ap (option_map run_row) (told-apart app only at_first (drop 1 words) (All-drop IsUtf8 1 words utf8))
+      ∙ go (words_of (drop 1 words))
     where
-      go : (o : Option (List Word)) → option_map run_row (option_and_then (told app at_first) o) ≡ option_map run_given (option_and_then run_in o)
+      go : (o : Option (List Word)) →
+          option_map run_row (option_and_then (told app at_first) o) ≡ option_map run_given (option_and_then run_in o)
       go None = refl
       go (Some words) = play_told words
 

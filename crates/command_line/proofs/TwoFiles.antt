@@ -1,5 +1,6 @@
 -- The command of two files gives the two plain words.
-use Rattle.std.proofs.Common.{◌≡◌, ◌∙◌, true, List, [], ◌∷◌, Option, Some, None, IsUtf8, codes, drop, option_map, refl, ap}
+use Rattle.std.proofs.Common.{◌≡◌, ◌∙◌, true, List, [], ◌∷◌, Option, Some, None, IsUtf8, codes, drop, option_map, refl}
+use Rattle.std.proofs.Common.{ap}
 use Rattle.std.specs.Prelude.{option_and_then}
 use Rattle.std.specs.List.{All}
 use Rattle.std.proofs.lemmas.List.Elements.{All-drop}
@@ -27,7 +28,8 @@ module _ (name : Text) where
   only : HasNoOtherFlag app.top.rules
   only = record { long = λ name e. refl; short = λ c. refl; valueless = refl; single = refl }
 
-  two_told : (words : List Word) → option_map both_files (told app at_first words) ≡ option_map both_given (two_in words)
+  two_told : (words : List Word) →
+      option_map both_files (told app at_first words) ≡ option_map both_given (two_in words)
   unfolding defaults_fault
   two_told [] = refl
   two_told (Flag ∷ words) = refl
@@ -39,10 +41,14 @@ module _ (name : Text) where
 
   -- what a parse of the words comes to
   pub two_files_read : (words : List Text) → All IsUtf8 words
-      → option_map both_files (rows_unless (fault_of (files_app name) words) (matches_of (files_app name) words)) ≡ option_map both_given (two_of (drop 1 words))
-  two_files_read words utf8 = ap (option_map both_files) (told-apart app only at_first (drop 1 words) (All-drop IsUtf8 1 words utf8)) ∙ go (words_of (drop 1 words))
+      → option_map both_files (rows_unless (fault_of (files_app name) words) (matches_of (files_app name) words))
+      ≡ option_map both_given (two_of (drop 1 words))
+  two_files_read words utf8 =
+      ap (option_map both_files) (told-apart app only at_first (drop 1 words) (All-drop IsUtf8 1 words utf8))
+      ∙ go (words_of (drop 1 words))
     where
-      go : (o : Option (List Word)) → option_map both_files (option_and_then (told app at_first) o) ≡ option_map both_given (option_and_then two_in o)
+      go : (o : Option (List Word)) →
+          option_map both_files (option_and_then (told app at_first) o) ≡ option_map both_given (option_and_then two_in o)
       go None = refl
       go (Some words) = two_told words
 

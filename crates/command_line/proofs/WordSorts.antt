@@ -1,5 +1,6 @@
 -- What a walk of clap's makes of one word, where a command has no flag but `--trace`, and no subcommand.
-use Rattle.std.proofs.Common.{◌≡◌, ◌∙◌, ℕ, Bool, true, false, ◌==◌, ◌&&◌, not, List, [], ◌∷◌, Option, Some, None, IsUtf8, codes, bytes_eq, suc, ◌+◌, length, take, arith, refl, sym, ap, subst, true≢false}
+use Rattle.std.proofs.Common.{◌≡◌, ◌∙◌, ℕ, Bool, true, false, ◌==◌, ◌&&◌, not, List, [], ◌∷◌, Option, Some, None}
+use Rattle.std.proofs.Common.{IsUtf8, codes, bytes_eq, suc, ◌+◌, length, take, arith, refl, sym, ap, subst, true≢false}
 use Rattle.std.specs.Prelude.{encode_utf8_all}
 use Rattle.std.specs.Char.{encode_utf8}
 use Rattle.std.specs.List.{list_all}
@@ -9,7 +10,8 @@ use Rattle.std.proofs.lemmas.Str.{encodes-chars}
 use Rattle.std.proofs.lemmas.Bool.{eqb-true}
 use Rattle.std.proofs.lemmas.Slice.Eq.{bytes_eq-Decides}
 use Rattle.clap.specs.Lexer.{has_byte, long_of, name_and_value, short_of}
-use Rattle.clap.specs.Walk.{Held, Rule, Text, after_flag, arg_by_long, arg_by_short, idle, is_multiple, long_met, next, takes_values, value, word_met}
+use Rattle.clap.specs.Walk.{Held, Rule, Text, after_flag, arg_by_long, arg_by_short, idle, is_multiple, long_met, next}
+use Rattle.clap.specs.Walk.{takes_values, value, word_met}
 use Rattle.clap.specs.Simple.{Shape}
 use Rattle.clap.specs.Kinds.{Kinds}
 use Rattle.clap.specs.Faults.{flag_word_fault, flags_fault, long_fault, word_fault}
@@ -61,7 +63,8 @@ plain-short (x ∷ []) e = go (x == 45) refl
     go false t = rw t refl
 plain-short (x ∷ (y ∷ rest)) e = rw e refl
 
-pub plain-met : (rules : List Rule) (word : Text) (position : ℕ) (h : Held) → bytes_eq word dashes ≡ false → is_dashed word ≡ false
+pub plain-met : (rules : List Rule) (word : Text) (position : ℕ) (h : Held) → bytes_eq word dashes ≡ false →
+    is_dashed word ≡ false
     → word_met rules [] false idle position word h ≡ (h, value)
 plain-met rules word position h apart plain =
     let long = plain-long word plain in
@@ -82,10 +85,12 @@ first_char : (y : ℕ) (rest : Text) → IsUtf8 (45 ∷ (y ∷ rest)) → chars 
 unfolding chars encode_utf8
 first_char y rest utf8 none =
     let whole : chars (45 ∷ (y ∷ rest)) ≡ 45 ∷ [] = ap (λ cs. 45 ∷ cs) none in
-    let back : encode_utf8_all (45 ∷ []) ≡ 45 ∷ (y ∷ rest) = ap encode_utf8_all (sym whole) ∙ encodes-chars (45 ∷ (y ∷ rest)) utf8 in
+    let back : encode_utf8_all (45 ∷ []) ≡ 45 ∷ (y ∷ rest) =
+    ap encode_utf8_all (sym whole) ∙ encodes-chars (45 ∷ (y ∷ rest)) utf8 in
     cc
 
-short-refused : (rules : List Rule) (again : Bool) (y : ℕ) (rest : Text) (k : ℕ) (h : Held) → HasNoOtherFlag rules → (chars (y ∷ rest) ≡ [] → ⊥)
+short-refused : (rules : List Rule) (again : Bool) (y : ℕ) (rest : Text) (k : ℕ) (h : Held) → HasNoOtherFlag rules →
+    (chars (y ∷ rest) ≡ [] → ⊥)
     → is_refusal (flags_fault rules again (suc k) (y ∷ rest) 0 h) ≡ true
 unfolding flags_fault
 short-refused rules again y rest k h only some = go (chars (y ∷ rest)) refl
@@ -99,16 +104,20 @@ short-refused rules again y rest k h only some = go (chars (y ∷ rest)) refl
 -- ---- the flag
 
 -- where it is taken, it is done with, and nothing waits
-pub trace-met : (rules : List Rule) (again : Bool) (position : ℕ) (h : Held) → HasNoOtherFlag rules → long_fault rules again (arg_by_long rules trace) None h ≡ []
-    → word_met rules [] false idle position trace_word h ≡ ((long_met rules (arg_by_long rules trace) None h).0, next idle)
+pub trace-met : (rules : List Rule) (again : Bool) (position : ℕ) (h : Held) → HasNoOtherFlag rules →
+    long_fault rules again (arg_by_long rules trace) None h ≡ []
+    → word_met rules [] false idle position trace_word h
+    ≡ ((long_met rules (arg_by_long rules trace) None h).0, next idle)
 trace-met rules again position h only passes = go (arg_by_long rules trace) only.valueless passes
   where
     go : (o : Option Rule) → option_map_or takes_values o false ≡ false → long_fault rules again o None h ≡ []
-        → after_flag rules idle trace_word (long_met rules o None h).0 (long_met rules o None h).1 ≡ ((long_met rules o None h).0, next idle)
+        → after_flag rules idle trace_word (long_met rules o None h).0 (long_met rules o None h).1
+        ≡ ((long_met rules o None h).0, next idle)
     go None bare passes = cc
     go (Some a) bare passes = rw bare refl
 
-pub trace-keeps : (rules : List Rule) (h : Held) → HasNoOtherFlag rules → (long_met rules (arg_by_long rules trace) None h).0.skip ≡ h.skip
+pub trace-keeps : (rules : List Rule) (h : Held) → HasNoOtherFlag rules →
+    (long_met rules (arg_by_long rules trace) None h).0.skip ≡ h.skip
 trace-keeps rules h only = go (arg_by_long rules trace) only.valueless
   where
     go : (o : Option Rule) → option_map_or takes_values o false ≡ false → (long_met rules o None h).0.skip ≡ h.skip
@@ -125,12 +134,14 @@ all_name : (text : Text) → has_byte 61 text ≡ false → (name_and_value text
 all_name [] lacks = refl
 all_name (x ∷ xs) lacks = go (x == 61) refl (all_name xs)
   where
-    go : (t : Bool) → (x == 61) ≡ t → (has_byte 61 xs ≡ false → (name_and_value xs).0 ≡ xs) → (name_and_value (x ∷ xs)).0 ≡ x ∷ xs
+    go : (t : Bool) → (x == 61) ≡ t → (has_byte 61 xs ≡ false → (name_and_value xs).0 ≡ xs) →
+        (name_and_value (x ∷ xs)).0 ≡ x ∷ xs
     go true e rest = absurd (true≢false (rw e at lacks))
     go false e rest = rw e (ap (λ n. take n (x ∷ xs)) (one_more _) ∙ ap (λ text. x ∷ text) (rest (rw e at lacks)))
 
 -- the flag with a value is refused, as is any other name
-long-refused : (rules : List Rule) (again : Bool) (text : Text) (h : Held) → HasNoOtherFlag rules → bytes_eq text trace ≡ false
+long-refused : (rules : List Rule) (again : Bool) (text : Text) (h : Held) → HasNoOtherFlag rules →
+    bytes_eq text trace ≡ false
     → is_refusal (long_fault rules again (arg_by_long rules (name_and_value text).0) (name_and_value text).1 h) ≡ true
 long-refused rules again text h only apart = by_name (bytes_eq trace (name_and_value text).0) refl
   where
@@ -144,16 +155,20 @@ long-refused rules again text h only apart = by_name (bytes_eq trace (name_and_v
     valued (Some a) bare false e same = absurd (no_value e same)
 
     by_name : (t : Bool) → bytes_eq trace (name_and_value text).0 ≡ t
-        → is_refusal (long_fault rules again (arg_by_long rules (name_and_value text).0) (name_and_value text).1 h) ≡ true
+        → is_refusal (long_fault rules again (arg_by_long rules (name_and_value text).0) (name_and_value text).1 h)
+        ≡ true
     by_name false e = let none = only.long (name_and_value text).0 e in rw none refl
     by_name true e =
         let same : trace ≡ (name_and_value text).0 = (bytes_eq-Decides trace (name_and_value text).0).0 e in
-        subst (λ name. is_refusal (long_fault rules again (arg_by_long rules name) (name_and_value text).1 h) ≡ true) same
+        subst (λ name. is_refusal (long_fault rules again (arg_by_long rules name) (name_and_value text).1 h) ≡ true)
+        same
         (valued (arg_by_long rules trace) only.valueless (has_byte 61 text) refl same)
 
 -- the word is `-`, y and the rest
-long-or-short : (rules : List Rule) (again : Bool) (y : ℕ) (rest : Text) (h : Held) → h.skip ≡ 0 → HasNoOtherFlag rules → IsUtf8 (45 ∷ (y ∷ rest))
-    → bytes_eq (45 ∷ (y ∷ rest)) dashes ≡ false → bytes_eq (45 ∷ (y ∷ rest)) trace_word ≡ false → (t : Bool) → (y == 45) ≡ t
+long-or-short : (rules : List Rule) (again : Bool) (y : ℕ) (rest : Text) (h : Held) → h.skip ≡ 0 →
+    HasNoOtherFlag rules → IsUtf8 (45 ∷ (y ∷ rest))
+    → bytes_eq (45 ∷ (y ∷ rest)) dashes ≡ false → bytes_eq (45 ∷ (y ∷ rest)) trace_word ≡ false → (t : Bool) →
+    (y == 45) ≡ t
     → is_refusal (flag_word_fault rules again (long_of (45 ∷ (y ∷ rest))) (45 ∷ (y ∷ rest)) h) ≡ true
 long-or-short rules again y [] h zero only utf8 apart other true second = absurd (true≢false (rw second at apart))
 long-or-short rules again y (z ∷ zs) h zero only utf8 apart other true second =
@@ -161,9 +176,11 @@ long-or-short rules again y (z ∷ zs) h zero only utf8 apart other true second 
 long-or-short rules again y rest h zero only utf8 apart other false second =
     let no_long : long_of (45 ∷ (y ∷ rest)) ≡ None = rw second refl in
     let flags : short_of (45 ∷ (y ∷ rest)) ≡ Some (y ∷ rest) = rw second refl in
-    rw (no_long, flags, zero) (short-refused rules again y rest (length rest) (record h { skip = 0 }) only (first_char y rest utf8))
+    rw (no_long, flags, zero)
+    (short-refused rules again y rest (length rest) (record h { skip = 0 }) only (first_char y rest utf8))
 
-flag-refused : (rules : List Rule) (again : Bool) (word : Text) (h : Held) → h.skip ≡ 0 → HasNoOtherFlag rules → IsUtf8 word
+flag-refused : (rules : List Rule) (again : Bool) (word : Text) (h : Held) → h.skip ≡ 0 → HasNoOtherFlag rules →
+    IsUtf8 word
     → bytes_eq word dashes ≡ false → bytes_eq word trace_word ≡ false → is_dashed word ≡ true
     → is_refusal (flag_word_fault rules again (long_of word) word h) ≡ true
 flag-refused rules again [] h zero only utf8 apart other dashed = absurd (true≢false (sym dashed))
@@ -176,5 +193,7 @@ flag-refused rules again (x ∷ (y ∷ rest)) h zero only utf8 apart other dashe
     (ap (λ word. bytes_eq word trace_word) same ∙ other) (y == 45) refl)
 
 pub dashed-refused : (s : Shape) (word : Text) (h : Held) → h.skip ≡ 0 → HasNoOtherFlag s.rules → IsUtf8 word
-    → bytes_eq word dashes ≡ false → bytes_eq word trace_word ≡ false → is_dashed word ≡ true → is_refusal (word_fault s [] false idle word h) ≡ true
-dashed-refused s word h zero only utf8 apart other dashed = rw apart (flag-refused s.rules s.args_override_self word h zero only utf8 apart other dashed)
+    → bytes_eq word dashes ≡ false → bytes_eq word trace_word ≡ false → is_dashed word ≡ true →
+    is_refusal (word_fault s [] false idle word h) ≡ true
+dashed-refused s word h zero only utf8 apart other dashed =
+    rw apart (flag-refused s.rules s.args_override_self word h zero only utf8 apart other dashed)

@@ -1,5 +1,6 @@
 -- The words of the program and what they ask for. The first word is the command. A word behind it is plain, or the flag `--trace`.
-use Rattle.std.specs.Prelude.{ℕ, Bool, true, false, ◌==◌, ◌&&◌, if◌then◌else◌, nat_le, List, [], ◌∷◌, length, map, codes, bytes_eq, Option, Some, None, option_map, option_and_then}
+use Rattle.std.specs.Prelude.{ℕ, Bool, true, false, ◌==◌, ◌&&◌, ◌||◌, if◌then◌else◌, nat_le, List, [], ◌∷◌, length, map}
+use Rattle.std.specs.Prelude.{codes, bytes_eq, Option, Some, None, option_map, option_and_then}
 use Rattle.std.specs.Str.{all_ascii_digits}
 use Rattle.std.specs.Str.Parse.{digits_value}
 
@@ -68,11 +69,23 @@ played run = Play run.cart run.script run.traced
 
 -- one to ten decimal digits, with leading zeros or without, of a number below 2 ^ 32
 abbrev pub is_seed : List ℕ → Bool
-is_seed text = nat_le 1 (length text) && (nat_le (length text) 10 && (all_ascii_digits text && nat_le (digits_value 10 text) 4294967295))
+is_seed text =
+    nat_le 1 (length text)
+    && (nat_le (length text) 10 && (all_ascii_digits text && nat_le (digits_value 10 text) 4294967295))
 
 -- the number that such digits write
 abbrev pub seed_of : List ℕ → Option ℕ
 seed_of text = if is_seed text then Some (digits_value 10 text) else None
+
+-- the first word is that of a command
+abbrev pub is_command : List ℕ → Bool
+is_command name =
+    bytes_eq name (codes "play") || bytes_eq name (codes "ref") || bytes_eq name (codes "asm")
+    || bytes_eq name (codes "dis") || bytes_eq name (codes "gen")
+
+abbrev pub has_command : List (List ℕ) → Bool
+has_command [] = false
+has_command (name ∷ rest) = is_command name
 
 -- what a command's word asks for, with the words behind it
 abbrev pub asked_by : List ℕ → List (List ℕ) → Option Command

@@ -11,8 +11,11 @@ use std::alloc::Global;
 
 /// The one word behind the first, which is the command's, and `None` where there isn't one alone, or it isn't plain.
 pub fn one_word<'a>(alloc: Global, words: &'a [String]) -> Result<Option<&'a str>, Error>
-    ensures word { IfOk result (λ word. option_map (λ w. w.now) word ≡ one_of (drop 1 (map string_bytes words.now))) }
-    ensures refused { IfErr result (λ error. (kind_of error ≡ ErrorKind.OutOfMemory) ⊎ (one_of (drop 1 (map string_bytes words.now)) ≡ None)) }
+    ensures word { IfOk result (λ word.
+        option_map (λ w. w.now) word ≡ one_of (drop 1 (map string_bytes words.now))) }
+    ensures refused { IfErr result (λ error.
+        (kind_of error ≡ ErrorKind.OutOfMemory)
+        ⊎ (one_of (drop 1 (map string_bytes words.now)) ≡ None)) }
 {
     let Some(name) = words.first() else {
         return Ok(None);
@@ -27,8 +30,11 @@ pub fn two_files<'a>(
     alloc: Global,
     words: &'a [String],
 ) -> Result<Option<(&'a str, &'a str)>, Error>
-    ensures files { IfOk result (λ files. option_map seen_files files ≡ two_of (drop 1 (map string_bytes words.now))) }
-    ensures refused { IfErr result (λ error. (kind_of error ≡ ErrorKind.OutOfMemory) ⊎ (two_of (drop 1 (map string_bytes words.now)) ≡ None)) }
+    ensures files { IfOk result (λ files.
+        option_map seen_files files ≡ two_of (drop 1 (map string_bytes words.now))) }
+    ensures refused { IfErr result (λ error.
+        (kind_of error ≡ ErrorKind.OutOfMemory)
+        ⊎ (two_of (drop 1 (map string_bytes words.now)) ≡ None)) }
 {
     let Some(name) = words.first() else {
         return Ok(None);

@@ -13,8 +13,11 @@ use std::alloc::Global;
 /// The run that the two files and the flag behind the first word ask for, and `None` where there aren't just two plain words, the flag
 /// stands twice, or a word is neither.
 pub fn play<'a>(alloc: Global, words: &'a [String]) -> Result<Option<Command<'a>>, Error>
-    ensures run { IfOk result (λ run. option_map seen_command run ≡ option_map played (run_of (drop 1 (map string_bytes words.now)))) }
-    ensures refused { IfErr result (λ error. (kind_of error ≡ ErrorKind.OutOfMemory) ⊎ (run_of (drop 1 (map string_bytes words.now)) ≡ None)) }
+    ensures run { IfOk result (λ run.
+        option_map seen_command run ≡ option_map played (run_of (drop 1 (map string_bytes words.now)))) }
+    ensures refused { IfErr result (λ error.
+        (kind_of error ≡ ErrorKind.OutOfMemory)
+        ⊎ (run_of (drop 1 (map string_bytes words.now)) ≡ None)) }
 {
     let Some(name) = words.first() else {
         return Ok(None);

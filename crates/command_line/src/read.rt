@@ -1,6 +1,7 @@
-ghost use Rattle.std.specs.Prelude.{◌≡◌, ◌⊎◌, IfErr, IfOk, None, map, option_map, string_bytes};
+// What all the words ask for.
+ghost use Rattle.std.specs.Prelude.{◌≡◌, ◌⊎◌, IsTrue, IfErr, IfOk, OnErr, None, map, option_map, string_bytes};
 ghost use Rattle.clap.specs.Words.{kind_of};
-ghost use Rattle.command_line.specs.CommandLine.{command_of};
+ghost use Rattle.command_line.specs.CommandLine.{command_of, has_command};
 ghost use Rattle.command_line.specs.Seen.{seen_command};
 
 use super::asked::Command;
@@ -14,8 +15,12 @@ use std::alloc::Global;
 
 /// What the words ask for, and `None` or an error of clap's where they are none of the program's.
 fn asked_for<'a>(alloc: Global, words: &'a [String]) -> Result<Option<Command<'a>>, Error>
-    ensures asked { IfOk result (λ asked. option_map seen_command asked ≡ command_of (map string_bytes words.now)) }
-    ensures refused { IfErr result (λ error. (kind_of error ≡ ErrorKind.OutOfMemory) ⊎ (command_of (map string_bytes words.now) ≡ None)) }
+    ensures asked { IfOk result (λ asked.
+        option_map seen_command asked ≡ command_of (map string_bytes words.now)) }
+    ensures refused { IfErr result (λ error.
+        (kind_of error ≡ ErrorKind.OutOfMemory)
+        ⊎ (command_of (map string_bytes words.now) ≡ None)) }
+    ensures memory { OnErr result (IsTrue (has_command (map string_bytes words.now))) }
 {
     let Some(name) = words.first() else {
         return Ok(None);
@@ -33,9 +38,12 @@ fn asked_for<'a>(alloc: Global, words: &'a [String]) -> Result<Option<Command<'a
     }
 }
 
-/// What the words ask for, and `None` where they are none of the program's. `Memory`: memory is missing; it says nothing of the words.
+/// What the words ask for, and `None` where they are none of the program's. `Memory`: memory is missing. It says nothing of the words but
+/// that the first is that of a command: without one no memory is taken.
 pub fn read_words<'a>(alloc: Global, words: &'a [String]) -> Result<Option<Command<'a>>, Memory>
-    ensures { IfOk result (λ asked. option_map seen_command asked ≡ command_of (map string_bytes words.now)) }
+    ensures asked { IfOk result (λ asked.
+        option_map seen_command asked ≡ command_of (map string_bytes words.now)) }
+    ensures memory { OnErr result (IsTrue (has_command (map string_bytes words.now))) }
 {
     match asked_for(alloc, words) {
         Ok(asked) => Ok(asked),

@@ -1,3 +1,4 @@
+// The number of `gen`.
 ghost use Rattle.std.specs.Prelude.{◌≡◌};
 ghost use Rattle.command_line.specs.CommandLine.{seed_of as spelled_seed};
 

@@ -1,3 +1,4 @@
+// A pixel drawn through the board, and frames that fall.
 use super::*;
 
 // The strobe rises at the column and the row inverted, so that one pixel is drawn.

@@ -1,3 +1,4 @@
+// The board: its screen, and the count of frames.
 use super::PortWrite;
 use std::marker::Model;
 use video::Screen;
@@ -51,7 +52,8 @@ impl Board {
 
     /// Takes a write to a port, which may draw a pixel. When it came doesn't matter.
     pub fn write(&mut self, write: PortWrite)
-        ensures next { self.new ≡ record self.old { screen = after_write write.port write.byte self.old.screen } }
+        ensures next { self.new ≡ record self.old { screen = after_write write.port write.byte
+            self.old.screen } }
         ensures display { (ws : List PortWrite) → self.old.screen ≡ shown ws
             → self.new.screen ≡ shown (write ∷ ws) }
     {
@@ -72,8 +74,10 @@ impl Board {
         requires onward { self.old.phi ≤ phi }
         requires near { phi ≤ self.old.phi + frame_clocks }
         requires bounded { phi < 2 ^ 46 }
-        ensures frame { result ≡ (if frames_by phi == frames_by self.old.phi then None else Some (frames_by phi)) }
-        ensures first { (frame : ℕ) → (result ≡ Some frame) ↔ ((self.old.phi < frame * frame_clocks) × (frame * frame_clocks ≤ phi)) }
+        ensures frame { result ≡ (if frames_by phi == frames_by self.old.phi then None else Some
+            (frames_by phi)) }
+        ensures first { (frame : ℕ) → (result ≡ Some frame)
+            ↔ ((self.old.phi < frame * frame_clocks) × (frame * frame_clocks ≤ phi)) }
         ensures clocks { self.new ≡ record self.old { phi = phi } }
     {
         self.phi = phi;

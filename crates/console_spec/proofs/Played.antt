@@ -5,8 +5,24 @@ use Rattle.f8_spec.specs.ChipState.{ChipView}
 use Rattle.console_spec.specs.BusTrace.{TracedStep}
 use Rattle.console_spec.specs.Run.{Ending, chain_in_order}
 use Rattle.console_spec.specs.Scripts.{Script}
-use Rattle.console_spec.specs.Telling.{Telling, played_by, referred_by}
+use Rattle.console_spec.specs.Telling.{Telling, telling, played_by, referred_by}
 use Rattle.console_spec.specs.declared.End.TheVariants.{Steps}
+use Rattle.console_spec.specs.FlatMemory.{first_memory}
+use Rattle.console_spec.specs.Processor.{own_inputs, effect}
+use Rattle.console_spec.specs.RunText.{text_of, verdict_line, stop_line, fault_line, regs_line, scratch_line, total_line}
+use Rattle.console_spec.specs.RunText.{out_line, bus_line}
+use Rattle.f8_spec.specs.Instructions.{decoded}
+use Rattle.std.specs.Fmt.{digits}
+
+-- what a run computes with
+unfoldable pub running : Unit {0}
+unfolding played_by referred_by telling own_inputs effect decoded first_memory
+running = tt
+
+-- what the lines of a run compute with
+unfoldable pub printing : Unit {0}
+unfolding text_of verdict_line stop_line fault_line regs_line scratch_line total_line out_line bus_line digits
+printing = tt
 
 abbrev pub steps_alone : ℕ → ℕ → Script
 steps_alone fill n = record { power = fill; end = Steps n; events = []; shows = [] }

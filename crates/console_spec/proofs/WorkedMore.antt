@@ -16,7 +16,7 @@ use Rattle.console_spec.specs.Telling.{telling, told_in, played_by, referred_by}
 use Rattle.console_spec.specs.RunText.{telling_lines, flat_telling_lines, ending_lines, text_of, lines_of, verdict_line, fault_line, stop_line, regs_line, scratch_line, total_line, out_line, frame_line, picture_row}
 use Rattle.console_spec.specs.declared.Event.TheVariants.{Keys}
 use Rattle.console_spec.specs.declared.End.TheVariants.{Steps}
-use Rattle.console_spec.proofs.Played.{steps_alone, played, played_in_order}
+use Rattle.console_spec.proofs.Played.{steps_alone, played, played_in_order, printing, running}
 use Rattle.console_spec.proofs.Walks.{moved_along}
 use Rattle.console_spec.proofs.WorkedRacks.{psu, pop_at_once, exchange_alone, psu_and_ram, rom_and_ram, cut_jump}
 use Rattle.console_spec.proofs.WorkedRuns.{rom}
@@ -35,36 +35,36 @@ no_scratch =
 -- no chip at all
 no_chip_text : text_of (ending_lines (played [] 0 1)) ≡
     codes "stop undriven romc 00 at 0000\nregs P=0000 P1=0000 D0=0000 D1=0000 A=00 IS=00 W=00\n" ++ no_scratch ++ codes "total 0 instructions 0 phi\n"
-unfolding played_by telling own_inputs effect decoded first_memory text_of stop_line fault_line regs_line scratch_line total_line digits
+unfolding running printing
 no_chip_text = refl
 
 -- a return to the stack registers of power-on
 pop_text : text_of (ending_lines (played pop_at_once 0 3)) ≡
     codes "stop done\nregs P=0000 P1=0000 D0=0000 D1=0000 A=00 IS=00 W=00\n" ++ no_scratch ++ codes "total 3 instructions 38 phi\n"
-unfolding played_by telling own_inputs effect decoded first_memory text_of stop_line regs_line scratch_line total_line digits
+unfolding running printing
 pop_text = refl
 
 -- the data counters part where a 3851 has one alone
 copies_part_text : text_of (ending_lines (played exchange_alone 0 9)) ≡
     codes "stop astray romc 02 socket 0 at 0005 reference 0000\nregs P=0004 P1=0000 D0=0000 D1=0005 A=00 IS=00 W=00\n" ++ no_scratch ++ codes "total 2 instructions 46 phi\n"
-unfolding played_by telling own_inputs effect decoded first_memory text_of stop_line fault_line regs_line scratch_line total_line digits
+unfolding running printing
 copies_part_text = refl
 
 -- ROM and RAM answer one read
 both_answer_text : text_of (ending_lines (played (psu_and_ram rom_and_ram) 0 9)) ≡
     codes "stop conflict romc 02 socket 0 at 0010 socket 12 at 2800\nregs P=0008 P1=0000 D0=2800 D1=0010 A=00 IS=00 W=00\n" ++ no_scratch ++ codes "total 4 instructions 78 phi\n"
-unfolding played_by telling own_inputs effect decoded first_memory text_of stop_line fault_line regs_line scratch_line total_line digits
+unfolding running printing
 both_answer_text = refl
 
 -- the chip of a jump that is cut short has its own data counter still
 jump_cut_counter : map (λ c. c.flow.d0) (played cut_jump 0 9).position.copies ≡ 0x0000 ∷ []
-unfolding played_by telling own_inputs effect decoded first_memory
+unfolding running
 jump_cut_counter = refl
 
 -- 0 compared with 0, and two decimal sums
 compare_text : text_of (ending_lines (played (rom (0x70 ∷ 0x25 ∷ 0x00 ∷ 0x90 ∷ [])) 0 2)) ≡
     codes "stop done\nregs P=0003 P1=0000 D0=0000 D1=0000 A=00 IS=00 W=07\n" ++ no_scratch ++ codes "total 2 instructions 28 phi\n"
-unfolding played_by telling own_inputs effect decoded first_memory text_of stop_line regs_line scratch_line total_line digits
+unfolding running printing
 compare_text = refl
 
 decimal_state : (played (rom (0x20 ∷ 0x67 ∷ 0x50 ∷ 0x71 ∷ 0xD0 ∷ 0x90 ∷ [])) 0 4).position.flat.state ≡ record {
@@ -75,21 +75,21 @@ decimal_state : (played (rom (0x20 ∷ 0x67 ∷ 0x50 ∷ 0x71 ∷ 0xD0 ∷ 0x90 
   count = 4;
   phi = 40;
 }
-unfolding played_by telling own_inputs effect decoded first_memory
+unfolding running
 decimal_state = refl
 
 decimal_status_6A : (played (rom (0x20 ∷ 0x6A ∷ 0x50 ∷ 0x75 ∷ 0xD0 ∷ 0x90 ∷ [])) 0 4).position.flat.state.registers.status ≡ record clear_status { sign = true }
-unfolding played_by telling own_inputs effect decoded first_memory
+unfolding running
 decimal_status_6A = refl
 
 -- a reserved opcode
 reserved_text : text_of (ending_lines (played (rom (0x2D ∷ [])) 0 5)) ≡
     codes "stop reserved 2D at 0000\nregs P=0000 P1=0000 D0=0000 D1=0000 A=00 IS=00 W=00\n" ++ no_scratch ++ codes "total 0 instructions 14 phi\n"
-unfolding played_by telling own_inputs effect decoded first_memory text_of stop_line regs_line scratch_line total_line digits
+unfolding running printing
 reserved_text = refl
 
 flat_reserved : text_of (flat_telling_lines (referred_by (rom (0x2D ∷ [])) (steps_alone 0 5))) ≡ text_of (ending_lines (played (rom (0x2D ∷ [])) 0 5))
-unfolding played_by referred_by telling own_inputs effect decoded first_memory text_of stop_line regs_line scratch_line total_line digits
+unfolding running printing
 flat_reserved = refl
 
 -- a chip's own byte in place of the described one
@@ -98,11 +98,11 @@ with_patch patch v = record v { bytes = patched_bytes (Some patch) v.pages v.byt
 
 patch_is_run : text_of (ending_lines (played (with_patch (1, 0x1F) (psu 0 4 (0x71 ∷ 0x2B ∷ 0x90 ∷ 0xFE ∷ [])) ∷ []) 0 3)) ≡
     codes "stop done\nregs P=0001 P1=0000 D0=0000 D1=0000 A=02 IS=00 W=01\n" ++ no_scratch ++ codes "total 3 instructions 36 phi\n"
-unfolding played_by telling own_inputs effect decoded first_memory text_of stop_line regs_line scratch_line total_line digits
+unfolding running printing
 patch_is_run = refl
 
 patch_stops : (played (with_patch (0, 0x2D) (psu 0 4 (0x71 ∷ 0x2B ∷ 0x90 ∷ 0xFE ∷ [])) ∷ []) 0 3).stop ≡ Reserved 0 0x2D
-unfolding played_by telling own_inputs effect decoded first_memory
+unfolding running
 patch_stops = refl
 
 -- a key byte is read and written back; then a port is read that no chip has
@@ -110,7 +110,7 @@ keyed_text : text_of (telling_lines (played_in_order (psu 0 4 (0x20 ∷ 0x0F ∷
     (record { power = 0; end = Steps 4; events = record { frame = 0; event = Keys 4 0x30 } ∷ []; shows = [] }))) ≡
     codes "verdict unchecked\nout 40 04 0F\nstop undriven romc 1B at 0002\nregs P=0004 P1=0000 D0=0000 D1=0000 A=3F IS=00 W=01\n" ++ no_scratch
     ++ codes "total 3 instructions 56 phi\n"
-unfolding played_by telling own_inputs effect decoded first_memory text_of verdict_line out_line stop_line fault_line regs_line scratch_line total_line digits
+unfolding running printing
 keyed_text = refl
 
 -- the writes of two strokes, and the rows that they draw
@@ -139,7 +139,7 @@ ordinary =
 ordinary_outs : text_of (flat_map lines_of (told_in (played_in_order ordinary false
     (record { power = 0; end = Steps 17; events = record { frame = 0; event = Keys 4 0x05 } ∷ []; shows = [] })).moments))
     ≡ codes "out 154 04 00\nout 162 00 00\nout 198 04 FA\nout 224 05 37\nout 242 00 20\n"
-unfolding played_by telling own_inputs effect decoded first_memory text_of out_line digits
+unfolding running printing
 ordinary_outs = refl
 
 -- the frame line
@@ -150,5 +150,5 @@ a_frame_line = refl
 -- a port that no chip has, from reset on
 unread_text : text_of (ending_lines (played (rom (0x26 ∷ 0x02 ∷ [])) 0 1)) ≡
     codes "stop undriven romc 1B at 0002\nregs P=0000 P1=0000 D0=0000 D1=0000 A=00 IS=00 W=00\n" ++ no_scratch ++ codes "total 0 instructions 14 phi\n"
-unfolding played_by telling own_inputs effect decoded first_memory text_of stop_line fault_line regs_line scratch_line total_line digits
+unfolding running printing
 unread_text = refl

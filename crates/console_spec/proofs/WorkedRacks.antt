@@ -12,7 +12,7 @@ use Rattle.console_spec.specs.Processor.{own_inputs, effect}
 use Rattle.console_spec.specs.FlatMemory.{first_memory}
 use Rattle.console_spec.specs.Services.{Conflict, Undriven, Astray}
 use Rattle.console_spec.specs.Telling.{telling, played_by}
-use Rattle.console_spec.proofs.Played.{played, played_record}
+use Rattle.console_spec.proofs.Played.{played, played_record, running}
 use Rattle.console_spec.specs.Run.{Done, Unserved, Reserved, power_position, position_after_reset, instruction_course, reset_course, chain_in_order}
 use Rattle.console_spec.specs.declared.Who.TheVariants.{Cpu, Socket, Nobody}
 
@@ -41,14 +41,14 @@ psu_and_ram bytes = psu 0 4 bytes ∷ replicate 11 (blank_view Psu) ++ ram_smi 0
 
 -- no chip at all: reset is not served
 no_chip : played [] 0 1 ≡ record { position = power_position [] [] 0; stop = Unserved (Undriven 0 0) }
-unfolding played_by telling own_inputs effect decoded first_memory
+unfolding running
 no_chip = refl
 
 -- two chips hold the opcode's address, and their bytes agree
 two_chips_one_address :
     (played (psu 0 4 (0x2B ∷ []) ∷ psu 0 8 (0x2B ∷ []) ∷ []) 0 1).stop
     ≡ Unserved (Conflict 0 (record { socket = 0; at = 0 } ∷ record { socket = 1; at = 0 } ∷ []))
-unfolding played_by telling own_inputs effect decoded first_memory
+unfolding running
 two_chips_one_address = refl
 
 -- a return to the stack registers of power-on: the chip that drives stands right, or it does not, or none drives
@@ -56,22 +56,22 @@ abbrev pub pop_at_once : List ChipView
 pop_at_once = psu 0 4 (0x1C ∷ []) ∷ psu 0x400 8 [] ∷ []
 
 pop_to_own_counters : (played pop_at_once 0 3).position.flat.state.flow.p ≡ 0
-unfolding played_by telling own_inputs effect decoded first_memory
+unfolding running
 pop_to_own_counters = refl
 
 pop_clocks : (played pop_at_once 0 3).position.flat.state.phi ≡ 38
-unfolding played_by telling own_inputs effect decoded first_memory
+unfolding running
 pop_clocks = refl
 
 pop_astray : played pop_at_once 4 3 ≡ record {
   position = position_after_reset (power_position pop_at_once (chain_in_order pop_at_once) 4);
   stop = Unserved (Astray 0 1 0x0405 0);
 }
-unfolding played_by telling own_inputs effect decoded first_memory
+unfolding running
 pop_astray = refl
 
 pop_undriven : (played pop_at_once 0x12 3).stop ≡ Unserved (Undriven 0 0)
-unfolding played_by telling own_inputs effect decoded first_memory
+unfolding running
 pop_undriven = refl
 
 -- the state is that of reset
@@ -83,7 +83,7 @@ pop_undriven_state : (played pop_at_once 0x12 3).position.flat.state ≡ record 
   count = 0;
   phi = 14;
 }
-unfolding played_by telling own_inputs effect decoded first_memory
+unfolding running
 pop_undriven_state = refl
 
 -- the data counters part where a 3851 has one alone
@@ -91,15 +91,15 @@ abbrev pub exchange_alone : List ChipView
 exchange_alone = psu 0 4 (0x2A ∷ 0x00 ∷ 0x05 ∷ 0x2C ∷ 0x16 ∷ []) ∷ []
 
 copies_part : (played exchange_alone 0 9).stop ≡ Unserved (Astray 2 0 5 0)
-unfolding played_by telling own_inputs effect decoded first_memory
+unfolding running
 copies_part = refl
 
 copies_part_counters : (played exchange_alone 0 9).position.flat.state.flow ≡ record { p = 4; p1 = 0; d0 = 0; d1 = 5 }
-unfolding played_by telling own_inputs effect decoded first_memory
+unfolding running
 copies_part_counters = refl
 
 copies_part_clocks : (played exchange_alone 0 9).position.flat.state.phi ≡ 46
-unfolding played_by telling own_inputs effect decoded first_memory
+unfolding running
 copies_part_clocks = refl
 
 -- ROM and RAM answer one read, each at its own data counter
@@ -108,12 +108,12 @@ rom_and_ram = 0x2A ∷ 0x28 ∷ 0x00 ∷ 0x2C ∷ 0x2A ∷ 0x00 ∷ 0x10 ∷ 0x2
 
 both_answer : (played (psu_and_ram rom_and_ram) 0 9).stop
     ≡ Unserved (Conflict 2 (record { socket = 0; at = 0x10 } ∷ record { socket = 12; at = 0x2800 } ∷ []))
-unfolding played_by telling own_inputs effect decoded first_memory
+unfolding running
 both_answer = refl
 
 both_answer_counters : (played (psu_and_ram rom_and_ram) 0 9).position.flat.state.flow
     ≡ record { p = 8; p1 = 0; d0 = 0x2800; d1 = 0x10 }
-unfolding played_by telling own_inputs effect decoded first_memory
+unfolding running
 both_answer_counters = refl
 
 -- only the RAM answers
@@ -128,11 +128,11 @@ ram_answers : (played (psu_and_ram ram_alone) 0x5A 6).position.flat.state ≡ re
   count = 6;
   phi = 102;
 }
-unfolding played_by telling own_inputs effect decoded first_memory
+unfolding running
 ram_answers = refl
 
 ram_answers_done : (played (psu_and_ram ram_alone) 0x5A 6).stop ≡ Done
-unfolding played_by telling own_inputs effect decoded first_memory
+unfolding running
 ram_answers_done = refl
 
 -- a jump whose second operand lies past the chip: the state is that before it
@@ -140,7 +140,7 @@ abbrev pub cut_jump : List ChipView
 cut_jump = psu 0 4 (0x29 ∷ 0x03 ∷ 0xFE ∷ replicate 1019 255 ++ 0x29 ∷ 0x08 ∷ []) ∷ []
 
 jump_cut : (played cut_jump 0 9).stop ≡ Unserved (Undriven 0x0C 0x0400)
-unfolding played_by telling own_inputs effect decoded first_memory
+unfolding running
 jump_cut = refl
 
 jump_cut_state : (played cut_jump 0 9).position.flat.state ≡ record {
@@ -151,12 +151,12 @@ jump_cut_state : (played cut_jump 0 9).position.flat.state ≡ record {
   count = 1;
   phi = 36;
 }
-unfolding played_by telling own_inputs effect decoded first_memory
+unfolding running
 jump_cut_state = refl
 
 -- a chip's own byte in place of the described one, and a reserved opcode
 reserved : (played (psu 0 4 (0x2D ∷ []) ∷ []) 0 5).stop ≡ Reserved 0 0x2D
-unfolding played_by telling own_inputs effect decoded first_memory
+unfolding running
 reserved = refl
 
 -- ---- traces
@@ -169,7 +169,7 @@ branch_traced : instruction_course (Bf 0) (position_after_reset (power_position 
       ∷ [];
   fault = Some (Undriven 0 0xFFFF, false);
 }
-unfolding own_inputs effect decoded first_memory
+unfolding running
 branch_traced = refl
 
 -- the three bus steps of reset
@@ -186,5 +186,5 @@ reset_traced = refl
 
 -- a whole run
 ram_answers_recorded : length (played_record (psu_and_ram ram_alone) 0x5A 6) ≡ 22
-unfolding played_by telling own_inputs effect decoded first_memory
+unfolding running
 ram_answers_recorded = refl

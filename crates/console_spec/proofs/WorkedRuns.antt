@@ -9,7 +9,7 @@ use Rattle.console_spec.specs.Processor.{own_inputs, effect}
 use Rattle.console_spec.specs.FlatMemory.{first_memory}
 use Rattle.console_spec.specs.Services.{Conflict, Undriven, Astray}
 use Rattle.console_spec.specs.Telling.{telling, played_by, referred_by}
-use Rattle.console_spec.proofs.Played.{played, played_alone, referred}
+use Rattle.console_spec.proofs.Played.{played, played_alone, referred, printing, running}
 use Rattle.console_spec.specs.Run.{Done, Unserved, Reserved}
 use Rattle.console_spec.specs.RunText.{telling_lines, text_of, verdict_line, fault_line, stop_line, regs_line, scratch_line, total_line}
 use Rattle.console_spec.proofs.WorkedRacks.{psu}
@@ -27,12 +27,12 @@ branch_to_self : (played (rom (0x71 ∷ 0x2B ∷ 0x90 ∷ 0xFE ∷ [])) 0 3).pos
   count = 3;
   phi = 36;
 }
-unfolding played_by telling own_inputs effect decoded first_memory
+unfolding running
 branch_to_self = refl
 
 -- a branch to FFFE, where no chip answers
 branch_below_zero : (played (rom (0x90 ∷ 0xFD ∷ [])) 0 5).stop ≡ Unserved (Undriven 0 0xFFFE)
-unfolding played_by telling own_inputs effect decoded first_memory
+unfolding running
 branch_below_zero = refl
 
 branch_below_zero_state : (played (rom (0x90 ∷ 0xFD ∷ [])) 0 5).position.flat.state ≡ record {
@@ -43,11 +43,11 @@ branch_below_zero_state : (played (rom (0x90 ∷ 0xFD ∷ [])) 0 5).position.fla
   count = 0;
   phi = 14;
 }
-unfolding played_by telling own_inputs effect decoded first_memory
+unfolding running
 branch_below_zero_state = refl
 
 no_step_asked : (played (rom (0xFF ∷ [])) 0 0).stop ≡ Done
-unfolding played_by telling own_inputs effect decoded first_memory
+unfolding running
 no_step_asked = refl
 
 -- clear, to register 0, decrement: FF there, no flag, and 28 Φ
@@ -59,7 +59,7 @@ decrement : (played (rom (0x70 ∷ 0x50 ∷ 0x30 ∷ 0x90 ∷ [])) 0 3).position
   count = 3;
   phi = 28;
 }
-unfolding played_by telling own_inputs effect decoded first_memory
+unfolding running
 decrement = refl
 
 -- 0 compared with 0
@@ -67,15 +67,15 @@ abbrev compare : List ℕ
 compare = 0x70 ∷ 0x25 ∷ 0x00 ∷ 0x90 ∷ []
 
 compare_equal : status_byte (played (rom compare) 0 2).position.flat.state.registers.status ≡ 0x07
-unfolding played_by telling own_inputs effect decoded first_memory
+unfolding running
 compare_equal = refl
 
 compare_place : (played (rom compare) 0 2).position.flat.state.flow.p ≡ 3
-unfolding played_by telling own_inputs effect decoded first_memory
+unfolding running
 compare_place = refl
 
 compare_clocks : (played (rom compare) 0 2).position.flat.state.phi ≡ 28
-unfolding played_by telling own_inputs effect decoded first_memory
+unfolding running
 compare_clocks = refl
 
 -- decimal sums: 67 and 01 less 66, and 6A and 05
@@ -86,31 +86,31 @@ abbrev sum_of_6A : List ℕ
 sum_of_6A = 0x20 ∷ 0x6A ∷ 0x50 ∷ 0x75 ∷ 0xD0 ∷ 0x90 ∷ []
 
 decimal_sum : (played (rom sum_of_67) 0 4).position.flat.state.registers.accumulator ≡ 0x02
-unfolding played_by telling own_inputs effect decoded first_memory
+unfolding running
 decimal_sum = refl
 
 decimal_sum_status : status_byte (played (rom sum_of_67) 0 4).position.flat.state.registers.status ≡ 0x01
-unfolding played_by telling own_inputs effect decoded first_memory
+unfolding running
 decimal_sum_status = refl
 
 decimal_sum_scratch : (played (rom sum_of_67) 0 4).position.flat.state.registers.scratchpad ≡ 0x67 ∷ replicate 63 0
-unfolding played_by telling own_inputs effect decoded first_memory
+unfolding running
 decimal_sum_scratch = refl
 
 decimal_sum_place : (played (rom sum_of_67) 0 4).position.flat.state.flow.p ≡ 5
-unfolding played_by telling own_inputs effect decoded first_memory
+unfolding running
 decimal_sum_place = refl
 
 decimal_sum_clocks : (played (rom sum_of_67) 0 4).position.flat.state.phi ≡ 40
-unfolding played_by telling own_inputs effect decoded first_memory
+unfolding running
 decimal_sum_clocks = refl
 
 decimal_sum_6A : (played (rom sum_of_6A) 0 4).position.flat.state.registers.accumulator ≡ 0x09
-unfolding played_by telling own_inputs effect decoded first_memory
+unfolding running
 decimal_sum_6A = refl
 
 decimal_sum_6A_status : status_byte (played (rom sum_of_6A) 0 4).position.flat.state.registers.status ≡ 0x01
-unfolding played_by telling own_inputs effect decoded first_memory
+unfolding running
 decimal_sum_6A_status = refl
 
 -- without chips the branch to FFFE is done, and meets there what nobody holds
@@ -122,24 +122,24 @@ flat_branch_below_zero : (referred (rom (0x90 ∷ 0xFD ∷ [])) 0 2).position.fl
   count = 1;
   phi = 28;
 }
-unfolding referred_by telling own_inputs effect decoded first_memory
+unfolding running
 flat_branch_below_zero = refl
 
 flat_branch_below_zero_stop : (referred (rom (0x90 ∷ 0xFD ∷ [])) 0 2).stop ≡ Reserved 0xFFFE 0xFF
-unfolding referred_by telling own_inputs effect decoded first_memory
+unfolding running
 flat_branch_below_zero_stop = refl
 
 -- a reserved opcode, and no chip at all, where every address reads FF
 flat_reserved : (referred (rom (0x2D ∷ [])) 0 5).stop ≡ Reserved 0 0x2D
-unfolding referred_by telling own_inputs effect decoded first_memory
+unfolding running
 flat_reserved = refl
 
 flat_reserved_clocks : (referred (rom (0x2D ∷ [])) 0 5).position.flat.state.phi ≡ 14
-unfolding referred_by telling own_inputs effect decoded first_memory
+unfolding running
 flat_reserved_clocks = refl
 
 flat_without_chips : (referred [] 0 1).stop ≡ Reserved 0 0xFF
-unfolding referred_by telling own_inputs effect decoded first_memory
+unfolding running
 flat_without_chips = refl
 
 -- the text of the first run, whole
@@ -150,7 +150,7 @@ text_of_branch_to_self : text_of (telling_lines (played_alone (rom (0x71 ∷ 0x2
     ++ codes "s20 00 00 00 00 00 00 00 00 00 00 00 00 00 00 00 00\n"
     ++ codes "s30 00 00 00 00 00 00 00 00 00 00 00 00 00 00 00 00\n"
     ++ codes "total 3 instructions 36 phi\n"
-unfolding played_by telling own_inputs effect decoded first_memory text_of verdict_line stop_line regs_line scratch_line total_line digits
+unfolding running printing
 text_of_branch_to_self = refl
 
 -- a line for each reason to stop

@@ -14,7 +14,7 @@ use Rattle.console_spec.specs.Telling.{Traced, TracedFault, Wrote, Shown, tellin
 use Rattle.std.specs.Prelude.{flat_map, codes, slice_index, None}
 use Rattle.std.specs.Fmt.{digits}
 use Rattle.console_spec.specs.RunText.{text_of, lines_of, bus_line, out_line}
-use Rattle.console_spec.proofs.Played.{steps_alone, played, played_alone, referred, played_in_order}
+use Rattle.console_spec.proofs.Played.{steps_alone, played, played_alone, referred, played_in_order, printing, running}
 use Rattle.console_spec.proofs.WorkedRacks.{psu}
 
 -- a key byte is read, written back, and then a port is read that no chip has as a data port
@@ -25,27 +25,27 @@ abbrev keys_then_missing : Script
 keys_then_missing = record { power = 0; end = Steps 4; events = record { frame = 0; event = Keys 4 0x30 } ∷ []; shows = [] }
 
 key_told : told_in (played_in_order (psu 0 4 keyed ∷ []) false keys_then_missing).moments ≡ Wrote (record { phi = 40; port = 4; byte = 0x0F }) ∷ []
-unfolding played_by telling own_inputs effect decoded first_memory
+unfolding running
 key_told = refl
 
 key_stop : (played_in_order (psu 0 4 keyed ∷ []) false keys_then_missing).ending.stop ≡ Unserved (Undriven 0x1B 2)
-unfolding played_by telling own_inputs effect decoded first_memory
+unfolding running
 key_stop = refl
 
 key_read : (played_in_order (psu 0 4 keyed ∷ []) false keys_then_missing).ending.position.flat.state.registers.accumulator ≡ 0x3F
-unfolding played_by telling own_inputs effect decoded first_memory
+unfolding running
 key_read = refl
 
 key_clocks : (played_in_order (psu 0 4 keyed ∷ []) false keys_then_missing).ending.position.flat.state.phi ≡ 56
-unfolding played_by telling own_inputs effect decoded first_memory
+unfolding running
 key_clocks = refl
 
 key_place : (played_in_order (psu 0 4 keyed ∷ []) false keys_then_missing).ending.position.flat.state.flow.p ≡ 4
-unfolding played_by telling own_inputs effect decoded first_memory
+unfolding running
 key_place = refl
 
 key_status : status_byte (played_in_order (psu 0 4 keyed ∷ []) false keys_then_missing).ending.position.flat.state.registers.status ≡ 0x01
-unfolding played_by telling own_inputs effect decoded first_memory
+unfolding running
 key_status = refl
 
 -- a branch to itself, with its steps told: eight, those of reset counted
@@ -53,13 +53,13 @@ abbrev branch : List ℕ
 branch = 0x71 ∷ 0x2B ∷ 0x90 ∷ 0xFE ∷ []
 
 traced_count : length (told_in (played_in_order (psu 0 4 branch ∷ []) true (steps_alone 0 3)).moments) ≡ 8
-unfolding played_by telling own_inputs effect decoded first_memory
+unfolding running
 traced_count = refl
 
 -- the lines of that trace
 traced_lines : text_of (flat_map lines_of (told_in (played_in_order (psu 0 4 branch ∷ []) true (steps_alone 0 3)).moments))
     ≡ codes "bus 1C S 00 -\nbus 08 L 00 cpu\nbus 00 S 71 0\nbus 00 S 2B 0\nbus 00 S 90 0\nbus 1C S 00 -\nbus 01 L FE 0\nbus 00 S 2B 0\n"
-unfolding played_by telling own_inputs effect decoded first_memory text_of bus_line digits
+unfolding running printing
 traced_lines = refl
 
 -- a strobe and a fall, up to the first frame, with its clocks and its one drawn row
@@ -68,7 +68,7 @@ drawn = 0x20 ∷ 0x20 ∷ 0xB0 ∷ 0x20 ∷ 0x81 ∷ 0xB4 ∷ 0x20 ∷ 0x20 ∷ 
 
 drawn_outs : text_of (flat_map lines_of (told_in (played_alone (psu 0 4 drawn ∷ []) 0 12).moments))
     ≡ codes "out 32 00 20\nout 58 04 81\nout 76 00 20\nout 88 00 00\nout 114 04 82\nout 132 00 20\n"
-unfolding played_by telling own_inputs effect decoded first_memory text_of out_line digits
+unfolding running printing
 drawn_outs = refl
 
 -- ---- frames, from a few clocks before the first one
@@ -84,20 +84,20 @@ abbrev two_frames : Script
 two_frames = record { power = 0; end = Steps 2; events = record { frame = 1; event = Keys 4 0x30 } ∷ []; shows = 1 ∷ 1 ∷ 2 ∷ [] }
 
 frame_falls : told_in (telling (on_rack false) two_frames 2 (shortly_before 29826 (0x2B ∷ 0x2B ∷ []))).moments ≡ Shown 1 29830 [] ∷ []
-unfolding telling own_inputs effect decoded first_memory
+unfolding running
 frame_falls = refl
 
 frame_falls_later : told_in (telling (on_rack false) two_frames 2 (shortly_before 29825 (0x2B ∷ 0x2B ∷ []))).moments ≡ Shown 1 29833 [] ∷ []
-unfolding telling own_inputs effect decoded first_memory
+unfolding running
 frame_falls_later = refl
 
 -- the key of that frame is read by the next instruction, but it doesn't come where the run ends
 frame_key : (telling (on_rack false) two_frames 2 (shortly_before 29826 (0x2B ∷ 0xA4 ∷ []))).ending.position.flat.state.registers.accumulator ≡ 0x30
-unfolding telling own_inputs effect decoded first_memory
+unfolding running
 frame_key = refl
 
 no_key_at_end : slice_index (telling (on_rack false) (record two_frames { end = Frames 1 }) 9 (shortly_before 29826 (0x2B ∷ 0x2B ∷ []))).ending.position.flat.state.keys 4 ≡ 0
-unfolding telling own_inputs effect decoded first_memory
+unfolding running
 no_key_at_end = refl
 
 -- ---- ports that no chip has
@@ -105,25 +105,25 @@ no_key_at_end = refl
 -- behind the operand nobody drives the byte, which the trace tells; the flat instruction set reads 255
 unread_traced : told_in (telling (on_rack true) (steps_alone 0 1) 1 (shortly_before 0 (0x26 ∷ 0x02 ∷ []))).moments
     ≡ Traced (record { romc = 3; long = true; byte = 2; who = Socket 0; taker = None }) ∷ TracedFault 0x1B true ∷ []
-unfolding telling own_inputs effect decoded first_memory
+unfolding running
 unread_traced = refl
 
 unread_stop : (played (psu 0 4 (0x26 ∷ 0x02 ∷ []) ∷ []) 0 1).stop ≡ Unserved (Undriven 0x1B 2)
-unfolding played_by telling own_inputs effect decoded first_memory
+unfolding running
 unread_stop = refl
 
 unread_clocks : (played (psu 0 4 (0x26 ∷ 0x02 ∷ []) ∷ []) 0 1).position.flat.state.phi ≡ 14
-unfolding played_by telling own_inputs effect decoded first_memory
+unfolding running
 unread_clocks = refl
 
 unread_count : (played (psu 0 4 (0x26 ∷ 0x02 ∷ []) ∷ []) 0 1).position.flat.state.count ≡ 0
-unfolding played_by telling own_inputs effect decoded first_memory
+unfolding running
 unread_count = refl
 
 unread_place : (played (psu 0 4 (0x26 ∷ 0x02 ∷ []) ∷ []) 0 1).position.flat.state.flow.p ≡ 0
-unfolding played_by telling own_inputs effect decoded first_memory
+unfolding running
 unread_place = refl
 
 unread_flat : (referred (psu 0 4 (0x26 ∷ 0x02 ∷ []) ∷ []) 0 1).position.flat.state.registers.accumulator ≡ 255
-unfolding referred_by telling own_inputs effect decoded first_memory
+unfolding running
 unread_flat = refl

@@ -5,7 +5,9 @@ use Rattle.std.proofs.lemmas.Bool.{le-ltb}
 use Rattle.std.proofs.lemmas.List.{set-set, set-get_or}
 use Rattle.f8_spec.specs.Instructions.{decoded, row_of}
 use Rattle.f8_spec.specs.declared.instructions.Op.{Op}
-use Rattle.f8_spec.specs.declared.instructions.Op.TheVariants.{LrKP, LrQDc, LrHDc, Di, Ei, LrWJ, Lm, Am, Amd, Nm, Om, Xm, Cm, Li, Ni, Oi, Xi, Ai, Ci, In, Pi, Jmp, Ins, Outs, Asd}
+use Rattle.f8_spec.specs.declared.instructions.Op.TheVariants.{LrKP, LrQDc, LrHDc, Di, Ei, LrWJ, Lm, Am, Amd, Nm, Om}
+use Rattle.f8_spec.specs.declared.instructions.Op.TheVariants.{Xm, Cm, Li, Ni, Oi, Xi, Ai, Ci, In, Pi, Jmp, Ins, Outs}
+use Rattle.f8_spec.specs.declared.instructions.Op.TheVariants.{Asd}
 use Rattle.f8_spec.specs.declared.instructions.Row.TheVariants.{Idle, ShortIn, ShortOut}
 use Rattle.console_spec.specs.Processor.{Registers, effect, with_scratch, is_taken}
 use Rattle.cpu3850.specs.CpuPorts.{PortBytes, with_latch, read_by, put_by}
@@ -30,10 +32,18 @@ restored-first : (kept : KeptRegisters) (byte : ℕ) (m : Registers) → restore
 restored-first kept byte m = rw (add-zero, set-set) refl
 
 restored-second : (kept : KeptRegisters) (byte : ℕ) (m : Registers) → restored_registers kept (with_scratch (kept.pair + 1) byte m) ≡ restored_registers kept m
-restored-second kept byte m = ap (λ scratchpad. record m { accumulator = kept.accumulator; isar = kept.isar; status = kept.status; scratchpad = scratchpad }) (set-set_between m.scratchpad kept.pair (kept.pair + 1) byte kept.high kept.low)
+restored-second kept byte m = ap (λ scratchpad. record m {
+  accumulator = kept.accumulator;
+  isar = kept.isar;
+  status = kept.status;
+  scratchpad = scratchpad;
+})
+    (set-set_between m.scratchpad kept.pair (kept.pair + 1) byte kept.high kept.low)
 
 -- putting back is blind to the first two steps of an instruction that loads the pair
-restored-pair : (kept : KeptRegisters) (index byte : ℕ) (m : Registers) → restored_registers kept (if nat_lt index 2 then with_scratch (kept.pair + index) byte m else m) ≡ restored_registers kept m
+restored-pair : (kept : KeptRegisters) (index byte : ℕ) (m : Registers) →
+    restored_registers kept (if nat_lt index 2 then with_scratch (kept.pair + index) byte m else m)
+    ≡ restored_registers kept m
 restored-pair kept zero byte m = restored-first kept byte m
 restored-pair kept (suc zero) byte m = restored-second kept byte m
 restored-pair kept (suc (suc n)) byte m =
@@ -46,7 +56,8 @@ restored-kept_with pair latches m =
     rw (set-get_or, set-get_or) refl
 
 -- the same of an instruction whose results come before its last step, and change no byte of the scratchpad
-restored-either : (kept : KeptRegisters) (b : Bool) (m n : Registers) → m.scratchpad ≡ n.scratchpad → restored_registers kept (if b then m else n) ≡ restored_registers kept n
+restored-either : (kept : KeptRegisters) (b : Bool) (m n : Registers) → m.scratchpad ≡ n.scratchpad →
+    restored_registers kept (if b then m else n) ≡ restored_registers kept n
 restored-either kept true m n same = restored_registers-same kept m n same
 restored-either kept false m n same = refl
 
@@ -56,19 +67,23 @@ keys-either true p q same = same
 keys-either false p q same = refl
 
 -- the same of `INS`, whichever port it reads
-restored-in : (kept : KeptRegisters) (n index byte : ℕ) (m : Registers) (own : Bool) → restored_registers kept (worked (if own then Idle else ShortIn) (Ins n) index byte m) ≡ restored_registers kept m
+restored-in : (kept : KeptRegisters) (n index byte : ℕ) (m : Registers) (own : Bool) →
+    restored_registers kept (worked (if own then Idle else ShortIn) (Ins n) index byte m) ≡ restored_registers kept m
 unfolding effect
 restored-in kept n index byte m true = restored-either kept (index == 0) _ m refl
 restored-in kept n index byte m false = restored-either kept (index == 1) _ m refl
 
 -- the same of `OUTS`
-restored-out : (kept : KeptRegisters) (n index byte : ℕ) (m : Registers) (own : Bool) → restored_registers kept (worked (if own then Idle else ShortOut) (Outs n) index byte m) ≡ restored_registers kept m
+restored-out : (kept : KeptRegisters) (n index byte : ℕ) (m : Registers) (own : Bool) →
+    restored_registers kept (worked (if own then Idle else ShortOut) (Outs n) index byte m) ≡ restored_registers kept m
 unfolding effect
 restored-out kept n index byte m true = restored-either kept (index == 0) _ m refl
 restored-out kept n index byte m false = restored-either kept (index == 2) _ m refl
 
 -- before its last step an instruction writes no byte of the scratchpad but of the pair that it loads
-restored-worked : (kept : KeptRegisters) (op : Op) (index byte : ℕ) (m : Registers) → kept.pair ≡ pair_of op → (index == last_step (row_of op)) ≡ false → restored_registers kept (worked (row_of op) op index byte m) ≡ restored_registers kept m
+restored-worked : (kept : KeptRegisters) (op : Op) (index byte : ℕ) (m : Registers) → kept.pair ≡ pair_of op →
+    (index == last_step (row_of op)) ≡ false →
+    restored_registers kept (worked (row_of op) op index byte m) ≡ restored_registers kept m
 unfolding effect
 restored-worked kept LrKP index byte m pair earlier = rw (← pair) (restored-pair kept index byte m)
 restored-worked kept LrQDc index byte m pair earlier = rw (← pair) (restored-pair kept index byte m)
@@ -103,7 +118,9 @@ keys-put_by (Outs n) accumulator p = keys-either (nat_lt n 2) (with_latch n accu
 keys-put_by op accumulator p = refl
 
 -- the opcode held stays, and so does what is put back
-restored-taken_as : (start c : CpuState) (found : Option Op) (index byte : ℕ) → decoded c.opcode ≡ found → index + 1 < length (planned_as found c.registers) → IsRestorable start c → IsRestorable start (taken_as found index byte c)
+restored-taken_as : (start c : CpuState) (found : Option Op) (index byte : ℕ) → decoded c.opcode ≡ found →
+    index + 1 < length (planned_as found c.registers) → IsRestorable start c →
+    IsRestorable start (taken_as found index byte c)
 restored-taken_as start c None index byte held later restorable = restorable
 restored-taken_as start c (Some op) index byte held later restorable =
     let earlier = is_no_last index op (is_taken op c.registers) later in
@@ -116,7 +133,10 @@ restored-taken_as start c (Some op) index byte held later restorable =
     in
     rw earlier
     (ap (λ registers. record c { registers = registers; ports = record ports { latches = start.ports.latches } }) same_registers
-    ∙ ap (λ keys. record c { registers = restored_registers (kept_of start) c.registers; ports = record { latches = start.ports.latches; keys = keys } }) same_keys
+    ∙ ap (λ keys. record c {
+      registers = restored_registers (kept_of start) c.registers;
+      ports = record { latches = start.ports.latches; keys = keys };
+    }) same_keys
     ∙ restorable)
 
 -- a CPU is what is put back of it at once

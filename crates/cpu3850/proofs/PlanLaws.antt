@@ -31,14 +31,17 @@ is_no_last index op branched later =
     ne_eqb index (last_step (row_of op)) (λ same. omega (arith, length-listed op branched))
 
 -- only a branch reads flags and ISAR for its plan, and a branch changes neither
-is_taken-worked : (op : Op) (index byte : ℕ) (m : Registers) → (index == last_step (row_of op)) ≡ false → is_taken op (worked (row_of op) op index byte m) ≡ is_taken op m
+is_taken-worked : (op : Op) (index byte : ℕ) (m : Registers) → (index == last_step (row_of op)) ≡ false →
+    is_taken op (worked (row_of op) op index byte m) ≡ is_taken op m
 is_taken-worked (Bt t) index byte m earlier = rw earlier refl
 is_taken-worked (Bf t) index byte m earlier = rw earlier refl
 is_taken-worked Br7 index byte m earlier = rw earlier refl
 is_taken-worked op index byte m earlier = refl
 
 -- the same, by what the opcode is decoded to
-planned-taken_as : (found : Option Op) (index byte : ℕ) (c : CpuState) → decoded c.opcode ≡ found → index + 1 < length (planned_as found c.registers) → planned (taken_as found index byte c) ≡ planned_as found c.registers
+planned-taken_as : (found : Option Op) (index byte : ℕ) (c : CpuState) → decoded c.opcode ≡ found →
+    index + 1 < length (planned_as found c.registers) →
+    planned (taken_as found index byte c) ≡ planned_as found c.registers
 planned-taken_as None index byte c held later = ap (λ found. planned_as found c.registers) held
 planned-taken_as (Some op) index byte c held later =
     let earlier = is_no_last index op (is_taken op c.registers) later in

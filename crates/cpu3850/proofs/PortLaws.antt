@@ -15,7 +15,8 @@ use Rattle.cpu3850.specs.Reaching.{from_cpu}
 use Rattle.cpu3850.specs.OwnWrites.{own_ports, LeaveOwnPorts}
 
 -- what `INS` reads of a port of the CPU's own is what the flat machine reads there
-read_by-ins : (n operand : ℕ) (seats : List Seat) (s : State) → read_by (Ins n) (read_port (Ins n) operand seats s) (own_ports s) ≡ read_port (Ins n) operand seats s
+read_by-ins : (n operand : ℕ) (seats : List Seat) (s : State) →
+    read_by (Ins n) (read_port (Ins n) operand seats s) (own_ports s) ≡ read_port (Ins n) operand seats s
 read_by-ins zero operand seats s = refl
 read_by-ins (suc zero) operand seats s = refl
 read_by-ins (suc (suc n)) operand seats s =
@@ -23,7 +24,8 @@ read_by-ins (suc (suc n)) operand seats s =
     rw others refl
 
 -- the same of every instruction
-pub read_by-own_ports : (op : Op) (operand : ℕ) (seats : List Seat) (s : State) → read_by op (read_port op operand seats s) (own_ports s) ≡ read_port op operand seats s
+pub read_by-own_ports : (op : Op) (operand : ℕ) (seats : List Seat) (s : State) →
+    read_by op (read_port op operand seats s) (own_ports s) ≡ read_port op operand seats s
 read_by-own_ports (Ins n) operand seats s = read_by-ins n operand seats s
 read_by-own_ports op operand seats s = refl
 
@@ -38,7 +40,8 @@ from_cpu-own_inputs op rom seats s opcode =
 
 -- the first two key bytes, with one of all set, where there are two
 own_keys-set : (keys : List ℕ) (port byte : ℕ) → 2 ≤ length keys →
-    slice_index (slice_set keys port byte) 0 ∷ slice_index (slice_set keys port byte) 1 ∷ [] ≡ slice_set (slice_index keys 0 ∷ slice_index keys 1 ∷ []) port byte
+    slice_index (slice_set keys port byte) 0 ∷ slice_index (slice_set keys port byte) 1 ∷ []
+    ≡ slice_set (slice_index keys 0 ∷ slice_index keys 1 ∷ []) port byte
 own_keys-set [] port byte two = absurd (omega arith)
 own_keys-set (a ∷ []) port byte two = absurd (omega arith)
 own_keys-set (a ∷ b ∷ rest) zero byte two = refl
@@ -63,19 +66,24 @@ latches-other port phi byte ws other =
     rw (no_zero, no_one) refl
 
 -- the same where there may be no write at all
-latches-maybe : (b : Bool) (port phi byte : ℕ) (ws : List PortWrite) → 2 ≤ port → latches_of (with_write (write_at phi byte (if b then Some port else None)) ws) ≡ latches_of ws
+latches-maybe : (b : Bool) (port phi byte : ℕ) (ws : List PortWrite) → 2 ≤ port →
+    latches_of (with_write (write_at phi byte (if b then Some port else None)) ws) ≡ latches_of ws
 latches-maybe true port phi byte ws other = latches-other port phi byte ws other
 latches-maybe false port phi byte ws other = refl
 
 -- a write that goes to chips leaves both, where no chip has them
-latches-taken : (port phi byte : ℕ) (seats : List Seat) (ws : List PortWrite) → LeaveOwnPorts seats → latches_of (with_write (write_at phi byte (if_taken port seats)) ws) ≡ latches_of ws
+latches-taken : (port phi byte : ℕ) (seats : List Seat) (ws : List PortWrite) → LeaveOwnPorts seats →
+    latches_of (with_write (write_at phi byte (if_taken port seats)) ws) ≡ latches_of ws
 latches-taken zero phi byte seats ws leave = rw (leave.port_0) refl
 latches-taken (suc zero) phi byte seats ws leave = rw (leave.port_1) refl
 latches-taken (suc (suc n)) phi byte seats ws leave = latches-maybe (takers (suc (suc n)) seats == 1) (suc (suc n)) phi byte ws (omega arith)
 
 -- a write of `OUTS` is one of the CPU's own ports, or one that goes to chips
 latches-outs : (n phi byte : ℕ) (seats : List Seat) (ws : List PortWrite) (keys : List ℕ) → LeaveOwnPorts seats →
-    record { latches = latches_of (with_write (write_at phi byte (if nat_lt n 2 then Some n else if_taken n seats)) ws); keys = keys } ≡ put_by (Outs n) byte (record { latches = latches_of ws; keys = keys })
+    record {
+      latches = latches_of (with_write (write_at phi byte (if nat_lt n 2 then Some n else if_taken n seats)) ws);
+      keys = keys;
+    } ≡ put_by (Outs n) byte (record { latches = latches_of ws; keys = keys })
 latches-outs zero phi byte seats ws keys leave = refl
 latches-outs (suc zero) phi byte seats ws keys leave = refl
 latches-outs (suc (suc n)) phi byte seats ws keys leave =
@@ -84,7 +92,8 @@ latches-outs (suc (suc n)) phi byte seats ws keys leave =
 
 -- the write of any instruction
 written : (op : Op) (operand phi byte : ℕ) (seats : List Seat) (ws : List PortWrite) (keys : List ℕ) → LeaveOwnPorts seats →
-    record { latches = latches_of (with_write (write_at phi byte (written_port op operand seats)) ws); keys = keys } ≡ put_by op byte (record { latches = latches_of ws; keys = keys })
+    record { latches = latches_of (with_write (write_at phi byte (written_port op operand seats)) ws); keys = keys }
+    ≡ put_by op byte (record { latches = latches_of ws; keys = keys })
 written Out operand phi byte seats ws keys leave = ap (λ latches. record { latches = latches; keys = keys }) (latches-taken operand phi byte seats ws leave)
 written (Outs n) operand phi byte seats ws keys leave = latches-outs n phi byte seats ws keys leave
 written op operand phi byte seats ws keys leave = refl

@@ -6,7 +6,10 @@ use Rattle.f8_spec.specs.BusCodes.{driver_of}
 use Rattle.f8_spec.specs.Instructions.{decoded, row_of}
 use Rattle.f8_spec.specs.MicroSteps.{Step as MicroStep, steps_of}
 use Rattle.f8_spec.specs.declared.instructions.Op.{Op}
-use Rattle.f8_spec.specs.declared.instructions.Op.TheVariants.{LrKP, LrPK, Pk, LrP0Q, LrQDc, LrDcQ, LrDcH, LrHDc, Lm, St, Di, Ei, Pop, LrWJ, Li, Ni, Oi, Xi, Ai, Ci, In, Out, Pi, Jmp, Dci, Xdc, Bt, Am, Amd, Nm, Om, Xm, Cm, Adc, Br7, Bf, Ins, Outs, Asd}
+use Rattle.f8_spec.specs.declared.instructions.Op.TheVariants.{LrKP, LrPK, Pk, LrP0Q, LrQDc, LrDcQ, LrDcH, LrHDc, Lm}
+use Rattle.f8_spec.specs.declared.instructions.Op.TheVariants.{St, Di, Ei, Pop, LrWJ, Li, Ni, Oi, Xi, Ai, Ci, In, Out}
+use Rattle.f8_spec.specs.declared.instructions.Op.TheVariants.{Pi, Jmp, Dci, Xdc, Bt, Am, Amd, Nm, Om, Xm, Cm, Adc, Br7}
+use Rattle.f8_spec.specs.declared.instructions.Op.TheVariants.{Bf, Ins, Outs, Asd}
 use Rattle.f8_spec.specs.declared.instructions.Row.{Row}
 use Rattle.console_spec.specs.Processor.{Registers, Inputs, effect, byte_of, is_taken, port_field}
 use Rattle.cpu3850.specs.CpuSteps.{CpuState, last_step, driven_in, taken_in}
@@ -30,19 +33,24 @@ unfolding effect
 kept_by_jump byte m = refl
 
 -- `INS`, of a port of the CPU's own or of a chip's
-reaches_in : (n : ℕ) (i : Inputs) (c : CpuState) (taken own : Bool) → nat_lt n 2 ≡ own → ReachesBy (row_of (Ins n)) (Ins n) (from_cpu (Ins n) c i) 0 (steps_of (row_of (Ins n)) taken) c (done (Ins n) (from_cpu (Ins n) c i) c)
+reaches_in : (n : ℕ) (i : Inputs) (c : CpuState) (taken own : Bool) → nat_lt n 2 ≡ own →
+    ReachesBy (row_of (Ins n)) (Ins n) (from_cpu (Ins n) c i) 0 (steps_of (row_of (Ins n)) taken) c
+    (done (Ins n) (from_cpu (Ins n) c i) c)
 unfolding effect
 reaches_in n i c taken true is_own = rw is_own (refl, (tt, rw is_own refl))
 reaches_in n i c taken false is_own = rw is_own (refl, (tt, (tt, rw is_own refl)))
 
 -- `OUTS`, likewise
-reaches_out : (n : ℕ) (i : Inputs) (c : CpuState) (taken own : Bool) → nat_lt n 2 ≡ own → ReachesBy (row_of (Outs n)) (Outs n) (from_cpu (Outs n) c i) 0 (steps_of (row_of (Outs n)) taken) c (done (Outs n) (from_cpu (Outs n) c i) c)
+reaches_out : (n : ℕ) (i : Inputs) (c : CpuState) (taken own : Bool) → nat_lt n 2 ≡ own →
+    ReachesBy (row_of (Outs n)) (Outs n) (from_cpu (Outs n) c i) 0 (steps_of (row_of (Outs n)) taken) c
+    (done (Outs n) (from_cpu (Outs n) c i) c)
 unfolding effect
 reaches_out n i c taken true is_own = rw is_own (refl, (tt, rw is_own refl))
 reaches_out n i c taken false is_own = rw is_own (refl, (refl, (tt, rw is_own refl)))
 
 -- each instruction by its steps, with its branch taken or not
-reaches_by : (op : Op) (i : Inputs) (c : CpuState) (taken : Bool) → ReachesBy (row_of op) op (from_cpu op c i) 0 (steps_of (row_of op) taken) c (done op (from_cpu op c i) c)
+reaches_by : (op : Op) (i : Inputs) (c : CpuState) (taken : Bool) →
+    ReachesBy (row_of op) op (from_cpu op c i) 0 (steps_of (row_of op) taken) c (done op (from_cpu op c i) c)
 unfolding effect
 reaches_by LrKP i c taken = (tt, (tt, (tt, refl)))
 reaches_by LrPK i c taken = (refl, (refl, (tt, refl)))
@@ -89,7 +97,9 @@ reaches_by (Asd r) i c taken = (refl, (tt, refl))
 reaches_by op i c taken = (tt, refl)
 
 -- the opcode held stays to the last step, so that it names the instruction in each
-reaches_held : (op : Op) (i : Inputs) (index : ℕ) (rest : List MicroStep) (c end : CpuState) → decoded c.opcode ≡ Some op → index + length rest ≡ last_step (row_of op) + 1 → ReachesBy (row_of op) op i index rest c end → Reaches i index rest c end
+reaches_held : (op : Op) (i : Inputs) (index : ℕ) (rest : List MicroStep) (c end : CpuState) →
+    decoded c.opcode ≡ Some op → index + length rest ≡ last_step (row_of op) + 1 →
+    ReachesBy (row_of op) op i index rest c end → Reaches i index rest c end
 reaches_held op i index [] c end held count there = there
 reaches_held op i index (s ∷ []) c end held count there = rw held there
 reaches_held op i index (s ∷ t ∷ rest) c end held count there =
@@ -98,6 +108,9 @@ reaches_held op i index (s ∷ t ∷ rest) c end held count there =
     rw held (there.0, reaches_held op i (index + 1) (t ∷ rest) _ end later (omega arith) there.1)
 
 -- along its steps an instruction brings its results, and the next opcode
-pub reaches : (op : Op) (i : Inputs) (c : CpuState) → decoded c.opcode ≡ Some op → Reaches (from_cpu op c i) 0 (steps_of (row_of op) (is_taken op c.registers)) c (done op (from_cpu op c i) c)
+pub reaches : (op : Op) (i : Inputs) (c : CpuState) → decoded c.opcode ≡ Some op →
+    Reaches (from_cpu op c i) 0 (steps_of (row_of op) (is_taken op c.registers)) c (done op (from_cpu op c i) c)
 reaches op i c held =
-    reaches_held op (from_cpu op c i) 0 (steps_of (row_of op) (is_taken op c.registers)) c _ held (rw zero-add (length-steps_of (row_of op) (is_taken op c.registers))) (reaches_by op i c (is_taken op c.registers))
+    reaches_held op (from_cpu op c i) 0 (steps_of (row_of op) (is_taken op c.registers)) c _ held
+    (rw zero-add (length-steps_of (row_of op) (is_taken op c.registers)))
+    (reaches_by op i c (is_taken op c.registers))

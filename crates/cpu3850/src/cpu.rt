@@ -1,3 +1,4 @@
+// The 3850: its registers, its own ports, and the opcode that it holds.
 use super::instruction_table::InstructionTable;
 use super::kept::Kept;
 use super::own_ports::OwnPorts;
@@ -152,14 +153,27 @@ impl Cpu {
 
     /// Clears the interrupt control bit, as where an interrupt is taken.
     pub fn vectored(&mut self)
-        ensures { self.new ≡ record self.old { registers = record self.old.registers { status = record self.old.registers.status { icb = false } } } }
+        ensures { self.new ≡ record self.old {
+          registers =
+              record self.old.registers {
+                status =
+                    record self.old.registers.status { icb = false };
+              };
+        } }
     {
         self.registers.flags.icb = false;
     }
 
     /// The registers of the CPU beside these counters, which it doesn't have itself.
     pub fn regs(&self, p: u16, p1: u16, d0: u16, d1: u16) -> Regs
-        ensures regs { result ≡ shown (record { flow = record { p = p; p1 = p1; d0 = d0; d1 = d1 }; registers = self.now.registers; keys = []; writes = []; count = 0; phi = 0 }) }
+        ensures regs { result ≡ shown (record {
+          flow = record { p = p; p1 = p1; d0 = d0; d1 = d1 };
+          registers = self.now.registers;
+          keys = [];
+          writes = [];
+          count = 0;
+          phi = 0;
+        }) }
         ensures isar { result.isar < 64 }
     {
         self.registers.regs(p, p1, d0, d1)

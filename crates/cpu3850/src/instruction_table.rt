@@ -1,3 +1,4 @@
+// What each opcode says of its instruction, in a table.
 use super::steps::{StepRow, list};
 use f8_ops::registers::{H, K, Q};
 use f8_ops::{Op, Row, decode, row_of};

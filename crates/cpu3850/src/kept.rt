@@ -1,3 +1,4 @@
+// What is put back where an instruction's step isn't served.
 use f8_words::Flags;
 use std::marker::Model;
 

@@ -1,3 +1,4 @@
+// Laws that bind the steps of an instruction to the flat machine.
 ghost use Rattle.std.specs.Prelude.{◌≡◌, ℕ, ◌+◌, ◌<◌, ◌≤◌, List, Some, length};
 ghost use Rattle.f8_spec.specs.declared.instructions.Op.{Op};
 ghost use Rattle.f8_spec.specs.Instructions.{decoded, row_of};
@@ -13,14 +14,16 @@ ghost use Rattle.cpu3850.specs.OwnWrites.{own_ports, LeaveOwnPorts};
 /// A law of the CPU, and no work: a step that isn't the last of its instruction leaves the plan as it is, so that the places of the
 /// later steps stay allowed.
 pub fn plan_law()
-    ensures { (index byte : ℕ) (c : CpuState) → index + 1 < length (planned c) → planned (taken index byte c) ≡ planned c }
+    ensures { (index byte : ℕ) (c : CpuState) → index + 1 < length (planned c) →
+        planned (taken index byte c) ≡ planned c }
 {}
 
 /// A law of the CPU, and no work: after any of an instruction's steps but the last, `Cpu::restore` of what `Cpu::kept` told as the
 /// instruction began gives the CPU as it was then.
 pub fn restore_law()
     ensures start { (c : CpuState) → IsRestorable c c }
-    ensures step { (start c : CpuState) (index byte : ℕ) → index + 1 < length (planned c) → IsRestorable start c → IsRestorable start (taken index byte c) }
+    ensures step { (start c : CpuState) (index byte : ℕ) → index + 1 < length (planned c) →
+        IsRestorable start c → IsRestorable start (taken index byte c) }
 {}
 
 /// A law of the CPU, and no work: along the steps of the instruction whose opcode is held, with the bytes of the flat machine, the
@@ -28,7 +31,9 @@ pub fn restore_law()
 /// what `OUTS` puts into a port of its own and the byte of the last step as the opcode held. `INS` of port 0 or 1 gets what stands in
 /// the CPU's own port.
 pub fn instruction_law()
-    ensures { (op : Op) (i : Inputs) (c : CpuState) → decoded c.opcode ≡ Some op → Reaches (from_cpu op c i) 0 (steps_of (row_of op) (is_taken op c.registers)) c (done op (from_cpu op c i) c) }
+    ensures { (op : Op) (i : Inputs) (c : CpuState) → decoded c.opcode ≡ Some op →
+        Reaches (from_cpu op c i) 0 (steps_of (row_of op) (is_taken op c.registers)) c
+        (done op (from_cpu op c i) c) }
 {}
 
 /// A law of the CPU, and no work: its own ports go with the ports 0 and 1 of the flat machine. They are the same at power-on, as a key
@@ -36,7 +41,12 @@ pub fn instruction_law()
 /// [`instruction_law`] speaks of.
 pub fn port_law()
     ensures power { (fill : ℕ) → (powered fill).ports ≡ own_ports (at_power fill) }
-    ensures keys { (port byte : ℕ) (s : State) → 2 ≤ length s.keys → own_ports (with_key port byte s) ≡ with_own_key port byte (own_ports s) }
-    ensures inputs { (op : Op) (rom : List ℕ) (seats : List Seat) (s : State) (opcode : ℕ) → from_cpu op (record { registers = s.registers; ports = own_ports s; opcode = opcode }) (own_inputs op rom seats s) ≡ own_inputs op rom seats s }
-    ensures written { (op : Op) (rom : List ℕ) (seats : List Seat) (s : State) → LeaveOwnPorts seats → own_ports (after_instruction op rom seats s) ≡ put_by op s.registers.accumulator (own_ports s) }
+    ensures keys { (port byte : ℕ) (s : State) → 2 ≤ length s.keys →
+        own_ports (with_key port byte s) ≡ with_own_key port byte (own_ports s) }
+    ensures inputs { (op : Op) (rom : List ℕ) (seats : List Seat) (s : State) (opcode : ℕ) →
+        from_cpu op (record { registers = s.registers; ports = own_ports s; opcode = opcode })
+        (own_inputs op rom seats s) ≡ own_inputs op rom seats s }
+    ensures written { (op : Op) (rom : List ℕ) (seats : List Seat) (s : State) →
+        LeaveOwnPorts seats → own_ports (after_instruction op rom seats s)
+        ≡ put_by op s.registers.accumulator (own_ports s) }
 {}

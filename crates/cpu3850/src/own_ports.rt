@@ -1,3 +1,4 @@
+// The ports 0 and 1 of the 3850.
 use f8_ops::{OWN_PORTS, Op};
 use std::marker::Model;
 

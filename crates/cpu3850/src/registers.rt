@@ -1,3 +1,4 @@
+// Accumulator, ISAR, status word and scratchpad, and what a step makes of them.
 use super::kept::Kept;
 use console_spec::Regs;
 use f8_ops::registers::{H, J, K, Q};
@@ -145,42 +146,48 @@ impl RegisterFile {
     }
 
     fn load(&mut self, field: u8)
-        ensures { self.new ≡ with_isar_stepped field (record self.old { accumulator = field_byte field self.old }) }
+        ensures { self.new ≡ with_isar_stepped field
+            (record self.old { accumulator = field_byte field self.old }) }
     {
         self.accumulator = self.field(field);
         self.step_isar(field);
     }
 
     fn store(&mut self, field: u8)
-        ensures { self.new ≡ with_isar_stepped field (with_scratch (register_of field self.old) self.old.accumulator self.old) }
+        ensures { self.new ≡ with_isar_stepped field
+            (with_scratch (register_of field self.old) self.old.accumulator self.old) }
     {
         self.set_scratch(self.register(field), self.accumulator);
         self.step_isar(field);
     }
 
     fn add_field(&mut self, field: u8)
-        ensures { self.new ≡ with_isar_stepped field (with_sum (field_byte field self.old) false self.old) }
+        ensures { self.new ≡ with_isar_stepped field
+            (with_sum (field_byte field self.old) false self.old) }
     {
         self.add(self.field(field), false);
         self.step_isar(field);
     }
 
     fn add_decimal_field(&mut self, field: u8)
-        ensures { self.new ≡ with_isar_stepped field (with_decimal_sum (field_byte field self.old) self.old) }
+        ensures { self.new ≡ with_isar_stepped field
+            (with_decimal_sum (field_byte field self.old) self.old) }
     {
         self.add_decimal(self.field(field));
         self.step_isar(field);
     }
 
     fn xor_field(&mut self, field: u8)
-        ensures { self.new ≡ with_isar_stepped field (with_result (bit_xor self.old.accumulator (field_byte field self.old)) self.old) }
+        ensures { self.new ≡ with_isar_stepped field
+            (with_result (bit_xor self.old.accumulator (field_byte field self.old)) self.old) }
     {
         self.set_result(self.accumulator ^ self.field(field));
         self.step_isar(field);
     }
 
     fn and_field(&mut self, field: u8)
-        ensures { self.new ≡ with_isar_stepped field (with_result (bit_and self.old.accumulator (field_byte field self.old)) self.old) }
+        ensures { self.new ≡ with_isar_stepped field
+            (with_result (bit_and self.old.accumulator (field_byte field self.old)) self.old) }
     {
         self.set_result(self.accumulator & self.field(field));
         self.step_isar(field);
@@ -260,7 +267,14 @@ impl RegisterFile {
     }
 
     pub(crate) fn regs(&self, p: u16, p1: u16, d0: u16, d1: u16) -> Regs
-        ensures regs { result ≡ shown (record { flow = record { p = p; p1 = p1; d0 = d0; d1 = d1 }; registers = self.now; keys = []; writes = []; count = 0; phi = 0 }) }
+        ensures regs { result ≡ shown (record {
+          flow = record { p = p; p1 = p1; d0 = d0; d1 = d1 };
+          registers = self.now;
+          keys = [];
+          writes = [];
+          count = 0;
+          phi = 0;
+        }) }
         ensures isar { result.isar < 64 }
     {
         Regs {

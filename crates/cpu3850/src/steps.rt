@@ -1,10 +1,12 @@
+// The bus steps of each instruction.
 ghost use Rattle.std.specs.Prelude.{◌≡◌, ◌==◌, ◌<◌, ◌≤◌, ◌++◌, [], ◌∷◌, true, false, if◌then◌else◌, map, sum_by, length};
 ghost use Rattle.f8_spec.specs.MicroSteps.{step_clocks, steps_before_fetch};
+ghost use Rattle.f8_spec.specs.BusCodes.{driver_of as driver_by_table};
 ghost use Rattle.f8_spec.specs.Instructions.{clocks_of};
 ghost use Rattle.cpu3850.specs.CpuSteps.{bus_step, listed};
 
 use f8_ops::{Op, Row, row_of};
-use romc_table::Romc;
+use romc_table::{Driver, Romc, driver_of};
 use std::marker::Model;
 
 /// The steps of the longest list: four, and the last fetch.
@@ -21,6 +23,9 @@ const LONG: u8 = 6;
 pub struct Step {
     pub romc: Romc,
     pub long: bool,
+
+    /// Who drives the byte, which the code alone tells but for 1C: there the CPU drives the number of a port, and else nobody drives.
+    pub driver: Driver,
 }
 
 /// What a list of steps is kept as: the first `count` of the items.
@@ -109,6 +114,7 @@ impl Steps {
                 items: [Step {
                     romc: Romc::FETCH,
                     long: false,
+                    driver: Driver::Memory,
                 }; MOST_STEPS],
                 count: 0,
             },
@@ -125,20 +131,38 @@ impl Steps {
         steps
     }
 
-    fn long(self, number: u8) -> Steps
-        requires room { length self < 5 }
-        requires code { number < 32 }
-        ensures { result ≡ self ++ (record { romc = number; long = true }) ∷ [] }
+    fn long(self, romc: Romc) -> Steps
+        requires { length self < 5 }
+        ensures { result ≡ self ++ (record { romc = romc; long = true; driver = driver_by_table romc }) ∷ [] }
     {
-        self.then(step_of(number, true))
+        self.then(Step {
+            romc,
+            long: true,
+            driver: driver_of(romc),
+        })
     }
 
-    fn short(self, number: u8) -> Steps
-        requires room { length self < 5 }
-        requires code { number < 32 }
-        ensures { result ≡ self ++ (record { romc = number; long = false }) ∷ [] }
+    fn short(self, romc: Romc) -> Steps
+        requires { length self < 5 }
+        ensures { result ≡ self ++ (record { romc = romc; long = false; driver = driver_by_table romc }) ∷ [] }
     {
-        self.then(step_of(number, false))
+        self.then(Step {
+            romc,
+            long: false,
+            driver: driver_of(romc),
+        })
+    }
+
+    /// The CPU works by itself, and nobody drives.
+    fn idle(self) -> Steps
+        requires { length self < 5 }
+        ensures { result ≡ self ++ (record { romc = 0x1C; long = false; driver = Driver.Nobody }) ∷ [] }
+    {
+        self.then(Step {
+            romc: Romc::IDLE,
+            long: false,
+            driver: Driver::Nobody,
+        })
     }
 }
 
@@ -149,16 +173,6 @@ fn clocks_of_step(long: bool) -> u8
     if long { LONG } else { SHORT }
 }
 
-fn step_of(number: u8, long: bool) -> Step
-    requires { number < 32 }
-    ensures { result ≡ record { romc = number; long = long } }
-{
-    match Romc::of(number) {
-        Some(romc) => Step { romc, long },
-        None => unreachable!(),
-    }
-}
-
 /// The bus steps of an instruction, the last of which fetches the next opcode. `taken` says that a branch is taken, and counts at
 /// `BT`, `BF` and `BR7` alone. The lists are this project's own, after the Fairchild F8 User's Guide.
 pub fn list(op: Op, taken: bool) -> Steps
@@ -166,8 +180,12 @@ pub fn list(op: Op, taken: bool) -> Steps
     ensures clocks { sum_by (λ step. step_clocks step.long) result ≡ clocks_of op taken }
 {
     let row = row_of(op);
-    let fetch = step_of(0x00, matches!(row, Row::PlainLong));
-    before_fetch(row, taken).then(fetch)
+    let long = matches!(row, Row::PlainLong);
+    before_fetch(row, taken).then(Step {
+        romc: Romc::FETCH,
+        long,
+        driver: Driver::Memory,
+    })
 }
 
 fn before_fetch(row: Row, taken: bool) -> Steps
@@ -176,39 +194,56 @@ fn before_fetch(row: Row, taken: bool) -> Steps
     let none = Steps::none();
     match row {
         Row::Plain | Row::PlainLong => none,
-        Row::Idle => none.short(0x1C),
-        Row::StackToK => none.long(0x07).long(0x0B),
-        Row::StackFromK => none.long(0x15).long(0x18),
-        Row::CallK => none.long(0x12).long(0x14),
-        Row::JumpQ => none.long(0x17).long(0x14),
-        Row::DataToPair => none.long(0x06).long(0x09),
-        Row::DataFromQ | Row::DataFromH => none.long(0x16).long(0x19),
-        Row::ReadData => none.long(0x02),
-        Row::StoreData => none.long(0x05),
-        Row::Return => none.short(0x04),
-        Row::Immediate => none.long(0x03),
-        Row::PortIn => none.long(0x03).long(0x1B),
-        Row::PortOut => none.long(0x03).long(0x1A),
-        Row::Call => none.long(0x03).short(0x0D).long(0x0C).long(0x14),
-        Row::Jump => none.long(0x03).long(0x0C).long(0x14),
-        Row::LoadData => none.long(0x11).short(0x03).long(0x0E).short(0x03),
-        Row::Exchange => none.short(0x1D),
-        Row::AddData => none.long(0x0A),
-        Row::Branch => displacement(none.short(0x1C), taken),
+        Row::Idle => none.idle(),
+        Row::StackToK => none.long(Romc::TELL_STACK_HIGH).long(Romc::TELL_STACK_LOW),
+        Row::StackFromK => none.long(Romc::SET_STACK_HIGH).long(Romc::SET_STACK_LOW),
+        Row::CallK => none.long(Romc::CALL_LOW).long(Romc::SET_PROGRAM_HIGH),
+        Row::JumpQ => none
+            .long(Romc::SET_PROGRAM_LOW)
+            .long(Romc::SET_PROGRAM_HIGH),
+        Row::DataToPair => none.long(Romc::TELL_DATA_HIGH).long(Romc::TELL_DATA_LOW),
+        Row::DataFromQ | Row::DataFromH => none.long(Romc::SET_DATA_HIGH).long(Romc::SET_DATA_LOW),
+        Row::ReadData => none.long(Romc::READ_DATA),
+        Row::StoreData => none.long(Romc::STORE_DATA),
+        Row::Return => none.short(Romc::RETURN),
+        Row::Immediate => none.long(Romc::OPERAND),
+        Row::PortIn => none.long(Romc::OPERAND).long(Romc::READ_PORT),
+        Row::PortOut => none.long(Romc::OPERAND).long(Romc::WRITE_PORT),
+        Row::Call => none
+            .long(Romc::OPERAND)
+            .short(Romc::SAVE_NEXT)
+            .long(Romc::JUMP_LOW)
+            .long(Romc::SET_PROGRAM_HIGH),
+        Row::Jump => none
+            .long(Romc::OPERAND)
+            .long(Romc::JUMP_LOW)
+            .long(Romc::SET_PROGRAM_HIGH),
+        Row::LoadData => none
+            .long(Romc::LOAD_DATA_HIGH)
+            .short(Romc::OPERAND)
+            .long(Romc::LOAD_DATA_LOW)
+            .short(Romc::OPERAND),
+        Row::Exchange => none.short(Romc::EXCHANGE),
+        Row::AddData => none.long(Romc::ADD_DATA),
+        Row::Branch => displacement(none.idle(), taken),
         Row::BranchIsar => displacement(none, taken),
-        Row::ShortIn => none.long(0x1C).long(0x1B),
-        Row::ShortOut => none.long(0x1C).long(0x1A),
+        Row::ShortIn => none.long(Romc::IDLE).long(Romc::READ_PORT),
+        Row::ShortOut => none.long(Romc::IDLE).long(Romc::WRITE_PORT),
     }
 }
 
 /// The step at the displacement byte of a branch, after others.
 fn displacement(steps: Steps, taken: bool) -> Steps
     requires { length steps < 5 }
-    ensures { result ≡ steps ++ (if taken then record { romc = 0x01; long = true } else record { romc = 0x03; long = false }) ∷ [] }
+    ensures { result ≡ steps ++ (record {
+      romc = if taken then 0x01 else 0x03;
+      long = taken;
+      driver = Driver.Memory;
+    }) ∷ [] }
 {
     if taken {
-        steps.long(0x01)
+        steps.long(Romc::DISPLACEMENT)
     } else {
-        steps.short(0x03)
+        steps.short(Romc::OPERAND)
     }
 }

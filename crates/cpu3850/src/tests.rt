@@ -1,3 +1,4 @@
+// Worked instructions, step by step.
 use super::*;
 use std::process::Abort;
 use std::test::Fail;
@@ -131,6 +132,7 @@ fn lists_of_steps(rt: HostRuntime) -> Result<(), Fail> {
         let fetch = Step {
             romc: Romc::FETCH,
             long: code == 0x30,
+            driver: Driver::Memory,
         };
         assert_eq!(rt; steps.as_slice().last().copied(), Some(fetch), "of {code}");
     }

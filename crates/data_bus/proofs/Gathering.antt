@@ -29,7 +29,8 @@ module _ {X : Type 0} (V : X → ChipState) where
   left_at xs i x b is =
       let f : ChipState → ChipView = λ s. s.view in
       let long : length (views (map V xs)) ≡ length xs = length-map (map V xs) f ∙ length-map xs V in
-      let here : get_or (views (map V xs)) i (V x).view ≡ (V x).view = get_or-map f (map V xs) i (V x) ∙ ap f (get_or-map V xs i x) ∙ ap (λ c. (V c).view) (sym is) in
+      let here : get_or (views (map V xs)) i (V x).view ≡ (V x).view =
+      get_or-map f (map V xs) i (V x) ∙ ap f (get_or-map V xs i x) ∙ ap (λ c. (V c).view) (sym is) in
       let within : i < length (views (map V xs)) = omega (arith, long) in
       rw (add-one, drop-cons (views (map V xs)) i (V x).view within, here) refl
 
@@ -39,8 +40,10 @@ module _ {X : Type 0} (V : X → ChipState) where
       answer ≡ answer_of rule romc reference (is_first first i) (V x).view → after ≡ counted i answer poll →
       length after.parties ≤ length poll.parties + 1 → Gathered rule romc reference first (map V xs) (i + 1) after
   gathered-more rule romc reference first xs i x poll after answer b is gathered says counts few =
-      let opened : polled rule romc reference first i ((V x).view ∷ drop (i + 1) (views (map V xs))) poll ≡ polled rule romc reference first 0 (views (map V xs)) no_poll =
-      subst (λ l. polled rule romc reference first i l poll ≡ polled rule romc reference first 0 (views (map V xs)) no_poll) (left_at xs i x b is) gathered.rest in
+      let opened : polled rule romc reference first i ((V x).view ∷ drop (i + 1) (views (map V xs))) poll
+      ≡ polled rule romc reference first 0 (views (map V xs)) no_poll =
+      subst (λ l. polled rule romc reference first i l poll
+      ≡ polled rule romc reference first 0 (views (map V xs)) no_poll) (left_at xs i x b is) gathered.rest in
       record {
         rest = rw (counts, says) opened;
         few = let before = gathered.few in omega arith;

@@ -4,7 +4,9 @@ use Rattle.std.specs.Prelude.{Option, Some, None, filter_map}
 use Rattle.std.specs.List.{cons_option, enumerate_from}
 use Rattle.f8_spec.specs.BusCodes.{driver_of}
 use Rattle.f8_spec.specs.ChipState.{ChipView, ChipState, offered}
-use Rattle.f8_spec.specs.BusArbitration.{is_first, party_if, party_of, bystander_of, parties, bystanders, lowest, judged, rule_of, offer_of, offers, only_byte, byte_by, named_placed, view_verdict, bus_byte}
+use Rattle.f8_spec.specs.BusArbitration.{is_first, party_if, party_of, bystander_of, parties, bystanders, lowest}
+use Rattle.f8_spec.specs.BusArbitration.{judged, rule_of, offer_of, offers, only_byte, byte_by, named_placed}
+use Rattle.f8_spec.specs.BusArbitration.{view_verdict, bus_byte}
 use Rattle.f8_spec.specs.declared.bus.BusRule.{BusRule}
 use Rattle.f8_spec.specs.declared.bus.BusRule.TheVariants.{Read, Store, PortRead, PortWrite, Vector, NoChip}
 use Rattle.f8_spec.specs.declared.bus.Party.{Party}
@@ -36,7 +38,8 @@ offer_in (StandsBy at) = None
 offer_in Passes = None
 
 -- the party of an answer, where the chip offers at its own place or not at all
-party_in-answer_by : (n at told : ℕ) (o : Option Offer) (there test : Bool) → place_of_offer o ≡ place_if test at → party_in n (answer_by o there told) ≡ party_if test n at
+party_in-answer_by : (n at told : ℕ) (o : Option Offer) (there test : Bool) → place_of_offer o ≡ place_if test at →
+    party_in n (answer_by o there told) ≡ party_if test n at
 party_in-answer_by n at told None true true e = cc
 party_in-answer_by n at told None false true e = cc
 party_in-answer_by n at told None true false e = refl
@@ -78,7 +81,8 @@ module _ (rule : BusRule) (romc reference : ℕ) (first : Option ℕ) where
       (polled rule romc reference first n vs poll).parties ≡ poll.parties ++ filter_map f (enumerate_from n vs)
   polled-parties f says n [] poll = sym (append-nil poll.parties)
   polled-parties f says n (v ∷ vs) poll =
-      polled-parties f says (n + 1) vs (counted n (answer_at (n, v)) poll) ∙ rw (← says (n, v)) (one (answer_at (n, v)) (filter_map f (enumerate_from (n + 1) vs)))
+      polled-parties f says (n + 1) vs (counted n (answer_at (n, v)) poll)
+      ∙ rw (← says (n, v)) (one (answer_at (n, v)) (filter_map f (enumerate_from (n + 1) vs)))
     where
       one : (a : Answer) (rest : List Party) → (counted n a poll).parties ++ rest ≡ poll.parties ++ cons_option (party_in n a) rest
       one (TakesPart o) rest = append_assoc poll.parties (record { socket = n; at = o.at } ∷ []) rest
@@ -91,7 +95,8 @@ module _ (rule : BusRule) (romc reference : ℕ) (first : Option ℕ) where
   or_lowest (Some q) qs = Some q
 
   -- the lowest that stands by
-  polled-bystander : (f : ℕ × ChipView → Option Party) → ((x : ℕ × ChipView) → bystander_in x.0 (answer_at x) ≡ f x) → (n : ℕ) (vs : List ChipView) (poll : Poll) →
+  polled-bystander : (f : ℕ × ChipView → Option Party) → ((x : ℕ × ChipView) → bystander_in x.0 (answer_at x) ≡ f x) →
+      (n : ℕ) (vs : List ChipView) (poll : Poll) →
       (polled rule romc reference first n vs poll).bystander ≡ or_lowest poll.bystander (filter_map f (enumerate_from n vs))
   polled-bystander f says n [] poll = none poll.bystander
     where
@@ -99,7 +104,8 @@ module _ (rule : BusRule) (romc reference : ℕ) (first : Option ℕ) where
       none None = refl
       none (Some q) = refl
   polled-bystander f says n (v ∷ vs) poll =
-      polled-bystander f says (n + 1) vs (counted n (answer_at (n, v)) poll) ∙ rw (← says (n, v)) (one (answer_at (n, v)) poll.bystander (filter_map f (enumerate_from (n + 1) vs)))
+      polled-bystander f says (n + 1) vs (counted n (answer_at (n, v)) poll)
+      ∙ rw (← says (n, v)) (one (answer_at (n, v)) poll.bystander (filter_map f (enumerate_from (n + 1) vs)))
     where
       one : (a : Answer) (o : Option Party) (rest : List Party) →
           or_lowest (counted n a (record poll { bystander = o })).bystander rest ≡ or_lowest o (cons_option (bystander_in n a) rest)
@@ -124,7 +130,9 @@ module _ (rule : BusRule) (romc reference : ℕ) (first : Option ℕ) where
       none [] = refl
       none (p ∷ ps) = refl
   polled-byte f says n (v ∷ vs) poll =
-      polled-byte f says (n + 1) vs (counted n (answer_at (n, v)) poll) ∙ rw (← says (n, v)) (one (answer_at (n, v)) poll.parties poll.byte (filter_map f (enumerate_from (n + 1) vs)))
+      polled-byte f says (n + 1) vs (counted n (answer_at (n, v)) poll)
+      ∙ rw (← says (n, v)) (one (answer_at (n, v)) poll.parties poll.byte
+      (filter_map f (enumerate_from (n + 1) vs)))
     where
       one : (a : Answer) (ps : List Party) (byte : ℕ) (rest : List Offer) → let next = counted n a (record poll { parties = ps; byte = byte }) in
           byte_after next.parties next.byte rest ≡ byte_after ps byte (cons_option (offer_in a) rest)
@@ -144,11 +152,14 @@ module _ (rule : BusRule) (romc reference : ℕ) (first : Option ℕ) where
   judged-polled : ((x : ℕ × ChipView) → party_in x.0 (answer_at x) ≡ party_of rule (named_placed romc x)) →
       ((x : ℕ × ChipView) → bystander_in x.0 (answer_at x) ≡ bystander_of rule reference (named_placed romc x)) → (vs : List ChipView) →
       judged rule first reference (polled rule romc reference first 0 vs no_poll).parties (polled rule romc reference first 0 vs no_poll).bystander
-      ≡ judged rule first reference (parties rule (map (named_placed romc) (enumerate_from 0 vs))) (lowest (bystanders rule reference (map (named_placed romc) (enumerate_from 0 vs))))
+      ≡ judged rule first reference (parties rule (map (named_placed romc) (enumerate_from 0 vs)))
+      (lowest (bystanders rule reference (map (named_placed romc) (enumerate_from 0 vs))))
   judged-polled takes stands vs =
       let all_parties : (polled rule romc reference first 0 vs no_poll).parties ≡ parties rule (map (named_placed romc) (enumerate_from 0 vs)) =
-      polled-parties (λ x. party_of rule (named_placed romc x)) takes 0 vs no_poll ∙ sym (of_mapped (party_of rule) (named_placed romc) (enumerate_from 0 vs)) in
-      let the_lowest : (polled rule romc reference first 0 vs no_poll).bystander ≡ lowest (bystanders rule reference (map (named_placed romc) (enumerate_from 0 vs))) =
+      polled-parties (λ x. party_of rule (named_placed romc x)) takes 0 vs no_poll
+      ∙ sym (of_mapped (party_of rule) (named_placed romc) (enumerate_from 0 vs)) in
+      let the_lowest : (polled rule romc reference first 0 vs no_poll).bystander
+      ≡ lowest (bystanders rule reference (map (named_placed romc) (enumerate_from 0 vs))) =
       polled-bystander (λ x. bystander_of rule reference (named_placed romc x)) stands 0 vs no_poll
       ∙ ap lowest (sym (of_mapped (bystander_of rule reference) (named_placed romc) (enumerate_from 0 vs))) in
       rw (all_parties, the_lowest) refl
@@ -179,13 +190,16 @@ offers-said NoChip romc reference mark v facts = sym (facts mark)
 -- the verdict on the poll
 verdict-polled : (rule : BusRule) (romc reference : ℕ) (first : Option ℕ) → ((m : Bool) (v : ChipView) → FactsBy rule romc m v) → (vs : List ChipView) →
     judged rule first reference (polled rule romc reference first 0 vs no_poll).parties (polled rule romc reference first 0 vs no_poll).bystander
-    ≡ judged rule first reference (parties rule (map (named_placed romc) (enumerate_from 0 vs))) (lowest (bystanders rule reference (map (named_placed romc) (enumerate_from 0 vs))))
+    ≡ judged rule first reference (parties rule (map (named_placed romc) (enumerate_from 0 vs)))
+    (lowest (bystanders rule reference (map (named_placed romc) (enumerate_from 0 vs))))
 verdict-polled Read romc reference first facts vs = judged-polled Read romc reference first
     (λ x. party_in-answer_by x.0 _ _ (offered romc (is_first first x.0) x.1) _ _ (facts (is_first first x.0) x.1).offers)
-    (λ x. bystander_in-answer_by x.0 _ _ (offered romc (is_first first x.0) x.1) _ _ (facts (is_first first x.0) x.1).offers (facts (is_first first x.0) x.1).tells) vs
+    (λ x. bystander_in-answer_by x.0 _ _ (offered romc (is_first first x.0) x.1) _ _
+    (facts (is_first first x.0) x.1).offers (facts (is_first first x.0) x.1).tells) vs
 verdict-polled Store romc reference first facts vs = judged-polled Store romc reference first
     (λ x. party_in-answer_by x.0 _ _ (offered romc (is_first first x.0) x.1) _ _ (facts (is_first first x.0) x.1).offers)
-    (λ x. bystander_in-answer_by x.0 _ _ (offered romc (is_first first x.0) x.1) _ _ (facts (is_first first x.0) x.1).offers (facts (is_first first x.0) x.1).tells) vs
+    (λ x. bystander_in-answer_by x.0 _ _ (offered romc (is_first first x.0) x.1) _ _
+    (facts (is_first first x.0) x.1).offers (facts (is_first first x.0) x.1).tells) vs
 verdict-polled PortRead romc reference first facts vs = judged-polled PortRead romc reference first
     (λ x. party_in-answer_by x.0 _ _ (offered romc (is_first first x.0) x.1) _ _ (facts (is_first first x.0) x.1))
     (λ x. bystander_in-none x.0 _ _ (offered romc (is_first first x.0) x.1) _) vs
@@ -205,7 +219,8 @@ poll_answer-polled cycle reference states below =
     (λ x. offers-said (rule_of cycle.romc) cycle.romc reference (is_first cycle.first x.0) x.1 (λ m. facts m x.1)) (views states) in
     let verdict = verdict-polled (rule_of cycle.romc) cycle.romc reference cycle.first facts (views states) in
     let whole : Poll = polled (rule_of cycle.romc) cycle.romc reference cycle.first 0 (views states) no_poll in
-    ap (λ (b : ℕ). answered cycle.romc (byte_by (driver_of cycle.romc) cycle.byte b) (judged (rule_of cycle.romc) cycle.first reference whole.parties whole.bystander)) byte
+    ap (λ (b : ℕ). answered cycle.romc (byte_by (driver_of cycle.romc) cycle.byte b)
+    (judged (rule_of cycle.romc) cycle.first reference whole.parties whole.bystander)) byte
     ∙ ap (answered cycle.romc (bus_byte cycle.romc cycle.first cycle.byte (named_views states))) verdict
 
 -- where no chip is asked, the poll is empty

@@ -1,5 +1,6 @@
 -- Racks in loops over their chips.
-use Rattle.std.proofs.Common.{◌≡◌, ℕ, zero, suc, ◌+◌, ◌<◌, ◌≤◌, true, List, [], ◌∷◌, ◌++◌, append-nil, length, get_or, map, take, drop, refl, sym, ap, subst, ◌∙◌, arith, add-one, take_all, eqb-true}
+use Rattle.std.proofs.Common.{◌≡◌, ℕ, zero, suc, ◌+◌, ◌<◌, ◌≤◌, true, List, [], ◌∷◌, ◌++◌, append-nil, length, get_or}
+use Rattle.std.proofs.Common.{map, take, drop, refl, sym, ap, subst, ◌∙◌, arith, add-one, take_all, eqb-true}
 use Rattle.std.specs.Prelude.{Option, Some, slice_get}
 use Rattle.std.proofs.Math.ListN.{set, get_or-map, drop_of_length-le}
 use Rattle.std.proofs.lemmas.Option.{slice_get-get_or}
@@ -68,7 +69,9 @@ module _ {X A : Type 0} (V : X → A) (R : ℕ → A → A → Type 0) where
       let within : i < length (map V xs) = omega (arith, length-map xs V) in
       let longs : length (map V ys) ≡ length (map V xs) = omega (arith, length-map xs V, length-map ys V) in
       let none : 0 + i ≡ i = omega arith in
-      let here : R (0 + i) (get_or (map V ys) i (V x)) (V y) = subst (λ n. R n (get_or (map V ys) i (V x)) (V y)) (sym none) (subst (λ w. R i w (V y)) (sym (get_or-map V ys i x)) r) in
+      let here : R (0 + i) (get_or (map V ys) i (V x)) (V y) =
+      subst (λ n. R n (get_or (map V ys) i (V x)) (V y)) (sym none)
+      (subst (λ w. R i w (V y)) (sym (get_or-map V ys i x)) r) in
       rw (add-one, map-set V ys i y) (record {
         done = done_more R 0 i (map V xs) (map V ys) (V x) (V y) within changed.done changed.left here;
         left = left_more R i (map V xs) (map V ys) (V y) within longs changed.left;

@@ -15,7 +15,8 @@ module _ (test : PlacedSeat → Bool) where
   abbrev found : ℕ × PlacedSeat → Option Party
   found x = party_if (test x.1) x.0 x.1.at
 
-  one_more : (n : ℕ) (x : PlacedSeat) (xs : List PlacedSeat) (answer : Bool) → test x ≡ answer → AscendFrom (n + 1) (filter_map found (enumerate_from (n + 1) xs)) →
+  one_more : (n : ℕ) (x : PlacedSeat) (xs : List PlacedSeat) (answer : Bool) → test x ≡ answer →
+      AscendFrom (n + 1) (filter_map found (enumerate_from (n + 1) xs)) →
       AscendFrom n (filter_map found (enumerate_from n (x ∷ xs)))
   one_more n x xs true same later = rw same (omega arith, later)
   one_more n x xs false same later = rw same (lower n (n + 1) (filter_map found (enumerate_from (n + 1) xs)) (omega arith) later)

@@ -1,3 +1,4 @@
+// The question that a bus step puts to one chip, and its answer.
 ghost use Rattle.std.specs.Prelude.{◌≡◌};
 ghost use Rattle.f8_spec.specs.BusArbitration.{is_first as is_first_socket, seat_of, would_answer};
 ghost use Rattle.f8_spec.specs.ChipState.{MayHear};
@@ -81,8 +82,10 @@ fn is_there(chip: &Box<dyn Chip>, rule: BusRule, reference: u16) -> bool
 /// Asks the chip in a socket: what it offers, and where it offers nothing whether it holds the probe's address, and then where its own
 /// counter is.
 pub(crate) fn ask(chip: &Box<dyn Chip>, socket: u8, question: &Question) -> Answer
-    requires { MayHear question.now.romc (is_first_socket question.now.first socket) (state chip.now).view }
-    ensures { result ≡ answer_of question.now.rule question.now.romc question.now.reference (is_first_socket question.now.first socket) (state chip.now).view }
+    requires { MayHear question.now.romc (is_first_socket question.now.first socket)
+        (state chip.now).view }
+    ensures { result ≡ answer_of question.now.rule question.now.romc question.now.reference
+        (is_first_socket question.now.first socket) (state chip.now).view }
 {
     let mark = is_first(question.first, socket);
     if !is_asked(question.rule, mark) {

@@ -1,3 +1,4 @@
+// A bus step as the CPU asks for it, and what it answers where it is served.
 use romc_table::Romc;
 
 /// A bus step as the CPU asks for it.

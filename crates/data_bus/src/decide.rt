@@ -1,3 +1,4 @@
+// The bus rule: whether a step is served, by what the chips answered.
 ghost use Rattle.std.specs.Prelude.{◌≡◌};
 ghost use Rattle.f8_spec.specs.BusCodes.{driver_of as driver_by_table};
 ghost use Rattle.f8_spec.specs.BusArbitration.{Served as ServedBy, Astray, Undriven, byte_by, one_party, port_read_verdict, port_write_verdict, read_verdict, store_verdict, unless_bystander};
@@ -35,7 +36,8 @@ impl Pending {
     }
 
     fn astray(self, party: Party) -> Result<Served, BusFault>
-        ensures { result ≡ answered self.romc self.byte (Astray party.socket party.at self.reference) }
+        ensures { result ≡ answered self.romc self.byte
+            (Astray party.socket party.at self.reference) }
     {
         Err(BusFault::Astray {
             romc: self.romc,
@@ -51,7 +53,8 @@ impl Pending {
         socket: Option<u8>,
         bystander: Option<Party>,
     ) -> Result<Served, BusFault>
-        ensures { result ≡ answered self.romc self.byte (unless_bystander self.reference socket bystander) }
+        ensures { result ≡ answered self.romc self.byte
+            (unless_bystander self.reference socket bystander) }
     {
         match bystander {
             None => self.served(socket),
@@ -72,7 +75,8 @@ impl Pending {
 
     /// A chip has to drive the byte.
     fn read(self, parties: Parties, bystander: Option<Party>) -> Result<Served, BusFault>
-        ensures { result ≡ answered self.romc self.byte (read_verdict self.reference parties bystander) }
+        ensures { result ≡ answered self.romc self.byte
+            (read_verdict self.reference parties bystander) }
     {
         let romc = self.romc;
         match parties.as_slice() {
@@ -84,7 +88,8 @@ impl Pending {
 
     /// A chip may take the byte. One that none takes is lost.
     fn store(self, parties: Parties, bystander: Option<Party>) -> Result<Served, BusFault>
-        ensures { result ≡ answered self.romc self.byte (store_verdict self.reference parties bystander) }
+        ensures { result ≡ answered self.romc self.byte
+            (store_verdict self.reference parties bystander) }
     {
         let romc = self.romc;
         match parties.as_slice() {

@@ -1,3 +1,4 @@
+// Why a bus step isn't served.
 ghost use Rattle.std.specs.Prelude.{◌≡◌};
 
 use super::Parties;

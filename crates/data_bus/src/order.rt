@@ -1,3 +1,4 @@
+// Laws of the bus rule: neither order nor names of sockets matter.
 ghost use Rattle.data_bus.specs.SocketsLaw.{SocketsLaw};
 ghost use Rattle.f8_spec.specs.OrderLaw.{OrderLaw};
 

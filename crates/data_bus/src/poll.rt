@@ -1,9 +1,11 @@
+// One pass over the chips of a rack, and what it gathers.
 ghost use Rattle.std.specs.Prelude.{◌≡◌, ◌+◌, ◌<◌, ◌≤◌, length, map};
 ghost use Rattle.data_bus.specs.Racks.{AllMayHear, views};
 ghost use Rattle.data_bus.specs.Polling.{no_poll, polled};
 
 use super::ask::{Answer, Question, ask};
 use super::{Parties, Rack};
+use chip_face::MOST_CHIPS;
 use f8_spec::{BusRule, Party};
 
 /// What one pass over the chips gathers in a bus step.
@@ -35,7 +37,7 @@ impl Poll {
 
     /// Counts one more chip's answer.
     fn count(&mut self, socket: u8, answer: Answer)
-        requires { length self.old.parties < 16 }
+        requires { length self.old.parties < MOST_CHIPS }
         ensures counted { self.new ≡ counted socket answer self.old }
         ensures few { length self.new.parties ≤ length self.old.parties + 1 }
     {
@@ -61,9 +63,10 @@ impl Poll {
 
 /// One pass over the chips: each is asked at most once.
 fn ask_all(rack: &Rack, question: &Question) -> Poll
-    requires few { length rack.now.items ≤ 16 }
+    requires few { length rack.now.items ≤ MOST_CHIPS }
     requires chosen { AllMayHear question.now.romc question.now.first (map state rack.now.items) }
-    ensures { result ≡ polled question.now.rule question.now.romc question.now.reference question.now.first 0 (views (map state rack.now.items)) no_poll }
+    ensures { result ≡ polled question.now.rule question.now.romc question.now.reference
+        question.now.first 0 (views (map state rack.now.items)) no_poll }
 {
     let mut poll = Poll::new();
     for (i, chip) in rack.iter().enumerate() {
@@ -77,9 +80,10 @@ fn ask_all(rack: &Rack, question: &Question) -> Poll
 /// What the chips answer in a step. In a step in which no chip drives or takes, none is asked.
 #[tactic(auto, using(crate::proofs::Judging::polled_unasked))]
 pub(crate) fn gather(rack: &Rack, question: &Question) -> Poll
-    requires few { length rack.now.items ≤ 16 }
+    requires few { length rack.now.items ≤ MOST_CHIPS }
     requires chosen { AllMayHear question.now.romc question.now.first (map state rack.now.items) }
-    ensures { result ≡ polled question.now.rule question.now.romc question.now.reference question.now.first 0 (views (map state rack.now.items)) no_poll }
+    ensures { result ≡ polled question.now.rule question.now.romc question.now.reference
+        question.now.first 0 (views (map state rack.now.items)) no_poll }
 {
     match question.rule {
         BusRule::NoChip => Poll::new(),

@@ -1,3 +1,4 @@
+// By which rule a code is arbitrated.
 ghost use Rattle.std.specs.Prelude.{◌≡◌, ◌<◌};
 ghost use Rattle.f8_spec.specs.BusArbitration.{rule_of as rule_by_table};
 
@@ -9,13 +10,24 @@ pub(crate) fn rule_of(romc: Romc) -> BusRule
     ensures table { result ≡ rule_by_table romc }
     ensures below { romc < 32 }
 {
-    match romc.number() {
-        0x00 | 0x01 | 0x02 | 0x03 | 0x0C | 0x0E | 0x11 => BusRule::Read,
-        0x06 | 0x07 | 0x09 | 0x0B | 0x1E | 0x1F => BusRule::Read,
-        0x05 => BusRule::Store,
-        0x0F | 0x13 => BusRule::Vector,
-        0x1A => BusRule::PortWrite,
-        0x1B => BusRule::PortRead,
+    match romc {
+        Romc::FETCH
+        | Romc::DISPLACEMENT
+        | Romc::READ_DATA
+        | Romc::OPERAND
+        | Romc::JUMP_LOW
+        | Romc::LOAD_DATA_LOW
+        | Romc::LOAD_DATA_HIGH => BusRule::Read,
+        Romc::TELL_DATA_HIGH
+        | Romc::TELL_STACK_HIGH
+        | Romc::TELL_DATA_LOW
+        | Romc::TELL_STACK_LOW
+        | Romc::TELL_PROGRAM_LOW
+        | Romc::TELL_PROGRAM_HIGH => BusRule::Read,
+        Romc::STORE_DATA => BusRule::Store,
+        Romc::VECTOR_LOW | Romc::VECTOR_HIGH => BusRule::Vector,
+        Romc::WRITE_PORT => BusRule::PortWrite,
+        Romc::READ_PORT => BusRule::PortRead,
         _ => BusRule::NoChip,
     }
 }

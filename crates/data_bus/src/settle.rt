@@ -1,3 +1,4 @@
+// A served step is heard by every chip.
 ghost use Rattle.std.specs.Prelude.{◌≡◌, ◌≤◌, length, map};
 ghost use Rattle.f8_spec.specs.BusArbitration.{is_first as is_first_socket};
 ghost use Rattle.f8_spec.specs.ChipState.{MayHear};
@@ -6,7 +7,7 @@ ghost use Rattle.data_bus.specs.Racks.{AllMayHear, RackSettles, SettlesStep};
 
 use super::ask::is_first;
 use super::{Cycle, Rack};
-use chip_face::Chip;
+use chip_face::{Chip, MOST_CHIPS};
 
 /// The length of a step in Φ.
 fn clocks(long: bool) -> u8
@@ -17,8 +18,10 @@ fn clocks(long: bool) -> u8
 
 /// The chip in a socket hears a served step.
 fn settle_at(chip: &mut Box<dyn Chip>, socket: u8, cycle: &Cycle, byte: u8)
-    requires { MayHear cycle.now.romc (is_first_socket cycle.now.first socket) (state chip.old).view }
-    ensures { SettlesStep cycle.now.romc cycle.now.long cycle.now.first byte socket (state chip.old) (state chip.new) }
+    requires { MayHear cycle.now.romc (is_first_socket cycle.now.first socket)
+        (state chip.old).view }
+    ensures { SettlesStep cycle.now.romc cycle.now.long cycle.now.first byte socket (state chip.old)
+        (state chip.new) }
 {
     let mark = is_first(cycle.first, socket);
     chip.settle(cycle.romc, byte, clocks(cycle.long), mark);
@@ -26,9 +29,10 @@ fn settle_at(chip: &mut Box<dyn Chip>, socket: u8, cycle: &Cycle, byte: u8)
 
 /// Every chip hears a served step, once.
 pub(crate) fn settle_all(rack: &mut Rack, cycle: &Cycle, byte: u8)
-    requires few { length rack.old.items ≤ 16 }
+    requires few { length rack.old.items ≤ MOST_CHIPS }
     requires chosen { AllMayHear cycle.now.romc cycle.now.first (map state rack.old.items) }
-    ensures settled { RackSettles cycle.now.romc cycle.now.long cycle.now.first byte (map state rack.old.items) (map state rack.new.items) }
+    ensures settled { RackSettles cycle.now.romc cycle.now.long cycle.now.first byte
+        (map state rack.old.items) (map state rack.new.items) }
     ensures chips { length rack.new.items ≡ length rack.old.items }
 {
     for (i, chip) in rack.iter_mut().enumerate() {

@@ -18,16 +18,21 @@ module _ {A : Type 0} (acts : Actions A) (strength : ℕ) (g : List Token → Re
   turn n left t ts None = Ok (left, t ∷ ts)
   turn n left t ts (Some operator) = g ts >>= λ r. chain acts strength g n (acts.between operator left r.0) r.1
 
-  pub at_token : (o : Option Operator) (n : ℕ) (left : A) (t : Token) (ts : List Token) → o ≡ operator_at strength t.kind → chain acts strength g (suc n) left (t ∷ ts) ≡ turn n left t ts o
+  pub at_token : (o : Option Operator) (n : ℕ) (left : A) (t : Token) (ts : List Token) →
+      o ≡ operator_at strength t.kind → chain acts strength g (suc n) left (t ∷ ts) ≡ turn n left t ts o
   unfolding chain
   at_token None n left t ts is = rw (← is, chain) refl
   at_token (Some operator) n left t ts is = rw (← is, chain) refl
 
   -- one operator more
-  pub chain_goes : {left : A} {t : Token} {ts : List Token} {whole : Read A} → ChainOn acts strength g left (t ∷ ts) whole → (operator : Operator) (right : A) (after : List Token) → Some operator ≡ operator_at strength t.kind → Ok (right, after) ≡ g ts → length after < length ts → ChainOn acts strength g (acts.between operator left right) after whole
+  pub chain_goes : {left : A} {t : Token} {ts : List Token} {whole : Read A} →
+      ChainOn acts strength g left (t ∷ ts) whole → (operator : Operator) (right : A) (after : List Token) →
+      Some operator ≡ operator_at strength t.kind → Ok (right, after) ≡ g ts → length after < length ts →
+      ChainOn acts strength g (acts.between operator left right) after whole
   chain_goes {left} {t} {ts} {whole} on operator right after is read less = goes on.most on.room on.is
     where
-      goes : (n : ℕ) → length (t ∷ ts) ≤ n → chain acts strength g n left (t ∷ ts) ≡ whole → ChainOn acts strength g (acts.between operator left right) after whole
+      goes : (n : ℕ) → length (t ∷ ts) ≤ n → chain acts strength g n left (t ∷ ts) ≡ whole →
+          ChainOn acts strength g (acts.between operator left right) after whole
       goes zero room e = absurd (omega arith)
       goes (suc n) room e = record {
         most = n;
@@ -36,7 +41,8 @@ module _ {A : Type 0} (acts : Actions A) (strength : ℕ) (g : List Token → Re
       }
 
   -- a token that is no operator here
-  pub chain_stops : {left : A} {t : Token} {ts : List Token} {whole : Read A} → ChainOn acts strength g left (t ∷ ts) whole → None ≡ operator_at strength t.kind → whole ≡ Ok (left, t ∷ ts)
+  pub chain_stops : {left : A} {t : Token} {ts : List Token} {whole : Read A} →
+      ChainOn acts strength g left (t ∷ ts) whole → None ≡ operator_at strength t.kind → whole ≡ Ok (left, t ∷ ts)
   chain_stops {left} {t} {ts} {whole} on is = stops on.most on.room on.is
     where
       stops : (n : ℕ) → length (t ∷ ts) ≤ n → chain acts strength g n left (t ∷ ts) ≡ whole → whole ≡ Ok (left, t ∷ ts)
@@ -44,7 +50,9 @@ module _ {A : Type 0} (acts : Actions A) (strength : ℕ) (g : List Token → Re
       stops (suc n) room e = sym e ∙ at_token None n left t ts is
 
   -- the operand behind an operator can't be read
-  pub chain_fails : {left : A} {t : Token} {ts : List Token} {whole : Read A} → ChainOn acts strength g left (t ∷ ts) whole → (operator : Operator) (fault : LineFault) → Some operator ≡ operator_at strength t.kind → Err fault ≡ g ts → whole ≡ Err fault
+  pub chain_fails : {left : A} {t : Token} {ts : List Token} {whole : Read A} →
+      ChainOn acts strength g left (t ∷ ts) whole → (operator : Operator) (fault : LineFault) →
+      Some operator ≡ operator_at strength t.kind → Err fault ≡ g ts → whole ≡ Err fault
   chain_fails {left} {t} {ts} {whole} on operator fault is failed = fails on.most on.room on.is
     where
       fails : (n : ℕ) → length (t ∷ ts) ≤ n → chain acts strength g n left (t ∷ ts) ≡ whole → whole ≡ Err fault

@@ -10,14 +10,16 @@ use Rattle.f8_asm.specs.declared.answers.AsmCause.TheVariants.{Unknown, Undefine
 use Rattle.f8_asm.specs.declared.faults.LineFault.{LineFault}
 use Rattle.f8_asm.specs.Answers.{form}
 use Rattle.f8_asm.specs.Bytes.{list_bytes}
-use Rattle.f8_asm.specs.Grammar.{chain, level, parenthesised, opened, operand_of, operand, expression}
+use Rattle.f8_asm.specs.Grammar.{chain, level, parenthesis_expression, mark_operand, operand_of, operand, expression}
 use Rattle.f8_asm.specs.Judging.{fault_at}
 use Rattle.text_lines.specs.Lines.{lines}
 use Rattle.f8_asm.specs.Listing.{pair_text, gap_of, front_of, piece, entries, listing}
 use Rattle.f8_asm.specs.PassThree.{line_bytes}
 use Rattle.f8_asm.specs.Registers.{same_word, one_letter_register, two_letter_register, register_of, pair_op}
 use Rattle.f8_asm.specs.Statements.{items, operands, statement, label_of}
-use Rattle.f8_asm.specs.Words.{two_letter_op_a_to_b, two_letter_op_c_to_l, two_letter_op_n_to_x, two_letter_op, three_letter_op_a_to_c, three_letter_op_d_to_x, three_letter_op, two_letter_shape, longer_shape, op_of, shape_of, is_reserved}
+use Rattle.f8_asm.specs.Words.{two_letter_op_a_to_b, two_letter_op_c_to_l, two_letter_op_n_to_x, two_letter_op}
+use Rattle.f8_asm.specs.Words.{three_letter_op_a_to_c, three_letter_op_d_to_x, three_letter_op, two_letter_shape}
+use Rattle.f8_asm.specs.Words.{longer_shape, op_of, shape_of, is_reserved}
 
 -- the bytes of a line at address 0000, without names
 abbrev bytes : List ℕ → Result (List ℕ) LineFault
@@ -29,92 +31,164 @@ bytes line =
 
 -- 512 less 1 is 511, no displacement
 branch_too_far : bytes (codes " BT 1,$200") ≡ Err (fault_at 7 BranchRange)
-unfolding tokens_at lexeme name_lexeme name_of number_lexeme number_of quoted_lexeme value narrow line_bytes statement label_of operands items chain level parenthesised opened operand_of operand expression same_word one_letter_register two_letter_register register_of pair_op two_letter_op_a_to_b two_letter_op_c_to_l two_letter_op_n_to_x two_letter_op three_letter_op_a_to_c three_letter_op_d_to_x three_letter_op two_letter_shape longer_shape op_of shape_of is_reserved list_bytes
+unfolding tokens_at lexeme name_lexeme name_of number_lexeme number_of quoted_lexeme value narrow line_bytes statement
+    label_of operands items chain level parenthesis_expression mark_operand operand_of operand expression same_word one_letter_register
+    two_letter_register register_of pair_op two_letter_op_a_to_b two_letter_op_c_to_l two_letter_op_n_to_x two_letter_op
+    three_letter_op_a_to_c three_letter_op_d_to_x three_letter_op two_letter_shape longer_shape op_of shape_of
+    is_reserved list_bytes
 branch_too_far = refl
 
 -- 0 less 1 is -1
 branch_to_itself : bytes (codes " BR 0") ≡ Ok (0x90 ∷ 0xFF ∷ [])
-unfolding tokens_at lexeme name_lexeme name_of number_lexeme number_of quoted_lexeme value narrow line_bytes statement label_of operands items chain level parenthesised opened operand_of operand expression same_word one_letter_register two_letter_register register_of pair_op two_letter_op_a_to_b two_letter_op_c_to_l two_letter_op_n_to_x two_letter_op three_letter_op_a_to_c three_letter_op_d_to_x three_letter_op two_letter_shape longer_shape op_of shape_of is_reserved list_bytes
+unfolding tokens_at lexeme name_lexeme name_of number_lexeme number_of quoted_lexeme value narrow line_bytes statement
+    label_of operands items chain level parenthesis_expression mark_operand operand_of operand expression same_word one_letter_register
+    two_letter_register register_of pair_op two_letter_op_a_to_b two_letter_op_c_to_l two_letter_op_n_to_x two_letter_op
+    three_letter_op_a_to_c three_letter_op_d_to_x three_letter_op two_letter_shape longer_shape op_of shape_of
+    is_reserved list_bytes
 branch_to_itself = refl
 
 -- 256 is no byte
 byte_too_large : bytes (codes " LI 256") ≡ Err (fault_at 5 Range)
-unfolding tokens_at lexeme name_lexeme name_of number_lexeme number_of quoted_lexeme value narrow line_bytes statement label_of operands items chain level parenthesised opened operand_of operand expression same_word one_letter_register two_letter_register register_of pair_op two_letter_op_a_to_b two_letter_op_c_to_l two_letter_op_n_to_x two_letter_op three_letter_op_a_to_c three_letter_op_d_to_x three_letter_op two_letter_shape longer_shape op_of shape_of is_reserved list_bytes
+unfolding tokens_at lexeme name_lexeme name_of number_lexeme number_of quoted_lexeme value narrow line_bytes statement
+    label_of operands items chain level parenthesis_expression mark_operand operand_of operand expression same_word one_letter_register
+    two_letter_register register_of pair_op two_letter_op_a_to_b two_letter_op_c_to_l two_letter_op_n_to_x two_letter_op
+    three_letter_op_a_to_c three_letter_op_d_to_x three_letter_op two_letter_shape longer_shape op_of shape_of
+    is_reserved list_bytes
 byte_too_large = refl
 
 -- -128 is one
 least_byte : bytes (codes " li -128") ≡ Ok (0x20 ∷ 0x80 ∷ [])
-unfolding tokens_at lexeme name_lexeme name_of number_lexeme number_of quoted_lexeme value narrow line_bytes statement label_of operands items chain level parenthesised opened operand_of operand expression same_word one_letter_register two_letter_register register_of pair_op two_letter_op_a_to_b two_letter_op_c_to_l two_letter_op_n_to_x two_letter_op three_letter_op_a_to_c three_letter_op_d_to_x three_letter_op two_letter_shape longer_shape op_of shape_of is_reserved list_bytes
+unfolding tokens_at lexeme name_lexeme name_of number_lexeme number_of quoted_lexeme value narrow line_bytes statement
+    label_of operands items chain level parenthesis_expression mark_operand operand_of operand expression same_word one_letter_register
+    two_letter_register register_of pair_op two_letter_op_a_to_b two_letter_op_c_to_l two_letter_op_n_to_x two_letter_op
+    three_letter_op_a_to_c three_letter_op_d_to_x three_letter_op two_letter_shape longer_shape op_of shape_of
+    is_reserved list_bytes
 least_byte = refl
 
 -- an operand with an undefined name is not judged further
 undefined_goes_first : bytes (codes " LI 1/0+X") ≡ Err (fault_at 9 Undefined)
-unfolding tokens_at lexeme name_lexeme name_of number_lexeme number_of quoted_lexeme value narrow line_bytes statement label_of operands items chain level parenthesised opened operand_of operand expression same_word one_letter_register two_letter_register register_of pair_op two_letter_op_a_to_b two_letter_op_c_to_l two_letter_op_n_to_x two_letter_op three_letter_op_a_to_c three_letter_op_d_to_x three_letter_op two_letter_shape longer_shape op_of shape_of is_reserved list_bytes
+unfolding tokens_at lexeme name_lexeme name_of number_lexeme number_of quoted_lexeme value narrow line_bytes statement
+    label_of operands items chain level parenthesis_expression mark_operand operand_of operand expression same_word one_letter_register
+    two_letter_register register_of pair_op two_letter_op_a_to_b two_letter_op_c_to_l two_letter_op_n_to_x two_letter_op
+    three_letter_op_a_to_c three_letter_op_d_to_x three_letter_op two_letter_shape longer_shape op_of shape_of
+    is_reserved list_bytes
 undefined_goes_first = refl
 
 -- between operands the lower column goes first
 lower_column_first : bytes (codes " DB 1/0,X") ≡ Err (fault_at 5 Range)
-unfolding tokens_at lexeme name_lexeme name_of number_lexeme number_of quoted_lexeme value narrow line_bytes statement label_of operands items chain level parenthesised opened operand_of operand expression same_word one_letter_register two_letter_register register_of pair_op two_letter_op_a_to_b two_letter_op_c_to_l two_letter_op_n_to_x two_letter_op three_letter_op_a_to_c three_letter_op_d_to_x three_letter_op two_letter_shape longer_shape op_of shape_of is_reserved list_bytes
+unfolding tokens_at lexeme name_lexeme name_of number_lexeme number_of quoted_lexeme value narrow line_bytes statement
+    label_of operands items chain level parenthesis_expression mark_operand operand_of operand expression same_word one_letter_register
+    two_letter_register register_of pair_op two_letter_op_a_to_b two_letter_op_c_to_l two_letter_op_n_to_x two_letter_op
+    three_letter_op_a_to_c three_letter_op_d_to_x three_letter_op two_letter_shape longer_shape op_of shape_of
+    is_reserved list_bytes
 lower_column_first = refl
 
 -- a character, and a negative byte
 characters_and_negatives : bytes (codes " DB -1,'A'") ≡ Ok (0xFF ∷ 0x41 ∷ [])
-unfolding tokens_at lexeme name_lexeme name_of number_lexeme number_of quoted_lexeme value narrow line_bytes statement label_of operands items chain level parenthesised opened operand_of operand expression same_word one_letter_register two_letter_register register_of pair_op two_letter_op_a_to_b two_letter_op_c_to_l two_letter_op_n_to_x two_letter_op three_letter_op_a_to_c three_letter_op_d_to_x three_letter_op two_letter_shape longer_shape op_of shape_of is_reserved list_bytes
+unfolding tokens_at lexeme name_lexeme name_of number_lexeme number_of quoted_lexeme value narrow line_bytes statement
+    label_of operands items chain level parenthesis_expression mark_operand operand_of operand expression same_word one_letter_register
+    two_letter_register register_of pair_op two_letter_op_a_to_b two_letter_op_c_to_l two_letter_op_n_to_x two_letter_op
+    three_letter_op_a_to_c three_letter_op_d_to_x three_letter_op two_letter_shape longer_shape op_of shape_of
+    is_reserved list_bytes
 characters_and_negatives = refl
 
 -- `*` before `+`, `+` before `&`, `&` before `|`
 strengths : bytes (codes " LI 1|6&2+2*3") ≡ Ok (0x20 ∷ 0x01 ∷ [])
-unfolding tokens_at lexeme name_lexeme name_of number_lexeme number_of quoted_lexeme value narrow line_bytes statement label_of operands items chain level parenthesised opened operand_of operand expression same_word one_letter_register two_letter_register register_of pair_op two_letter_op_a_to_b two_letter_op_c_to_l two_letter_op_n_to_x two_letter_op three_letter_op_a_to_c three_letter_op_d_to_x three_letter_op two_letter_shape longer_shape op_of shape_of is_reserved list_bytes
+unfolding tokens_at lexeme name_lexeme name_of number_lexeme number_of quoted_lexeme value narrow line_bytes statement
+    label_of operands items chain level parenthesis_expression mark_operand operand_of operand expression same_word one_letter_register
+    two_letter_register register_of pair_op two_letter_op_a_to_b two_letter_op_c_to_l two_letter_op_n_to_x two_letter_op
+    three_letter_op_a_to_c three_letter_op_d_to_x three_letter_op two_letter_shape longer_shape op_of shape_of
+    is_reserved list_bytes
 strengths = refl
 
 -- the low byte of a word
 low_byte : bytes (codes " LI <$1234") ≡ Ok (0x20 ∷ 0x34 ∷ [])
-unfolding tokens_at lexeme name_lexeme name_of number_lexeme number_of quoted_lexeme value narrow line_bytes statement label_of operands items chain level parenthesised opened operand_of operand expression same_word one_letter_register two_letter_register register_of pair_op two_letter_op_a_to_b two_letter_op_c_to_l two_letter_op_n_to_x two_letter_op three_letter_op_a_to_c three_letter_op_d_to_x three_letter_op two_letter_shape longer_shape op_of shape_of is_reserved list_bytes
+unfolding tokens_at lexeme name_lexeme name_of number_lexeme number_of quoted_lexeme value narrow line_bytes statement
+    label_of operands items chain level parenthesis_expression mark_operand operand_of operand expression same_word one_letter_register
+    two_letter_register register_of pair_op two_letter_op_a_to_b two_letter_op_c_to_l two_letter_op_n_to_x two_letter_op
+    three_letter_op_a_to_c three_letter_op_d_to_x three_letter_op two_letter_shape longer_shape op_of shape_of
+    is_reserved list_bytes
 low_byte = refl
 
 -- `<` of a negative value
 negative_has_no_low_byte : bytes (codes " LI <-1") ≡ Err (fault_at 5 Range)
-unfolding tokens_at lexeme name_lexeme name_of number_lexeme number_of quoted_lexeme value narrow line_bytes statement label_of operands items chain level parenthesised opened operand_of operand expression same_word one_letter_register two_letter_register register_of pair_op two_letter_op_a_to_b two_letter_op_c_to_l two_letter_op_n_to_x two_letter_op three_letter_op_a_to_c three_letter_op_d_to_x three_letter_op two_letter_shape longer_shape op_of shape_of is_reserved list_bytes
+unfolding tokens_at lexeme name_lexeme name_of number_lexeme number_of quoted_lexeme value narrow line_bytes statement
+    label_of operands items chain level parenthesis_expression mark_operand operand_of operand expression same_word one_letter_register
+    two_letter_register register_of pair_op two_letter_op_a_to_b two_letter_op_c_to_l two_letter_op_n_to_x two_letter_op
+    three_letter_op_a_to_c three_letter_op_d_to_x three_letter_op two_letter_shape longer_shape op_of shape_of
+    is_reserved list_bytes
 negative_has_no_low_byte = refl
 
 -- `LR A,A` is no instruction
 second_accumulator : bytes (codes " LR A,A") ≡ Err (form (Some 7))
-unfolding tokens_at lexeme name_lexeme name_of number_lexeme number_of quoted_lexeme value narrow line_bytes statement label_of operands items chain level parenthesised opened operand_of operand expression same_word one_letter_register two_letter_register register_of pair_op two_letter_op_a_to_b two_letter_op_c_to_l two_letter_op_n_to_x two_letter_op three_letter_op_a_to_c three_letter_op_d_to_x three_letter_op two_letter_shape longer_shape op_of shape_of is_reserved list_bytes
+unfolding tokens_at lexeme name_lexeme name_of number_lexeme number_of quoted_lexeme value narrow line_bytes statement
+    label_of operands items chain level parenthesis_expression mark_operand operand_of operand expression same_word one_letter_register
+    two_letter_register register_of pair_op two_letter_op_a_to_b two_letter_op_c_to_l two_letter_op_n_to_x two_letter_op
+    three_letter_op_a_to_c three_letter_op_d_to_x three_letter_op two_letter_shape longer_shape op_of shape_of
+    is_reserved list_bytes
 second_accumulator = refl
 
 -- neither is `LR HU,W`
 no_such_pair : bytes (codes " LR HU,W") ≡ Err (form (Some 8))
-unfolding tokens_at lexeme name_lexeme name_of number_lexeme number_of quoted_lexeme value narrow line_bytes statement label_of operands items chain level parenthesised opened operand_of operand expression same_word one_letter_register two_letter_register register_of pair_op two_letter_op_a_to_b two_letter_op_c_to_l two_letter_op_n_to_x two_letter_op three_letter_op_a_to_c three_letter_op_d_to_x three_letter_op two_letter_shape longer_shape op_of shape_of is_reserved list_bytes
+unfolding tokens_at lexeme name_lexeme name_of number_lexeme number_of quoted_lexeme value narrow line_bytes statement
+    label_of operands items chain level parenthesis_expression mark_operand operand_of operand expression same_word one_letter_register
+    two_letter_register register_of pair_op two_letter_op_a_to_b two_letter_op_c_to_l two_letter_op_n_to_x two_letter_op
+    three_letter_op_a_to_c three_letter_op_d_to_x three_letter_op two_letter_shape longer_shape op_of shape_of
+    is_reserved list_bytes
 no_such_pair = refl
 
 -- J is register 9
 register_nine : bytes (codes " LR J,A") ≡ Ok (0x59 ∷ [])
-unfolding tokens_at lexeme name_lexeme name_of number_lexeme number_of quoted_lexeme value narrow line_bytes statement label_of operands items chain level parenthesised opened operand_of operand expression same_word one_letter_register two_letter_register register_of pair_op two_letter_op_a_to_b two_letter_op_c_to_l two_letter_op_n_to_x two_letter_op three_letter_op_a_to_c three_letter_op_d_to_x three_letter_op two_letter_shape longer_shape op_of shape_of is_reserved list_bytes
+unfolding tokens_at lexeme name_lexeme name_of number_lexeme number_of quoted_lexeme value narrow line_bytes statement
+    label_of operands items chain level parenthesis_expression mark_operand operand_of operand expression same_word one_letter_register
+    two_letter_register register_of pair_op two_letter_op_a_to_b two_letter_op_c_to_l two_letter_op_n_to_x two_letter_op
+    three_letter_op_a_to_c three_letter_op_d_to_x three_letter_op two_letter_shape longer_shape op_of shape_of
+    is_reserved list_bytes
 register_nine = refl
 
 -- only S, I and D name 12 to 14
 words_alone : bytes (codes " LR 12,A") ≡ Err (fault_at 5 Range)
-unfolding tokens_at lexeme name_lexeme name_of number_lexeme number_of quoted_lexeme value narrow line_bytes statement label_of operands items chain level parenthesised opened operand_of operand expression same_word one_letter_register two_letter_register register_of pair_op two_letter_op_a_to_b two_letter_op_c_to_l two_letter_op_n_to_x two_letter_op three_letter_op_a_to_c three_letter_op_d_to_x three_letter_op two_letter_shape longer_shape op_of shape_of is_reserved list_bytes
+unfolding tokens_at lexeme name_lexeme name_of number_lexeme number_of quoted_lexeme value narrow line_bytes statement
+    label_of operands items chain level parenthesis_expression mark_operand operand_of operand expression same_word one_letter_register
+    two_letter_register register_of pair_op two_letter_op_a_to_b two_letter_op_c_to_l two_letter_op_n_to_x two_letter_op
+    three_letter_op_a_to_c three_letter_op_d_to_x three_letter_op two_letter_shape longer_shape op_of shape_of
+    is_reserved list_bytes
 words_alone = refl
 
 -- port 2 has no instruction
 port_two : bytes (codes " INS 2") ≡ Err (fault_at 6 Range)
-unfolding tokens_at lexeme name_lexeme name_of number_lexeme number_of quoted_lexeme value narrow line_bytes statement label_of operands items chain level parenthesised opened operand_of operand expression same_word one_letter_register two_letter_register register_of pair_op two_letter_op_a_to_b two_letter_op_c_to_l two_letter_op_n_to_x two_letter_op three_letter_op_a_to_c three_letter_op_d_to_x three_letter_op two_letter_shape longer_shape op_of shape_of is_reserved list_bytes
+unfolding tokens_at lexeme name_lexeme name_of number_lexeme number_of quoted_lexeme value narrow line_bytes statement
+    label_of operands items chain level parenthesis_expression mark_operand operand_of operand expression same_word one_letter_register
+    two_letter_register register_of pair_op two_letter_op_a_to_b two_letter_op_c_to_l two_letter_op_n_to_x two_letter_op
+    three_letter_op_a_to_c three_letter_op_d_to_x three_letter_op two_letter_shape longer_shape op_of shape_of
+    is_reserved list_bytes
 port_two = refl
 
 -- a name in a mnemonic's place
 unknown : bytes (codes "X: Y: NOP") ≡ Err (record { column = Some 4; cause = Unknown })
-unfolding tokens_at lexeme name_lexeme name_of number_lexeme number_of quoted_lexeme value narrow line_bytes statement label_of operands items chain level parenthesised opened operand_of operand expression same_word one_letter_register two_letter_register register_of pair_op two_letter_op_a_to_b two_letter_op_c_to_l two_letter_op_n_to_x two_letter_op three_letter_op_a_to_c three_letter_op_d_to_x three_letter_op two_letter_shape longer_shape op_of shape_of is_reserved list_bytes
+unfolding tokens_at lexeme name_lexeme name_of number_lexeme number_of quoted_lexeme value narrow line_bytes statement
+    label_of operands items chain level parenthesis_expression mark_operand operand_of operand expression same_word one_letter_register
+    two_letter_register register_of pair_op two_letter_op_a_to_b two_letter_op_c_to_l two_letter_op_n_to_x two_letter_op
+    three_letter_op_a_to_c three_letter_op_d_to_x three_letter_op two_letter_shape longer_shape op_of shape_of
+    is_reserved list_bytes
 unknown = refl
 
 -- a mnemonic is no label
 reserved_label : bytes (codes "NOP: NOP") ≡ Err (form (Some 4))
-unfolding tokens_at lexeme name_lexeme name_of number_lexeme number_of quoted_lexeme value narrow line_bytes statement label_of operands items chain level parenthesised opened operand_of operand expression same_word one_letter_register two_letter_register register_of pair_op two_letter_op_a_to_b two_letter_op_c_to_l two_letter_op_n_to_x two_letter_op three_letter_op_a_to_c three_letter_op_d_to_x three_letter_op two_letter_shape longer_shape op_of shape_of is_reserved list_bytes
+unfolding tokens_at lexeme name_lexeme name_of number_lexeme number_of quoted_lexeme value narrow line_bytes statement
+    label_of operands items chain level parenthesis_expression mark_operand operand_of operand expression same_word one_letter_register
+    two_letter_register register_of pair_op two_letter_op_a_to_b two_letter_op_c_to_l two_letter_op_n_to_x two_letter_op
+    three_letter_op_a_to_c three_letter_op_d_to_x three_letter_op two_letter_shape longer_shape op_of shape_of
+    is_reserved list_bytes
 reserved_label = refl
 
 -- nothing stands behind the comma's place
 past_the_end : bytes (codes " BT 1") ≡ Err (form None)
-unfolding tokens_at lexeme name_lexeme name_of number_lexeme number_of quoted_lexeme value narrow line_bytes statement label_of operands items chain level parenthesised opened operand_of operand expression same_word one_letter_register two_letter_register register_of pair_op two_letter_op_a_to_b two_letter_op_c_to_l two_letter_op_n_to_x two_letter_op three_letter_op_a_to_c three_letter_op_d_to_x three_letter_op two_letter_shape longer_shape op_of shape_of is_reserved list_bytes
+unfolding tokens_at lexeme name_lexeme name_of number_lexeme number_of quoted_lexeme value narrow line_bytes statement
+    label_of operands items chain level parenthesis_expression mark_operand operand_of operand expression same_word one_letter_register
+    two_letter_register register_of pair_op two_letter_op_a_to_b two_letter_op_c_to_l two_letter_op_n_to_x two_letter_op
+    three_letter_op_a_to_c three_letter_op_d_to_x three_letter_op two_letter_shape longer_shape op_of shape_of
+    is_reserved list_bytes
 past_the_end = refl
 
 -- an LF ends a line, and a CR right before it is dropped
@@ -131,6 +205,7 @@ unfolding listing entries piece decoded pair_text gap_of front_of mnemonic_of he
 cut_listing = refl
 
 -- a branch to itself, and one that leads out of the addresses, whose second byte is no opcode either
-branch_listing : listing (0x90 ∷ 0xFF ∷ 0x90 ∷ 0x80 ∷ 0x2B ∷ []) ≡ codes "ORG $0000" ++ 10 ∷ codes "BF 0,$0000" ++ 10 ∷ codes "DB $90" ++ 10 ∷ codes "DB $80" ++ 10 ∷ codes "NOP" ++ 10 ∷ []
+branch_listing : listing (0x90 ∷ 0xFF ∷ 0x90 ∷ 0x80 ∷ 0x2B ∷ []) ≡ codes "ORG $0000" ++ 10 ∷ codes "BF 0,$0000" ++ 10 ∷
+    codes "DB $90" ++ 10 ∷ codes "DB $80" ++ 10 ∷ codes "NOP" ++ 10 ∷ []
 unfolding listing entries piece decoded pair_text gap_of front_of mnemonic_of hex2 hex4
 branch_listing = refl

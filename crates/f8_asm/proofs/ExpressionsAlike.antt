@@ -8,7 +8,7 @@ use Rattle.f8_asm.specs.declared.values.Operator.{Operator}
 use Rattle.f8_asm.specs.declared.values.Prefix.{Prefix}
 use Rattle.f8_asm.specs.declared.values.Prefix.TheVariants.{Negative, LowByte, HighByte}
 use Rattle.f8_asm.specs.Words.{is_reserved}
-use Rattle.f8_asm.specs.Grammar.{Actions, Read, operator_at, chain, level, closed, parenthesised, behind_prefix, opened, operand_of, operand, expression}
+use Rattle.f8_asm.specs.Grammar.{Actions, Read, operator_at, chain, level, parenthesis_end, parenthesis_expression, behind_prefix, mark_operand, operand_of, operand, expression}
 use Rattle.f8_asm.proofs.Alike.{Alike, alike_ok, alike_err, alike_then, alike_if}
 use Rattle.f8_asm.proofs.Chain.{at_token}
 
@@ -16,7 +16,8 @@ use Rattle.f8_asm.proofs.Chain.{at_token}
 abbrev pub SameRest : {A B : Type 0} → (A × List Token) → (B × List Token) → Type 0
 SameRest x y = x.1 ≡ y.1
 
-module _ {A B : Type 0} (a : Actions A) (b : Actions B) (f : List Token → Read A) (g : List Token → Read B) (each : (ts : List Token) → Alike SameRest (f ts) (g ts)) where
+module _ {A B : Type 0} (a : Actions A) (b : Actions B) (f : List Token → Read A) (g : List Token → Read B)
+    (each : (ts : List Token) → Alike SameRest (f ts) (g ts)) where
   chain_alike : (strength n : ℕ) (x : A) (y : B) (ts : List Token) → Alike SameRest (chain a strength f n x ts) (chain b strength g n y ts)
   unfolding chain
   chain_alike strength zero x y ts = alike_ok refl
@@ -30,7 +31,8 @@ module _ {A B : Type 0} (a : Actions A) (b : Actions B) (f : List Token → Read
           rw (at_token a strength f (Some operator) n x t ts is, at_token b strength g (Some operator) n y t ts is)
           (alike_then (each ts) (λ r s same. rw same (further (a.between operator x r.0) (b.between operator y s.0) s.1)))
 
-module _ {A B : Type 0} (a : Actions A) (b : Actions B) (f : List Token → Read A) (g : List Token → Read B) (each : (ts : List Token) → Alike SameRest (f ts) (g ts)) where
+module _ {A B : Type 0} (a : Actions A) (b : Actions B) (f : List Token → Read A) (g : List Token → Read B)
+    (each : (ts : List Token) → Alike SameRest (f ts) (g ts)) where
   level_alike : (k : ℕ) (ts : List Token) → Alike SameRest (level a f k ts) (level b g k ts)
   unfolding level
   level_alike zero ts = each ts
@@ -38,25 +40,26 @@ module _ {A B : Type 0} (a : Actions A) (b : Actions B) (f : List Token → Read
       alike_then (level_alike k ts)
       (λ r s same. rw same (chain_alike a b (level a f k) (level b g k) (λ us. level_alike k us) (suc k) (length s.1) r.0 s.0 s.1))
 
-closed_alike : {A B : Type 0} (x : A) (y : B) (ts : List Token) → Alike SameRest (closed x ts) (closed y ts)
+closed_alike : {A B : Type 0} (x : A) (y : B) (ts : List Token) → Alike SameRest (parenthesis_end x ts) (parenthesis_end y ts)
 closed_alike x y [] = alike_err
 closed_alike {A} {B} x y (t ∷ ts) = goes t.kind refl
   where
-    goes : (k : TokenKind) → k ≡ t.kind → Alike SameRest (closed x (t ∷ ts)) (closed y (t ∷ ts))
+    goes : (k : TokenKind) → k ≡ t.kind → Alike SameRest (parenthesis_end x (t ∷ ts)) (parenthesis_end y (t ∷ ts))
     goes (kind.Mark mark) is = rw (← is) (alike_if (mark == 41) (alike_ok refl) alike_err)
     goes (kind.Name name) is = rw (← is) alike_err
     goes (kind.Number number) is = rw (← is) alike_err
 
-module _ {A B : Type 0} (a : Actions A) (b : Actions B) (f : List Token → Read A) (g : List Token → Read B) (each : (ts : List Token) → Alike SameRest (f ts) (g ts)) where
-  parenthesised_alike : (ts : List Token) → Alike SameRest (parenthesised a f ts) (parenthesised b g ts)
-  unfolding parenthesised
+module _ {A B : Type 0} (a : Actions A) (b : Actions B) (f : List Token → Read A) (g : List Token → Read B)
+    (each : (ts : List Token) → Alike SameRest (f ts) (g ts)) where
+  parenthesised_alike : (ts : List Token) → Alike SameRest (parenthesis_expression a f ts) (parenthesis_expression b g ts)
+  unfolding parenthesis_expression
   parenthesised_alike ts = alike_then (level_alike a b f g each 4 ts) (λ r s same. rw same (closed_alike r.0 s.0 s.1))
 
   prefix_alike : (prefix : Prefix) (ts : List Token) → Alike SameRest (behind_prefix a prefix f ts) (behind_prefix b prefix g ts)
   prefix_alike prefix ts = alike_then (each ts) (λ r s same. alike_ok same)
 
-  opened_alike : (column mark : ℕ) (ts : List Token) → Alike SameRest (opened a (Some f) column mark ts) (opened b (Some g) column mark ts)
-  unfolding opened
+  opened_alike : (column mark : ℕ) (ts : List Token) → Alike SameRest (mark_operand a (Some f) column mark ts) (mark_operand b (Some g) column mark ts)
+  unfolding mark_operand
   opened_alike column mark ts =
       alike_if (mark == 46) (alike_ok refl)
       (alike_if (mark == 45) (prefix_alike Negative ts)
@@ -64,12 +67,13 @@ module _ {A B : Type 0} (a : Actions A) (b : Actions B) (f : List Token → Read
       (alike_if (mark == 62) (prefix_alike HighByte ts)
       (alike_if (mark == 40) (parenthesised_alike ts) alike_err))))
 
-unopened_alike : {A B : Type 0} (a : Actions A) (b : Actions B) (column mark : ℕ) (ts : List Token) → Alike SameRest (opened a None column mark ts) (opened b None column mark ts)
-unfolding opened
+unopened_alike : {A B : Type 0} (a : Actions A) (b : Actions B) (column mark : ℕ) (ts : List Token) →
+    Alike SameRest (mark_operand a None column mark ts) (mark_operand b None column mark ts)
+unfolding mark_operand
 unopened_alike a b column mark ts = alike_if (mark == 46) (alike_ok refl) alike_err
 
 operand_of_alike : {A B : Type 0} (a : Actions A) (b : Actions B) (f : Option (List Token → Read A)) (g : Option (List Token → Read B))
-    → ((column mark : ℕ) (ts : List Token) → Alike SameRest (opened a f column mark ts) (opened b g column mark ts))
+    → ((column mark : ℕ) (ts : List Token) → Alike SameRest (mark_operand a f column mark ts) (mark_operand b g column mark ts))
     → (ts : List Token) → Alike SameRest (operand_of a f ts) (operand_of b g ts)
 unfolding operand_of
 operand_of_alike a b f g opens [] = alike_err

@@ -1,5 +1,6 @@
 -- What is read of tokens is an expression.
-use Rattle.std.proofs.Common.{◌≡◌, ℕ, zero, suc, ◌≤◌, Bool, true, false, List, [], ◌∷◌, ◌++◌, length, Option, Some, None, Ok, refl, sym, ap, ◌∙◌, subst, arith, append_assoc, length-append, le_refl}
+use Rattle.std.proofs.Common.{◌≡◌, ℕ, zero, suc, ◌≤◌, Bool, true, false, List, [], ◌∷◌, ◌++◌, length, Option, Some}
+use Rattle.std.proofs.Common.{None, Ok, refl, sym, ap, ◌∙◌, subst, arith, append_assoc, length-append, le_refl}
 use Rattle.std.specs.Prelude.{◌==◌, if◌then◌else◌}
 use Rattle.std.proofs.lemmas.Bool.Decides.{nat_tests}
 use Rattle.asm_text.specs.declared.answers.Token.{Token}
@@ -9,7 +10,7 @@ use Rattle.f8_asm.specs.declared.values.Operator.{Operator}
 use Rattle.f8_asm.specs.declared.values.Prefix.{Prefix}
 use Rattle.f8_asm.specs.declared.values.Prefix.TheVariants.{Negative, LowByte, HighByte}
 use Rattle.f8_asm.specs.ExpressionForms.{prefix_mark, Forms, BeginsWithExpression}
-use Rattle.f8_asm.specs.Grammar.{Actions, Read, operator_at, chain, level, closed, parenthesised, behind_prefix, opened, operand_of, operand, expression}
+use Rattle.f8_asm.specs.Grammar.{Actions, Read, operator_at, chain, level, parenthesis_end, parenthesis_expression, behind_prefix, mark_operand, operand_of, operand, expression}
 use Rattle.f8_asm.specs.Words.{is_reserved}
 use Rattle.f8_asm.proofs.Alike.{read-ok}
 use Rattle.f8_asm.proofs.Chain.{turn, at_token}
@@ -56,7 +57,7 @@ module _ {A : Type 0} (acts : Actions A) (depth k : ℕ) (g : List Token → Rea
       let size = ap length right.whole in
       let parts = length-append right.front r.1 in
       let whole = further (before ++ t ∷ right.front) (acts.between operator left r.0) r.1 v rest (omega arith) right.ends
-      (Forms.joined t operator found.strength_is forms found.kind_is right.forms) h in
+      (Forms.operator_value t operator found.strength_is forms found.kind_is right.forms) h in
       let same : (before ++ t ∷ right.front) ++ r.1 ≡ before ++ t ∷ ts =
       append_assoc before (t ∷ right.front) r.1 ∙ ap (λ us. before ++ t ∷ us) (sym right.whole) in
       subst (λ us. Formed acts (suc k) depth us v rest) same whole)
@@ -79,14 +80,19 @@ record Closed {A : Type 0} (x : A) (us : List Token) (v : A) (rest : List Token)
   pub mark_is : mark.kind ≡ kind.Mark 41
   pub same : x ≡ v
 
-closed_is : {A : Type 0} (x : A) (us : List Token) (v : A) (rest : List Token) → closed x us ≡ Ok (v, rest) → Closed x us v rest
+closed_is : {A : Type 0} (x : A) (us : List Token) (v : A) (rest : List Token) → parenthesis_end x us ≡ Ok (v, rest) → Closed x us v rest
 closed_is x [] v rest h = cc h
 closed_is {A} x (u ∷ us) v rest h = goes u.kind refl
   where
     closes : (mark : ℕ) → u.kind ≡ kind.Mark mark → mark ≡ 41 → ◌≡◌ {A = Read A} (Ok (x, us)) (Ok (v, rest)) → Closed x (u ∷ us) v rest
     closes mark is closing h =
         let same : ◌≡◌ {A = A × List Token} (x, us) (v, rest) = cc h in
-        record { mark = u; whole = ap (λ (r : A × List Token). u ∷ r.1) same; mark_is = is ∙ ap kind.Mark closing; same = ap (λ (r : A × List Token). r.0) same }
+        record {
+          mark = u;
+          whole = ap (λ (r : A × List Token). u ∷ r.1) same;
+          mark_is = is ∙ ap kind.Mark closing;
+          same = ap (λ (r : A × List Token). r.0) same;
+        }
 
     goes : (k : TokenKind) → u.kind ≡ k → Closed x (u ∷ us) v rest
     goes (kind.Name name) is = cc (rw is at h)
@@ -113,11 +119,16 @@ module _ {A : Type 0} (acts : Actions A) (depth : ℕ) (f : List Token → Read 
   behind_formed prefix t ts v rest is h =
       read-ok (Formed acts 0 (suc depth) (t ∷ ts) v rest) (f ts) _ (v, rest) h (λ r at_r h.
       let inner = each ts r.0 r.1 at_r in
-      formed_as acts (record { front = t ∷ inner.front; whole = ap (λ us. t ∷ us) inner.whole; forms = Forms.prefixed prefix is inner.forms; ends = inner.ends }) h)
+      formed_as acts (record {
+        front = t ∷ inner.front;
+        whole = ap (λ us. t ∷ us) inner.whole;
+        forms = Forms.prefix_value prefix is inner.forms;
+        ends = inner.ends;
+      }) h)
 
   parenthesised_formed : (t : Token) (ts : List Token) (v : A) (rest : List Token) → t.kind ≡ kind.Mark 40
-      → parenthesised acts f ts ≡ Ok (v, rest) → Formed acts 0 (suc depth) (t ∷ ts) v rest
-  unfolding parenthesised
+      → parenthesis_expression acts f ts ≡ Ok (v, rest) → Formed acts 0 (suc depth) (t ∷ ts) v rest
+  unfolding parenthesis_expression
   parenthesised_formed t ts v rest is h =
       read-ok (Formed acts 0 (suc depth) (t ∷ ts) v rest) (level acts f 4 ts) _ (v, rest) h (λ r at_r h.
       let inner = level_formed 4 ts r.0 r.1 at_r in
@@ -128,17 +139,22 @@ module _ {A : Type 0} (acts : Actions A) (depth : ℕ) (f : List Token → Read 
       record {
         front = t ∷ (inner.front ++ behind.mark ∷ []);
         whole = ap (λ us. t ∷ us) (read ∙ sym parted);
-        forms = Forms.parenthesised t behind.mark is value behind.mark_is;
+        forms = Forms.parenthesis_expression t behind.mark is value behind.mark_is;
         ends = ends_operand rest;
       })
 
   opened_formed : (t : Token) (mark : ℕ) (ts : List Token) (v : A) (rest : List Token) → t.kind ≡ kind.Mark mark
-      → opened acts (Some f) t.column mark ts ≡ Ok (v, rest) → Formed acts 0 (suc depth) (t ∷ ts) v rest
-  unfolding opened
+      → mark_operand acts (Some f) t.column mark ts ≡ Ok (v, rest) → Formed acts 0 (suc depth) (t ∷ ts) v rest
+  unfolding mark_operand
   opened_formed t mark ts v rest is h =
       let P = Formed acts 0 (suc depth) (t ∷ ts) v rest in
       by_test P (mark == 46) _ _ (v, rest) h
-      (λ dot h. formed_as acts (record { front = t ∷ []; whole = refl; forms = Forms.here (is ∙ ap kind.Mark (grind (arith, nat_tests))); ends = ends_operand ts }) h)
+      (λ dot h. formed_as acts (record {
+        front = t ∷ [];
+        whole = refl;
+        forms = Forms.here (is ∙ ap kind.Mark (grind (arith, nat_tests)));
+        ends = ends_operand ts;
+      }) h)
       (λ other h. by_test P (mark == 45) _ _ (v, rest) h
       (λ minus h. behind_formed Negative t ts v rest (is ∙ ap kind.Mark (grind (arith, nat_tests))) h)
       (λ other h. by_test P (mark == 60) _ _ (v, rest) h
@@ -150,22 +166,28 @@ module _ {A : Type 0} (acts : Actions A) (depth : ℕ) (f : List Token → Read 
       (λ other h. cc h)))))
 
 unopened_formed : {A : Type 0} (acts : Actions A) (t : Token) (mark : ℕ) (ts : List Token) (v : A) (rest : List Token) → t.kind ≡ kind.Mark mark
-    → opened acts None t.column mark ts ≡ Ok (v, rest) → Formed acts 0 0 (t ∷ ts) v rest
-unfolding opened
+    → mark_operand acts None t.column mark ts ≡ Ok (v, rest) → Formed acts 0 0 (t ∷ ts) v rest
+unfolding mark_operand
 unopened_formed acts t mark ts v rest is h =
     by_test (Formed acts 0 0 (t ∷ ts) v rest) (mark == 46) _ _ (v, rest) h
-    (λ dot h. formed_as acts (record { front = t ∷ []; whole = refl; forms = Forms.here (is ∙ ap kind.Mark (grind (arith, nat_tests))); ends = ends_operand ts }) h)
+    (λ dot h. formed_as acts (record {
+      front = t ∷ [];
+      whole = refl;
+      forms = Forms.here (is ∙ ap kind.Mark (grind (arith, nat_tests)));
+      ends = ends_operand ts;
+    }) h)
     (λ other h. cc h)
 
 module _ {A : Type 0} (acts : Actions A) (depth : ℕ) (inner : Option (List Token → Read A)) where
   operand_of_formed : ((t : Token) (mark : ℕ) (ts : List Token) (v : A) (rest : List Token) → t.kind ≡ kind.Mark mark
-      → opened acts inner t.column mark ts ≡ Ok (v, rest) → Formed acts 0 depth (t ∷ ts) v rest)
+      → mark_operand acts inner t.column mark ts ≡ Ok (v, rest) → Formed acts 0 depth (t ∷ ts) v rest)
       → (ts : List Token) (v : A) (rest : List Token) → operand_of acts inner ts ≡ Ok (v, rest) → Formed acts 0 depth ts v rest
   unfolding operand_of
   operand_of_formed opens [] v rest h = cc h
   operand_of_formed opens (t ∷ ts) v rest h = goes t.kind refl
     where
-      named : (name_bytes : List ℕ) → t.kind ≡ kind.Name name_bytes → is_reserved name_bytes ≡ false → Formed acts 0 depth (t ∷ ts) (acts.name t.column name_bytes) ts
+      named : (name_bytes : List ℕ) → t.kind ≡ kind.Name name_bytes → is_reserved name_bytes ≡ false →
+          Formed acts 0 depth (t ∷ ts) (acts.name t.column name_bytes) ts
       named name_bytes is free = record { front = t ∷ []; whole = refl; forms = Forms.name is free; ends = ends_operand ts }
 
       goes : (k : TokenKind) → t.kind ≡ k → Formed acts 0 depth (t ∷ ts) v rest

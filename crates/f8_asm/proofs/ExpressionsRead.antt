@@ -6,7 +6,7 @@ use Rattle.f8_asm.specs.declared.values.Operator.{Operator}
 use Rattle.f8_asm.specs.declared.values.Prefix.{Prefix}
 use Rattle.f8_asm.specs.declared.values.Prefix.TheVariants.{Negative, LowByte, HighByte}
 use Rattle.f8_asm.specs.ExpressionForms.{operator_mark, strength_of, prefix_mark, Forms, BeginsWithExpression}
-use Rattle.f8_asm.specs.Grammar.{Actions, Read, level, parenthesised, behind_prefix, opened, operand_of, operand, deeper, expression}
+use Rattle.f8_asm.specs.Grammar.{Actions, Read, level, parenthesis_expression, behind_prefix, mark_operand, operand_of, operand, deeper, expression}
 use Rattle.f8_asm.specs.Words.{is_reserved}
 use Rattle.f8_asm.proofs.Chain.{ChainOn, chain_goes, chain_stops, chain_ends}
 use Rattle.f8_asm.proofs.Depth.{operand_mark}
@@ -46,8 +46,8 @@ module _ {A : Type 0} (acts : Actions A) where
   name_read zero name t rest is free = rw (is, operand, operand_of, free) refl
   name_read (suc depth) name t rest is free = rw (is, operand, operand_of, free) refl
 
-  here_opened : (depth column : ℕ) (rest : List Token) → opened acts (deeper acts depth) column 46 rest ≡ Ok (acts.here, rest)
-  unfolding opened deeper
+  here_opened : (depth column : ℕ) (rest : List Token) → mark_operand acts (deeper acts depth) column 46 rest ≡ Ok (acts.here, rest)
+  unfolding mark_operand deeper
   here_opened zero column rest = refl
   here_opened (suc depth) column rest = refl
 
@@ -55,8 +55,8 @@ module _ {A : Type 0} (acts : Actions A) where
   here_read depth t rest is = sym (operand_mark acts depth 46 t rest (sym is)) ∙ here_opened depth t.column rest
 
   prefix_opened : (depth column : ℕ) (prefix : Prefix) (ts : List Token)
-      → opened acts (deeper acts (suc depth)) column (prefix_mark prefix) ts ≡ behind_prefix acts prefix (operand acts depth) ts
-  unfolding opened deeper
+      → mark_operand acts (deeper acts (suc depth)) column (prefix_mark prefix) ts ≡ behind_prefix acts prefix (operand acts depth) ts
+  unfolding mark_operand deeper
   prefix_opened depth column Negative ts = refl
   prefix_opened depth column LowByte ts = refl
   prefix_opened depth column HighByte ts = refl
@@ -69,14 +69,14 @@ module _ {A : Type 0} (acts : Actions A) where
       ∙ rw (read rest) refl
 
   parenthesis_opened : (depth column : ℕ) (ts : List Token)
-      → opened acts (deeper acts (suc depth)) column 40 ts ≡ parenthesised acts (operand acts depth) ts
-  unfolding opened deeper
+      → mark_operand acts (deeper acts (suc depth)) column 40 ts ≡ parenthesis_expression acts (operand acts depth) ts
+  unfolding mark_operand deeper
   parenthesis_opened depth column ts = refl
 
   closed_read : (depth : ℕ) (u : Token) (ts rest : List Token) (x : A) → u.kind ≡ kind.Mark 41
       → level acts (operand acts depth) 4 (ts ++ u ∷ rest) ≡ Ok (x, u ∷ rest)
-      → parenthesised acts (operand acts depth) (ts ++ u ∷ rest) ≡ Ok (x, rest)
-  unfolding parenthesised
+      → parenthesis_expression acts (operand acts depth) (ts ++ u ∷ rest) ≡ Ok (x, rest)
+  unfolding parenthesis_expression
   closed_read depth u ts rest x is read = rw (read, is) refl
 
   parenthesised_read : (depth : ℕ) (t u : Token) (ts : List Token) (x : A) → t.kind ≡ kind.Mark 40 → u.kind ≡ kind.Mark 41
@@ -103,10 +103,10 @@ module _ {A : Type 0} (acts : Actions A) where
   some_token (Forms.number is) = omega arith
   some_token (Forms.name is free) = omega arith
   some_token (Forms.here is) = omega arith
-  some_token (Forms.prefixed prefix is forms) = omega arith
-  some_token (Forms.parenthesised t u is forms closing) = omega arith
+  some_token (Forms.prefix_value prefix is forms) = omega arith
+  some_token (Forms.parenthesis_expression t u is forms closing) = omega arith
   some_token (Forms.tighter forms) = some_token forms
-  some_token (Forms.joined {ts = ts} {us = us} t operator strong left is right) = let parts = length-append ts (t ∷ us) in omega arith
+  some_token (Forms.operator_value {ts = ts} {us = us} t operator strong left is right) = let parts = length-append ts (t ∷ us) in omega arith
 
   joined_read : (k depth : ℕ) (t : Token) (ts us : List Token) (x y : A) (operator : Operator) → strength_of operator ≡ suc k
       → t.kind ≡ kind.Mark (operator_mark operator) → 0 < length us → IsRead (suc k) depth ts x → IsRead k depth us y
@@ -123,10 +123,10 @@ module _ {A : Type 0} (acts : Actions A) where
   formed_read (Forms.number {depth} {n} {t} is) = λ rest. number_read depth n t rest is
   formed_read (Forms.name {depth} {name} {t} is free) = λ rest. name_read depth name t rest is free
   formed_read (Forms.here {depth} {t} is) = λ rest. here_read depth t rest is
-  formed_read (Forms.prefixed {depth} {t} {ts} {x} prefix is forms) = prefix_read depth t ts x prefix is (formed_read forms)
-  formed_read (Forms.parenthesised {depth} {ts} {x} t u is forms closing) = parenthesised_read depth t u ts x is closing (formed_read forms)
+  formed_read (Forms.prefix_value {depth} {t} {ts} {x} prefix is forms) = prefix_read depth t ts x prefix is (formed_read forms)
+  formed_read (Forms.parenthesis_expression {depth} {ts} {x} t u is forms closing) = parenthesised_read depth t u ts x is closing (formed_read forms)
   formed_read (Forms.tighter {strength} {depth} {ts} {x} forms) = tighter_read strength depth ts x (formed_read forms)
-  formed_read (Forms.joined {strength} {depth} {ts} {us} {x} {y} t operator strong left is right) =
+  formed_read (Forms.operator_value {strength} {depth} {ts} {us} {x} {y} t operator strong left is right) =
       joined_read strength depth t ts us x y operator strong is (some_token right) (formed_read left) (formed_read right)
 
   -- the expression that tokens begin with is read

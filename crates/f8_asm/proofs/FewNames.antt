@@ -1,5 +1,6 @@
 -- A text names no more than it has lines, and has no more lines than bytes.
-use Rattle.std.proofs.Common.{◌≡◌, ℕ, ℤ, pos, ◌+◌, ◌≤◌, Bool, true, false, cond, List, [], ◌∷◌, length, length-append, Option, Some, None, Result, Ok, Err, bytes_eq, arith}
+use Rattle.std.proofs.Common.{◌≡◌, ℕ, ℤ, pos, ◌+◌, ◌≤◌, Bool, true, false, cond, List, [], ◌∷◌, length, length-append}
+use Rattle.std.proofs.Common.{Option, Some, None, Result, Ok, Err, bytes_eq, arith}
 use Rattle.std.specs.Prelude.{IfOk, ◌&&◌, ◌==◌}
 use Rattle.asm_text.specs.declared.answers.Token.{Token}
 use Rattle.f8_asm.specs.declared.answers.AsmFault.{AsmFault}
@@ -11,12 +12,12 @@ use Rattle.f8_asm.specs.declared.operands.Effect.TheVariants.{Names, Moves, Fill
 use Rattle.f8_asm.specs.Answers.{◌>>=◌}
 use Rattle.f8_asm.specs.Evaluation.{values}
 use Rattle.f8_asm.specs.Grammar.{column_of}
-use Rattle.f8_asm.specs.Judging.{taken, unsigned}
+use Rattle.f8_asm.specs.Judging.{operand_value, unsigned_value}
 use Rattle.text_lines.specs.Lines.{lines, begins, with_first}
 use Rattle.f8_asm.specs.Names.{with_name}
 use Rattle.f8_asm.specs.PassOne.{Reading, line_tokens, in_line, check, read_line, read_lines, no_reading}
-use Rattle.f8_asm.specs.PassTwo.{Layout, with_label, fits, settled, settle, place, place_lines, no_layout}
-use Rattle.f8_asm.specs.Statements.{statement, label_of, unlabelled, effect_of}
+use Rattle.f8_asm.specs.PassTwo.{Layout, with_label, fits, layout_after, settle, place, place_lines, no_layout}
+use Rattle.f8_asm.specs.Statements.{statement, label_of, behind_label, effect_of}
 
 -- ---- what was read, if anything was
 
@@ -51,24 +52,27 @@ with_label_adds (Some name) v s = with_name_adds s.names name v
 abbrev AddsOne : Layout → Layout → Type 0
 AddsOne s t = length t.names ≤ length s.names + 1
 
-settled_adds : (room : Room) (label : Option (List ℕ)) (column : Option ℕ) (s : Layout) (effect : Effect) → IfOk (settled room label column s effect) (AddsOne s)
+settled_adds : (room : Room) (label : Option (List ℕ)) (column : Option ℕ) (s : Layout) (effect : Effect) →
+    IfOk (layout_after room label column s effect) (AddsOne s)
 settled_adds room label column s (Names o) =
-    then (taken o) (λ v. Ok (with_label label v s)) (λ v. Unit {0}) (AddsOne s) (any (taken o)) (λ v _. with_label_adds label v s)
+    then (operand_value o) (λ v. Ok (with_label label v s)) (λ v. Unit {0}) (AddsOne s) (any (operand_value o)) (λ v _. with_label_adds label v s)
 settled_adds room label column s (Moves o) =
-    then (unsigned 65535 o) _ (λ v. Unit {0}) (AddsOne s) (any (unsigned 65535 o)) (λ _ _. with_label_adds label (pos s.here) s)
+    then (unsigned_value 65535 o) _ (λ v. Unit {0}) (AddsOne s) (any (unsigned_value 65535 o)) (λ _ _. with_label_adds label (pos s.here) s)
 settled_adds room label column s (Fills size) =
     then (fits room column size s) _ (λ v. Unit {0}) (AddsOne s) (any (fits room column size s)) (λ _ _. with_label_adds label (pos s.here) s)
 
 settle_adds : (room : Room) (s : Layout) (ts : List Token) → IfOk (settle room s ts) (AddsOne s)
 unfolding settle
 settle_adds room s ts =
-    let read = statement (values s.names s.here) _ (unlabelled ts) in
-    then read _ (λ st. Unit {0}) (AddsOne s) (any read) (λ st _. settled_adds room (label_of ts) (column_of (unlabelled ts)) s (effect_of st))
+    let read = statement (values s.names s.here) _ (behind_label ts) in
+    then read _ (λ st. Unit {0}) (AddsOne s) (any read) (λ st _. settled_adds room (label_of ts) (column_of (behind_label ts)) s (effect_of st))
 
 place_adds : (room : Room) (s : Layout) (l : Line) → IfOk (place room s l) (AddsOne s)
 unfolding place
 place_adds room s l =
-    then (in_line l.number l.tokens (settle room s l.tokens)) _ (AddsOne s) (AddsOne s) (placed_in_line l.number l.tokens (settle room s l.tokens) (AddsOne s) (settle_adds room s l.tokens)) (λ t adds. adds)
+    then (in_line l.number l.tokens (settle room s l.tokens)) _ (AddsOne s) (AddsOne s)
+    (placed_in_line l.number l.tokens (settle room s l.tokens) (AddsOne s) (settle_adds room s l.tokens))
+    (λ t adds. adds)
 
 place_lines_adds : (room : Room) (s : Layout) (ls : List Line) → IfOk (place_lines room s ls) (λ t. length t.names ≤ length s.names + length ls)
 unfolding place_lines
@@ -77,7 +81,9 @@ place_lines_adds room s (l ∷ ls) =
     then (place room s l) _ (AddsOne s) (λ t. length t.names ≤ length s.names + length (l ∷ ls)) (place_adds room s l)
     (λ t adds. more t adds (place_lines room t ls) (place_lines_adds room t ls))
   where
-    more : (t : Layout) → AddsOne s t → (r : Result Layout AsmFault) → IfOk r (λ u. length u.names ≤ length t.names + length ls) → IfOk r (λ u. length u.names ≤ length s.names + length (l ∷ ls))
+    more : (t : Layout) → AddsOne s t → (r : Result Layout AsmFault) →
+        IfOk r (λ u. length u.names ≤ length t.names + length ls) →
+        IfOk r (λ u. length u.names ≤ length s.names + length (l ∷ ls))
     more t adds (Ok u) h = omega arith
     more t adds (Err e) h = tt
 
@@ -100,7 +106,9 @@ read_lines_adds number s (l ∷ ls) =
     then (read_line number s l) _ (OneLine s) (λ t. length t.lines ≤ length s.lines + length (l ∷ ls)) (read_line_adds number s l)
     (λ t adds. more t adds (read_lines (number + 1) t ls) (read_lines_adds (number + 1) t ls))
   where
-    more : (t : Reading) → OneLine s t → (r : Result Reading AsmFault) → IfOk r (λ u. length u.lines ≤ length t.lines + length ls) → IfOk r (λ u. length u.lines ≤ length s.lines + length (l ∷ ls))
+    more : (t : Reading) → OneLine s t → (r : Result Reading AsmFault) →
+        IfOk r (λ u. length u.lines ≤ length t.lines + length ls) →
+        IfOk r (λ u. length u.lines ≤ length s.lines + length (l ∷ ls))
     more t adds (Ok u) h = omega arith
     more t adds (Err e) h = tt
 
@@ -113,10 +121,13 @@ few_lines : (text : List ℕ) → length (lines text) ≤ length text
 few_lines [] = omega arith
 few_lines (b ∷ bs) =
     let behind = few_lines bs in
-    let others = one_of ((b == 13) && begins 10 bs) (lines bs) (with_first b (lines bs)) (length (b ∷ bs)) (omega arith) (omega (arith, with_first_adds b (lines bs))) in
+    let others = one_of ((b == 13) && begins 10 bs) (lines bs) (with_first b (lines bs)) (length (b ∷ bs)) (omega arith)
+    (omega (arith, with_first_adds b (lines bs))) in
     one_of (b == 10) ([] ∷ lines bs) (cond ((b == 13) && begins 10 bs) (lines bs) (with_first b (lines bs))) (length (b ∷ bs)) (omega arith) others
 
-pub few_names : (size : ℕ) (text : List ℕ) (room : Room) (read : Reading) (laid : Layout) → read_lines 1 no_reading (lines text) ≡ Ok read → place_lines room (no_layout size) read.lines ≡ Ok laid → length laid.names ≤ length text
+pub few_names : (size : ℕ) (text : List ℕ) (room : Room) (read : Reading) (laid : Layout) →
+    read_lines 1 no_reading (lines text) ≡ Ok read → place_lines room (no_layout size) read.lines ≡ Ok laid →
+    length laid.names ≤ length text
 unfolding no_reading
 few_names size text room read laid reads places =
     let lines_read : length read.lines ≤ 0 + length (lines text) = rw reads at (read_lines_adds 1 no_reading (lines text)) in

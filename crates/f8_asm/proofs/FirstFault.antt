@@ -1,5 +1,6 @@
 -- The fault that three passes tell is the first in the earliest of them.
-use Rattle.std.proofs.Common.{◌≡◌, ℕ, ◌+◌, ℤ, List, [], ◌∷◌, ◌++◌, length, length-append, Option, Result, Ok, Err, refl, sym, ap, ◌∙◌, subst, arith, append_assoc, append-nil}
+use Rattle.std.proofs.Common.{◌≡◌, ℕ, ◌+◌, ℤ, List, [], ◌∷◌, ◌++◌, length, length-append, Option, Result, Ok, Err, refl}
+use Rattle.std.proofs.Common.{sym, ap, ◌∙◌, subst, arith, append_assoc, append-nil}
 use Rattle.std.specs.Prelude.{map, is_some, Bool, true, false, if◌then◌else◌}
 use Rattle.std.proofs.lemmas.List.{map-append, length-map}
 use Rattle.std.specs.Str.{is_utf8}
@@ -24,47 +25,48 @@ use Rattle.f8_asm.specs.Image.{Picture, image_in, image_of}
 use Rattle.f8_asm.specs.PassOne.{in_line, tokens_in, line_tokens, check, Reading, read_line, read_lines, no_reading}
 use Rattle.f8_asm.specs.PassTwo.{Layout, no_layout, settle, place, place_lines}
 use Rattle.f8_asm.specs.PassThree.{no_bytes as no_bytes_yet, line_bytes, emit, emit_lines}
-use Rattle.f8_asm.specs.Statements.{statement, label_of, unlabelled, effect_of}
+use Rattle.f8_asm.specs.Statements.{statement, label_of, behind_label, effect_of}
 use Rattle.f8_asm.proofs.Alike.{read-ok}
-use Rattle.f8_asm.proofs.ImageRooms.{in_line-ok, settled-inside}
+use Rattle.f8_asm.proofs.ImageRooms.{in_line-ok, layout_after-inside}
 
 -- ---- a fault has its line's number
 
 at_line : {A B : Type 0} (number : ℕ) (ts : List Token) (r : Result A LineFault) (f : A → Result B AsmFault) (fault : AsmFault)
     → ((x : A) → f x ≡ Err fault → fault.line ≡ number) → (in_line number ts r >>= f) ≡ Err fault → fault.line ≡ number
-at_line number ts (Ok x) f fault behind told = behind x told
-at_line number ts (Err own) f fault behind told = cc
+at_line number ts (Ok x) f fault behind fault_in_line = behind x fault_in_line
+at_line number ts (Err own) f fault behind fault_in_line = cc
 
 abbrev as_answer : {A : Type 0} → A → Result A AsmFault
 as_answer x = Ok x
 
 no_fault : {A : Type 0} (x : A) (fault : AsmFault) (number : ℕ) → as_answer x ≡ Err fault → fault.line ≡ number
-no_fault x fault number told = cc
+no_fault x fault number fault_in_line = cc
 
 token_line : {B : Type 0} (number : ℕ) (r : Result (List Token) TokenFault) (f : List Token → Result B AsmFault) (fault : AsmFault)
     → ((ts : List Token) → f ts ≡ Err fault → fault.line ≡ number) → (tokens_in number r >>= f) ≡ Err fault → fault.line ≡ number
-token_line number (Ok ts) f fault behind told = behind ts told
-token_line number (Err (token.Bad column)) f fault behind told = cc
-token_line number (Err (token.Wide column)) f fault behind told = cc
-token_line number (Err token.Memory) f fault behind told = cc
+token_line number (Ok ts) f fault behind fault_in_line = behind ts fault_in_line
+token_line number (Err (token.Bad column)) f fault behind fault_in_line = cc
+token_line number (Err (token.Wide column)) f fault behind fault_in_line = cc
+token_line number (Err token.Memory) f fault behind fault_in_line = cc
 
 tokens_line : {B : Type 0} (number : ℕ) (b : Bool) (r : Result (List Token) TokenFault) (f : List Token → Result B AsmFault) (fault : AsmFault)
     → ((ts : List Token) → f ts ≡ Err fault → fault.line ≡ number)
     → ((if b then tokens_in number r else Err (record { line = number; column = 1; cause = cause.Utf8 })) >>= f) ≡ Err fault → fault.line ≡ number
-tokens_line number true r f fault behind told = token_line number r f fault behind told
-tokens_line number false r f fault behind told = cc
+tokens_line number true r f fault behind fault_in_line = token_line number r f fault behind fault_in_line
+tokens_line number false r f fault behind fault_in_line = cc
 
 read_line-line : (number : ℕ) (s : Reading) (l : List ℕ) (fault : AsmFault) → read_line number s l ≡ Err fault → fault.line ≡ number
-read_line-line number s l fault told =
+read_line-line number s l fault fault_in_line =
     unfold read_line in unfold line_tokens in tokens_line number (is_utf8 l) (tokens_of l) _ fault
-    (λ ts. at_line number ts (check s.names ts) _ fault (λ names. no_fault _ fault number)) told
+    (λ ts. at_line number ts (check s.names ts) _ fault (λ names. no_fault _ fault number)) fault_in_line
 
 place-line : (room : Room) (s : Layout) (l : Line) (fault : AsmFault) → place room s l ≡ Err fault → fault.line ≡ l.number
-place-line room s l fault told = unfold place in at_line l.number l.tokens (settle room s l.tokens) _ fault (λ t. no_fault _ fault l.number) told
+place-line room s l fault fault_in_line = unfold place in at_line l.number l.tokens (settle room s l.tokens) _ fault (λ t. no_fault _ fault l.number) fault_in_line
 
-emit-line : (names : List (List ℕ × ℤ)) (table : List (Option ℕ)) (p : PlacedLine) (fault : AsmFault) → emit names table p ≡ Err fault → fault.line ≡ p.line.number
-emit-line names table p fault told =
-    unfold emit in at_line p.line.number p.line.tokens (line_bytes names p.address p.line.tokens) _ fault (λ bs. no_fault _ fault p.line.number) told
+emit-line : (names : List (List ℕ × ℤ)) (table : List (Option ℕ)) (p : PlacedLine) (fault : AsmFault) →
+    emit names table p ≡ Err fault → fault.line ≡ p.line.number
+emit-line names table p fault fault_in_line =
+    unfold emit in at_line p.line.number p.line.tokens (line_bytes names p.address p.line.tokens) _ fault (λ bs. no_fault _ fault p.line.number) fault_in_line
 
 -- ---- the first line at fault
 
@@ -78,13 +80,14 @@ record FirstUnread (number : ℕ) (s : Reading) (ls : List (List ℕ)) (fault : 
   at_fault : read_line (number + length before) read l ≡ Err fault
 
 first_unread : (number : ℕ) (s : Reading) (ls : List (List ℕ)) (fault : AsmFault) → read_lines number s ls ≡ Err fault → FirstUnread number s ls fault
-first_unread number s [] fault told = unfold read_lines in cc
-first_unread number s (l ∷ ls) fault told = by (λ t told. first_unread (number + 1) t ls fault told) (read_line number s l) refl (unfold read_lines in told)
+first_unread number s [] fault fault_in_line = unfold read_lines in cc
+first_unread number s (l ∷ ls) fault fault_in_line = by (λ t fault_in_line. first_unread (number + 1) t ls fault fault_in_line) (read_line number s l) refl (unfold read_lines in fault_in_line)
   where
-    by : ((t : Reading) → read_lines (number + 1) t ls ≡ Err fault → FirstUnread (number + 1) t ls fault) → (r : Result Reading AsmFault) → read_line number s l ≡ r →
+    by : ((t : Reading) → read_lines (number + 1) t ls ≡ Err fault → FirstUnread (number + 1) t ls fault) →
+        (r : Result Reading AsmFault) → read_line number s l ≡ r →
         (r >>= λ t. read_lines (number + 1) t ls) ≡ Err fault → FirstUnread number s (l ∷ ls) fault
-    by later (Ok t) is told =
-        let first = later t told in
+    by later (Ok t) is fault_in_line =
+        let first = later t fault_in_line in
         record {
           before = l ∷ first.before;
           l = first.l;
@@ -94,7 +97,7 @@ first_unread number s (l ∷ ls) fault told = by (λ t told. first_unread (numbe
           in_order = unfold read_lines in rw is first.in_order;
           at_fault = subst (λ n. read_line n first.read first.l ≡ Err fault) (omega arith) first.at_fault;
         }
-    by later (Err own) is told =
+    by later (Err own) is fault_in_line =
         record {
           before = [];
           l = l;
@@ -102,7 +105,7 @@ first_unread number s (l ∷ ls) fault told = by (λ t told. first_unread (numbe
           read = s;
           parts = refl;
           in_order = unfold read_lines in refl;
-          at_fault = subst (λ n. read_line n s l ≡ Err fault) (omega arith) (is ∙ told);
+          at_fault = subst (λ n. read_line n s l ≡ Err fault) (omega arith) (is ∙ fault_in_line);
         }
 
 record FirstUnplaced (room : Room) (s : Layout) (ls : List Line) (fault : AsmFault) : Type 0 where
@@ -115,13 +118,13 @@ record FirstUnplaced (room : Room) (s : Layout) (ls : List Line) (fault : AsmFau
   at_fault : place room laid l ≡ Err fault
 
 first_unplaced : (room : Room) (s : Layout) (ls : List Line) (fault : AsmFault) → place_lines room s ls ≡ Err fault → FirstUnplaced room s ls fault
-first_unplaced room s [] fault told = unfold place_lines in cc
-first_unplaced room s (l ∷ ls) fault told = by (λ t told. first_unplaced room t ls fault told) (place room s l) refl (unfold place_lines in told)
+first_unplaced room s [] fault fault_in_line = unfold place_lines in cc
+first_unplaced room s (l ∷ ls) fault fault_in_line = by (λ t fault_in_line. first_unplaced room t ls fault fault_in_line) (place room s l) refl (unfold place_lines in fault_in_line)
   where
     by : ((t : Layout) → place_lines room t ls ≡ Err fault → FirstUnplaced room t ls fault) → (r : Result Layout AsmFault) → place room s l ≡ r →
         (r >>= λ t. place_lines room t ls) ≡ Err fault → FirstUnplaced room s (l ∷ ls) fault
-    by later (Ok t) is told =
-        let first = later t told in
+    by later (Ok t) is fault_in_line =
+        let first = later t fault_in_line in
         record {
           before = l ∷ first.before;
           l = first.l;
@@ -131,7 +134,7 @@ first_unplaced room s (l ∷ ls) fault told = by (λ t told. first_unplaced room
           in_order = unfold place_lines in rw is first.in_order;
           at_fault = first.at_fault;
         }
-    by later (Err own) is told = record { before = []; l = l; behind = ls; laid = s; parts = refl; in_order = unfold place_lines in refl; at_fault = is ∙ told }
+    by later (Err own) is fault_in_line = record { before = []; l = l; behind = ls; laid = s; parts = refl; in_order = unfold place_lines in refl; at_fault = is ∙ fault_in_line }
 
 record FirstUnwritten (names : List (List ℕ × ℤ)) (table : List (Option ℕ)) (ps : List PlacedLine) (fault : AsmFault) : Type 0 where
   before : List PlacedLine
@@ -144,13 +147,14 @@ record FirstUnwritten (names : List (List ℕ × ℤ)) (table : List (Option ℕ
 
 first_unwritten : (names : List (List ℕ × ℤ)) (table : List (Option ℕ)) (ps : List PlacedLine) (fault : AsmFault) → emit_lines names table ps ≡ Err fault →
     FirstUnwritten names table ps fault
-first_unwritten names table [] fault told = unfold emit_lines in cc
-first_unwritten names table (p ∷ ps) fault told = by (λ t told. first_unwritten names t ps fault told) (emit names table p) refl (unfold emit_lines in told)
+first_unwritten names table [] fault fault_in_line = unfold emit_lines in cc
+first_unwritten names table (p ∷ ps) fault fault_in_line = by (λ t fault_in_line. first_unwritten names t ps fault fault_in_line) (emit names table p) refl (unfold emit_lines in fault_in_line)
   where
-    by : ((t : List (Option ℕ)) → emit_lines names t ps ≡ Err fault → FirstUnwritten names t ps fault) → (r : Result (List (Option ℕ)) AsmFault) → emit names table p ≡ r →
+    by : ((t : List (Option ℕ)) → emit_lines names t ps ≡ Err fault → FirstUnwritten names t ps fault) →
+        (r : Result (List (Option ℕ)) AsmFault) → emit names table p ≡ r →
         (r >>= λ t. emit_lines names t ps) ≡ Err fault → FirstUnwritten names table (p ∷ ps) fault
-    by later (Ok t) is told =
-        let first = later t told in
+    by later (Ok t) is fault_in_line =
+        let first = later t fault_in_line in
         record {
           before = p ∷ first.before;
           p = first.p;
@@ -160,7 +164,15 @@ first_unwritten names table (p ∷ ps) fault told = by (λ t told. first_unwritt
           in_order = unfold emit_lines in rw is first.in_order;
           at_fault = first.at_fault;
         }
-    by later (Err own) is told = record { before = []; p = p; behind = ps; given = table; parts = refl; in_order = unfold emit_lines in refl; at_fault = is ∙ told }
+    by later (Err own) is fault_in_line = record {
+      before = [];
+      p = p;
+      behind = ps;
+      given = table;
+      parts = refl;
+      in_order = unfold emit_lines in refl;
+      at_fault = is ∙ fault_in_line;
+    }
 
 -- ---- lines are numbered from 1
 
@@ -181,7 +193,7 @@ record IsNumbered (number : ℕ) (s : Reading) : Type 0 where
   each : AreNumbered 1 s.lines
 
 read_line_numbered : (number : ℕ) (s t : Reading) (l : List ℕ) → IsNumbered number s → read_line number s l ≡ Ok t → IsNumbered (number + 1) t
-read_line_numbered number s t l is told = by (line_tokens number l) (unfold read_line in told)
+read_line_numbered number s t l is fault_in_line = by (line_tokens number l) (unfold read_line in fault_in_line)
   where
     new : List Token → Line
     new ts = record { number = number; tokens = ts }
@@ -192,25 +204,26 @@ read_line_numbered number s t l is told = by (line_tokens number l) (unfold read
       each = numbered_more 1 s.lines (new ts) is.each (omega (arith, is.next));
     })
 
-    checked : (ts : List Token) (r : Result (List (List ℕ × ℤ)) LineFault)
+    value_held : (ts : List Token) (r : Result (List (List ℕ × ℤ)) LineFault)
         → (in_line number ts r >>= λ names. Ok (record { names = names; lines = s.lines ++ new ts ∷ [] })) ≡ Ok t → IsNumbered (number + 1) t
-    checked ts (Ok names) told = more ts names cc
-    checked ts (Err own) told = cc
+    value_held ts (Ok names) fault_in_line = more ts names cc
+    value_held ts (Err own) fault_in_line = cc
 
     by : (r : Result (List Token) AsmFault)
-        → (r >>= λ ts. in_line number ts (check s.names ts) >>= λ names. Ok (record { names = names; lines = s.lines ++ new ts ∷ [] })) ≡ Ok t → IsNumbered (number + 1) t
-    by (Ok ts) told = checked ts (check s.names ts) told
-    by (Err own) told = cc
+        → (r >>= λ ts. in_line number ts (check s.names ts) >>= λ names. Ok
+        (record { names = names; lines = s.lines ++ new ts ∷ [] })) ≡ Ok t → IsNumbered (number + 1) t
+    by (Ok ts) fault_in_line = value_held ts (check s.names ts) fault_in_line
+    by (Err own) fault_in_line = cc
 
 read_lines_numbered : (number : ℕ) (s t : Reading) (ls : List (List ℕ)) → IsNumbered number s → read_lines number s ls ≡ Ok t → AreNumbered 1 t.lines
-read_lines_numbered number s t [] is told = let same : s ≡ t = unfold read_lines in cc in subst (λ (r : Reading). AreNumbered 1 r.lines) same is.each
-read_lines_numbered number s t (l ∷ ls) is told =
-    by (λ u next told. read_lines_numbered (number + 1) u t ls next told) (read_line number s l) refl (unfold read_lines in told)
+read_lines_numbered number s t [] is fault_in_line = let same : s ≡ t = unfold read_lines in cc in subst (λ (r : Reading). AreNumbered 1 r.lines) same is.each
+read_lines_numbered number s t (l ∷ ls) is fault_in_line =
+    by (λ u next fault_in_line. read_lines_numbered (number + 1) u t ls next fault_in_line) (read_line number s l) refl (unfold read_lines in fault_in_line)
   where
     by : ((u : Reading) → IsNumbered (number + 1) u → read_lines (number + 1) u ls ≡ Ok t → AreNumbered 1 t.lines) → (r : Result Reading AsmFault) →
         read_line number s l ≡ r → (r >>= λ u. read_lines (number + 1) u ls) ≡ Ok t → AreNumbered 1 t.lines
-    by later (Ok u) read told = later u (read_line_numbered number s u l is read) told
-    by later (Err own) read told = cc
+    by later (Ok u) read fault_in_line = later u (read_line_numbered number s u l is read) fault_in_line
+    by later (Err own) read fault_in_line = cc
 
 -- the lines of a layout are those that were placed
 abbrev lines_in : List PlacedLine → List Line
@@ -221,9 +234,9 @@ unfolding place settle
 placed_line room s t l h =
     let p : PlacedLine = record { address = s.here; line = l } in
     read-ok (lines_in t.placed ≡ lines_in s.placed ++ l ∷ []) (in_line l.number l.tokens (settle room s l.tokens)) _ t h (λ u at_u h.
-    read-ok (lines_in t.placed ≡ lines_in s.placed ++ l ∷ []) (statement (values s.names s.here) (is_some (label_of l.tokens)) (unlabelled l.tokens)) _ u
+    read-ok (lines_in t.placed ≡ lines_in s.placed ++ l ∷ []) (statement (values s.names s.here) (is_some (label_of l.tokens)) (behind_label l.tokens)) _ u
     (in_line-ok l.number l.tokens (settle room s l.tokens) u at_u) (λ st at_st e.
-    let did = settled-inside room (label_of l.tokens) (column_of (unlabelled l.tokens)) s u (effect_of st) e in
+    let did = layout_after-inside room (label_of l.tokens) (column_of (behind_label l.tokens)) s u (effect_of st) e in
     let more : u.placed ++ p ∷ [] ≡ t.placed = cc h in
     ap lines_in (sym more) ∙ map-append (λ (q : PlacedLine). q.line) u.placed (p ∷ []) ∙ ap (λ ps. lines_in ps ++ l ∷ []) did.placed))
 
@@ -263,20 +276,20 @@ first_fault : (text : List ℕ) (room : Room) (fault : AsmFault) → image_of te
 unfolding image_of image_in
 first_fault text room fault h =
     read-err (IsFirstFault text room fault) (read_lines 1 no_reading (lines text)) _ fault h
-    (λ told.
-    let first = first_unread 1 no_reading (lines text) fault told in
+    (λ fault_in_line.
+    let first = first_unread 1 no_reading (lines text) fault fault_in_line in
     let number : 1 + length first.before ≡ length first.before + 1 = omega arith in
     let at_fault = rw number at first.at_fault in
     no_statement first.before first.l first.behind first.read first.parts first.in_order at_fault
     (read_line-line (length first.before + 1) first.read first.l fault at_fault))
     (λ read is h. read-err (IsFirstFault text room fault) (place_lines room (no_layout 65536) read.lines) _ fault h
-    (λ told.
-    let first = first_unplaced room (no_layout 65536) read.lines fault told in
+    (λ fault_in_line.
+    let first = first_unplaced room (no_layout 65536) read.lines fault fault_in_line in
     no_place read first.before first.l first.behind first.laid is first.parts first.in_order first.at_fault
     (place-line room first.laid first.l fault first.at_fault ∙ number_of_line read (lines text) first.before first.l first.behind is first.parts))
     (λ laid placed h. read-err (IsFirstFault text room fault) (emit_lines laid.names (no_bytes_yet 65536) laid.placed) _ fault h
-    (λ told.
-    let first = first_unwritten laid.names (no_bytes_yet 65536) laid.placed fault told in
+    (λ fault_in_line.
+    let first = first_unwritten laid.names (no_bytes_yet 65536) laid.placed fault fault_in_line in
     no_bytes read laid first.before first.p first.behind first.given is placed first.parts first.in_order first.at_fault
     (emit-line laid.names first.given first.p fault first.at_fault
     ∙ number_of_placed room read laid (lines text) first.before first.p first.behind is placed first.parts))
@@ -297,21 +310,21 @@ fault_answer text room (Err answer.Memory) says = tt
 
 -- ---- where a call stops
 
-pub stops_reading : (text : List ℕ) (room : Room) (told : AsmAnswer) → SaysOfText {A = Reading} (Err told) (read_lines 1 no_reading (lines text)) →
-    SaysOfText {A = Picture} (Err told) (image_of text room)
+pub stops_reading : (text : List ℕ) (room : Room) (fault_in_line : AsmAnswer) → SaysOfText {A = Reading} (Err fault_in_line) (read_lines 1 no_reading (lines text)) →
+    SaysOfText {A = Picture} (Err fault_in_line) (image_of text room)
 unfolding image_of image_in
 stops_reading text room (answer.Fault fault) says = rw says refl
 stops_reading text room answer.Memory says = tt
 
-pub stops_placing : (text : List ℕ) (room : Room) (told : AsmAnswer) (read : Reading) → AreStatements (lines text) read →
-    SaysOfText {A = Layout} (Err told) (place_lines room (no_layout 65536) read.lines) → SaysOfText {A = Picture} (Err told) (image_of text room)
+pub stops_placing : (text : List ℕ) (room : Room) (fault_in_line : AsmAnswer) (read : Reading) → AreStatements (lines text) read →
+    SaysOfText {A = Layout} (Err fault_in_line) (place_lines room (no_layout 65536) read.lines) → SaysOfText {A = Picture} (Err fault_in_line) (image_of text room)
 unfolding image_of image_in
 stops_placing text room (answer.Fault fault) read is says = rw (is, says) refl
 stops_placing text room answer.Memory read is says = tt
 
-pub stops_emitting : (text : List ℕ) (room : Room) (told : AsmAnswer) (read : Reading) (laid : Layout) → AreStatements (lines text) read →
-    ArePlaced room read.lines laid → SaysOfText {A = List (Option ℕ)} (Err told) (emit_lines laid.names (no_bytes_yet 65536) laid.placed) →
-    SaysOfText {A = Picture} (Err told) (image_of text room)
+pub stops_emitting : (text : List ℕ) (room : Room) (fault_in_line : AsmAnswer) (read : Reading) (laid : Layout) → AreStatements (lines text) read →
+    ArePlaced room read.lines laid → SaysOfText {A = List (Option ℕ)} (Err fault_in_line) (emit_lines laid.names (no_bytes_yet 65536) laid.placed) →
+    SaysOfText {A = Picture} (Err fault_in_line) (image_of text room)
 unfolding image_of image_in
 stops_emitting text room (answer.Fault fault) read laid is placed says = rw (is, placed, says) refl
 stops_emitting text room answer.Memory read laid is placed says = tt

@@ -1,5 +1,7 @@
 -- Which line's byte lies at an address of an image.
-use Rattle.std.proofs.Common.{◌≡◌, ℕ, zero, suc, ◌+◌, ◌-◌, ◌<◌, Bool, true, false, List, [], ◌∷◌, ◌++◌, length, length-set, get_or, set, drop, take, Option, Some, None, refl, sym, ap, ◌∙◌, arith, inl, inr}
+use Rattle.std.proofs.Common.{◌≡◌, ℕ, zero, suc, ◌+◌, ◌-◌, ◌<◌, Bool, true, false, List, [], ◌∷◌, ◌++◌, length}
+use Rattle.std.proofs.Common.{length-set, get_or, set, drop, take, Option, Some, None, refl, sym, ap, ◌∙◌, arith, inl}
+use Rattle.std.proofs.Common.{inr}
 use Rattle.std.specs.Prelude.{◌==◌, not, if◌then◌else◌}
 use Rattle.std.specs.List.{list_any}
 use Rattle.std.proofs.lemmas.Bool.{cases_eq}
@@ -7,8 +9,8 @@ use Rattle.std.proofs.lemmas.Bool.Decides.{nat_tests}
 use Rattle.std.proofs.lemmas.List.{get_or-set_same, get_or-set_other, get_or-take, get_or-drop}
 use Rattle.f8_asm.specs.Image.{ascending, bytes_from}
 use Rattle.f8_asm.specs.ImageLaw.{Standing, standing_bytes, byte_at, Apart}
-use Rattle.f8_asm.specs.Marks.{marked, is_free}
-use Rattle.f8_asm.specs.PassThree.{written}
+use Rattle.f8_asm.specs.Marks.{marks_with, is_free}
+use Rattle.f8_asm.specs.PassThree.{table_with}
 
 -- ---- tests
 
@@ -54,15 +56,15 @@ inside_of at (c ∷ cs) a b found =
 
 -- ---- bytes that are put
 
-pub written-length : (table : List (Option ℕ)) (at : ℕ) (bs : List ℕ) → length (written table at bs) ≡ length table
-written-length table at [] = refl
-written-length table at (b ∷ bs) = written-length (set table at (Some b)) (at + 1) bs ∙ length-set table at (Some b)
+pub table_with-length : (table : List (Option ℕ)) (at : ℕ) (bs : List ℕ) → length (table_with table at bs) ≡ length table
+table_with-length table at [] = refl
+table_with-length table at (b ∷ bs) = table_with-length (set table at (Some b)) (at + 1) bs ∙ length-set table at (Some b)
 
 first_none : (p q : Option ℕ) (b : ℕ) → p ≡ None → q ≡ Some b → first p q ≡ Some b
 first_none p q b none some = rw (none, some) refl
 
 pub written_at : (table : List (Option ℕ)) (at : ℕ) (bs : List ℕ) (a : ℕ) → ((k : ℕ) → k < length bs → at + k < length table)
-    → get_or (written table at bs) a None ≡ first (byte_at (bytes_from at bs) a) (get_or table a None)
+    → get_or (table_with table at bs) a None ≡ first (byte_at (bytes_from at bs) a) (get_or table a None)
 written_at table at [] a within = refl
 written_at table at (b ∷ bs) a within =
     let size = length-set table at (Some b) in
@@ -103,7 +105,7 @@ ascending_at place (suc i) (Some b ∷ table) =
 -- all lines' bytes put
 abbrev pub all_written : List (Option ℕ) → List Standing → List (Option ℕ)
 all_written table [] = table
-all_written table (s ∷ ss) = all_written (written table s.address s.bytes) ss
+all_written table (s ∷ ss) = all_written (table_with table s.address s.bytes) ss
 
 -- every byte lies below this address
 abbrev pub Below : ℕ → List Standing → Type 0
@@ -119,8 +121,8 @@ pub all_written_at : (ss : List Standing) (n : ℕ) (table : List (Option ℕ)) 
 all_written_at [] n table a size apart below = refl
 all_written_at (s ∷ ss) n table a size apart below =
     let put = written_at table s.address s.bytes a (λ k within. let fits = below.0 k within in omega (arith, size, fits)) in
-    let behind = all_written_at ss n (written table s.address s.bytes) a
-    (size ∙ sym (written-length table s.address s.bytes)) apart.1 below.1 in
+    let behind = all_written_at ss n (table_with table s.address s.bytes) a
+    (size ∙ sym (table_with-length table s.address s.bytes)) apart.1 below.1 in
     let clear : (b : ℕ) → byte_at (bytes_from s.address s.bytes) a ≡ Some b
     → byte_at (standing_bytes ss) a ≡ None = λ b found. let there = inside_of s.address s.bytes a b found in rw there.2 at
     (apart.0 there.0 there.1) in
@@ -146,9 +148,9 @@ free_at marks at n k free below =
     let none = none_at (take (at + n - at) (drop at marks)) k (not_any _ free) in
     sym (get_or-drop at marks k false) ∙ sym (get_or-take (at + n - at) (drop at marks) k false (omega arith)) ∙ none
 
-pub marked-length : (marks : List Bool) (at n : ℕ) → length (marked marks at n) ≡ length marks
-marked-length marks at zero = refl
-marked-length marks at (suc n) = length-set (marked marks at n) (at + n) true ∙ marked-length marks at n
+pub marks_with-length : (marks : List Bool) (at n : ℕ) → length (marks_with marks at n) ≡ length marks
+marks_with-length marks at zero = refl
+marks_with-length marks at (suc n) = length-set (marks_with marks at n) (at + n) true ∙ marks_with-length marks at n
 
 set_keeps : (marks : List Bool) (i a : ℕ) → get_or marks a false ≡ true → get_or (set marks i true) a false ≡ true
 set_keeps [] i a is = cc
@@ -158,16 +160,16 @@ set_keeps (m ∷ ms) (suc i) zero is = is
 set_keeps (m ∷ ms) (suc i) (suc a) is = set_keeps ms i a is
 
 -- a mark stays
-pub marked_keeps : (marks : List Bool) (at n a : ℕ) → get_or marks a false ≡ true → get_or (marked marks at n) a false ≡ true
+pub marked_keeps : (marks : List Bool) (at n a : ℕ) → get_or marks a false ≡ true → get_or (marks_with marks at n) a false ≡ true
 marked_keeps marks at zero a is = is
-marked_keeps marks at (suc n) a is = set_keeps (marked marks at n) (at + n) a (marked_keeps marks at n a is)
+marked_keeps marks at (suc n) a is = set_keeps (marks_with marks at n) (at + n) a (marked_keeps marks at n a is)
 
 -- what is filled is marked
-pub marked_at : (marks : List Bool) (at n k : ℕ) → k < n → at + k < length marks → get_or (marked marks at n) (at + k) false ≡ true
+pub marked_at : (marks : List Bool) (at n k : ℕ) → k < n → at + k < length marks → get_or (marks_with marks at n) (at + k) false ≡ true
 marked_at marks at zero k below within = absurd (omega arith)
 marked_at marks at (suc n) k below within =
     elim (cases_eq k n) [
-      | inl same ↦ (let size = marked-length marks at n in
-          rw same (get_or-set_same (marked marks at n) (at + n) true false (omega (arith, size, same))))
-      | inr other ↦ set_keeps (marked marks at n) (at + n) (at + k) (marked_at marks at n k (omega (arith, other)) within)
+      | inl same ↦ (let size = marks_with-length marks at n in
+          rw same (get_or-set_same (marks_with marks at n) (at + n) true false (omega (arith, size, same))))
+      | inr other ↦ set_keeps (marks_with marks at n) (at + n) (at + k) (marked_at marks at n k (omega (arith, other)) within)
     ]

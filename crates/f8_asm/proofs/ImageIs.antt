@@ -1,5 +1,7 @@
 -- The image that three passes give is the image of the text.
-use Rattle.std.proofs.Common.{◌≡◌, ℕ, ◌+◌, ◌<◌, ◌≤◌, ℤ, pos, Bool, true, false, List, [], ◌∷◌, ◌++◌, length, get_or, Option, Some, None, is_some, Result, Ok, Err, refl, sym, ap, ◌∙◌, subst, arith, append_assoc, append-nil}
+use Rattle.std.proofs.Common.{◌≡◌, ℕ, ◌+◌, ◌<◌, ◌≤◌, ℤ, pos, Bool, true, false, List, [], ◌∷◌, ◌++◌, length, get_or}
+use Rattle.std.proofs.Common.{Option, Some, None, is_some, Result, Ok, Err, refl, sym, ap, ◌∙◌, subst, arith}
+use Rattle.std.proofs.Common.{append_assoc, append-nil}
 use Rattle.std.specs.Prelude.{if◌then◌else◌, bytes_eq}
 use Rattle.std.proofs.lemmas.List.{length-replicate, nil_from_length}
 use Rattle.asm_text.specs.Tokens.{tokens_of}
@@ -16,19 +18,22 @@ use Rattle.f8_asm.specs.declared.operands.Statement.{Statement}
 use Rattle.f8_asm.specs.Evaluation.{values}
 use Rattle.f8_asm.specs.Grammar.{column_of}
 use Rattle.f8_asm.specs.Image.{Picture, ascending, bytes_from, image_in, image_of}
-use Rattle.f8_asm.specs.ImageLaw.{Standing, named, IsNew, stated, LineStands, equ, org, filling, LinesStand, no_line, one_line, standing_bytes, byte_at, Apart, IsImage}
-use Rattle.f8_asm.specs.Judging.{taken, unsigned}
+use Rattle.f8_asm.specs.ImageLaw.{Standing, label_name, IsNew, statement_at, LineStands, equ, org, filling, LinesStand, no_line}
+use Rattle.f8_asm.specs.ImageLaw.{one_line, standing_bytes, byte_at, Apart, IsImage}
+use Rattle.f8_asm.specs.Judging.{operand_value, unsigned_value}
 use Rattle.text_lines.specs.Lines.{lines}
-use Rattle.f8_asm.specs.Marks.{no_marks, marked, is_free}
+use Rattle.f8_asm.specs.Marks.{no_marks, marks_with, is_free}
 use Rattle.f8_asm.specs.Names.{value_of, with_name}
 use Rattle.f8_asm.specs.PassOne.{in_line, tokens_in, line_tokens, statement_checked, check_with, check, Reading, read_line, read_lines, no_reading}
-use Rattle.f8_asm.specs.PassTwo.{Layout, no_layout, is_inside, with_label, moved_to, filled_by as filled_from, fits, settled, settle, with_placed, place, place_lines}
-use Rattle.f8_asm.specs.PassThree.{no_bytes, written, line_bytes, emit, emit_lines}
-use Rattle.f8_asm.specs.Statements.{statement, label_of, unlabelled, effect_of}
+use Rattle.f8_asm.specs.PassTwo.{Layout, no_layout, is_inside, with_label, moved_to, layout_filled as filled_from, fits}
+use Rattle.f8_asm.specs.PassTwo.{layout_after, settle, with_placed, place, place_lines}
+use Rattle.f8_asm.specs.PassThree.{no_bytes, table_with, line_bytes, emit, emit_lines}
+use Rattle.f8_asm.specs.Statements.{statement, label_of, behind_label, effect_of}
 use Rattle.f8_asm.proofs.Alike.{read-ok}
-use Rattle.f8_asm.proofs.StatementsAlike.{filled_by, statement_alike, bytes_of-length}
-use Rattle.f8_asm.proofs.ImageRooms.{in_line-ok, fits-inside, settled-inside, inside-at, blank}
-use Rattle.f8_asm.proofs.ImageBytes.{first, byte_at-append, outside, ascending_at, all_written, Below, all_written_at, free_at, marked-length, marked_keeps, marked_at}
+use Rattle.f8_asm.proofs.StatementsAlike.{layout_filled, statement_alike, bytes_of-length}
+use Rattle.f8_asm.proofs.ImageRooms.{in_line-ok, fits-inside, layout_after-inside, inside-at, blank}
+use Rattle.f8_asm.proofs.ImageBytes.{first, byte_at-append, outside, ascending_at, all_written, Below, all_written_at}
+use Rattle.f8_asm.proofs.ImageBytes.{free_at, marks_with-length, marked_keeps, marked_at}
 
 -- ---- names
 
@@ -43,7 +48,7 @@ given : (es : List (List ℕ × ℤ)) (name : List ℕ) (v : ℤ) → value_of e
 given [] name v new = refl
 given (e ∷ es) name v new = given_by (bytes_eq name e.0) e es name v (λ h. given es name v h) new
 
-label_given : (label : Option (List ℕ)) (v : ℤ) (s : Layout) → IsNew s.names label → (with_label label v s).names ≡ s.names ++ named label v
+label_given : (label : Option (List ℕ)) (v : ℤ) (s : Layout) → IsNew s.names label → (with_label label v s).names ≡ s.names ++ label_name label v
 label_given None v s new = sym (append-nil s.names)
 label_given (Some name) v s new = given s.names name v new
 
@@ -55,7 +60,7 @@ SameNames (x ∷ xs) [] = ⊥
 SameNames (x ∷ xs) (y ∷ ys) = (x.0 ≡ y.0) × SameNames xs ys
 
 same_more : (label : Option (List ℕ)) (v w : ℤ) (xs ys : List (List ℕ × ℤ)) → SameNames xs ys
-    → SameNames (xs ++ named label v) (ys ++ named label w)
+    → SameNames (xs ++ label_name label v) (ys ++ label_name label w)
 same_more None v w [] [] same = tt
 same_more (Some name) v w [] [] same = (refl, tt)
 same_more label v w [] (y ∷ ys) same = absurd same
@@ -85,7 +90,7 @@ data ReadOf : List (List ℕ × ℤ) → List (List ℕ) → List Line → Type 
   read_none : {earlier : List (List ℕ × ℤ)} → ReadOf earlier [] []
   read_one : {earlier : List (List ℕ × ℤ)} {l : List ℕ} {ls : List (List ℕ)} {line : Line} {rest : List Line}
       → tokens_of l ≡ Ok line.tokens → IsNew earlier (label_of line.tokens)
-      → ReadOf (earlier ++ named (label_of line.tokens) (pos 0)) ls rest → ReadOf earlier (l ∷ ls) (line ∷ rest)
+      → ReadOf (earlier ++ label_name (label_of line.tokens) (pos 0)) ls rest → ReadOf earlier (l ∷ ls) (line ∷ rest)
 
 tokens_from : (number : ℕ) (t : Bool) (r : Result (List Token) TokenFault) (e : AsmFault) (ts : List Token)
     → (if t then tokens_in number r else Err e) ≡ Ok ts → r ≡ Ok ts
@@ -100,7 +105,7 @@ line_tokens-ok number l ts h = tokens_from number _ (tokens_of l) _ ts h
 -- what the check of a line gives
 record Checked (earlier names : List (List ℕ × ℤ)) (label : Option (List ℕ)) : Type 0 where
   new : IsNew earlier label
-  names_are : names ≡ earlier ++ named label (pos 0)
+  names_are : names ≡ earlier ++ label_name label (pos 0)
 
 none_some : (o : Option ℤ) (f : LineFault) (r : Result (List (List ℕ × ℤ)) LineFault) (names : List (List ℕ × ℤ))
     → (if is_some o then Err f else r) ≡ Ok names → (o ≡ None) × (r ≡ Ok names)
@@ -115,7 +120,7 @@ checked_with earlier ts None names h =
     record { new = tt; names_are = sym same ∙ sym (append-nil earlier) })
 checked_with earlier ts (Some name) names h =
     let both = none_some (value_of earlier name) _ _ names h in
-    read-ok (Checked earlier names (Some name)) (statement_checked earlier true (unlabelled ts)) _ names both.1 (λ u at_u e.
+    read-ok (Checked earlier names (Some name)) (statement_checked earlier true (behind_label ts)) _ names both.1 (λ u at_u e.
     let same : with_name earlier name (pos 0) ≡ names = cc e in
     record { new = both.0; names_are = sym same ∙ given earlier name (pos 0) both.0 })
 
@@ -135,7 +140,7 @@ read_as number s (l ∷ ls) t h =
     read-ok (ReadAs s t (l ∷ ls)) (line_tokens number l) _ u at_u (λ ts at_ts at_u.
     read-ok (ReadAs s t (l ∷ ls)) (in_line number ts (check s.names ts)) _ u at_u (λ names at_names e.
     let line : Line = record { number = number; tokens = ts } in
-    let checked = checked_with s.names ts (label_of ts) names (in_line-ok number ts (check s.names ts) names at_names) in
+    let value_held = checked_with s.names ts (label_of ts) names (in_line-ok number ts (check s.names ts) names at_names) in
     let others = read_as (number + 1) u ls t h in
     let is : record { names = names; lines = s.lines ++ line ∷ [] } ≡ u = cc e in
     let lines_are : s.lines ++ line ∷ [] ≡ u.lines = ap (λ (r : Reading). r.lines) is in
@@ -143,8 +148,8 @@ read_as number s (l ∷ ls) t h =
     record {
       read = line ∷ others.read;
       behind = others.behind ∙ ap (λ r. r ++ others.read) (sym lines_are) ∙ append_assoc s.lines (line ∷ []) others.read;
-      are = read_one (line_tokens-ok number l ts at_ts) checked.new
-          (subst (λ n. ReadOf n ls others.read) (sym names_are ∙ checked.names_are) others.are);
+      are = read_one (line_tokens-ok number l ts at_ts) value_held.new
+          (subst (λ n. ReadOf n ls others.read) (sym names_are ∙ value_held.names_are) others.are);
     })))
 
 -- ---- a line of the second and the third pass
@@ -161,8 +166,8 @@ label_filled (Some name) v s = refl
 record Stepped (room : Room) (names : List (List ℕ × ℤ)) (s u : Layout) (ts : List Token) (bs : List ℕ) : Type 0 where
   stands : LineStands names s.names s.here ts bs u.here u.names
   value : ℤ
-  names_are : u.names ≡ s.names ++ named (label_of ts) value
-  filled : u.filled ≡ marked s.filled s.here (length bs)
+  names_are : u.names ≡ s.names ++ label_name (label_of ts) value
+  filled : u.filled ≡ marks_with s.filled s.here (length bs)
   free : (k : ℕ) → k < length bs → get_or s.filled (s.here + k) false ≡ false
   within : (k : ℕ) → k < length bs → s.here + k ≤ room.last
 
@@ -180,58 +185,58 @@ both_free true false e f x h = cc h
 both_free false free e f x h = cc h
 
 module _ (room : Room) (names : List (List ℕ × ℤ)) (s u : Layout) (ts : List Token) (st : Statement) (bs : List ℕ) where
-  by_effect : (e : Effect) → stated s.names s.here ts ≡ Ok st → effect_of st ≡ e → length bs ≡ filled_by e → IsNew s.names (label_of ts)
-      → line_bytes names s.here ts ≡ Ok bs → settled room (label_of ts) (column_of (unlabelled ts)) s e ≡ Ok u
+  by_effect : (e : Effect) → statement_at s.names s.here ts ≡ Ok st → effect_of st ≡ e → length bs ≡ layout_filled e → IsNew s.names (label_of ts)
+      → line_bytes names s.here ts ≡ Ok bs → layout_after room (label_of ts) (column_of (behind_label ts)) s e ≡ Ok u
       → Stepped room names s u ts bs
   by_effect (Names o) at_st is size new code h =
-      read-ok (Stepped room names s u ts bs) (taken o) _ u h (λ v at_v h.
+      read-ok (Stepped room names s u ts bs) (operand_value o) _ u h (λ v at_v h.
       let same : with_label (label_of ts) v s ≡ u = cc h in
       let none : bs ≡ [] = nil_from_length bs size in
       subst (λ (r : Layout). Stepped room names s r ts bs) same (record {
         stands = other_words (sym none) (sym (label_here (label_of ts) v s)) (sym (label_given (label_of ts) v s new)) (equ at_st is at_v);
         value = v;
         names_are = label_given (label_of ts) v s new;
-        filled = label_filled (label_of ts) v s ∙ ap (λ n. marked s.filled s.here n) (sym size);
+        filled = label_filled (label_of ts) v s ∙ ap (λ n. marks_with s.filled s.here n) (sym size);
         free = λ k below. absurd (omega (arith, size, below));
         within = λ k below. absurd (omega (arith, size, below));
       }))
   by_effect (Moves o) at_st is size new code h =
-      read-ok (Stepped room names s u ts bs) (unsigned 65535 o) _ u h (λ a at_a h.
+      read-ok (Stepped room names s u ts bs) (unsigned_value 65535 o) _ u h (λ a at_a h.
       let same : moved_to a (with_label (label_of ts) (pos s.here) s) ≡ u = cc h in
       let none : bs ≡ [] = nil_from_length bs size in
       subst (λ (r : Layout). Stepped room names s r ts bs) same (record {
         stands = other_words (sym none) refl (sym (label_given (label_of ts) (pos s.here) s new)) (org at_st is at_a);
         value = pos s.here;
         names_are = label_given (label_of ts) (pos s.here) s new;
-        filled = label_filled (label_of ts) (pos s.here) s ∙ ap (λ n. marked s.filled s.here n) (sym size);
+        filled = label_filled (label_of ts) (pos s.here) s ∙ ap (λ n. marks_with s.filled s.here n) (sym size);
         free = λ k below. absurd (omega (arith, size, below));
         within = λ k below. absurd (omega (arith, size, below));
       }))
   by_effect (Fills n) at_st is size new code h =
-      read-ok (Stepped room names s u ts bs) (fits room (column_of (unlabelled ts)) n s) _ u h (λ x at_x h.
+      read-ok (Stepped room names s u ts bs) (fits room (column_of (behind_label ts)) n s) _ u h (λ x at_x h.
       let label : Layout = with_label (label_of ts) (pos s.here) s in
       let same : filled_from n label ≡ u = cc h in
       let here : label.here ≡ s.here = label_here (label_of ts) (pos s.here) s in
       let marks : label.filled ≡ s.filled = label_filled (label_of ts) (pos s.here) s in
-      let inside = fits-inside room (column_of (unlabelled ts)) n s at_x in
+      let inside = fits-inside room (column_of (behind_label ts)) n s at_x in
       let free = both_free (is_inside room s.here n) (is_free s.filled s.here n) _ _ tt at_x in
       subst (λ (r : Layout). Stepped room names s r ts bs) same (record {
         stands = other_words refl (ap (λ k. s.here + k) size ∙ ap (λ k. k + n) (sym here))
             (sym (label_given (label_of ts) (pos s.here) s new)) (filling at_st (is ∙ ap Fills (sym size)) code);
         value = pos s.here;
         names_are = label_given (label_of ts) (pos s.here) s new;
-        filled = ap (λ f. marked f label.here n) marks ∙ ap (λ k. marked s.filled k n) here ∙ ap (λ k. marked s.filled s.here k) (sym size);
+        filled = ap (λ f. marks_with f label.here n) marks ∙ ap (λ k. marks_with s.filled k n) here ∙ ap (λ k. marks_with s.filled s.here k) (sym size);
         free = λ k below. free_at s.filled s.here n k free (omega (arith, size, below));
         within = λ k below. (inside-at room s.here n k inside (omega (arith, size, below))).1;
       }))
 
   -- the bytes of a line are as many as it fills
-  line_size : stated s.names s.here ts ≡ Ok st → line_bytes names s.here ts ≡ Ok bs → length bs ≡ filled_by (effect_of st)
+  line_size : statement_at s.names s.here ts ≡ Ok st → line_bytes names s.here ts ≡ Ok bs → length bs ≡ layout_filled (effect_of st)
   unfolding line_bytes
   line_size at_st code =
-      read-ok (length bs ≡ filled_by (effect_of st)) (statement (values names s.here) (is_some (label_of ts)) (unlabelled ts)) _ bs code
+      read-ok (length bs ≡ layout_filled (effect_of st)) (statement (values names s.here) (is_some (label_of ts)) (behind_label ts)) _ bs code
       (λ other at_other at_bytes.
-      let alike = statement_alike (values s.names s.here) (values names s.here) (is_some (label_of ts)) (unlabelled ts) in
+      let alike = statement_alike (values s.names s.here) (values names s.here) (is_some (label_of ts)) (behind_label ts) in
       bytes_of-length s.here other bs at_bytes ∙ sym (alike.both st other at_st at_other))
 
 -- ---- the second pass
@@ -240,8 +245,8 @@ module _ (room : Room) (names : List (List ℕ × ℤ)) (s u : Layout) (ts : Lis
 data Laid : Room → Layout → List Line → List PlacedLine → Layout → Type 0 where
   laid_none : {room : Room} {s : Layout} → Laid room s [] [] s
   laid_one : {room : Room} {s u t : Layout} {l : Line} {after : List Line} {ps : List PlacedLine} {st : Statement}
-      → stated s.names s.here l.tokens ≡ Ok st
-      → settled room (label_of l.tokens) (column_of (unlabelled l.tokens)) s (effect_of st) ≡ Ok u
+      → statement_at s.names s.here l.tokens ≡ Ok st
+      → layout_after room (label_of l.tokens) (column_of (behind_label l.tokens)) s (effect_of st) ≡ Ok u
       → Laid room (with_placed (record { address = s.here; line = l }) u) after ps t
       → Laid room s (l ∷ after) (record { address = s.here; line = l } ∷ ps) t
 
@@ -259,9 +264,9 @@ laid_as room s (l ∷ ls) t h =
     let p : PlacedLine = record { address = s.here; line = l } in
     read-ok (LaidAs room s t (l ∷ ls)) (place room s l) _ t h (λ w at_w h.
     read-ok (LaidAs room s t (l ∷ ls)) (in_line l.number l.tokens (settle room s l.tokens)) _ w at_w (λ u at_u e.
-    read-ok (LaidAs room s t (l ∷ ls)) (statement (values s.names s.here) (is_some (label_of l.tokens)) (unlabelled l.tokens)) _ u
+    read-ok (LaidAs room s t (l ∷ ls)) (statement (values s.names s.here) (is_some (label_of l.tokens)) (behind_label l.tokens)) _ u
     (in_line-ok l.number l.tokens (settle room s l.tokens) u at_u) (λ st at_st at_settled.
-    let did = settled-inside room (label_of l.tokens) (column_of (unlabelled l.tokens)) s u (effect_of st) at_settled in
+    let did = layout_after-inside room (label_of l.tokens) (column_of (behind_label l.tokens)) s u (effect_of st) at_settled in
     let is : with_placed p u ≡ w = cc e in
     let others = laid_as room (with_placed p u) ls t (subst (λ (r : Layout). place_lines room r ls ≡ Ok t) (sym is) h) in
     record {
@@ -292,23 +297,23 @@ standings : {room : Room} {s t : Layout} {lines : List Line} {ps : List PlacedLi
 unfolding emit_lines emit
 standings laid_none read_none names before behind all same h last size =
     let put : before ≡ behind = cc h in
-    record { ss = []; stand = rw all no_line; clear = λ a marked. refl; apart = tt; below = tt; put = put }
+    record { ss = []; stand = rw all no_line; clear = λ a marks_with. refl; apart = tt; below = tt; put = put }
 standings (laid_one {room} {s} {u} {t} {l} {after} {ps} {st} at_st at_settled laid)
     (read_one {earlier} {l = text} {ls} tokens new read) names before behind all same h last size =
     let ts : List Token = l.tokens in
     read-ok (Standings names s (text ∷ ls) before behind) (emit names before (record { address = s.here; line = l })) _ behind h
     (λ w at_w h.
     read-ok (Standings names s (text ∷ ls) before behind) (in_line l.number ts (line_bytes names s.here ts)) _ w at_w (λ bs at_bs e.
-    let is : written before s.here bs ≡ w = cc e in
+    let is : table_with before s.here bs ≡ w = cc e in
     let code = in_line-ok l.number ts (line_bytes names s.here ts) bs at_bs in
     let fresh = label_new (label_of ts) earlier s.names same new in
     let step = by_effect room names s u ts st bs (effect_of st) at_st refl
     (line_size room names s u ts st bs at_st code) fresh code at_settled in
-    let more : SameNames (earlier ++ named (label_of ts) (pos 0)) u.names = subst
-    (λ r. SameNames (earlier ++ named (label_of ts) (pos 0)) r) (sym step.names_are)
+    let more : SameNames (earlier ++ label_name (label_of ts) (pos 0)) u.names = subst
+    (λ r. SameNames (earlier ++ label_name (label_of ts) (pos 0)) r) (sym step.names_are)
     (same_more (label_of ts) (pos 0) step.value earlier s.names same) in
-    let wide : length u.filled ≡ 65536 = ap length step.filled ∙ marked-length s.filled s.here (length bs) ∙ size in
-    let others = standings laid read names (written before s.here bs) behind all more
+    let wide : length u.filled ≡ 65536 = ap length step.filled ∙ marks_with-length s.filled s.here (length bs) ∙ size in
+    let others = standings laid read names (table_with before s.here bs) behind all more
     (subst (λ (r : List (Option ℕ)). emit_lines names r ps ≡ Ok behind) (sym is) h) last wide in
     record {
       ss = record { address = s.here; bytes = bs } ∷ others.ss;

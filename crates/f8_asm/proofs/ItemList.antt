@@ -40,19 +40,23 @@ module _ (acts : Actions Outcome) where
   ends_at (suc n) ts o room read = rw (← read) refl
 
   -- what stands behind an operand, if anything does
-  before_some : (n : ℕ) (o : Operand) (behind : List Token) → 0 < length behind → item_before (items acts n) o behind ≡ (comma behind >>= λ rest. items acts n rest >>= λ os. Ok (o ∷ os))
+  before_some : (n : ℕ) (o : Operand) (behind : List Token) → 0 < length behind →
+      item_before (items acts n) o behind ≡ (comma behind >>= λ rest. items acts n rest >>= λ os. Ok (o ∷ os))
   before_some n o [] some = absurd (omega arith)
   before_some n o (t ∷ ts) some = refl
 
   -- no comma stands behind an operand
-  stops_at : (n : ℕ) (ts behind : List Token) (o : Operand) (fault : LineFault) → length ts ≤ n → 0 < length behind → Ok (o, behind) ≡ operand_at acts ts → Err fault ≡ comma behind → items acts n ts ≡ Err fault
+  stops_at : (n : ℕ) (ts behind : List Token) (o : Operand) (fault : LineFault) → length ts ≤ n → 0 < length behind →
+      Ok (o, behind) ≡ operand_at acts ts → Err fault ≡ comma behind → items acts n ts ≡ Err fault
   unfolding items
   stops_at zero [] behind o fault room some read failed = cc
   stops_at zero (t ∷ ts) behind o fault room some read failed = absurd (omega arith)
   stops_at (suc n) ts behind o fault room some read failed = rw (← read) (before_some n o behind some ∙ rw (← failed) refl)
 
   -- more items stand behind a comma
-  goes_at : (n : ℕ) (ts behind rest : List Token) (o : Operand) → 0 < length behind → Ok (o, behind) ≡ operand_at acts ts → Ok rest ≡ comma behind → items acts (suc n) ts ≡ (items acts n rest >>= λ os. Ok (o ∷ os))
+  goes_at : (n : ℕ) (ts behind rest : List Token) (o : Operand) → 0 < length behind →
+      Ok (o, behind) ≡ operand_at acts ts → Ok rest ≡ comma behind →
+      items acts (suc n) ts ≡ (items acts n rest >>= λ os. Ok (o ∷ os))
   unfolding items
   goes_at n ts behind rest o some read more = rw (← read) (before_some n o behind some ∙ rw (← more) refl)
 
@@ -63,12 +67,20 @@ module _ (acts : Actions Outcome) where
     pub on_end : (o : Operand) → Ok (o, []) ≡ operand_at acts rest → whole ≡ Ok (found ++ o ∷ [])
     on_end o read = sym on.is ∙ ap (after found) (ends_at on.most rest o on.room read)
 
-    pub on_no_comma : (behind : List Token) (o : Operand) (fault : LineFault) → 0 < length behind → Ok (o, behind) ≡ operand_at acts rest → Err fault ≡ comma behind → whole ≡ Err fault
+    pub on_no_comma : (behind : List Token) (o : Operand) (fault : LineFault) → 0 < length behind →
+        Ok (o, behind) ≡ operand_at acts rest → Err fault ≡ comma behind → whole ≡ Err fault
     on_no_comma behind o fault some read failed = sym on.is ∙ ap (after found) (stops_at on.most rest behind o fault on.room some read failed)
 
-    pub on_comma : (behind last : List Token) (o : Operand) → 0 < length behind → Ok (o, behind) ≡ operand_at acts rest → Ok last ≡ comma behind → length last < length rest → ItemsOn acts (found ++ o ∷ []) last whole
+    pub on_comma : (behind last : List Token) (o : Operand) → 0 < length behind →
+        Ok (o, behind) ≡ operand_at acts rest → Ok last ≡ comma behind → length last < length rest →
+        ItemsOn acts (found ++ o ∷ []) last whole
     on_comma behind last o some read more less = goes on.most on.room on.is
       where
         goes : (n : ℕ) → length rest ≤ n → after found (items acts n rest) ≡ whole → ItemsOn acts (found ++ o ∷ []) last whole
         goes zero room e = absurd (omega arith)
-        goes (suc n) room e = record { most = n; room = omega arith; is = after_more found o (items acts n last) ∙ ap (after found) (sym (goes_at n rest behind last o some read more)) ∙ e }
+        goes (suc n) room e = record {
+          most = n;
+          room = omega arith;
+          is = after_more found o (items acts n last)
+              ∙ ap (after found) (sym (goes_at n rest behind last o some read more)) ∙ e;
+        }

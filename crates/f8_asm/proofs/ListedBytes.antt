@@ -22,11 +22,13 @@ use Rattle.f8_asm.specs.declared.spelling.Entry.TheVariants as entry
 use Rattle.f8_asm.specs.Bytes.{list_bytes, bytes_of}
 use Rattle.f8_asm.specs.Evaluation.{values}
 use Rattle.f8_asm.specs.Fields.{octet, small}
-use Rattle.f8_asm.specs.Grammar.{chain, level, parenthesised, opened, operand_of, operand, expression}
+use Rattle.f8_asm.specs.Grammar.{chain, level, parenthesis_expression, mark_operand, operand_of, operand, expression}
 use Rattle.f8_asm.specs.Listing.{pair_text, gap_of, front_of, op_piece}
 use Rattle.f8_asm.specs.Registers.{same_word, one_letter_register, two_letter_register, register_of, pair_op}
 use Rattle.f8_asm.specs.Statements.{items, operands, statement, label_of, effect_of}
-use Rattle.f8_asm.specs.Words.{two_letter_op_a_to_b, two_letter_op_c_to_l, two_letter_op_n_to_x, two_letter_op, three_letter_op_a_to_c, three_letter_op_d_to_x, three_letter_op, two_letter_shape, longer_shape, op_of, shape_of, is_reserved}
+use Rattle.f8_asm.specs.Words.{two_letter_op_a_to_b, two_letter_op_c_to_l, two_letter_op_n_to_x, two_letter_op}
+use Rattle.f8_asm.specs.Words.{three_letter_op_a_to_c, three_letter_op_d_to_x, three_letter_op, two_letter_shape}
+use Rattle.f8_asm.specs.Words.{longer_shape, op_of, shape_of, is_reserved}
 use Rattle.f8_asm.proofs.ListedLines.{head_text, line_of, Says}
 
 -- the tokens and the statement of a line that has them
@@ -38,7 +40,11 @@ statement_in ts = elim (statement (values [] 0) false ts) [ Ok st ↦ st | Err f
 
 -- what lines and statements are made of is open under `unfolding all_open`, and under `numbers_open` numbers too
 unfoldable pub all_open : Unit {0}
-unfolding values_below tokens_at lexeme name_lexeme name_of statement label_of operands items chain level parenthesised opened operand_of operand expression same_word one_letter_register two_letter_register register_of pair_op two_letter_op_a_to_b two_letter_op_c_to_l two_letter_op_n_to_x two_letter_op three_letter_op_a_to_c three_letter_op_d_to_x three_letter_op two_letter_shape longer_shape op_of shape_of is_reserved list_bytes mnemonic_of pair_text gap_of front_of decoded
+unfolding values_below tokens_at lexeme name_lexeme name_of statement label_of operands items chain level parenthesis_expression
+    mark_operand operand_of operand expression same_word one_letter_register two_letter_register register_of pair_op
+    two_letter_op_a_to_b two_letter_op_c_to_l two_letter_op_n_to_x two_letter_op three_letter_op_a_to_c
+    three_letter_op_d_to_x three_letter_op two_letter_shape longer_shape op_of shape_of is_reserved list_bytes
+    mnemonic_of pair_text gap_of front_of decoded
 all_open = tt
 
 unfoldable pub numbers_open : Unit {0}
@@ -50,12 +56,13 @@ record Computes (line : ℕ → List ℕ) (ts : ℕ → List Token) (front : ℕ
   printable : values_below (λ k. list_all is_printable (line k)) n ≡ values_below (λ k. true) n
   short : values_below (λ k. nat_lt (length (line k)) (8 * length (front k))) n ≡ values_below (λ k. true) n
   read : values_below (λ k. tokens_of (line k)) n ≡ values_below (λ k. Ok (ts k)) n
-  unlabelled : values_below (λ k. label_of (ts k)) n ≡ values_below (λ k. None) n
-  stated : (address : ℕ) → values_below (λ k. statement (values [] address) false (ts k)) n ≡ values_below (λ k. Ok (statement_in (ts k))) n
+  behind_label : values_below (λ k. label_of (ts k)) n ≡ values_below (λ k. None) n
+  statement_at : (address : ℕ) → values_below (λ k. statement (values [] address) false (ts k)) n ≡ values_below (λ k. Ok (statement_in (ts k))) n
   fills : values_below (λ k. effect_of (statement_in (ts k))) n ≡ values_below (λ k. Fills (length (front k))) n
-  coded : values_below (λ k. bytes_of at (statement_in (ts k))) n ≡ values_below (λ k. Ok (front k)) n
+  instruction_of : values_below (λ k. bytes_of at (statement_in (ts k))) n ≡ values_below (λ k. Ok (front k)) n
 
-says_below : {line : ℕ → List ℕ} {ts : ℕ → List Token} {front : ℕ → List ℕ} {n at : ℕ} → Computes line ts front n at → (k : ℕ) → k < n → Says at (line k) (front k)
+says_below : {line : ℕ → List ℕ} {ts : ℕ → List Token} {front : ℕ → List ℕ} {n at : ℕ} → Computes line ts front n at →
+    (k : ℕ) → k < n → Says at (line k) (front k)
 says_below {line} {ts} {front} {n} {at} all k below =
     let short = same_below (λ k. nat_lt (length (line k)) (8 * length (front k))) (λ k. true) n k all.short below in
     record {
@@ -65,10 +72,10 @@ says_below {line} {ts} {front} {n} {at} all k below =
       read = same_below (λ k. tokens_of (line k)) (λ k. Ok (ts k)) n k all.read below;
       gives = record {
         st = statement_in (ts k);
-        unlabelled = same_below (λ k. label_of (ts k)) (λ k. None) n k all.unlabelled below;
-        stated = λ address. same_below (λ k. statement (values [] address) false (ts k)) (λ k. Ok (statement_in (ts k))) n k (all.stated address) below;
+        behind_label = same_below (λ k. label_of (ts k)) (λ k. None) n k all.behind_label below;
+        statement_at = λ address. same_below (λ k. statement (values [] address) false (ts k)) (λ k. Ok (statement_in (ts k))) n k (all.statement_at address) below;
         fills = same_below (λ k. effect_of (statement_in (ts k))) (λ k. Fills (length (front k))) n k all.fills below;
-        coded = same_below (λ k. bytes_of at (statement_in (ts k))) (λ k. Ok (front k)) n k all.coded below;
+        instruction_of = same_below (λ k. bytes_of at (statement_in (ts k))) (λ k. Ok (front k)) n k all.instruction_of below;
       };
     }
 
@@ -78,7 +85,7 @@ alone b = line_of (op_piece 0 b [] (decoded b)).entry
 
 alone_computes : (at : ℕ) → Computes alone (λ b. tokens_in (alone b)) (λ b. b ∷ []) 256 at
 unfolding numbers_open hex2
-alone_computes at = record { printable = refl; short = refl; read = refl; unlabelled = refl; stated = λ address. refl; fills = refl; coded = refl }
+alone_computes at = record { printable = refl; short = refl; read = refl; behind_label = refl; statement_at = λ address. refl; fills = refl; instruction_of = refl }
 
 pub says_alone : (b at : ℕ) → b < 256 → Says at (alone b) (b ∷ [])
 says_alone b at is_byte = says_below (alone_computes at) b is_byte
@@ -89,7 +96,7 @@ data_line b = line_of (entry.Data b)
 
 data_computes : (at : ℕ) → Computes data_line (λ b. tokens_in (data_line b)) (λ b. b ∷ []) 256 at
 unfolding numbers_open hex2
-data_computes at = record { printable = refl; short = refl; read = refl; unlabelled = refl; stated = λ address. refl; fills = refl; coded = refl }
+data_computes at = record { printable = refl; short = refl; read = refl; behind_label = refl; statement_at = λ address. refl; fills = refl; instruction_of = refl }
 
 pub says_data : (b at : ℕ) → b < 256 → Says at (line_of (entry.Data b)) (b ∷ [])
 says_data b at is_byte = says_below (data_computes at) b is_byte
@@ -106,7 +113,12 @@ hex2_printable b h = rw (hex_digit_printable (b / 16) (omega arith), hex_digit_p
 
 hex4_printable : (w : ℕ) → w < 65536 → list_all is_printable (hex4 w) ≡ true
 unfolding hex4 hex2
-hex4_printable w h = rw (hex_digit_printable (w / 256 / 16) (omega arith), hex_digit_printable (w / 256 % 16) (omega arith), hex_digit_printable (w % 256 / 16) (omega arith), hex_digit_printable (w % 256 % 16) (omega arith)) refl
+hex4_printable w h = rw (
+  hex_digit_printable (w / 256 / 16) (omega arith),
+  hex_digit_printable (w / 256 % 16) (omega arith),
+  hex_digit_printable (w % 256 / 16) (omega arith),
+  hex_digit_printable (w % 256 % 16) (omega arith),
+) refl
 
 -- a byte and a word fit
 octet_byte : (b : ℕ) → b < 256 → octet 255 (pos b) ≡ Some b
@@ -129,7 +141,12 @@ found None = Nop
 
 -- a number of so many hex digits behind a `$` at the end of an instruction
 abbrev with_number : Op → ℕ → ℕ → List Token
-with_number what n digits = tokens_in (head_text what) ++ (record { column = length (head_text what) + 1; end = length (head_text what) + 2 + digits; kind = kind.Number n }) ∷ []
+with_number what n digits = tokens_in (head_text what)
+    ++ (record {
+      column = length (head_text what) + 1;
+      end = length (head_text what) + 2 + digits;
+      kind = kind.Number n;
+    }) ∷ []
 
 -- instructions with a byte
 module _ (c : ℕ) (is_byte : c < 256) where
@@ -142,10 +159,10 @@ module _ (c : ℕ) (is_byte : c < 256) where
     printable = rw (hex2_printable c is_byte) refl;
     short = unfold hex2 in refl;
     read = unfold hex2 in rw (hex2_read c [] is_byte refl) refl;
-    unlabelled = refl;
-    stated = λ address. refl;
+    behind_label = refl;
+    statement_at = λ address. refl;
     fills = refl;
-    coded = rw (octet_byte c is_byte) refl;
+    instruction_of = rw (octet_byte c is_byte) refl;
   }
 
   pub says_byte : (k at : ℕ) → k < 8 → Says at (line_of (entry.Byte (found (decoded (0x20 + k))) c)) ((0x20 + k) ∷ c ∷ [])
@@ -165,10 +182,10 @@ module _ (c d : ℕ) (high : c < 256) (low : d < 256) where
     printable = rw (hex4_printable (256 * c + d) is_word) refl;
     short = unfold hex4 in unfold hex2 in refl;
     read = unfold hex4 in unfold hex2 in rw (hex4_read (256 * c + d) [] is_word refl) refl;
-    unlabelled = refl;
-    stated = λ address. refl;
+    behind_label = refl;
+    statement_at = λ address. refl;
     fills = refl;
-    coded = rw (small_word (256 * c + d) is_word, high_of c d low, low_of c d low) refl;
+    instruction_of = rw (small_word (256 * c + d) is_word, high_of c d low, low_of c d low) refl;
   }
 
   pub says_word : (k at : ℕ) → k < 3 → Says at (line_of (entry.Word (found (decoded (0x28 + k))) (256 * c + d))) ((0x28 + k) ∷ c ∷ d ∷ [])
@@ -188,10 +205,10 @@ module _ (w c at : ℕ) (is_word : w < 65536) (reaches : octet 127 (pos w -ℤ p
     printable = rw (hex4_printable w is_word) refl;
     short = unfold hex4 in unfold hex2 in refl;
     read = unfold hex4 in unfold hex2 in rw (hex4_read w [] is_word refl) refl;
-    unlabelled = refl;
-    stated = λ address. refl;
+    behind_label = refl;
+    statement_at = λ address. refl;
     fills = refl;
-    coded = rw reaches refl;
+    instruction_of = rw reaches refl;
   }
 
   branch_computes : Computes (branch_line 0x8F) (branch_tokens 0x8F) (λ k. (0x8F + k) ∷ c ∷ []) 17 at
@@ -200,10 +217,10 @@ module _ (w c at : ℕ) (is_word : w < 65536) (reaches : octet 127 (pos w -ℤ p
     printable = rw (hex4_printable w is_word) refl;
     short = unfold hex4 in unfold hex2 in refl;
     read = unfold hex4 in unfold hex2 in rw (hex4_read w [] is_word refl) refl;
-    unlabelled = refl;
-    stated = λ address. refl;
+    behind_label = refl;
+    statement_at = λ address. refl;
     fills = refl;
-    coded = rw reaches refl;
+    instruction_of = rw reaches refl;
   }
 
   pub says_mask : (k : ℕ) → k < 8 → Says at (line_of (entry.Word (found (decoded (0x80 + k))) w)) ((0x80 + k) ∷ c ∷ [])

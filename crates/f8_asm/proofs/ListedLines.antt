@@ -69,10 +69,10 @@ line_first l rest all = lines_at_feed l rest (printable_no_feed l all) ∙ ap (�
 -- the statement of a line without a label, at this address, has these bytes
 pub record Gives (at : ℕ) (ts : List Token) (front : List ℕ) : Type 0 where
   pub st : Statement
-  pub unlabelled : label_of ts ≡ None
-  pub stated : (address : ℕ) → statement (values [] address) false ts ≡ Ok st
+  pub behind_label : label_of ts ≡ None
+  pub statement_at : (address : ℕ) → statement (values [] address) false ts ≡ Ok st
   pub fills : effect_of st ≡ Fills (length front)
-  pub coded : bytes_of at st ≡ Ok front
+  pub instruction_of : bytes_of at st ≡ Ok front
 
 -- a line has tokens, and their statement has these bytes; it is shorter than 8 bytes for each of them
 pub record Says (at : ℕ) (line front : List ℕ) : Type 0 where

@@ -1,5 +1,6 @@
 -- The statements of bytes list them.
-use Rattle.std.proofs.Common.{◌≡◌, ℕ, zero, suc, ◌+◌, ◌-◌, ◌<◌, ◌≤◌, Bool, true, false, cond, List, [], ◌∷◌, length, drop, Option, Some, None, refl, ap, ◌∙◌, subst, arith, add-zero}
+use Rattle.std.proofs.Common.{◌≡◌, ℕ, zero, suc, ◌+◌, ◌-◌, ◌<◌, ◌≤◌, Bool, true, false, cond, List, [], ◌∷◌, length}
+use Rattle.std.proofs.Common.{drop, Option, Some, None, refl, ap, ◌∙◌, subst, arith, add-zero}
 use Rattle.std.specs.Prelude.{nat_lt, nat_le}
 use Rattle.std.proofs.lemmas.Bool.Decides.{nat_tests}
 use Rattle.f8_spec.specs.Instructions.{decoded, row_of, row_length, length_of}
@@ -11,7 +12,9 @@ use Rattle.f8_asm.specs.declared.pieces.Tail.{Tail}
 use Rattle.f8_asm.specs.declared.pieces.Tail.TheVariants as tail
 use Rattle.f8_asm.specs.declared.spelling.Entry.{Entry}
 use Rattle.f8_asm.specs.Listing.{target, data_piece, byte_piece, reaching, place_piece, word_piece, tail_piece, tail_of, op_piece, piece, entries, listing}
-use Rattle.f8_asm.specs.ListingLaw.{is_branch_row, is_branch, LeadsTo, IsListing, nothing_left, instruction_alone, instruction_with_byte, instruction_with_word, branch, branch_astray, reserved, cut_instruction, IsListingText}
+use Rattle.f8_asm.specs.ListingLaw.{is_branch_row, is_branch, LeadsTo, IsListing, nothing_left, instruction_alone}
+use Rattle.f8_asm.specs.ListingLaw.{instruction_with_byte, instruction_with_word, branch, branch_astray, reserved}
+use Rattle.f8_asm.specs.ListingLaw.{cut_instruction, IsListingText}
 use Rattle.f8_asm.proofs.ListedPieces.{AreBytes}
 
 -- ---- what stands behind an opcode
@@ -87,8 +90,8 @@ abbrev Rest : ℕ → List ℕ → Type 0
 Rest at bs = (skip : ℕ) → IsListing (at + 1 + skip) (drop skip bs) (entries skip 0 (at + 1) bs)
 
 -- the same address, written otherwise
-moved : {n m : ℕ} {bs : List ℕ} {es : List Entry} → n ≡ m → IsListing n bs es → IsListing m bs es
-moved {n} {m} {bs} {es} e is = subst (λ at. IsListing at bs es) e is
+move_op : {n m : ℕ} {bs : List ℕ} {es : List Entry} → n ≡ m → IsListing n bs es → IsListing m bs es
+move_op {n} {m} {bs} {es} e is = subst (λ at. IsListing at bs es) e is
 
 two_on : (at : ℕ) → at + 1 + 1 ≡ at + 2
 two_on at = omega arith
@@ -109,13 +112,13 @@ module _ (at b : ℕ) where
     unfolding entries
     byte_first [] tail_is rest = let size = length_by op tail.Byte tail_is in cut_instruction is (omega (arith, size))
     byte_first (c ∷ cs) tail_is rest = instruction_with_byte is (length_by op tail.Byte tail_is) (branch_by op tail.Byte tail_is)
-        (moved (two_on at) (rest 1))
+        (move_op (two_on at) (rest 1))
 
     reaching_first : (c : ℕ) (cs : List ℕ) (w : Option ℕ) → Led (at + 1) c w → tail_of (row_of op) ≡ tail.Place → Rest at (c ∷ cs)
         → IsListing at (b ∷ c ∷ cs) (behind at (c ∷ cs) (reaching b op w))
     unfolding entries piece
-    reaching_first c cs None far tail_is rest = branch_astray is (branch_by op tail.Place tail_is) far (moved (two_on at) (rest 1))
-    reaching_first c cs (Some w) far tail_is rest = branch is (branch_by op tail.Place tail_is) far (moved (two_on at) (rest 1))
+    reaching_first c cs None far tail_is rest = branch_astray is (branch_by op tail.Place tail_is) far (move_op (two_on at) (rest 1))
+    reaching_first c cs (Some w) far tail_is rest = branch is (branch_by op tail.Place tail_is) far (move_op (two_on at) (rest 1))
 
     place_first : (bs : List ℕ) → AreBytes bs → at + 1 ≤ 65536 → tail_of (row_of op) ≡ tail.Place → Rest at bs
         → IsListing at (b ∷ bs) (behind at bs (place_piece at b op bs))
@@ -127,7 +130,7 @@ module _ (at b : ℕ) where
     unfolding entries piece
     word_first [] tail_is rest = let size = length_by op tail.Word tail_is in cut_instruction is (omega (arith, size))
     word_first (c ∷ []) tail_is rest = let size = length_by op tail.Word tail_is in cut_instruction is (omega (arith, size))
-    word_first (c ∷ d ∷ ds) tail_is rest = instruction_with_word is (length_by op tail.Word tail_is) (moved (three_on at) (rest 2))
+    word_first (c ∷ d ∷ ds) tail_is rest = instruction_with_word is (length_by op tail.Word tail_is) (move_op (three_on at) (rest 2))
 
     tail_first : (bs : List ℕ) (t : Tail) → AreBytes bs → at + 1 ≤ 65536 → tail_of (row_of op) ≡ t → Rest at bs
         → IsListing at (b ∷ bs) (behind at bs (tail_piece at b op bs t))

@@ -25,17 +25,22 @@ either_made f true x y p q e h = e
 either_made f false x y p q e h = h
 
 -- a name is found where its text is
-pub looked_up : (name : List ℕ) (es : List (String Global × ℤ)) → lookup (λ k. bytes_eq name (string_bytes k)) es ≡ value_of (map (λ e. (string_bytes e.0, e.1)) es) name
+pub looked_up : (name : List ℕ) (es : List (String Global × ℤ)) →
+    lookup (λ k. bytes_eq name (string_bytes k)) es ≡ value_of (map (λ e. (string_bytes e.0, e.1)) es) name
 looked_up name [] = refl
 looked_up name (e ∷ es) = either (bytes_eq name (string_bytes e.0)) (Some e.1) (Some e.1) _ _ refl (looked_up name es)
 
 -- a name is given where its text is
-pub inserted : (es : List (String Global × ℤ)) (key : String Global) (v : ℤ) → map (λ e. (string_bytes e.0, e.1)) (insert_entry string_eq es key v) ≡ with_name (map (λ e. (string_bytes e.0, e.1)) es) (string_bytes key) v
+pub inserted : (es : List (String Global × ℤ)) (key : String Global) (v : ℤ) →
+    map (λ e. (string_bytes e.0, e.1)) (insert_entry string_eq es key v)
+    ≡ with_name (map (λ e. (string_bytes e.0, e.1)) es) (string_bytes key) v
 inserted [] key v = refl
-inserted (e ∷ es) key v = either_made seen_names (bytes_eq (string_bytes key) (string_bytes e.0)) ((e.0, v) ∷ es) (e ∷ insert_entry string_eq es key v) _ _ refl (ap (λ r. (string_bytes e.0, e.1) ∷ r) (inserted es key v))
+inserted (e ∷ es) key v = either_made seen_names (bytes_eq (string_bytes key) (string_bytes e.0)) ((e.0, v) ∷ es)
+    (e ∷ insert_entry string_eq es key v) _ _ refl (ap (λ r. (string_bytes e.0, e.1) ∷ r) (inserted es key v))
 
 -- names stay names with one more
-names_with : (b : Bool) (e : List ℕ × ℤ) (es : List (List ℕ × ℤ)) (more : List (List ℕ × ℤ)) (v : ℤ) → IsTrue (are_names (e ∷ es)) → IsTrue (are_names more) → IsTrue (are_names (cond b ((e.0, v) ∷ es) (e ∷ more)))
+names_with : (b : Bool) (e : List ℕ × ℤ) (es : List (List ℕ × ℤ)) (more : List (List ℕ × ℤ)) (v : ℤ) →
+    IsTrue (are_names (e ∷ es)) → IsTrue (are_names more) → IsTrue (are_names (cond b ((e.0, v) ∷ es) (e ∷ more)))
 names_with true e es more v all rest = all
 names_with false e es more v all rest = grind (arith, common_steps)
 

@@ -15,8 +15,8 @@ pub record IsMarkOf (strength mark : ℕ) (operator : Operator) : Type 0 where
   pub mark_is : mark ≡ operator_mark operator
   pub strength_is : strength_of operator ≡ strength
 
-marked : (strength mark : ℕ) (operator : Operator) → mark_operator strength mark ≡ Some operator → IsMarkOf strength mark operator
-marked strength mark operator is = grind (arith, nat_tests)
+marks_with : (strength mark : ℕ) (operator : Operator) → mark_operator strength mark ≡ Some operator → IsMarkOf strength mark operator
+marks_with strength mark operator is = grind (arith, nat_tests)
 
 marked_at : (strength : ℕ) (operator : Operator) → strength_of operator ≡ strength → mark_operator strength (operator_mark operator) ≡ Some operator
 marked_at strength Or is = rw (← is) refl
@@ -33,7 +33,7 @@ pub record IsOperatorOf (strength : ℕ) (k : TokenKind) (operator : Operator) :
 
 pub operator_is : (strength : ℕ) (k : TokenKind) (operator : Operator) → operator_at strength k ≡ Some operator → IsOperatorOf strength k operator
 operator_is strength (kind.Mark mark) operator is =
-    let found = marked strength mark operator is in
+    let found = marks_with strength mark operator is in
     record { kind_is = ap kind.Mark found.mark_is; strength_is = found.strength_is }
 operator_is strength (kind.Name name) operator is = cc
 operator_is strength (kind.Number number) operator is = cc

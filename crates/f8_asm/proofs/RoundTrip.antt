@@ -1,5 +1,6 @@
 -- A listing assembles to its bytes again, and isn't long.
-use Rattle.std.proofs.Common.{◌≡◌, ℕ, ◌+◌, ◌*◌, zero, suc, ◌≤◌, false, List, [], ◌∷◌, ◌++◌, length, length-append, map, replicate, Option, Ok, refl, ◌∙◌, ap, arith}
+use Rattle.std.proofs.Common.{◌≡◌, ℕ, ◌+◌, ◌*◌, zero, suc, ◌≤◌, false, List, [], ◌∷◌, ◌++◌, length, length-append, map}
+use Rattle.std.proofs.Common.{replicate, Option, Ok, refl, ◌∙◌, ap, arith}
 use Rattle.std.specs.Prelude.{codes}
 use Rattle.std.specs.List.{list_any}
 use Rattle.std.proofs.lemmas.Str.{IsUtf8-from_ascii}
@@ -13,7 +14,7 @@ use Rattle.f8_asm.specs.Listing.{entries, listing}
 use Rattle.f8_asm.specs.Marks.{no_marks}
 use Rattle.f8_asm.specs.PassOne.{read_line, read_lines, no_reading}
 use Rattle.f8_asm.specs.PassTwo.{no_layout, place, place_lines, settle}
-use Rattle.f8_asm.specs.PassThree.{no_bytes, written, line_bytes, emit, emit_lines}
+use Rattle.f8_asm.specs.PassThree.{no_bytes, table_with, line_bytes, emit, emit_lines}
 use Rattle.f8_asm.proofs.LineTokens.{some_utf8}
 use Rattle.f8_asm.proofs.ListedBytes.{all_open, numbers_open}
 use Rattle.f8_asm.proofs.ListedLines.{line_of, text_of, all_written, line_first}
@@ -36,7 +37,8 @@ org_line : read_line 1 no_reading org ≡ Ok (reading (numbered 1 org_tokens ∷
 unfolding all_open read_line no_reading
 org_line = rw (some_utf8 1 org (IsUtf8-from_ascii org (printable_ascii org refl)), org_read) refl
 
-org_placed : (size : ℕ) → place everywhere (no_layout size) (numbered 1 org_tokens) ≡ Ok (layout 0 (no_marks size) ((record { address = 0; line = numbered 1 org_tokens }) ∷ []))
+org_placed : (size : ℕ) → place everywhere (no_layout size) (numbered 1 org_tokens)
+    ≡ Ok (layout 0 (no_marks size) ((record { address = 0; line = numbered 1 org_tokens }) ∷ []))
 unfolding all_open place settle
 org_placed size = refl
 
@@ -53,7 +55,8 @@ lines_coded (coded_more {at} {e} {es} says behind) = line_first (line_of e) (tex
 
 listed : (bytes : List ℕ) → Coded 0 (entries 0 0 0 bytes) bytes → lines (listing bytes) ≡ org ∷ map line_of (entries 0 0 0 bytes)
 unfolding listing
-listed bytes coded = ap lines (all_written (org ++ 10 ∷ []) (entries 0 0 0 bytes)) ∙ line_first org (text_of (entries 0 0 0 bytes)) refl ∙ ap (λ ls. org ∷ ls) (lines_coded coded)
+listed bytes instruction_of = ap lines (all_written (org ++ 10 ∷ []) (entries 0 0 0 bytes))
+    ∙ line_first org (text_of (entries 0 0 0 bytes)) refl ∙ ap (λ ls. org ∷ ls) (lines_coded instruction_of)
 
 -- ---- nothing is filled before
 
@@ -67,7 +70,7 @@ unfolding no_marks
 free n = record { is = any_none n }
 
 -- bytes put in an empty table
-image_is : (n : ℕ) (bytes : List ℕ) → length bytes ≤ n → ascending 0 (written (no_bytes n) 0 bytes) ≡ bytes_from 0 bytes
+image_is : (n : ℕ) (bytes : List ℕ) → length bytes ≤ n → ascending 0 (table_with (no_bytes n) 0 bytes) ≡ bytes_from 0 bytes
 unfolding no_bytes
 image_is n bytes fits = image_bytes n bytes fits
 
@@ -75,10 +78,21 @@ image_is n bytes fits = image_bytes n bytes fits
 listing_image : (n : ℕ) (bytes : List ℕ) → n ≤ 65536 → AreBytes bytes → length bytes ≤ n → image_in n (listing bytes) everywhere ≡ Ok (picture_of bytes)
 unfolding image_in read_lines place_lines emit_lines
 listing_image n bytes least all fits =
-    let coded = coded_entries 0 0 0 bytes all (omega arith) in
-    let read = read_all coded 2 (numbered 1 org_tokens ∷ []) in
+    let instruction_of = coded_entries 0 0 0 bytes all (omega arith) in
+    let read = read_all instruction_of 2 (numbered 1 org_tokens ∷ []) in
     let placed = place_all read.reads (no_marks n) ((record { address = 0; line = numbered 1 org_tokens }) ∷ []) (free n) (omega arith) in
-    rw (listed bytes coded, org_line, read.is, org_placed n, placed.is, placed.names, placed.placed, org_emitted (no_bytes n), emit_all placed.emits (no_bytes n), image_is n bytes fits) refl
+    rw (
+      listed bytes instruction_of,
+      org_line,
+      read.is,
+      org_placed n,
+      placed.is,
+      placed.names,
+      placed.placed,
+      org_emitted (no_bytes n),
+      emit_all placed.emits (no_bytes n),
+      image_is n bytes fits,
+    ) refl
 
 pub round_trip : (bytes : List ℕ) → AreBytes bytes → length bytes ≤ 65536 → image_of (listing bytes) everywhere ≡ Ok (picture_of bytes)
 unfolding image_of
@@ -88,12 +102,13 @@ round_trip bytes all fits = listing_image 65536 bytes (omega arith) all fits
 
 text_short : {at : ℕ} {es : List Entry} {bytes : List ℕ} → Coded at es bytes → length (text_of es) ≤ 8 * length bytes
 text_short coded_none = omega arith
-text_short (coded_more {at} {e} {es} {front} {rest} says behind) = omega (arith, length-append (line_of e) (10 ∷ text_of es), length-append front rest, says.short, text_short behind)
+text_short (coded_more {at} {e} {es} {front} {rest} says behind) =
+    omega (arith, length-append (line_of e) (10 ∷ text_of es), length-append front rest, says.short, text_short behind)
 
 -- a text has at most 8 bytes for each byte, behind the 10 of its first line
 pub listing_short : (bytes : List ℕ) → AreBytes bytes → length bytes ≤ 65536 → length (listing bytes) ≤ 8 * length bytes + 10
 unfolding listing
 listing_short bytes all fits =
-    let coded = coded_entries 0 0 0 bytes all (omega arith) in
+    let instruction_of = coded_entries 0 0 0 bytes all (omega arith) in
     let parts = ap length (all_written (org ++ 10 ∷ []) (entries 0 0 0 bytes)) ∙ length-append (org ++ 10 ∷ []) (text_of (entries 0 0 0 bytes)) in
-    omega (arith, parts, text_short coded)
+    omega (arith, parts, text_short instruction_of)

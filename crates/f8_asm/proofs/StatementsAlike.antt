@@ -1,5 +1,6 @@
 -- How many bytes a statement fills doesn't hang on the values of names.
-use Rattle.std.proofs.Common.{◌≡◌, ℕ, zero, suc, ◌*◌, List, [], ◌∷◌, ◌++◌, length, drop, Bool, Option, Some, None, Result, Ok, refl, sym, ap, ◌∙◌, arith, length-append}
+use Rattle.std.proofs.Common.{◌≡◌, ℕ, zero, suc, ◌*◌, List, [], ◌∷◌, ◌++◌, length, drop, Bool, Option, Some, None}
+use Rattle.std.proofs.Common.{Result, Ok, refl, sym, ap, ◌∙◌, arith, length-append}
 use Rattle.std.specs.Prelude.{not, ◌&&◌}
 use Rattle.asm_text.specs.declared.answers.Token.{Token}
 use Rattle.asm_text.specs.declared.answers.TokenKind.{TokenKind}
@@ -24,22 +25,25 @@ use Rattle.f8_asm.specs.Answers.{◌>>=◌}
 use Rattle.f8_asm.specs.Bytes.{single_bytes, item_bytes, list_bytes, bytes_of, word_bytes}
 use Rattle.f8_asm.specs.Fields.{op_with}
 use Rattle.f8_asm.specs.Grammar.{Actions}
-use Rattle.f8_asm.specs.Judging.{unsigned, byte, displacement, with_field}
+use Rattle.f8_asm.specs.Judging.{unsigned_value, byte, displacement, with_field}
 use Rattle.f8_asm.specs.Registers.{is_accumulator}
-use Rattle.f8_asm.specs.Statements.{operand_at, comma, done, coded, one, two, register_operand, numbered_at, register_at, accumulator, load_from, load, item_before, items, item_list, operands, wants_label, statement_of, statement_in, statement, single_effect, item_size, effect_of}
+use Rattle.f8_asm.specs.Statements.{operand_at, comma, done, instruction_of, one, two, register_operand, register_number_at}
+use Rattle.f8_asm.specs.Statements.{register_at, accumulator, load_from, load, item_before, items, item_list, operands}
+use Rattle.f8_asm.specs.Statements.{wants_label, statement_of, statement_in, statement, single_effect, item_size}
+use Rattle.f8_asm.specs.Statements.{effect_of}
 use Rattle.f8_asm.specs.Words.{shape_of}
 use Rattle.f8_spec.specs.Instructions.{encoded}
 use Rattle.f8_asm.proofs.Alike.{Alike, alike_ok, alike_err, alike_self, alike_then, alike_if, read-ok}
 use Rattle.f8_asm.proofs.ExpressionsAlike.{SameRest, expression_alike}
 
 -- how many bytes an effect fills
-abbrev pub filled_by : Effect → ℕ
-filled_by (Names o) = 0
-filled_by (Moves o) = 0
-filled_by (Fills n) = n
+abbrev pub layout_filled : Effect → ℕ
+layout_filled (Names o) = 0
+layout_filled (Moves o) = 0
+layout_filled (Fills n) = n
 
 abbrev pub SameSize : Statement → Statement → Type 0
-SameSize st other = filled_by (effect_of st) ≡ filled_by (effect_of other)
+SameSize st other = layout_filled (effect_of st) ≡ layout_filled (effect_of other)
 
 single-same : (what : Single) (o other : Operand) → SameSize (One what o) (One what other)
 single-same single.Equ o other = refl
@@ -77,7 +81,7 @@ module _ (a b : Actions Outcome) where
       rw equal (alike_then (operand_at_alike vs) (λ q p rest. rw rest (done_alike (Test f r.0 q.0) (Test f s.0 p.0) p.1 refl))))))
 
   register_alike : (f : Field) (ts : List Token) (number : Option ℕ) → Alike SameSize (register_operand a f ts number) (register_operand b f ts number)
-  register_alike f ts (Some r) = self_alike (coded (op_with f r) ts)
+  register_alike f ts (Some r) = self_alike (instruction_of (op_with f r) ts)
   register_alike f ts None = one_alike (single.Small f) ts
 
   load_from_alike : (to : Register) (ts : List Token) (from : Option Register) → Alike SameSize (load_from a to ts from) (load_from b to ts from)
@@ -96,7 +100,8 @@ module _ (a b : Actions Outcome) where
   abbrev SameLength : List Operand → List Operand → Type 0
   SameLength os others = length os ≡ length others
 
-  before_alike : (f g : List Token → Result (List Operand) LineFault) (o other : Operand) (ts : List Token) → ((us : List Token) → Alike SameLength (f us) (g us))
+  before_alike : (f g : List Token → Result (List Operand) LineFault) (o other : Operand) (ts : List Token) →
+      ((us : List Token) → Alike SameLength (f us) (g us))
       → Alike SameLength (item_before f o ts) (item_before g other ts)
   before_alike f g o other [] each = alike_ok refl
   before_alike f g o other (t ∷ ts) each =
@@ -116,7 +121,7 @@ module _ (a b : Actions Outcome) where
   unfolding operands
   operands_alike (shape.Plain code) ts = self_alike (done (Fixed code) ts)
   operands_alike (shape.One what) ts = one_alike what ts
-  operands_alike (shape.Register f) ts = register_alike f ts (numbered_at ts)
+  operands_alike (shape.Register f) ts = register_alike f ts (register_number_at ts)
   operands_alike (shape.Test f) ts = two_alike f ts
   operands_alike shape.Load ts = load_alike ts (register_at ts)
   operands_alike (shape.Items size) ts = item_list_alike size ts
@@ -144,10 +149,11 @@ bytes-read : {A : Type 0} (r : Result A LineFault) (f : A → List ℕ) (n : ℕ
 bytes-read r f n bs h size =
     read-ok (length bs ≡ n) r (λ x. Ok (f x)) bs h (λ x at_x e. let same : f x ≡ bs = cc e in sym (ap length same) ∙ size x)
 
-single_bytes-length : (address : ℕ) (what : Single) (o : Operand) (bs : List ℕ) → single_bytes address what o ≡ Ok bs → length bs ≡ filled_by (single_effect what o)
+single_bytes-length : (address : ℕ) (what : Single) (o : Operand) (bs : List ℕ) → single_bytes address what o ≡ Ok bs →
+    length bs ≡ layout_filled (single_effect what o)
 single_bytes-length address (single.Byte code) o bs h = bytes-read (byte o) (λ b. code ∷ b ∷ []) 2 bs h (λ b. refl)
-single_bytes-length address (single.Port code) o bs h = bytes-read (unsigned 255 o) (λ b. code ∷ b ∷ []) 2 bs h (λ b. refl)
-single_bytes-length address (single.Word code) o bs h = bytes-read (unsigned 65535 o) (λ w. code ∷ word_bytes w) 3 bs h (λ w. refl)
+single_bytes-length address (single.Port code) o bs h = bytes-read (unsigned_value 255 o) (λ b. code ∷ b ∷ []) 2 bs h (λ b. refl)
+single_bytes-length address (single.Word code) o bs h = bytes-read (unsigned_value 65535 o) (λ w. code ∷ word_bytes w) 3 bs h (λ w. refl)
 single_bytes-length address (single.Branch code) o bs h = bytes-read (displacement address o) (λ d. code ∷ d ∷ []) 2 bs h (λ d. refl)
 single_bytes-length address (single.Small f) o bs h = bytes-read (with_field f o) (λ op. encoded op ∷ []) 1 bs h (λ op. refl)
 single_bytes-length address single.Org o bs h = let none : [] ≡ bs = cc h in sym (ap length none)
@@ -155,7 +161,7 @@ single_bytes-length address single.Equ o bs h = let none : [] ≡ bs = cc h in s
 
 item_bytes-length : (size : ItemSize) (o : Operand) (bs : List ℕ) → item_bytes size o ≡ Ok bs → length bs ≡ item_size size
 item_bytes-length item.Byte o bs h = bytes-read (byte o) (λ b. b ∷ []) 1 bs h (λ b. refl)
-item_bytes-length item.Word o bs h = bytes-read (unsigned 65535 o) word_bytes 2 bs h (λ w. refl)
+item_bytes-length item.Word o bs h = bytes-read (unsigned_value 65535 o) word_bytes 2 bs h (λ w. refl)
 
 list_bytes-length : (size : ItemSize) (os : List Operand) (bs : List ℕ) → list_bytes size os ≡ Ok bs → length bs ≡ item_size size * length os
 unfolding list_bytes
@@ -173,7 +179,7 @@ list_bytes-length size (o ∷ os) bs h =
     let all = ap length whole in
     grind (arith, one, others, both, all)))
 
-pub bytes_of-length : (address : ℕ) (st : Statement) (bs : List ℕ) → bytes_of address st ≡ Ok bs → length bs ≡ filled_by (effect_of st)
+pub bytes_of-length : (address : ℕ) (st : Statement) (bs : List ℕ) → bytes_of address st ≡ Ok bs → length bs ≡ layout_filled (effect_of st)
 bytes_of-length address Nothing bs h = let none : [] ≡ bs = cc h in sym (ap length none)
 bytes_of-length address (Fixed code) bs h = let one : code ∷ [] ≡ bs = cc h in sym (ap length one)
 bytes_of-length address (One what o) bs h = single_bytes-length address what o bs h

@@ -10,7 +10,7 @@ use Rattle.f8_asm.specs.declared.values.Outcome.{Outcome}
 use Rattle.f8_asm.specs.declared.values.Outcome.TheVariants.{Value}
 use Rattle.f8_asm.specs.declared.values.Prefix.TheVariants.{Negative}
 use Rattle.f8_asm.specs.Evaluation.{values}
-use Rattle.f8_asm.specs.ExpressionForms.{Forms, number, prefixed, parenthesised, tighter, joined}
+use Rattle.f8_asm.specs.ExpressionForms.{Forms, number, prefix_value, parenthesis_expression, tighter, operator_value}
 use Rattle.f8_asm.proofs.ListedBytes.{numbers_open}
 
 abbrev tokens : List ℕ → List Token
@@ -35,21 +35,21 @@ digit depth column n = number refl
 from_the_left : IsWorth (codes "1 - 2 - 3") (Value (negsuc 3))
 unfolding numbers_open
 from_the_left =
-    let one_less_two = joined (byte_at 3 (kind.Mark 45)) Minus refl (tighter (tighter (digit 64 1 1))) refl (tighter (digit 64 5 2)) in
-    tighter (tighter (joined (byte_at 7 (kind.Mark 45)) Minus refl one_less_two refl (tighter (digit 64 9 3))))
+    let one_less_two = operator_value (byte_at 3 (kind.Mark 45)) Minus refl (tighter (tighter (digit 64 1 1))) refl (tighter (digit 64 5 2)) in
+    tighter (tighter (operator_value (byte_at 7 (kind.Mark 45)) Minus refl one_less_two refl (tighter (digit 64 9 3))))
 
 -- `-1 + 2` is (-1) + 2, and so 1
 prefix_first : IsWorth (codes "-1 + 2") (Value (pos 1))
 unfolding numbers_open
 prefix_first =
-    let minus_one = prefixed {t = byte_at 1 (kind.Mark 45)} Negative refl (digit 63 2 1) in
-    tighter (tighter (joined (byte_at 4 (kind.Mark 43)) Plus refl (tighter (tighter minus_one)) refl (tighter (digit 64 6 2))))
+    let minus_one = prefix_value {t = byte_at 1 (kind.Mark 45)} Negative refl (digit 63 2 1) in
+    tighter (tighter (operator_value (byte_at 4 (kind.Mark 43)) Plus refl (tighter (tighter minus_one)) refl (tighter (digit 64 6 2))))
 
 -- `2 * (3 | 4)` is 2 times 7
 parentheses_first : IsWorth (codes "2 * (3 | 4)") (Value (pos 14))
 unfolding numbers_open
 parentheses_first =
-    let three_or_four = joined (byte_at 8 (kind.Mark 124)) Or refl (tighter (tighter (tighter (tighter (digit 63 6 3))))) refl
+    let three_or_four = operator_value (byte_at 8 (kind.Mark 124)) Or refl (tighter (tighter (tighter (tighter (digit 63 6 3))))) refl
     (tighter (tighter (tighter (digit 63 10 4)))) in
-    let inside = parenthesised (byte_at 5 (kind.Mark 40)) (byte_at 11 (kind.Mark 41)) refl three_or_four refl in
-    tighter (tighter (tighter (joined (byte_at 3 (kind.Mark 42)) Times refl (tighter (digit 64 1 2)) refl inside)))
+    let inside = parenthesis_expression (byte_at 5 (kind.Mark 40)) (byte_at 11 (kind.Mark 41)) refl three_or_four refl in
+    tighter (tighter (tighter (operator_value (byte_at 3 (kind.Mark 42)) Times refl (tighter (digit 64 1 2)) refl inside)))

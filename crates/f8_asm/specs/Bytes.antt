@@ -10,7 +10,7 @@ use Rattle.f8_asm.specs.declared.words.Single.TheVariants as single
 use Rattle.f8_asm.specs.declared.words.ItemSize.{ItemSize}
 use Rattle.f8_asm.specs.declared.words.ItemSize.TheVariants as item
 use Rattle.f8_asm.specs.Answers.{◌>>=◌}
-use Rattle.f8_asm.specs.Judging.{unsigned, byte, displacement, with_field}
+use Rattle.f8_asm.specs.Judging.{unsigned_value, byte, displacement, with_field}
 
 -- a word, high byte first
 abbrev pub word_bytes : ℕ → List ℕ
@@ -19,8 +19,8 @@ word_bytes w = (w / 256) ∷ (w % 256) ∷ []
 -- a statement with one operand, at this address
 abbrev pub single_bytes : ℕ → Single → Operand → Result (List ℕ) LineFault
 single_bytes address (single.Byte code) o = byte o >>= λ b. Ok (code ∷ b ∷ [])
-single_bytes address (single.Port code) o = unsigned 255 o >>= λ b. Ok (code ∷ b ∷ [])
-single_bytes address (single.Word code) o = unsigned 65535 o >>= λ w. Ok (code ∷ word_bytes w)
+single_bytes address (single.Port code) o = unsigned_value 255 o >>= λ b. Ok (code ∷ b ∷ [])
+single_bytes address (single.Word code) o = unsigned_value 65535 o >>= λ w. Ok (code ∷ word_bytes w)
 single_bytes address (single.Branch code) o = displacement address o >>= λ d. Ok (code ∷ d ∷ [])
 single_bytes address (single.Small field) o = with_field field o >>= λ op. Ok (encoded op ∷ [])
 single_bytes address single.Org o = Ok []
@@ -28,7 +28,7 @@ single_bytes address single.Equ o = Ok []
 
 abbrev pub item_bytes : ItemSize → Operand → Result (List ℕ) LineFault
 item_bytes item.Byte o = byte o >>= λ b. Ok (b ∷ [])
-item_bytes item.Word o = unsigned 65535 o >>= λ w. Ok (word_bytes w)
+item_bytes item.Word o = unsigned_value 65535 o >>= λ w. Ok (word_bytes w)
 
 unfoldable pub list_bytes : ItemSize → List Operand → Result (List ℕ) LineFault
 list_bytes size [] = Ok []

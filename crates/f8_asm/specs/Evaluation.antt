@@ -6,15 +6,15 @@ use Rattle.f8_asm.specs.Values.{both, before}
 use Rattle.f8_asm.specs.Names.{value_of}
 use Rattle.f8_asm.specs.Grammar.{Actions}
 
-abbrev pub named : ℕ → Option ℤ → Outcome
-named column (Some v) = Value v
-named column None = Undefined column
+abbrev pub name_value : ℕ → Option ℤ → Outcome
+name_value column (Some v) = Value v
+name_value column None = Undefined column
 
 -- numbers, names and `.` stand for their values
 abbrev pub values : List (List ℕ × ℤ) → ℕ → Actions Outcome
 values names address = record {
   number = λ n. Value (pos n);
-  name = λ column name. named column (value_of names name);
+  name = λ column name. name_value column (value_of names name);
   here = Value (pos address);
   before = before;
   between = both;

@@ -44,15 +44,15 @@ pub data Forms {A : Type 0} (acts : Actions A) : ℕ → ℕ → List Token → 
   -- `.` (46),
   here : {depth : ℕ} {t : Token} → t.kind ≡ kind.Mark 46 → Forms acts 0 depth (t ∷ []) acts.here
   -- an operand behind a prefix, which is open until that ends,
-  prefixed : {depth : ℕ} {t : Token} {ts : List Token} {x : A} (prefix : Prefix) → t.kind ≡ kind.Mark (prefix_mark prefix)
+  prefix_value : {depth : ℕ} {t : Token} {ts : List Token} {x : A} (prefix : Prefix) → t.kind ≡ kind.Mark (prefix_mark prefix)
       → Forms acts 0 depth ts x → Forms acts 0 (suc depth) (t ∷ ts) (acts.before prefix x)
   -- or an expression between `(` (40) and `)` (41)
-  parenthesised : {depth : ℕ} {ts : List Token} {x : A} (t u : Token) → t.kind ≡ kind.Mark 40 → Forms acts 4 depth ts x
+  parenthesis_expression : {depth : ℕ} {ts : List Token} {x : A} (t u : Token) → t.kind ≡ kind.Mark 40 → Forms acts 4 depth ts x
       → u.kind ≡ kind.Mark 41 → Forms acts 0 (suc depth) (t ∷ (ts ++ u ∷ [])) x
   -- what has only tighter operators
   tighter : {strength depth : ℕ} {ts : List Token} {x : A} → Forms acts strength depth ts x → Forms acts (suc strength) depth ts x
   -- an operator: on its left the operators may have its strength too, on its right they are tighter
-  joined : {strength depth : ℕ} {ts us : List Token} {x y : A} (t : Token) (operator : Operator) → strength_of operator ≡ suc strength
+  operator_value : {strength depth : ℕ} {ts us : List Token} {x y : A} (t : Token) (operator : Operator) → strength_of operator ≡ suc strength
       → Forms acts (suc strength) depth ts x → t.kind ≡ kind.Mark (operator_mark operator) → Forms acts strength depth us y
       → Forms acts (suc strength) depth (ts ++ t ∷ us) (acts.between operator x y)
 

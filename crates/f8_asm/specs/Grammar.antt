@@ -61,9 +61,9 @@ level acts f zero ts = f ts
 level acts f (suc k) ts = level acts f k ts >>= λ r. chain acts (suc k) (level acts f k) (length r.1) r.0 r.1
 
 -- `)` (41)
-abbrev pub closed : {A : Type 0} → A → List Token → Read A
-closed value [] = Err (form None)
-closed value (t ∷ ts) =
+abbrev pub parenthesis_end : {A : Type 0} → A → List Token → Read A
+parenthesis_end value [] = Err (form None)
+parenthesis_end value (t ∷ ts) =
     elim t.kind [
       | kind.Mark mark ↦ if mark == 41 then Ok (value, ts) else Err (form (Some t.column))
       | kind.Name name ↦ Err (form (Some t.column))
@@ -71,8 +71,8 @@ closed value (t ∷ ts) =
     ]
 
 -- an expression in parentheses, behind the first
-unfoldable pub parenthesised : {A : Type 0} → Actions A → (List Token → Read A) → List Token → Read A
-parenthesised acts f ts = level acts f 4 ts >>= λ r. closed r.0 r.1
+unfoldable pub parenthesis_expression : {A : Type 0} → Actions A → (List Token → Read A) → List Token → Read A
+parenthesis_expression acts f ts = level acts f 4 ts >>= λ r. parenthesis_end r.0 r.1
 
 -- an operand behind a prefix
 abbrev pub behind_prefix : {A : Type 0} → Actions A → Prefix → (List Token → Read A) → List Token → Read A
@@ -80,14 +80,14 @@ behind_prefix acts prefix f ts = f ts >>= λ r. Ok (acts.before prefix r.0, r.1)
 
 -- an operand that begins with a mark: `.` (46), or where one more prefix or parenthesis may be open `-` (45),
 -- `<` (60), `>` (62) or `(` (40)
-unfoldable pub opened : {A : Type 0} → Actions A → Option (List Token → Read A) → ℕ → ℕ → List Token → Read A
-opened acts None column mark ts = if mark == 46 then Ok (acts.here, ts) else Err (form (Some column))
-opened acts (Some f) column mark ts =
+unfoldable pub mark_operand : {A : Type 0} → Actions A → Option (List Token → Read A) → ℕ → ℕ → List Token → Read A
+mark_operand acts None column mark ts = if mark == 46 then Ok (acts.here, ts) else Err (form (Some column))
+mark_operand acts (Some f) column mark ts =
     if mark == 46 then Ok (acts.here, ts) else
     if mark == 45 then behind_prefix acts Negative f ts else
     if mark == 60 then behind_prefix acts LowByte f ts else
     if mark == 62 then behind_prefix acts HighByte f ts else
-    if mark == 40 then parenthesised acts f ts else
+    if mark == 40 then parenthesis_expression acts f ts else
     Err (form (Some column))
 
 -- an operand: a number, a name that isn't reserved, or one that begins with a mark
@@ -97,7 +97,7 @@ operand_of acts inner (t ∷ ts) =
     elim t.kind [
       | kind.Number number ↦ Ok (acts.number number, ts)
       | kind.Name name ↦ if is_reserved name then Err (form (Some t.column)) else Ok (acts.name t.column name, ts)
-      | kind.Mark mark ↦ opened acts inner t.column mark ts
+      | kind.Mark mark ↦ mark_operand acts inner t.column mark ts
     ]
 
 -- an operand in which this many more prefixes and parentheses may be open
@@ -115,9 +115,9 @@ unfoldable pub expression : {A : Type 0} → Actions A → List Token → Read A
 expression acts ts = level acts (operand acts 64) 4 ts
 
 -- what was read, as a value of lists
-abbrev pub seen : {A B : Type 0} → Result (A × Bor B) LineFault → Result (A × B) LineFault
-seen (Ok r) = Ok (r.0, r.1.now)
-seen (Err fault) = Err fault
+abbrev pub reading_of : {A B : Type 0} → Result (A × Bor B) LineFault → Result (A × B) LineFault
+reading_of (Ok r) = Ok (r.0, r.1.now)
+reading_of (Err fault) = Err fault
 
 -- fewer tokens are left
 abbrev pub ReadsSome : {A : Type 0} → ℕ → Result (A × Bor (List Token)) LineFault → Type 0

@@ -8,11 +8,11 @@ use Rattle.f8_asm.specs.declared.operands.Operand.{Operand}
 use Rattle.f8_asm.specs.declared.operands.Statement.{Statement}
 use Rattle.f8_asm.specs.Evaluation.{values}
 use Rattle.f8_asm.specs.Image.{Picture, bytes_from}
-use Rattle.f8_asm.specs.Judging.{taken, unsigned}
+use Rattle.f8_asm.specs.Judging.{operand_value, unsigned_value}
 use Rattle.text_lines.specs.Lines.{lines}
 use Rattle.f8_asm.specs.Names.{value_of}
 use Rattle.f8_asm.specs.PassThree.{line_bytes}
-use Rattle.f8_asm.specs.Statements.{statement, label_of, unlabelled, effect_of}
+use Rattle.f8_asm.specs.Statements.{statement, label_of, behind_label, effect_of}
 
 -- where a line stands, and its bytes
 pub record Standing : Type 0 where
@@ -20,9 +20,9 @@ pub record Standing : Type 0 where
   pub bytes : List ℕ
 
 -- what a label names
-abbrev pub named : Option (List ℕ) → ℤ → List (List ℕ × ℤ)
-named None v = []
-named (Some name) v = (name, v) ∷ []
+abbrev pub label_name : Option (List ℕ) → ℤ → List (List ℕ × ℤ)
+label_name None v = []
+label_name (Some name) v = (name, v) ∷ []
 
 -- no line before has this label
 abbrev pub IsNew : List (List ℕ × ℤ) → Option (List ℕ) → Type 0
@@ -30,24 +30,24 @@ IsNew earlier None = Unit {0}
 IsNew earlier (Some name) = value_of earlier name ≡ None
 
 -- the statement of a line at this address, with the names of earlier lines
-abbrev pub stated : List (List ℕ × ℤ) → ℕ → List Token → Result Statement LineFault
-stated earlier at ts = statement (values earlier at) (is_some (label_of ts)) (unlabelled ts)
+abbrev pub statement_at : List (List ℕ × ℤ) → ℕ → List Token → Result Statement LineFault
+statement_at earlier at ts = statement (values earlier at) (is_some (label_of ts)) (behind_label ts)
 
 -- A line's tokens at an address, with the names of the lines before it and with all names of the text: its bytes, the address of the next
 -- line, and the names behind it.
 pub data LineStands : List (List ℕ × ℤ) → List (List ℕ × ℤ) → ℕ → List Token → List ℕ → ℕ → List (List ℕ × ℤ) → Type 0 where
   -- EQU names the value that its operand has over the names of earlier lines
   equ : {names earlier : List (List ℕ × ℤ)} {at : ℕ} {ts : List Token} {st : Statement} {o : Operand} {v : ℤ}
-      → stated earlier at ts ≡ Ok st → effect_of st ≡ Names o → taken o ≡ Ok v
-      → LineStands names earlier at ts [] at (earlier ++ named (label_of ts) v)
+      → statement_at earlier at ts ≡ Ok st → effect_of st ≡ Names o → operand_value o ≡ Ok v
+      → LineStands names earlier at ts [] at (earlier ++ label_name (label_of ts) v)
   -- the next line stands where ORG says; a label has the address before
-  org : {names earlier : List (List ℕ × ℤ)} {at next : ℕ} {ts : List Token} {st : Statement} {o : Operand} → stated earlier at ts ≡ Ok st
-      → effect_of st ≡ Moves o → unsigned 65535 o ≡ Ok next
-      → LineStands names earlier at ts [] next (earlier ++ named (label_of ts) (pos at))
+  org : {names earlier : List (List ℕ × ℤ)} {at next : ℕ} {ts : List Token} {st : Statement} {o : Operand} → statement_at earlier at ts ≡ Ok st
+      → effect_of st ≡ Moves o → unsigned_value 65535 o ≡ Ok next
+      → LineStands names earlier at ts [] next (earlier ++ label_name (label_of ts) (pos at))
   -- any other line has bytes, with all names of the text, and the next line stands behind them; a label has the line's address
-  filling : {names earlier : List (List ℕ × ℤ)} {at : ℕ} {ts : List Token} {st : Statement} {bs : List ℕ} → stated earlier at ts ≡ Ok st
+  filling : {names earlier : List (List ℕ × ℤ)} {at : ℕ} {ts : List Token} {st : Statement} {bs : List ℕ} → statement_at earlier at ts ≡ Ok st
       → effect_of st ≡ Fills (length bs) → line_bytes names at ts ≡ Ok bs
-      → LineStands names earlier at ts bs (at + length bs) (earlier ++ named (label_of ts) (pos at))
+      → LineStands names earlier at ts bs (at + length bs) (earlier ++ label_name (label_of ts) (pos at))
 
 -- Lines one behind the other, the first at this address: each gives no label that a line before it gave, and stands so. All names of the
 -- text are those that are given behind the last.

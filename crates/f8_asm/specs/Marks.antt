@@ -7,9 +7,9 @@ unfoldable pub no_marks : ℕ → List Bool
 no_marks size = replicate size false
 
 -- so many addresses from one on are marked
-abbrev pub marked : List Bool → ℕ → ℕ → List Bool
-marked marks at zero = marks
-marked marks at (suc n) = slice_set (marked marks at n) (at + n) true
+abbrev pub marks_with : List Bool → ℕ → ℕ → List Bool
+marks_with marks at zero = marks
+marks_with marks at (suc n) = slice_set (marks_with marks at n) (at + n) true
 
 -- none of so many addresses from one on is marked
 abbrev pub is_free : List Bool → ℕ → ℕ → Bool

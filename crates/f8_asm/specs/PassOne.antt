@@ -1,5 +1,6 @@
 -- The first pass: the tokens of each line, whether they make a statement, and whether a name is given twice.
-use Rattle.std.specs.Prelude.{ℕ, ℤ, pos, ◌+◌, ◌-◌, Bool, true, false, List, [], ◌∷◌, ◌++◌, length, slice_get, Option, Some, None, is_some, Result, Ok, Err, if◌then◌else◌}
+use Rattle.std.specs.Prelude.{ℕ, ℤ, pos, ◌+◌, ◌-◌, Bool, true, false, List, [], ◌∷◌, ◌++◌, length, slice_get, Option}
+use Rattle.std.specs.Prelude.{Some, None, is_some, Result, Ok, Err, if◌then◌else◌}
 use Rattle.std.specs.Str.{is_utf8}
 use Rattle.asm_text.specs.Tokens.{tokens_of}
 use Rattle.asm_text.specs.declared.answers.Token.{Token}
@@ -13,7 +14,7 @@ use Rattle.f8_asm.specs.Answers.{◌>>=◌}
 use Rattle.f8_asm.specs.Evaluation.{values}
 use Rattle.f8_asm.specs.Grammar.{column_of}
 use Rattle.f8_asm.specs.Names.{value_of, with_name}
-use Rattle.f8_asm.specs.Statements.{statement, label_of, unlabelled, twice}
+use Rattle.f8_asm.specs.Statements.{statement, label_of, behind_label, twice}
 
 -- ---- faults in their line
 
@@ -30,12 +31,12 @@ column_or end None = end
 column_or end (Some column) = column
 
 -- a line's fault with the line's number; where no token is left it stands past the last
-abbrev pub told : ℕ → List Token → LineFault → AsmFault
-told number ts fault = record { line = number; column = column_or (end_of ts) fault.column; cause = fault.cause }
+abbrev pub fault_in_line : ℕ → List Token → LineFault → AsmFault
+fault_in_line number ts fault = record { line = number; column = column_or (end_of ts) fault.column; cause = fault.cause }
 
 abbrev pub in_line : {A : Type 0} → ℕ → List Token → Result A LineFault → Result A AsmFault
 in_line number ts (Ok x) = Ok x
-in_line number ts (Err fault) = Err (told number ts fault)
+in_line number ts (Err fault) = Err (fault_in_line number ts fault)
 
 -- ---- tokens
 
@@ -65,7 +66,7 @@ statement_checked names labelled ts = statement (values names 0) labelled ts >>=
 abbrev pub check_labelled : List (List ℕ × ℤ) → List Token → List ℕ → Result (List (List ℕ × ℤ)) LineFault
 check_labelled names ts name =
     if is_some (value_of names name) then Err (twice (column_of ts))
-    else (statement_checked names true (unlabelled ts) >>= λ _. Ok (with_name names name (pos 0)))
+    else (statement_checked names true (behind_label ts) >>= λ _. Ok (with_name names name (pos 0)))
 
 abbrev pub check_with : List (List ℕ × ℤ) → List Token → Option (List ℕ) → Result (List (List ℕ × ℤ)) LineFault
 check_with names ts None = statement_checked names false ts >>= λ _. Ok names
@@ -81,7 +82,8 @@ pub record Reading : Type 0 where
 
 unfoldable pub read_line : ℕ → Reading → List ℕ → Result Reading AsmFault
 read_line number s bytes =
-    line_tokens number bytes >>= λ ts. in_line number ts (check s.names ts) >>= λ names. Ok (record { names = names; lines = s.lines ++ (record { number = number; tokens = ts }) ∷ [] })
+    line_tokens number bytes >>= λ ts. in_line number ts (check s.names ts) >>= λ names. Ok
+    (record { names = names; lines = s.lines ++ (record { number = number; tokens = ts }) ∷ [] })
 
 -- lines from this number on
 unfoldable pub read_lines : ℕ → Reading → List (List ℕ) → Result Reading AsmFault

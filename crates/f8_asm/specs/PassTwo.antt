@@ -12,11 +12,11 @@ use Rattle.f8_asm.specs.declared.operands.Effect.TheVariants.{Names, Moves, Fill
 use Rattle.f8_asm.specs.Answers.{◌>>=◌}
 use Rattle.f8_asm.specs.Evaluation.{values}
 use Rattle.f8_asm.specs.Grammar.{column_of}
-use Rattle.f8_asm.specs.Judging.{taken, unsigned}
-use Rattle.f8_asm.specs.Marks.{no_marks, marked, is_free}
+use Rattle.f8_asm.specs.Judging.{operand_value, unsigned_value}
+use Rattle.f8_asm.specs.Marks.{no_marks, marks_with, is_free}
 use Rattle.f8_asm.specs.Names.{with_name}
 use Rattle.f8_asm.specs.PassOne.{in_line}
-use Rattle.f8_asm.specs.Statements.{statement, label_of, unlabelled, effect_of}
+use Rattle.f8_asm.specs.Statements.{statement, label_of, behind_label, effect_of}
 
 -- what is known after some lines: the next address, the names so far, the filled addresses, and the lines with
 -- their addresses
@@ -42,8 +42,8 @@ with_label (Some name) v s = record { here = s.here; names = with_name s.names n
 abbrev pub moved_to : ℕ → Layout → Layout
 moved_to address s = record { here = address; names = s.names; filled = s.filled; placed = s.placed }
 
-abbrev pub filled_by : ℕ → Layout → Layout
-filled_by size s = record { here = s.here + size; names = s.names; filled = marked s.filled s.here size; placed = s.placed }
+abbrev pub layout_filled : ℕ → Layout → Layout
+layout_filled size s = record { here = s.here + size; names = s.names; filled = marks_with s.filled s.here size; placed = s.placed }
 
 -- bytes in the room, and on addresses that are free
 abbrev pub fits : Room → Option ℕ → ℕ → Layout → Result (Unit {0}) LineFault
@@ -53,14 +53,15 @@ fits room column size s =
     else Err (record { column = column; cause = cause.Outside })
 
 -- what a statement does: EQU names a value, ORG moves, and all else fills; a label before ORG has the address before it
-abbrev pub settled : Room → Option (List ℕ) → Option ℕ → Layout → Effect → Result Layout LineFault
-settled room label column s (Names o) = taken o >>= λ v. Ok (with_label label v s)
-settled room label column s (Moves o) = unsigned 65535 o >>= λ address. Ok (moved_to address (with_label label (pos s.here) s))
-settled room label column s (Fills size) = fits room column size s >>= λ _. Ok (filled_by size (with_label label (pos s.here) s))
+abbrev pub layout_after : Room → Option (List ℕ) → Option ℕ → Layout → Effect → Result Layout LineFault
+layout_after room label column s (Names o) = operand_value o >>= λ v. Ok (with_label label v s)
+layout_after room label column s (Moves o) = unsigned_value 65535 o >>= λ address. Ok (moved_to address (with_label label (pos s.here) s))
+layout_after room label column s (Fills size) = fits room column size s >>= λ _. Ok (layout_filled size (with_label label (pos s.here) s))
 
 -- the tokens of a line
 unfoldable pub settle : Room → Layout → List Token → Result Layout LineFault
-settle room s ts = statement (values s.names s.here) (is_some (label_of ts)) (unlabelled ts) >>= λ st. settled room (label_of ts) (column_of (unlabelled ts)) s (effect_of st)
+settle room s ts = statement (values s.names s.here) (is_some (label_of ts)) (behind_label ts) >>= λ st. layout_after room
+    (label_of ts) (column_of (behind_label ts)) s (effect_of st)
 
 abbrev pub with_placed : PlacedLine → Layout → Layout
 with_placed p s = record { here = s.here; names = s.names; filled = s.filled; placed = s.placed ++ p ∷ [] }

@@ -61,34 +61,34 @@ is_accumulator A = true
 is_accumulator register = false
 
 -- LR A,from
-abbrev pub loaded : Register → Option Op
-loaded Ku = Some op.LrAKu
-loaded Kl = Some op.LrAKl
-loaded Qu = Some op.LrAQu
-loaded Ql = Some op.LrAQl
-loaded Is = Some op.LrAIs
-loaded J = Some (op.LrAR 9)
-loaded Hu = Some (op.LrAR 10)
-loaded Hl = Some (op.LrAR 11)
-loaded S = Some (op.LrAR 12)
-loaded I = Some (op.LrAR 13)
-loaded D = Some (op.LrAR 14)
-loaded from = None
+abbrev pub load_op : Register → Option Op
+load_op Ku = Some op.LrAKu
+load_op Kl = Some op.LrAKl
+load_op Qu = Some op.LrAQu
+load_op Ql = Some op.LrAQl
+load_op Is = Some op.LrAIs
+load_op J = Some (op.LrAR 9)
+load_op Hu = Some (op.LrAR 10)
+load_op Hl = Some (op.LrAR 11)
+load_op S = Some (op.LrAR 12)
+load_op I = Some (op.LrAR 13)
+load_op D = Some (op.LrAR 14)
+load_op from = None
 
 -- LR to,A
-abbrev pub stored : Register → Option Op
-stored Ku = Some op.LrKuA
-stored Kl = Some op.LrKlA
-stored Qu = Some op.LrQuA
-stored Ql = Some op.LrQlA
-stored Is = Some op.LrIsA
-stored J = Some (op.LrRA 9)
-stored Hu = Some (op.LrRA 10)
-stored Hl = Some (op.LrRA 11)
-stored S = Some (op.LrRA 12)
-stored I = Some (op.LrRA 13)
-stored D = Some (op.LrRA 14)
-stored to = None
+abbrev pub store_op : Register → Option Op
+store_op Ku = Some op.LrKuA
+store_op Kl = Some op.LrKlA
+store_op Qu = Some op.LrQuA
+store_op Ql = Some op.LrQlA
+store_op Is = Some op.LrIsA
+store_op J = Some (op.LrRA 9)
+store_op Hu = Some (op.LrRA 10)
+store_op Hl = Some (op.LrRA 11)
+store_op S = Some (op.LrRA 12)
+store_op I = Some (op.LrRA 13)
+store_op D = Some (op.LrRA 14)
+store_op to = None
 
 -- LR to,from past the accumulator
 abbrev pub into_k : Register → Option Op
@@ -124,20 +124,20 @@ abbrev pub into_j : Register → Option Op
 into_j W = Some op.LrJW
 into_j from = None
 
-abbrev pub moved : Register → Register → Option Op
-moved K from = into_k from
-moved P from = into_p from
-moved P0 from = into_p0 from
-moved Q from = into_q from
-moved Dc from = into_dc from
-moved H from = into_h from
-moved W from = into_w from
-moved J from = into_j from
-moved to from = None
+abbrev pub move_op : Register → Register → Option Op
+move_op K from = into_k from
+move_op P from = into_p from
+move_op P0 from = into_p0 from
+move_op Q from = into_q from
+move_op Dc from = into_dc from
+move_op H from = into_h from
+move_op W from = into_w from
+move_op J from = into_j from
+move_op to from = None
 
 -- LR to,from, if there is such an instruction
 unfoldable pub pair_op : Register → Register → Option Op
 pair_op to from =
-    if is_accumulator to then loaded from else
-    if is_accumulator from then stored to else
-    moved to from
+    if is_accumulator to then load_op from else
+    if is_accumulator from then store_op to else
+    move_op to from

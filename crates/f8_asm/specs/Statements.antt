@@ -1,6 +1,7 @@
 -- The label and the statement of a line.
 use Rattle.std.specs.Borrow.{Bor}
-use Rattle.std.specs.Prelude.{ℕ, zero, suc, ◌*◌, Bool, true, false, not, ◌&&◌, ◌==◌, List, [], ◌∷◌, length, drop, Option, Some, None, is_some, option_and_then, Result, Ok, Err, if◌then◌else◌}
+use Rattle.std.specs.Prelude.{ℕ, zero, suc, ◌*◌, Bool, true, false, not, ◌&&◌, ◌==◌, List, [], ◌∷◌, length, drop}
+use Rattle.std.specs.Prelude.{Option, Some, None, is_some, option_and_then, Result, Ok, Err, if◌then◌else◌}
 use Rattle.asm_text.specs.declared.answers.Token.{Token}
 use Rattle.asm_text.specs.declared.answers.TokenKind.{TokenKind}
 use Rattle.asm_text.specs.declared.answers.TokenKind.TheVariants as kind
@@ -68,9 +69,9 @@ register_at [] = None
 register_at (t ∷ ts) = register_in t.kind
 
 -- an instruction, if there is one, behind whose first token nothing may stand
-abbrev pub coded : Option Op → List Token → Result Statement LineFault
-coded (Some op) ts = done (Fixed (encoded op)) (drop 1 ts)
-coded None ts = Err (form (column_of ts))
+abbrev pub instruction_of : Option Op → List Token → Result Statement LineFault
+instruction_of (Some op) ts = done (Fixed (encoded op)) (drop 1 ts)
+instruction_of None ts = Err (form (column_of ts))
 
 -- ---- operands by the shape of a statement
 
@@ -82,11 +83,11 @@ two acts field ts = operand_at acts ts >>= λ a. comma a.1 >>= λ rest. operand_
 
 -- a register: by a word, or by an expression
 abbrev pub register_operand : Actions Outcome → Field → List Token → Option ℕ → Result Statement LineFault
-register_operand acts field ts (Some r) = coded (op_with field r) ts
+register_operand acts field ts (Some r) = instruction_of (op_with field r) ts
 register_operand acts field ts None = one acts (single.Small field) ts
 
-abbrev pub numbered_at : List Token → Option ℕ
-numbered_at ts = option_and_then number_of (register_at ts)
+abbrev pub register_number_at : List Token → Option ℕ
+register_number_at ts = option_and_then number_of (register_at ts)
 
 -- `A` behind the comma of LR
 abbrev pub accumulator_in : Option Register → List Token → Result (List Token) LineFault
@@ -98,7 +99,7 @@ accumulator ts = accumulator_in (register_at ts) ts
 
 -- what LR moves into a register
 abbrev pub load_from : Actions Outcome → Register → List Token → Option Register → Result Statement LineFault
-load_from acts to ts (Some from) = coded (pair_op to from) ts
+load_from acts to ts (Some from) = instruction_of (pair_op to from) ts
 load_from acts to ts None = if is_accumulator to then one acts (single.Small field.LrAR) ts else Err (form (column_of ts))
 
 -- LR between two registers; one that an expression gives goes with `A` alone
@@ -123,7 +124,7 @@ item_list acts size ts = items acts (length ts) ts >>= λ os. Ok (Items size os)
 unfoldable pub operands : Actions Outcome → Shape → List Token → Result Statement LineFault
 operands acts (shape.Plain code) ts = done (Fixed code) ts
 operands acts (shape.One what) ts = one acts what ts
-operands acts (shape.Register field) ts = register_operand acts field ts (numbered_at ts)
+operands acts (shape.Register field) ts = register_operand acts field ts (register_number_at ts)
 operands acts (shape.Test field) ts = two acts field ts
 operands acts shape.Load ts = load acts ts (register_at ts)
 operands acts (shape.Items size) ts = item_list acts size ts
@@ -177,8 +178,8 @@ label_of [] = None
 label_of (t ∷ ts) = label_in t.kind ts
 
 -- a line's tokens behind its label and colon
-abbrev pub unlabelled : List Token → List Token
-unlabelled ts = if is_some (label_of ts) then drop 2 ts else ts
+abbrev pub behind_label : List Token → List Token
+behind_label ts = if is_some (label_of ts) then drop 2 ts else ts
 
 -- a label that has been given before
 abbrev pub twice : Option ℕ → LineFault

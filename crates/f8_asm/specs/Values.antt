@@ -18,13 +18,13 @@ quotient a (pos zero) = OutOfRange
 quotient a b = within (int_div a b)
 
 -- two values joined; `|` and `&` act on the two's complement
-abbrev pub joined : Operator → ℤ → ℤ → Outcome
-joined Or a b = within (int_bit_or w64 a b)
-joined And a b = within (int_bit_and w64 a b)
-joined Plus a b = within (a +ℤ b)
-joined Minus a b = within (a -ℤ b)
-joined Times a b = within (a *ℤ b)
-joined Divide a b = quotient a b
+abbrev pub operator_value : Operator → ℤ → ℤ → Outcome
+operator_value Or a b = within (int_bit_or w64 a b)
+operator_value And a b = within (int_bit_and w64 a b)
+operator_value Plus a b = within (a +ℤ b)
+operator_value Minus a b = within (a -ℤ b)
+operator_value Times a b = within (a *ℤ b)
+operator_value Divide a b = quotient a b
 
 -- two operands joined: the first undefined name is told, else that a value is out of range
 abbrev pub both : Operator → Outcome → Outcome → Outcome
@@ -34,16 +34,16 @@ both operator OutOfRange OutOfRange = OutOfRange
 both operator OutOfRange (Value b) = OutOfRange
 both operator (Value a) (Undefined column) = Undefined column
 both operator (Value a) OutOfRange = OutOfRange
-both operator (Value a) (Value b) = joined operator a b
+both operator (Value a) (Value b) = operator_value operator a b
 
 -- a value behind a prefix: `<` and `>` give the low and the high byte of a value that isn't negative
-abbrev pub prefixed : Prefix → ℤ → Outcome
-prefixed Negative v = within (neg_ℤ v)
-prefixed LowByte v = if int_le (pos 0) v then Value (int_rem v (pos 256)) else OutOfRange
-prefixed HighByte v = if int_le (pos 0) v then Value (int_rem (int_div v (pos 256)) (pos 256)) else OutOfRange
+abbrev pub prefix_value : Prefix → ℤ → Outcome
+prefix_value Negative v = within (neg_ℤ v)
+prefix_value LowByte v = if int_le (pos 0) v then Value (int_rem v (pos 256)) else OutOfRange
+prefix_value HighByte v = if int_le (pos 0) v then Value (int_rem (int_div v (pos 256)) (pos 256)) else OutOfRange
 
 -- an operand behind a prefix
 abbrev pub before : Prefix → Outcome → Outcome
-before prefix (Value v) = prefixed prefix v
+before prefix (Value v) = prefix_value prefix v
 before prefix OutOfRange = OutOfRange
 before prefix (Undefined column) = Undefined column

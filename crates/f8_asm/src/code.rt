@@ -5,7 +5,7 @@ ghost use Rattle.f8_asm.specs.Bytes.{word_bytes, single_bytes, item_bytes, list_
 
 use crate::faults::LineStop;
 use crate::fields::Field;
-use crate::judging::{byte, displacement, unsigned, with_field};
+use crate::judging::{byte, displacement, unsigned_value, with_field};
 use crate::operands::{Operand, Statement};
 use crate::words::{ItemSize, Single};
 use f8_ops::encode;
@@ -54,11 +54,11 @@ fn single_bytes(
             Ok(two_bytes(alloc, code, byte)?)
         }
         Single::Port(code) => {
-            let port = unsigned(255, operand)?;
+            let port = unsigned_value(255, operand)?;
             Ok(two_bytes(alloc, code, port as u8)?)
         }
         Single::Word(code) => {
-            let word = unsigned(u16::MAX, operand)?;
+            let word = unsigned_value(u16::MAX, operand)?;
             Ok(code_and_word(alloc, code, word)?)
         }
         Single::Branch(code) => {
@@ -98,7 +98,7 @@ fn item_bytes(alloc: Global, size: ItemSize, operand: Operand) -> Result<Vec<u8>
             Ok(one_byte(alloc, byte)?)
         }
         ItemSize::Word => {
-            let word = unsigned(u16::MAX, operand)?;
+            let word = unsigned_value(u16::MAX, operand)?;
             Ok(word_bytes(alloc, word)?)
         }
     }

@@ -1,7 +1,7 @@
 // The reader of expressions. It makes values as it reads, so that its depth is that of open parentheses.
 ghost use Rattle.std.specs.Prelude.{◌≡◌, ◌+◌, ◌≤◌, length};
-ghost use Rattle.f8_asm.specs.Grammar.{column_of, mark_operator, operator_at, closed, parenthesised, opened, deeper, behind_prefix, operand, level, expression, seen, ReadsSome};
-ghost use Rattle.f8_asm.specs.Evaluation.{named, values};
+ghost use Rattle.f8_asm.specs.Grammar.{column_of, mark_operator, operator_at, parenthesis_end, parenthesis_expression, mark_operand, deeper, behind_prefix, operand, level, expression, reading_of, ReadsSome};
+ghost use Rattle.f8_asm.specs.Evaluation.{name_value, values};
 ghost use Rattle.f8_asm.specs.Names.{value_of};
 
 use crate::faults::{LineFault, form};
@@ -60,8 +60,8 @@ fn operator_at(strength: u8, kind: &TokenKind) -> Option<Operator>
 }
 
 /// The value of a name.
-fn named(scope: &Scope, column: u32, name: &Name) -> Outcome
-    ensures { result ≡ named column (value_of scope.now.symbols.now name.now) }
+fn name_value(scope: &Scope, column: u32, name: &Name) -> Outcome
+    ensures { result ≡ name_value column (value_of scope.now.symbols.now name.now) }
 {
     match scope.symbols.value_of(name) {
         Some(value) => Outcome::Value(value),
@@ -70,8 +70,8 @@ fn named(scope: &Scope, column: u32, name: &Name) -> Outcome
 }
 
 /// `)` behind a value.
-fn closed(value: Outcome, tokens: &[Token]) -> Read<'_>
-    ensures value { seen result ≡ closed value tokens.now }
+fn parenthesis_end(value: Outcome, tokens: &[Token]) -> Read<'_>
+    ensures value { reading_of result ≡ parenthesis_end value tokens.now }
     ensures consumes { ReadsSome (length tokens.now) result }
 {
     let Some((first, behind)) = tokens.split_first() else {
@@ -85,20 +85,28 @@ fn closed(value: Outcome, tokens: &[Token]) -> Read<'_>
 
 /// An expression in parentheses, behind the first.
 #[cycle(expression)]
-#[tactic(auto, unfolding(crate::specs::Grammar::parenthesised))]
-fn parenthesised<'a>(scope: &Scope, depth: u32, tokens: &'a [Token]) -> Read<'a>
-    ensures value { let acts = values scope.now.symbols.now scope.now.address in seen result ≡ parenthesised acts (operand acts depth) tokens.now }
+#[tactic(auto, unfolding(crate::specs::Grammar::parenthesis_expression))]
+fn parenthesis_expression<'a>(scope: &Scope, depth: u32, tokens: &'a [Token]) -> Read<'a>
+    ensures value { let acts = values scope.now.symbols.now scope.now.address in
+        reading_of result ≡ parenthesis_expression acts (operand acts depth) tokens.now }
     ensures consumes { ReadsSome (length tokens.now) result }
 {
     let (value, rest) = level(scope, depth, WEAKEST, tokens)?;
-    closed(value, rest)
+    parenthesis_end(value, rest)
 }
 
 /// An operand that begins with a mark.
 #[cycle(expression)]
-#[tactic(auto, unfolding(crate::specs::Grammar::opened))]
-fn opened<'a>(scope: &Scope, depth: u32, column: u32, mark: u8, tokens: &'a [Token]) -> Read<'a>
-    ensures value { let acts = values scope.now.symbols.now scope.now.address in seen result ≡ opened acts (deeper acts depth) column mark tokens.now }
+#[tactic(auto, unfolding(crate::specs::Grammar::mark_operand))]
+fn mark_operand<'a>(
+    scope: &Scope,
+    depth: u32,
+    column: u32,
+    mark: u8,
+    tokens: &'a [Token],
+) -> Read<'a>
+    ensures value { let acts = values scope.now.symbols.now scope.now.address in
+        reading_of result ≡ mark_operand acts (deeper acts depth) column mark tokens.now }
     ensures consumes { ReadsSome (length tokens.now + 1) result }
 {
     if mark == b'.' {
@@ -111,7 +119,7 @@ fn opened<'a>(scope: &Scope, depth: u32, column: u32, mark: u8, tokens: &'a [Tok
         b'-' => behind_prefix(scope, depth - 1, Prefix::Negative, tokens),
         b'<' => behind_prefix(scope, depth - 1, Prefix::LowByte, tokens),
         b'>' => behind_prefix(scope, depth - 1, Prefix::HighByte, tokens),
-        b'(' => parenthesised(scope, depth - 1, tokens),
+        b'(' => parenthesis_expression(scope, depth - 1, tokens),
         _ => Err(form(Some(column))),
     }
 }
@@ -119,7 +127,8 @@ fn opened<'a>(scope: &Scope, depth: u32, column: u32, mark: u8, tokens: &'a [Tok
 /// An operand behind a prefix.
 #[cycle(expression)]
 fn behind_prefix<'a>(scope: &Scope, depth: u32, prefix: Prefix, tokens: &'a [Token]) -> Read<'a>
-    ensures value { let acts = values scope.now.symbols.now scope.now.address in seen result ≡ behind_prefix acts prefix (operand acts depth) tokens.now }
+    ensures value { let acts = values scope.now.symbols.now scope.now.address in
+        reading_of result ≡ behind_prefix acts prefix (operand acts depth) tokens.now }
     ensures consumes { ReadsSome (length tokens.now) result }
 {
     let (value, rest) = operand(scope, depth, tokens)?;
@@ -130,7 +139,8 @@ fn behind_prefix<'a>(scope: &Scope, depth: u32, prefix: Prefix, tokens: &'a [Tok
 #[cycle(expression)]
 #[tactic(auto, unfolding(crate::specs::Grammar::operand, crate::specs::Grammar::operand_of))]
 fn operand<'a>(scope: &Scope, depth: u32, tokens: &'a [Token]) -> Read<'a>
-    ensures value { let acts = values scope.now.symbols.now scope.now.address in seen result ≡ operand acts depth tokens.now }
+    ensures value { let acts = values scope.now.symbols.now scope.now.address in
+        reading_of result ≡ operand acts depth tokens.now }
     ensures consumes { ReadsSome (length tokens.now) result }
 {
     let Some((first, behind)) = tokens.split_first() else {
@@ -141,8 +151,8 @@ fn operand<'a>(scope: &Scope, depth: u32, tokens: &'a [Token]) -> Read<'a>
         TokenKind::Name(name) if is_reserved(name.as_str().as_bytes()) => {
             Err(form(Some(first.column)))
         }
-        TokenKind::Name(name) => Ok((named(scope, first.column, name), behind)),
-        TokenKind::Mark(mark) => opened(scope, depth, first.column, *mark, behind),
+        TokenKind::Name(name) => Ok((name_value(scope, first.column, name), behind)),
+        TokenKind::Mark(mark) => mark_operand(scope, depth, first.column, *mark, behind),
     }
 }
 
@@ -151,7 +161,8 @@ fn operand<'a>(scope: &Scope, depth: u32, tokens: &'a [Token]) -> Read<'a>
 #[tactic(auto, unfolding(crate::specs::Grammar::level))]
 fn level<'a>(scope: &Scope, depth: u32, strength: u8, tokens: &'a [Token]) -> Read<'a>
     requires { strength ≤ 4 }
-    ensures value { let acts = values scope.now.symbols.now scope.now.address in seen result ≡ level acts (operand acts depth) strength tokens.now }
+    ensures value { let acts = values scope.now.symbols.now scope.now.address in
+        reading_of result ≡ level acts (operand acts depth) strength tokens.now }
     ensures consumes { ReadsSome (length tokens.now) result }
 {
     if strength == 0 {
@@ -173,7 +184,8 @@ fn level<'a>(scope: &Scope, depth: u32, strength: u8, tokens: &'a [Token]) -> Re
 /// that fits nothing.
 #[tactic(auto, unfolding(crate::specs::Grammar::expression))]
 pub fn expression<'a>(scope: &Scope, tokens: &'a [Token]) -> Read<'a>
-    ensures value { let acts = values scope.now.symbols.now scope.now.address in seen result ≡ expression acts tokens.now }
+    ensures value { let acts = values scope.now.symbols.now scope.now.address in
+        reading_of result ≡ expression acts tokens.now }
     ensures consumes { ReadsSome (length tokens.now) result }
 {
     level(scope, DEPTH, WEAKEST, tokens)

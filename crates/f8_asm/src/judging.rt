@@ -2,7 +2,7 @@
 ghost use Rattle.std.specs.Prelude.{◌≡◌, ◌≤◌, ◌<◌, IfOk};
 ghost use Rattle.f8_spec.specs.Instructions.{InRange};
 ghost use Rattle.f8_asm.specs.Fields.{last_of, op_with};
-ghost use Rattle.f8_asm.specs.Judging.{fault_at, taken, unsigned, byte, displacement, with_field};
+ghost use Rattle.f8_asm.specs.Judging.{fault_at, operand_value, unsigned_value, byte, displacement, with_field};
 
 use crate::answers::AsmCause;
 use crate::faults::LineFault;
@@ -22,8 +22,8 @@ fn fault_at(column: u32, cause: AsmCause) -> LineFault
 }
 
 /// The value of an operand.
-pub fn taken(operand: Operand) -> Result<i64, LineFault>
-    ensures { result ≡ taken operand }
+pub fn operand_value(operand: Operand) -> Result<i64, LineFault>
+    ensures { result ≡ operand_value operand }
 {
     match operand.outcome {
         Outcome::Value(value) => Ok(value),
@@ -33,11 +33,11 @@ pub fn taken(operand: Operand) -> Result<i64, LineFault>
 }
 
 /// A value from 0 to `last`.
-pub fn unsigned(last: u16, operand: Operand) -> Result<u16, LineFault>
-    ensures value { result ≡ unsigned last operand }
+pub fn unsigned_value(last: u16, operand: Operand) -> Result<u16, LineFault>
+    ensures value { result ≡ unsigned_value last operand }
     ensures within { IfOk result (λ n. n ≤ last) }
 {
-    match small(last, taken(operand)?) {
+    match small(last, operand_value(operand)?) {
         Some(number) => Ok(number),
         None => Err(fault_at(operand.column, AsmCause::Range)),
     }
@@ -47,7 +47,7 @@ pub fn unsigned(last: u16, operand: Operand) -> Result<u16, LineFault>
 pub fn byte(operand: Operand) -> Result<u8, LineFault>
     ensures { result ≡ byte operand }
 {
-    match octet(255, taken(operand)?) {
+    match octet(255, operand_value(operand)?) {
         Some(byte) => Ok(byte),
         None => Err(fault_at(operand.column, AsmCause::Range)),
     }
@@ -57,7 +57,7 @@ pub fn byte(operand: Operand) -> Result<u8, LineFault>
 pub fn displacement(address: u32, operand: Operand) -> Result<u8, LineFault>
     ensures { result ≡ displacement address operand }
 {
-    let place = taken(operand)?;
+    let place = operand_value(operand)?;
     let distance = place.checked_sub(i64::from(address) + 1);
     match distance {
         Some(distance) => match octet(127, distance) {
@@ -73,7 +73,7 @@ pub fn with_field(field: Field, operand: Operand) -> Result<Op, LineFault>
     ensures value { result ≡ with_field field operand }
     ensures in_range { IfOk result InRange }
 {
-    let number = unsigned(u16::from(last_of(field)), operand)?;
+    let number = unsigned_value(u16::from(last_of(field)), operand)?;
     match op_with(field, number as u8) {
         Some(op) => Ok(op),
         None => Err(fault_at(operand.column, AsmCause::Range)),

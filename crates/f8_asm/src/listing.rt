@@ -64,7 +64,8 @@ pub fn disassemble(alloc: Global, bytes: &[u8]) -> Result<Text, Memory>
     requires { length bytes.now ≤ 65536 }
     ensures text { IfOk result (λ text. text ≡ listing bytes.now) }
     ensures law { IfOk result (λ text. IsListingText bytes.now text) }
-    ensures round_trip { IfOk result (λ text. image_of text everywhere ≡ Ok (picture_of bytes.now)) }
+    ensures round_trip { IfOk result (λ text. image_of text everywhere
+        ≡ Ok (picture_of bytes.now)) }
     ensures size { IfOk result (λ text. length text ≤ 8 * length bytes.now + 10) }
 {
     match list(alloc, bytes) {

@@ -1,6 +1,6 @@
 // Which addresses hold a byte.
 ghost use Rattle.std.specs.Prelude.{◌≡◌, ◌≤◌, ◌+◌, length, IfOk};
-ghost use Rattle.f8_asm.specs.Marks.{no_marks, marked, is_free};
+ghost use Rattle.f8_asm.specs.Marks.{no_marks, marks_with, is_free};
 
 use std::alloc::{AllocError, Global};
 
@@ -19,7 +19,7 @@ pub fn no_marks(alloc: Global) -> Result<Vec<bool>, AllocError>
 /// Marks so many addresses from one on.
 pub fn mark(marks: &mut [bool], at: usize, size: usize)
     requires { at + size ≤ length marks.old }
-    ensures { marks.new ≡ marked marks.old at size }
+    ensures { marks.new ≡ marks_with marks.old at size }
 {
     for k in 0..size {
         marks[at + k] = true;

@@ -8,9 +8,9 @@ use crate::answers::{AsmAnswer, AsmCause};
 use crate::faults::{LineFault, LineStop};
 use crate::grammar::{Scope, column_of};
 use crate::line::Line;
-use crate::statements::{label_of, statement, unlabelled};
+use crate::statements::{behind_label, label_of, statement};
 use crate::symbols::Symbols;
-use crate::text::{line_tokens, told};
+use crate::text::{fault_in_line, line_tokens};
 use asm_text::{Name, Token};
 use std::alloc::Global;
 use std::marker::Model;
@@ -48,7 +48,7 @@ fn check_labelled(
             cause: AsmCause::Twice,
         }));
     }
-    check_statement(alloc, symbols, true, unlabelled(tokens))?;
+    check_statement(alloc, symbols, true, behind_label(tokens))?;
     symbols.define(alloc, name, 0)?;
     Ok(())
 }
@@ -103,7 +103,7 @@ impl Reading {
                 Ok(())
             }
             Err(LineStop::Fault(fault)) => {
-                Err(AsmAnswer::Fault(told(number, tokens.as_slice(), fault)))
+                Err(AsmAnswer::Fault(fault_in_line(number, tokens.as_slice(), fault)))
             }
             Err(LineStop::Memory) => Err(AsmAnswer::Memory),
         }

@@ -8,10 +8,10 @@ use crate::faults::LineStop;
 use crate::grammar::Scope;
 use crate::line::PlacedLine;
 use crate::pass_two::Layout;
-use crate::statements::{label_of, statement, unlabelled};
+use crate::statements::{behind_label, label_of, statement};
 use crate::symbols::Symbols;
 use crate::table::Table;
-use crate::text::told;
+use crate::text::fault_in_line;
 use asm_text::Token;
 use std::alloc::Global;
 
@@ -27,7 +27,7 @@ fn line_bytes(
 {
     let scope = Scope { symbols, address };
     let labelled = label_of(tokens).is_some();
-    let statement = statement(alloc, &scope, labelled, unlabelled(tokens))?;
+    let statement = statement(alloc, &scope, labelled, behind_label(tokens))?;
     bytes_of(alloc, address, &statement)
 }
 
@@ -48,7 +48,7 @@ fn emit(
             Ok(())
         }
         Err(LineStop::Fault(fault)) => {
-            Err(AsmAnswer::Fault(told(placed.line.number, tokens, fault)))
+            Err(AsmAnswer::Fault(fault_in_line(placed.line.number, tokens, fault)))
         }
         Err(LineStop::Memory) => Err(AsmAnswer::Memory),
     }

@@ -1,18 +1,18 @@
 // The second pass: the address of each line, the values of names, and which addresses are filled.
 ghost use Rattle.std.specs.Prelude.{◌≡◌, ◌≤◌, ◌+◌, IfOk, OnOk, option_copied};
 ghost use Rattle.f8_asm.specs.Answers.{SaysOfText, StepsOfLine, StepsOfText};
-ghost use Rattle.f8_asm.specs.PassTwo.{is_inside, fits, with_label, filled_by, settled, settle, place, place_lines, no_layout};
+ghost use Rattle.f8_asm.specs.PassTwo.{is_inside, fits, with_label, layout_filled, layout_after, settle, place, place_lines, no_layout};
 
 use crate::answers::{AsmAnswer, AsmCause, Room};
 use crate::faults::{LineFault, LineStop};
 use crate::grammar::{Scope, column_of};
-use crate::judging::{taken, unsigned};
+use crate::judging::{operand_value, unsigned_value};
 use crate::line::{Line, PlacedLine};
 use crate::marks::{is_free, mark, no_marks};
 use crate::operands::{Effect, effect_of};
-use crate::statements::{label_of, statement, unlabelled};
+use crate::statements::{behind_label, label_of, statement};
 use crate::symbols::Symbols;
-use crate::text::told;
+use crate::text::fault_in_line;
 use asm_text::{Name, Token};
 use std::alloc::{AllocError, Global};
 use std::marker::Model;
@@ -62,7 +62,8 @@ impl Layout {
 
     /// Gives a label's name its value.
     fn name(&mut self, alloc: Global, label: Option<&Name>, value: i64) -> Result<(), AllocError>
-        ensures value { OnOk result (self.new ≡ with_label (option_copied label.entry) value self.old) }
+        ensures value { OnOk result (self.new
+            ≡ with_label (option_copied label.entry) value self.old) }
         ensures here { self.new.here ≡ self.old.here }
     {
         match label {
@@ -94,14 +95,14 @@ impl Layout {
     /// Takes so many bytes.
     fn fill(&mut self, size: usize)
         requires { self.old.here + size ≤ 65536 }
-        ensures { self.new ≡ filled_by size self.old }
+        ensures { self.new ≡ layout_filled size self.old }
     {
         mark(self.filled.as_mut_slice(), self.here as usize, size);
         self.here += size as u32;
     }
 
     /// Does what a statement does.
-    fn settled(
+    fn layout_after(
         &mut self,
         alloc: Global,
         room: Room,
@@ -109,16 +110,17 @@ impl Layout {
         column: Option<u32>,
         effect: Effect,
     ) -> Result<(), LineStop>
-        ensures { StepsOfLine result self.new (settled room (option_copied label.entry) column self.old effect) }
+        ensures { StepsOfLine result self.new
+            (layout_after room (option_copied label.entry) column self.old effect) }
     {
         match effect {
             Effect::Names(operand) => {
-                let value = taken(operand)?;
+                let value = operand_value(operand)?;
                 self.name(alloc, label, value)?;
                 Ok(())
             }
             Effect::Moves(operand) => {
-                let address = unsigned(u16::MAX, operand)?;
+                let address = unsigned_value(u16::MAX, operand)?;
                 self.name(alloc, label, i64::from(self.here))?;
                 self.here = u32::from(address);
                 Ok(())
@@ -138,13 +140,13 @@ impl Layout {
         ensures { StepsOfLine result self.new (settle room self.old tokens.now) }
     {
         let label = label_of(tokens);
-        let rest = unlabelled(tokens);
+        let rest = behind_label(tokens);
         let scope = Scope {
             symbols: &self.symbols,
             address: self.here,
         };
         let statement = statement(alloc, &scope, label.is_some(), rest)?;
-        self.settled(alloc, room, label, column_of(rest), effect_of(&statement))
+        self.layout_after(alloc, room, label, column_of(rest), effect_of(&statement))
     }
 
     /// Places one line more.
@@ -159,7 +161,7 @@ impl Layout {
                 Ok(())
             }
             Err(LineStop::Fault(fault)) => {
-                Err(AsmAnswer::Fault(told(line.number, line.tokens.as_slice(), fault)))
+                Err(AsmAnswer::Fault(fault_in_line(line.number, line.tokens.as_slice(), fault)))
             }
             Err(LineStop::Memory) => Err(AsmAnswer::Memory),
         }

@@ -1,7 +1,7 @@
 // Register words, and the instruction LR between two of them.
 ghost use Rattle.std.specs.Prelude.{◌≡◌, ◌<◌, IfSome};
 ghost use Rattle.f8_spec.specs.Instructions.{InRange};
-ghost use Rattle.f8_asm.specs.Registers.{same_word, one_letter_register, two_letter_register, register_of, number_of, is_accumulator, loaded, stored, into_dc, moved, pair_op};
+ghost use Rattle.f8_asm.specs.Registers.{same_word, one_letter_register, two_letter_register, register_of, number_of, is_accumulator, load_op, store_op, into_dc, move_op, pair_op};
 
 use asm_text::Name;
 use f8_spec::Op;
@@ -145,8 +145,8 @@ pub fn is_accumulator(register: Register) -> bool
 }
 
 /// `LR A,from`.
-fn loaded(from: Register) -> Option<Op>
-    ensures value { result ≡ loaded from }
+fn load_op(from: Register) -> Option<Op>
+    ensures value { result ≡ load_op from }
     ensures in_range { IfSome result InRange }
 {
     let op = match from {
@@ -167,8 +167,8 @@ fn loaded(from: Register) -> Option<Op>
 }
 
 /// `LR to,A`.
-fn stored(to: Register) -> Option<Op>
-    ensures value { result ≡ stored to }
+fn store_op(to: Register) -> Option<Op>
+    ensures value { result ≡ store_op to }
     ensures in_range { IfSome result InRange }
 {
     let op = match to {
@@ -201,8 +201,8 @@ fn into_dc(from: Register) -> Option<Op>
 }
 
 /// `LR to,from` past the accumulator.
-fn moved(to: Register, from: Register) -> Option<Op>
-    ensures value { result ≡ moved to from }
+fn move_op(to: Register, from: Register) -> Option<Op>
+    ensures value { result ≡ move_op to from }
     ensures in_range { IfSome result InRange }
 {
     match to {
@@ -246,10 +246,10 @@ pub fn pair_op(to: Register, from: Register) -> Option<Op>
     ensures in_range { IfSome result InRange }
 {
     if is_accumulator(to) {
-        return loaded(from);
+        return load_op(from);
     }
     if is_accumulator(from) {
-        return stored(to);
+        return store_op(to);
     }
-    moved(to, from)
+    move_op(to, from)
 }

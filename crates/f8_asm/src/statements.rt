@@ -4,8 +4,8 @@ ghost use Rattle.f8_spec.specs.Instructions.{InRange};
 ghost use Rattle.f8_asm.specs.Answers.{SaysOfLine};
 ghost use Rattle.f8_asm.specs.Evaluation.{values};
 ghost use Rattle.f8_asm.specs.Fields.{limit_of};
-ghost use Rattle.f8_asm.specs.Grammar.{seen, ReadsSome};
-ghost use Rattle.f8_asm.specs.Statements.{operand_at, comma, seen_rest, done, register_at, coded, one, two, numbered_at, register_operand, accumulator, load_from, load, items, item_list, operands, wants_label, no_mnemonic, statement_of, statement, begins_colon, label_of, unlabelled};
+ghost use Rattle.f8_asm.specs.Grammar.{reading_of, ReadsSome};
+ghost use Rattle.f8_asm.specs.Statements.{operand_at, comma, seen_rest, done, register_at, instruction_of, one, two, register_number_at, register_operand, accumulator, load_from, load, items, item_list, operands, wants_label, no_mnemonic, statement_of, statement, begins_colon, label_of, behind_label};
 ghost use Rattle.f8_asm.specs.Words.{HasRoom, shape_of};
 
 use crate::answers::AsmCause;
@@ -22,7 +22,8 @@ use std::alloc::Global;
 
 /// An expression with the column of its first token, and the tokens behind it.
 fn operand_at<'a>(scope: &Scope, tokens: &'a [Token]) -> Result<(Operand, &'a [Token]), LineFault>
-    ensures value { let acts = values scope.now.symbols.now scope.now.address in seen result ≡ operand_at acts tokens.now }
+    ensures value { let acts = values scope.now.symbols.now scope.now.address in
+        reading_of result ≡ operand_at acts tokens.now }
     ensures consumes { ReadsSome (length tokens.now) result }
 {
     let Some((first, _)) = tokens.split_first() else {
@@ -79,9 +80,9 @@ fn register_at(tokens: &[Token]) -> Option<Register>
 }
 
 /// An instruction, if there is one, behind whose first token nothing may stand.
-fn coded(op: Option<Op>, tokens: &[Token]) -> Result<Statement, LineFault>
+fn instruction_of(op: Option<Op>, tokens: &[Token]) -> Result<Statement, LineFault>
     requires { IfSome op InRange }
-    ensures { result ≡ coded op tokens.now }
+    ensures { result ≡ instruction_of op tokens.now }
 {
     match op {
         Some(op) => done(Statement::Fixed(encode(op)), behind(tokens)),
@@ -91,7 +92,8 @@ fn coded(op: Option<Op>, tokens: &[Token]) -> Result<Statement, LineFault>
 
 /// One expression.
 fn one(scope: &Scope, single: Single, tokens: &[Token]) -> Result<Statement, LineFault>
-    ensures { let acts = values scope.now.symbols.now scope.now.address in result ≡ one acts single tokens.now }
+    ensures { let acts = values scope.now.symbols.now scope.now.address in
+        result ≡ one acts single tokens.now }
 {
     let (operand, rest) = operand_at(scope, tokens)?;
     done(Statement::One(single, operand), rest)
@@ -99,7 +101,8 @@ fn one(scope: &Scope, single: Single, tokens: &[Token]) -> Result<Statement, Lin
 
 /// Two expressions.
 fn two(scope: &Scope, field: Field, tokens: &[Token]) -> Result<Statement, LineFault>
-    ensures { let acts = values scope.now.symbols.now scope.now.address in result ≡ two acts field tokens.now }
+    ensures { let acts = values scope.now.symbols.now scope.now.address in
+        result ≡ two acts field tokens.now }
 {
     let (bits, rest) = operand_at(scope, tokens)?;
     let rest = comma(rest)?;
@@ -108,8 +111,8 @@ fn two(scope: &Scope, field: Field, tokens: &[Token]) -> Result<Statement, LineF
 }
 
 /// The register by number that the first token names.
-fn numbered_at(tokens: &[Token]) -> Option<u8>
-    ensures value { result ≡ numbered_at tokens.now }
+fn register_number_at(tokens: &[Token]) -> Option<u8>
+    ensures value { result ≡ register_number_at tokens.now }
     ensures below { IfSome result (λ r. r < 15) }
 {
     number_of(register_at(tokens)?)
@@ -118,10 +121,11 @@ fn numbered_at(tokens: &[Token]) -> Option<u8>
 /// A register, by a word or by an expression.
 fn register_operand(scope: &Scope, field: Field, tokens: &[Token]) -> Result<Statement, LineFault>
     requires { 15 ≤ limit_of field }
-    ensures { let acts = values scope.now.symbols.now scope.now.address in result ≡ register_operand acts field tokens.now (numbered_at tokens.now) }
+    ensures { let acts = values scope.now.symbols.now scope.now.address in
+        result ≡ register_operand acts field tokens.now (register_number_at tokens.now) }
 {
-    match numbered_at(tokens) {
-        Some(number) => coded(op_with(field, number), tokens),
+    match register_number_at(tokens) {
+        Some(number) => instruction_of(op_with(field, number), tokens),
         None => one(scope, Single::Small(field), tokens),
     }
 }
@@ -138,10 +142,11 @@ fn accumulator(tokens: &[Token]) -> Result<&[Token], LineFault>
 
 /// What `LR` moves into a register.
 fn load_from(scope: &Scope, to: Register, tokens: &[Token]) -> Result<Statement, LineFault>
-    ensures { let acts = values scope.now.symbols.now scope.now.address in result ≡ load_from acts to tokens.now (register_at tokens.now) }
+    ensures { let acts = values scope.now.symbols.now scope.now.address in
+        result ≡ load_from acts to tokens.now (register_at tokens.now) }
 {
     match register_at(tokens) {
-        Some(from) => coded(pair_op(to, from), tokens),
+        Some(from) => instruction_of(pair_op(to, from), tokens),
         None if is_accumulator(to) => one(scope, Single::Small(Field::LrAR), tokens),
         None => Err(form(column_of(tokens))),
     }
@@ -149,7 +154,8 @@ fn load_from(scope: &Scope, to: Register, tokens: &[Token]) -> Result<Statement,
 
 /// `LR` from the accumulator into a register that an expression gives.
 fn store(scope: &Scope, tokens: &[Token]) -> Result<Statement, LineFault>
-    ensures { let acts = values scope.now.symbols.now scope.now.address in result ≡ load acts tokens.now None }
+    ensures { let acts = values scope.now.symbols.now scope.now.address in
+        result ≡ load acts tokens.now None }
 {
     let (operand, rest) = operand_at(scope, tokens)?;
     let rest = comma(rest)?;
@@ -159,7 +165,8 @@ fn store(scope: &Scope, tokens: &[Token]) -> Result<Statement, LineFault>
 
 /// `LR` between two registers.
 fn load(scope: &Scope, tokens: &[Token]) -> Result<Statement, LineFault>
-    ensures { let acts = values scope.now.symbols.now scope.now.address in result ≡ load acts tokens.now (register_at tokens.now) }
+    ensures { let acts = values scope.now.symbols.now scope.now.address in
+        result ≡ load acts tokens.now (register_at tokens.now) }
 {
     match register_at(tokens) {
         Some(to) => load_from(scope, to, comma(behind(tokens))?),
@@ -169,7 +176,8 @@ fn load(scope: &Scope, tokens: &[Token]) -> Result<Statement, LineFault>
 
 /// Expressions with commas between them, at least one.
 fn items(alloc: Global, scope: &Scope, tokens: &[Token]) -> Result<OperandList, LineStop>
-    ensures { let acts = values scope.now.symbols.now scope.now.address in SaysOfLine result (items acts (length tokens.now) tokens.now) }
+    ensures { let acts = values scope.now.symbols.now scope.now.address in
+        SaysOfLine result (items acts (length tokens.now) tokens.now) }
 {
     let mut found = Vec::new(alloc);
     let mut rest = tokens;
@@ -190,7 +198,8 @@ fn item_list(
     size: ItemSize,
     tokens: &[Token],
 ) -> Result<Statement, LineStop>
-    ensures { let acts = values scope.now.symbols.now scope.now.address in SaysOfLine result (item_list acts size tokens.now) }
+    ensures { let acts = values scope.now.symbols.now scope.now.address in
+        SaysOfLine result (item_list acts size tokens.now) }
 {
     let list = items(alloc, scope, tokens)?;
     Ok(Statement::Items(size, list))
@@ -212,7 +221,8 @@ fn operands(
     tokens: &[Token],
 ) -> Result<Statement, LineStop>
     requires { HasRoom shape }
-    ensures { let acts = values scope.now.symbols.now scope.now.address in SaysOfLine result (operands acts shape tokens.now) }
+    ensures { let acts = values scope.now.symbols.now scope.now.address in
+        SaysOfLine result (operands acts shape tokens.now) }
 {
     match shape {
         Shape::Plain(code) => without_memory(done(Statement::Fixed(code), tokens)),
@@ -253,7 +263,9 @@ fn statement_of(
     name: &Name,
     tokens: &[Token],
 ) -> Result<Statement, LineStop>
-    ensures { let acts = values scope.now.symbols.now scope.now.address in SaysOfLine result (statement_of acts labelled column name.now tokens.now (shape_of name.now)) }
+    ensures { let acts = values scope.now.symbols.now scope.now.address in
+        SaysOfLine result (statement_of acts labelled column name.now tokens.now
+        (shape_of name.now)) }
 {
     match shape_of(name.as_str().as_bytes()) {
         Some(shape) if wants_label(shape) && !labelled => Err(LineStop::Fault(form(Some(column)))),
@@ -270,7 +282,8 @@ pub fn statement(
     labelled: bool,
     tokens: &[Token],
 ) -> Result<Statement, LineStop>
-    ensures { let acts = values scope.now.symbols.now scope.now.address in SaysOfLine result (statement acts labelled tokens.now) }
+    ensures { let acts = values scope.now.symbols.now scope.now.address in
+        SaysOfLine result (statement acts labelled tokens.now) }
 {
     let Some((first, behind)) = tokens.split_first() else {
         return Ok(Statement::Nothing);
@@ -306,8 +319,8 @@ pub fn label_of(tokens: &[Token]) -> Option<&Name>
 }
 
 /// A line's tokens behind its label and colon.
-pub fn unlabelled(tokens: &[Token]) -> &[Token]
-    ensures { result.now ≡ unlabelled tokens.now }
+pub fn behind_label(tokens: &[Token]) -> &[Token]
+    ensures { result.now ≡ behind_label tokens.now }
 {
     match label_of(tokens) {
         Some(_) => behind(behind(tokens)),

@@ -1,6 +1,6 @@
 // The byte of each address.
 ghost use Rattle.std.specs.Prelude.{◌≡◌, ◌<◌, ◌≤◌, ◌+◌, ◌^◌, length, IfOk};
-ghost use Rattle.f8_asm.specs.PassThree.{no_bytes, written};
+ghost use Rattle.f8_asm.specs.PassThree.{no_bytes, table_with};
 ghost use Rattle.f8_asm.specs.Image.{ascending};
 
 use std::alloc::{AllocError, Global};
@@ -24,7 +24,7 @@ fn no_bytes(alloc: Global) -> Result<Vec<Option<u8>>, AllocError>
 /// Puts bytes one after the other from an address on, as far as there are addresses.
 fn write(table: &mut [Option<u8>], at: usize, bytes: &[u8])
     requires { at < 2 ^ 32 }
-    ensures { table.new ≡ written table.old at bytes.now }
+    ensures { table.new ≡ table_with table.old at bytes.now }
 {
     for (k, byte) in bytes.iter().enumerate() {
         if at + k < table.len() {
@@ -75,7 +75,7 @@ impl Table {
 
     /// Puts bytes one after the other from an address on, as far as there are addresses.
     pub fn write(&mut self, address: u32, bytes: &[u8])
-        ensures { self.new ≡ written self.old address bytes.now }
+        ensures { self.new ≡ table_with self.old address bytes.now }
     {
         write(self.bytes.as_mut_slice(), address as usize, bytes);
     }

@@ -1,7 +1,7 @@
 // The tokens of a line.
 ghost use Rattle.std.specs.Prelude.{◌≡◌, ◌≤◌, length};
 ghost use Rattle.f8_asm.specs.Answers.{SaysOfText};
-ghost use Rattle.f8_asm.specs.PassOne.{end_of, line_tokens, told};
+ghost use Rattle.f8_asm.specs.PassOne.{end_of, line_tokens, fault_in_line};
 
 use crate::answers::{AsmAnswer, AsmCause, AsmFault};
 use crate::faults::LineFault;
@@ -19,8 +19,8 @@ fn end_of(tokens: &[Token]) -> u32
 }
 
 /// A line's fault with the line's number. Where no token is left it stands past the last.
-pub fn told(number: u32, tokens: &[Token], fault: LineFault) -> AsmFault
-    ensures { result ≡ told number tokens.now fault }
+pub fn fault_in_line(number: u32, tokens: &[Token], fault: LineFault) -> AsmFault
+    ensures { result ≡ fault_in_line number tokens.now fault }
 {
     let column = match fault.column {
         Some(column) => column,

@@ -1,6 +1,6 @@
 // The numbers of expressions, and what operators and prefixes make of them.
 ghost use Rattle.std.specs.Prelude.{◌≡◌, IfSome, IfNone};
-ghost use Rattle.f8_asm.specs.Values.{within, joined, both, prefixed, before};
+ghost use Rattle.f8_asm.specs.Values.{within, operator_value, both, prefix_value, before};
 
 /// What an expression comes to.
 #[derive(Clone, Copy)]
@@ -48,7 +48,7 @@ fn within(value: i64) -> Outcome
 }
 
 /// A value, where 64 bits hold it, if it is neither too large nor too small.
-fn checked(value: Option<i64>) -> Outcome
+fn value_held(value: Option<i64>) -> Outcome
     ensures some { IfSome value (λ v. result ≡ within v) }
     ensures none { IfNone value (result ≡ Outcome.OutOfRange) }
 {
@@ -59,16 +59,16 @@ fn checked(value: Option<i64>) -> Outcome
 }
 
 /// Two values joined.
-fn joined(operator: Operator, left: i64, right: i64) -> Outcome
-    ensures { result ≡ joined operator left right }
+fn operator_value(operator: Operator, left: i64, right: i64) -> Outcome
+    ensures { result ≡ operator_value operator left right }
 {
     match operator {
         Operator::Or => within(left | right),
         Operator::And => within(left & right),
-        Operator::Plus => checked(left.checked_add(right)),
-        Operator::Minus => checked(left.checked_sub(right)),
-        Operator::Times => checked(left.checked_mul(right)),
-        Operator::Divide => checked(left.checked_div(right)),
+        Operator::Plus => value_held(left.checked_add(right)),
+        Operator::Minus => value_held(left.checked_sub(right)),
+        Operator::Times => value_held(left.checked_mul(right)),
+        Operator::Divide => value_held(left.checked_div(right)),
     }
 }
 
@@ -83,18 +83,18 @@ pub fn both(operator: Operator, left: Outcome, right: Outcome) -> Outcome
             _ => Outcome::OutOfRange,
         },
         Outcome::Value(left) => match right {
-            Outcome::Value(right) => joined(operator, left, right),
+            Outcome::Value(right) => operator_value(operator, left, right),
             other => other,
         },
     }
 }
 
 /// A value behind a prefix.
-fn prefixed(prefix: Prefix, value: i64) -> Outcome
-    ensures { result ≡ prefixed prefix value }
+fn prefix_value(prefix: Prefix, value: i64) -> Outcome
+    ensures { result ≡ prefix_value prefix value }
 {
     match prefix {
-        Prefix::Negative => checked(value.checked_neg()),
+        Prefix::Negative => value_held(value.checked_neg()),
         Prefix::LowByte if value >= 0 => Outcome::Value(value % 256),
         Prefix::HighByte if value >= 0 => Outcome::Value(value / 256 % 256),
         _ => Outcome::OutOfRange,
@@ -106,7 +106,7 @@ pub fn before(prefix: Prefix, operand: Outcome) -> Outcome
     ensures { result ≡ before prefix operand }
 {
     match operand {
-        Outcome::Value(value) => prefixed(prefix, value),
+        Outcome::Value(value) => prefix_value(prefix, value),
         other => other,
     }
 }

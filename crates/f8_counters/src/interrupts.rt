@@ -1,3 +1,4 @@
+// Control, timer and request of a storage chip.
 ghost use Rattle.std.specs.Prelude.{◌≡◌, ◌+◌, ◌*◌, ◌/◌, ◌%◌, ◌==◌, ◌&&◌, true, false, if◌then◌else◌};
 
 /// Control, timer and request of a storage chip (Mostek 3851 and 3853 data sheets; the rules of requests are this project's own). So far
@@ -21,7 +22,13 @@ pub struct Interrupts {
 impl Interrupts {
     /// As at power-on: control 00, the timer at FF, and no request. `wired` says that the chip can interrupt.
     pub fn new(wired: bool) -> Interrupts
-        ensures { result ≡ record { control = 0; timer = 255; phase = 0; wired = wired; request = false } }
+        ensures { result ≡ record {
+          control = 0;
+          timer = 255;
+          phase = 0;
+          wired = wired;
+          request = false;
+        } }
     {
         Interrupts {
             control: 0,
@@ -34,7 +41,13 @@ impl Interrupts {
 
     /// Power-on, which leaves the wiring.
     pub fn power(&mut self)
-        ensures { self.new ≡ record { control = 0; timer = 255; phase = 0; wired = self.old.wired; request = false } }
+        ensures { self.new ≡ record {
+          control = 0;
+          timer = 255;
+          phase = 0;
+          wired = self.old.wired;
+          request = false;
+        } }
     {
         *self = Interrupts::new(self.wired);
     }
@@ -60,7 +73,8 @@ impl Interrupts {
     /// An external pulse: a request is latched where the low two bits of control are 1, and else nothing changes.
     #[inline]
     pub fn pulse(&mut self)
-        ensures { self.new ≡ (if self.old.control % 4 == 1 then record self.old { request = true } else self.old) }
+        ensures { self.new ≡ (if self.old.control %
+            4 == 1 then record self.old { request = true } else self.old) }
     {
         if self.control % 4 == 1 {
             self.request = true;
@@ -86,7 +100,8 @@ impl Interrupts {
     /// The vector given for a request: bit 7 of its low byte is clear for the timer, and set for a pulse.
     #[inline]
     pub fn given_vector(&self, vector: u16) -> u16
-        ensures { result ≡ vector / 256 * 256 + (if self.now.control % 4 == 3 then 0 else 128) + vector % 128 }
+        ensures { result ≡ vector / 256 * 256 + (if self.now.control % 4 == 3 then 0 else 128)
+            + vector % 128 }
     {
         let source = if self.control % 4 == 3 { 0 } else { 128 };
         vector / 256 * 256 + source + vector % 128

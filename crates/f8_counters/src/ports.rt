@@ -1,3 +1,4 @@
+// A port's place among a chip's four.
 ghost use Rattle.std.specs.Prelude.{◌≡◌};
 ghost use Rattle.f8_spec.specs.ChipState.{offset_from};
 

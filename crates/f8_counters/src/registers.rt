@@ -1,3 +1,4 @@
+// The counters of a storage chip.
 ghost use Rattle.std.specs.Prelude.{◌≡◌};
 ghost use Rattle.f8_spec.specs.BusCodes.{count_at, moved_by, told_count};
 
@@ -58,29 +59,29 @@ impl Registers {
     pub fn hear(&mut self, romc: Romc, byte: u8, dc1: bool)
         ensures { self.new ≡ moved_by romc byte dc1 self.old }
     {
-        match romc.number() {
-            0x00 | 0x03 => self.pc0 = self.pc0.wrapping_add(1),
+        match romc {
+            Romc::FETCH | Romc::OPERAND => self.pc0 = self.pc0.wrapping_add(1),
             // A branch counts from the address of its displacement byte.
-            0x01 => self.pc0 = wrap_add(self.pc0, byte.cast_signed()),
-            0x02 | 0x05 => self.dc0 = self.dc0.wrapping_add(1),
-            0x04 => self.pc0 = self.pc1,
-            0x08 => {
+            Romc::DISPLACEMENT => self.pc0 = wrap_add(self.pc0, byte.cast_signed()),
+            Romc::READ_DATA | Romc::STORE_DATA => self.dc0 = self.dc0.wrapping_add(1),
+            Romc::RETURN => self.pc0 = self.pc1,
+            Romc::RESET => {
                 self.pc1 = self.pc0;
                 self.pc0 = 0;
             }
-            0x0A => self.dc0 = wrap_add(self.dc0, byte.cast_signed()),
-            0x0C | 0x17 => self.pc0 = with_low(self.pc0, byte),
-            0x0D => self.pc1 = self.pc0.wrapping_add(1),
-            0x0E | 0x19 => self.dc0 = with_low(self.dc0, byte),
-            0x0F | 0x12 => {
+            Romc::ADD_DATA => self.dc0 = wrap_add(self.dc0, byte.cast_signed()),
+            Romc::JUMP_LOW | Romc::SET_PROGRAM_LOW => self.pc0 = with_low(self.pc0, byte),
+            Romc::SAVE_NEXT => self.pc1 = self.pc0.wrapping_add(1),
+            Romc::LOAD_DATA_LOW | Romc::SET_DATA_LOW => self.dc0 = with_low(self.dc0, byte),
+            Romc::VECTOR_LOW | Romc::CALL_LOW => {
                 self.pc1 = self.pc0;
                 self.pc0 = with_low(self.pc0, byte);
             }
-            0x11 | 0x16 => self.dc0 = with_high(self.dc0, byte),
-            0x13 | 0x14 => self.pc0 = with_high(self.pc0, byte),
-            0x15 => self.pc1 = with_high(self.pc1, byte),
-            0x18 => self.pc1 = with_low(self.pc1, byte),
-            0x1D if dc1 => {
+            Romc::LOAD_DATA_HIGH | Romc::SET_DATA_HIGH => self.dc0 = with_high(self.dc0, byte),
+            Romc::VECTOR_HIGH | Romc::SET_PROGRAM_HIGH => self.pc0 = with_high(self.pc0, byte),
+            Romc::SET_STACK_HIGH => self.pc1 = with_high(self.pc1, byte),
+            Romc::SET_STACK_LOW => self.pc1 = with_low(self.pc1, byte),
+            Romc::EXCHANGE if dc1 => {
                 let dc0 = self.dc0;
                 self.dc0 = self.dc1;
                 self.dc1 = dc0;

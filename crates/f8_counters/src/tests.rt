@@ -1,3 +1,4 @@
+// Counters and requests by worked steps.
 use super::*;
 use romc_table::{Counters, Romc};
 

@@ -1,3 +1,4 @@
+// The two bytes of an address.
 ghost use Rattle.std.specs.Prelude.{◌≡◌, ◌/◌, ◌%◌};
 ghost use Rattle.f8_spec.specs.Words.{with_high as changed_high, with_low as changed_low};
 

@@ -3,7 +3,10 @@ use Rattle.std.proofs.Common.{◌≡◌, ◌≢◌, ℕ, ◌+◌, Bool, true, fa
 use Rattle.std.specs.Prelude.{nat_lt, if◌then◌else◌, None}
 use Rattle.f8_spec.specs.Instructions.{row_of}
 use Rattle.f8_spec.specs.declared.instructions.Op.{Op}
-use Rattle.f8_spec.specs.declared.instructions.Op.TheVariants.{LrKP, LrPK, Pk, LrP0Q, LrQDc, LrDcQ, LrDcH, LrHDc, Lm, St, Di, Ei, Pop, LrWJ, Li, Ni, Oi, Xi, Ai, Ci, In, Out, Pi, Jmp, Dci, Xdc, Ds, Bt, Am, Amd, Nm, Om, Xm, Cm, Adc, Br7, Bf, Asd, Ins, Outs}
+use Rattle.f8_spec.specs.declared.instructions.Op.TheVariants.{LrKP, LrPK, Pk, LrP0Q, LrQDc, LrDcQ, LrDcH, LrHDc, Lm}
+use Rattle.f8_spec.specs.declared.instructions.Op.TheVariants.{St, Di, Ei, Pop, LrWJ, Li, Ni, Oi, Xi, Ai, Ci, In, Out}
+use Rattle.f8_spec.specs.declared.instructions.Op.TheVariants.{Pi, Jmp, Dci, Xdc, Ds, Bt, Am, Amd, Nm, Om, Xm, Cm, Adc}
+use Rattle.f8_spec.specs.declared.instructions.Op.TheVariants.{Br7, Bf, Asd, Ins, Outs}
 use Rattle.f8_spec.specs.declared.instructions.Row.{Row}
 use Rattle.f8_spec.specs.declared.instructions.Row.TheVariants.{Plain, Idle, ShortIn, ShortOut}
 use Rattle.f8_spec.specs.Words.{places_on}

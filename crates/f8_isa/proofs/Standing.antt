@@ -1,5 +1,6 @@
 -- The instruction set beside the flat machine.
-use Rattle.std.proofs.Common.{◌≡◌, ◌≢◌, ℕ, ◌+◌, ◌<◌, ◌≤◌, List, [], ◌∷◌, length, map, refl, sym, ap, subst, ◌∙◌, get_or, arith, inl, inr, get_or-set_other, get_or-set_same, eq-eqb}
+use Rattle.std.proofs.Common.{◌≡◌, ◌≢◌, ℕ, ◌+◌, ◌<◌, ◌≤◌, List, [], ◌∷◌, length, map, refl, sym, ap, subst, ◌∙◌, get_or}
+use Rattle.std.proofs.Common.{arith, inl, inr, get_or-set_other, get_or-set_same, eq-eqb}
 use Rattle.std.specs.Prelude.{Bool, Option, Some, None, ◌⊎◌, ◌==◌, if◌then◌else◌, slice_index, slice_set}
 use Rattle.std.specs.List.{enumerate_from}
 use Rattle.std.proofs.lemmas.List.{get_or-replicate, length-replicate, length-set}
@@ -19,7 +20,7 @@ use Rattle.console_spec.specs.Processor.{Flow, Inputs, State, at_power, own_inpu
 use Rattle.console_spec.specs.FlatMemory.{first_byte, first_memory, is_ram_sort}
 use Rattle.console_spec.specs.FlatMachine.{FlatState, memory_after}
 use Rattle.console_spec.specs.CounterCopies.{Copy, copies_after, reset_copy}
-use Rattle.console_spec.specs.Run.{seats_of, position_after, position_after_reset, power_position}
+use Rattle.console_spec.specs.Run.{seats_of, position_after, position_after_reset, power_position, chain_in_order}
 use Rattle.console_spec.specs.declared.PortWrite.{PortWrite}
 use Rattle.chip_face.specs.declared.specification.ChipSpec.{ChipSpec}
 use Rattle.memory_map.specs.MapOf.{MapTable, IsMapOf, views_of, seats_of as seats_of_chips}
@@ -65,7 +66,7 @@ pub StandsAt-at_power : (table : MapTable) (chips : List ChipSpec) (fill : ℕ) 
       ram_pages = memory.ram_pages;
       ports = ports;
     })
-    0 (position_after_reset (power_position (views_of chips) fill))
+    0 (position_after_reset (power_position (views_of chips) (chain_in_order (views_of chips)) fill))
 StandsAt-at_power table chips fill memory ports mapped first ports_first = record {
   flat = rw (first_memory-mapped table chips fill memory mapped first, ports_first.keys) refl;
   ram = record {
@@ -149,7 +150,8 @@ memory_by-memory_after : (row : Row) (ram_pages : List Bool) (seats : List Seat)
 memory_by-memory_after StoreData ram_pages seats i c memory knows below = rw (knows.page c.d0 (below refl)) refl
 memory_by-memory_after row ram_pages seats i c memory knows below = refl
 
-same_flat : (s t : State) (memory other : List ℕ) → s ≡ t → memory ≡ other → ◌≡◌ {A = FlatState} (record { state = s; memory = memory }) (record { state = t; memory = other })
+same_flat : (s t : State) (memory other : List ℕ) → s ≡ t → memory ≡ other →
+    ◌≡◌ {A = FlatState} (record { state = s; memory = memory }) (record { state = t; memory = other })
 same_flat s t memory other states memories = cc
 
 state_leads : (op : Op) (isa : IsaState) (count : ℕ) (writes : List PortWrite) (seats : List Seat) → InRange op → InReach op isa → KnowsPorts isa.ports seats →
@@ -172,12 +174,12 @@ memory_leads op isa count writes seats reach knows =
     memory_by-memory_after (row_of op) isa.ram_pages seats (own_inputs op isa.memory seats (state_of isa count writes)) isa.flow isa.memory knows reach.address
 
 -- from a position that is written out
-leads_to : (op : Op) (isa : IsaState) (wrote : Option PortWrite) (count : ℕ) (writes : List PortWrite) (copies : List Copy) →
+leads_to : (op : Op) (isa : IsaState) (wrote : Option PortWrite) (count : ℕ) (writes : List PortWrite) (copies : List Copy) (chain : List ℕ) →
     decoded (byte_at isa.memory isa.flow.p) ≡ Some op → wrote ≡ kept_write op isa (phi_after op isa) → InRange op → InReach op isa →
     KnowsRam isa.ram_pages (seats_of copies) → KnowsPorts isa.ports (seats_of copies) → AreLatches isa.ports.latches writes →
-    LeadsTo (record { flat = flat_of isa count writes; copies = copies }) (isa_after op isa) (count + 1) wrote
-leads_to op isa wrote count writes copies found tells range reach knows ports latches = record {
-  next = position_after op (record { flat = flat_of isa count writes; copies = copies });
+    LeadsTo (record { flat = flat_of isa count writes; copies = copies; chain = chain }) (isa_after op isa) (count + 1) wrote
+leads_to op isa wrote count writes copies chain found tells range reach knows ports latches = record {
+  next = position_after op (record { flat = flat_of isa count writes; copies = copies; chain = chain });
   goes = rw found refl;
   stands = record {
     flat =
@@ -209,5 +211,5 @@ pub goes_to : (op : Op) (before after : IsaState) (wrote : Option PortWrite) →
     after ≡ isa_after op before → wrote ≡ kept_write op before (phi_after op before) → InRange op → InReach op before → GoesTo before after wrote
 goes_to op before after wrote found state tells range reach = λ count x stands.
     rw state (
-    subst (λ (f : FlatState). LeadsTo (record { flat = f; copies = x.copies }) (isa_after op before) (count + 1) wrote) (sym stands.flat)
-    (leads_to op before wrote count x.flat.state.writes x.copies found tells range reach stands.ram stands.ports stands.latches))
+    subst (λ (f : FlatState). LeadsTo (record { flat = f; copies = x.copies; chain = x.chain }) (isa_after op before) (count + 1) wrote) (sym stands.flat)
+    (leads_to op before wrote count x.flat.state.writes x.copies x.chain found tells range reach stands.ram stands.ports stands.latches))

@@ -1,7 +1,8 @@
 -- The ports as the instruction set keeps them: the byte last written to each, the key byte of each, and what the chips make of each.
 -- Ports read and take writes after the Mostek 3851 and 3853 data sheets; that a port of no chip or of several reads as 255, and that a
 -- write to it is lost, is this project's own.
-use Rattle.std.specs.Prelude.{ℕ, ◌≡◌, ◌<◌, Bool, false, ◌==◌, nat_lt, if◌then◌else◌, bit_or, List, length, slice_index, slice_index_or, slice_set, Option, Some, None}
+use Rattle.std.specs.Prelude.{ℕ, ◌≡◌, ◌<◌, Bool, false, ◌==◌, nat_lt, if◌then◌else◌, bit_or, List, length, slice_index}
+use Rattle.std.specs.Prelude.{slice_index_or, slice_set, Option, Some, None}
 use Rattle.f8_spec.specs.BusArbitration.{Seat}
 use Rattle.f8_spec.specs.declared.instructions.Op.{Op}
 use Rattle.f8_spec.specs.declared.instructions.Op.TheVariants.{In, Out, Ins, Outs}

@@ -1,3 +1,4 @@
+// The flat memory of a description's chips.
 ghost use Rattle.std.specs.Prelude.{◌≡◌, ℕ, ◌/◌, IfOk};
 ghost use Rattle.console_spec.specs.FlatMemory.{is_ram_sort};
 ghost use Rattle.memory_map.specs.MapOf.{mapped_sort};
@@ -56,7 +57,10 @@ impl FlatMemory {
     /// A byte stored at an address, which is lost where it is no RAM.
     #[inline]
     pub fn store(&mut self, at: u16, byte: u8)
-        ensures { self.new ≡ record self.old { bytes = stored_in self.old.ram_pages at byte self.old.bytes } }
+        ensures { self.new ≡ record self.old {
+          bytes = stored_in self.old.ram_pages at byte
+              self.old.bytes;
+        } }
     {
         if self.ram_pages[usize::from(at / 256)] {
             self.bytes[usize::from(at)] = byte;

@@ -1,3 +1,4 @@
+// What each opcode says of its instruction, in a table.
 ghost use Rattle.std.specs.Prelude.{◌≡◌};
 ghost use Rattle.f8_isa.specs.InstructionRows.{IsTable, IsRow};
 

@@ -1,3 +1,4 @@
+// The instruction set on flat memory, an instruction at a time.
 use super::counters::Flow;
 use super::flat_memory::FlatMemory;
 use super::instruction_table::{Instruction, InstructionTable};
@@ -7,7 +8,7 @@ use chip_face::ChipList;
 use console_board::PortWrite;
 use console_spec::Regs;
 use f8_ops::registers::{H, K, Q};
-use f8_ops::{OWN_PORTS, Op, RESET_PHI, Reserved, Row};
+use f8_ops::{MOST_PHI, OWN_PORTS, Op, RESET_PHI, Reserved, Row};
 use f8_spec::Memory;
 use f8_words::wrap_add;
 use memory_map::Map;
@@ -52,18 +53,20 @@ impl Isa {
     ghost use Rattle.f8_spec.specs.declared.instructions.Op.{Op};
     ghost use Rattle.console_spec.specs.AddressSpace.{byte_at};
     ghost use Rattle.console_spec.specs.Processor.{used_byte, result_of, is_taken, flow_after, shown};
-    ghost use Rattle.console_spec.specs.Run.{Reserved as StopReserved, power_position, position_after_reset};
+    ghost use Rattle.console_spec.specs.Run.{Reserved as StopReserved, power_position, chain_in_order, position_after_reset};
     ghost use Rattle.memory_map.specs.MapOf.{IsMapOf, views_of};
     ghost use Rattle.f8_isa.specs.Counters.{flow_of};
     ghost use Rattle.f8_isa.specs.InstructionRows.{IsInstruction};
     ghost use Rattle.f8_isa.specs.Ports.{value_read, with_key_byte};
-    ghost use Rattle.f8_isa.specs.IsaState.{state_of, kept_inputs, kept_write, isa_after, phi_after, GoesTo, StopsBy, StandsAt, InReach, TakesKey};
+    ghost use Rattle.f8_isa.specs.IsaState.{state_of, kept_inputs, kept_write, isa_after, phi_after};
+    ghost use Rattle.f8_isa.specs.IsaState.{GoesTo, StopsBy, StandsAt, InReach, TakesKey};
 
     /// A program on some chips, after power-on with a byte and reset, or want of memory. The map is that of the chips; what it tells is
     /// copied.
     pub fn new(alloc: Global, map: &Map, chips: &ChipList, fill: u8) -> Result<Isa, Memory>
         requires { IsMapOf map.now chips.now }
-        ensures { IfOk result (λ isa. StandsAt isa 0 (position_after_reset (power_position (views_of chips.now) fill))) }
+        ensures { let vs = views_of chips.now in IfOk result (λ isa. StandsAt isa 0
+            (position_after_reset (power_position vs (chain_in_order vs) fill))) }
     {
         let _chips = chips;
         let memory = FlatMemory::new(alloc, map, fill)?;
@@ -84,9 +87,10 @@ impl Isa {
         requires { self.old.phi < 2 ^ 62 }
         ensures goes { IfOk result (λ done. GoesTo self.old self.new done.wrote) }
         ensures uninterrupted { IfOk result (λ done. done.vectored ≡ false) }
-        ensures clocks { self.new.phi ≤ self.old.phi + 26 }
+        ensures clocks { self.new.phi ≤ self.old.phi + MOST_PHI }
         ensures onward { self.old.phi ≤ self.new.phi }
-        ensures stops { IfErr result (λ error. StopsBy self.old (StopReserved self.old.flow.p error.code)) }
+        ensures stops { IfErr result (λ error. StopsBy self.old
+            (StopReserved self.old.flow.p error.code)) }
         ensures same { OnErr result (self.new ≡ self.old) }
     {
         let code = self.memory.byte(self.flow.p);
@@ -103,7 +107,10 @@ impl Isa {
     /// Sets the key byte of a port. It is read there together with what was last written to the port.
     pub fn keys(&mut self, port: u8, byte: u8)
         ensures stands { TakesKey port byte self.old self.new }
-        ensures kept { self.new ≡ record self.old { ports = with_key_byte port byte self.old.ports } }
+        ensures kept { self.new ≡ record self.old {
+          ports = with_key_byte port byte
+              self.old.ports;
+        } }
     {
         self.ports.set_key(port, byte);
     }
@@ -114,8 +121,9 @@ impl Isa {
         requires right { IsInstruction instruction }
         requires phi { self.old.phi < 2 ^ 62 }
         ensures state { self.new ≡ isa_after instruction.op self.old }
-        ensures wrote { result ≡ kept_write instruction.op self.old (phi_after instruction.op self.old) }
-        ensures clocks { self.new.phi ≤ self.old.phi + 26 }
+        ensures wrote { result ≡ kept_write instruction.op self.old
+            (phi_after instruction.op self.old) }
+        ensures clocks { self.new.phi ≤ self.old.phi + MOST_PHI }
         ensures onward { self.old.phi ≤ self.new.phi }
         ensures ranges { InReach instruction.op self.old }
     {
@@ -135,8 +143,9 @@ impl Isa {
         requires plain { instruction.row ≡ Row.Plain }
         requires phi { self.old.phi < 2 ^ 62 }
         ensures state { self.new ≡ isa_after instruction.op self.old }
-        ensures wrote { kept_write instruction.op self.old (phi_after instruction.op self.old) ≡ None }
-        ensures clocks { self.new.phi ≤ self.old.phi + 26 }
+        ensures wrote { kept_write instruction.op self.old (phi_after instruction.op self.old)
+            ≡ None }
+        ensures clocks { self.new.phi ≤ self.old.phi + MOST_PHI }
         ensures onward { self.old.phi ≤ self.new.phi }
         ensures ranges { InReach instruction.op self.old }
     {
@@ -152,8 +161,9 @@ impl Isa {
         requires right { IsInstruction instruction }
         requires phi { self.old.phi < 2 ^ 62 }
         ensures state { self.new ≡ isa_after instruction.op self.old }
-        ensures wrote { result ≡ kept_write instruction.op self.old (phi_after instruction.op self.old) }
-        ensures clocks { self.new.phi ≤ self.old.phi + 26 }
+        ensures wrote { result ≡ kept_write instruction.op self.old
+            (phi_after instruction.op self.old) }
+        ensures clocks { self.new.phi ≤ self.old.phi + MOST_PHI }
         ensures onward { self.old.phi ≤ self.new.phi }
         ensures ranges { InReach instruction.op self.old }
     {
@@ -221,7 +231,8 @@ impl Isa {
     /// The byte that an instruction reads at its port, and 00 where it reads none.
     #[inline]
     fn read(&self, op: Op) -> u8
-        ensures { result ≡ value_read op (byte_at self.now.memory (places_on self.now.flow.p 1)) self.now.ports }
+        ensures { result ≡ value_read op (byte_at self.now.memory (places_on self.now.flow.p 1))
+            self.now.ports }
     {
         match op {
             Op::In => self.ports.chip_byte(self.operand()),
@@ -237,7 +248,10 @@ impl Isa {
     fn work(&mut self, op: Op, row: Row)
         requires row { row ≡ row_of op }
         requires in_range { InRange op }
-        ensures { self.new ≡ record self.old { registers = result_of op (kept_inputs op self.old) self.old.registers } }
+        ensures { self.new ≡ record self.old {
+          registers = result_of op
+              (kept_inputs op self.old) self.old.registers;
+        } }
     {
         match op {
             Op::LrKP => self.registers.set_pair(K, self.flow.p1),
@@ -268,7 +282,8 @@ impl Isa {
     #[tactic(auto, unfolding(console_spec::specs::Processor::own_inputs))]
     #[inline]
     fn flow_after(&self, row: Row, taken: bool) -> Flow
-        ensures { (op : Op) → is_taken op self.now.registers ≡ taken → flow_of result ≡ flow_after row (kept_inputs op self.now) true self.now.flow }
+        ensures { (op : Op) → is_taken op self.now.registers ≡ taken →
+            flow_of result ≡ flow_after row (kept_inputs op self.now) true self.now.flow }
     {
         let flow = self.flow;
         let after_one = flow.with_next(self.ahead(1));
@@ -308,7 +323,8 @@ impl Isa {
     /// The word behind the opcode, its high byte first.
     #[inline]
     fn operand_word(&self) -> u16
-        ensures { result ≡ word (byte_at self.now.memory (places_on self.now.flow.p 1)) (byte_at self.now.memory (places_on self.now.flow.p 2)) }
+        ensures { result ≡ word (byte_at self.now.memory (places_on self.now.flow.p 1))
+            (byte_at self.now.memory (places_on self.now.flow.p 2)) }
     {
         let high = self.memory.byte(self.ahead(1));
         let low = self.memory.byte(self.ahead(2));
@@ -326,7 +342,8 @@ impl Isa {
     /// Where a branch leads to. It counts from the address of its displacement byte.
     #[inline]
     fn target(&self) -> u16
-        ensures { result ≡ displaced (places_on self.now.flow.p 1) (byte_at self.now.memory (places_on self.now.flow.p 1)) }
+        ensures { result ≡ displaced (places_on self.now.flow.p 1)
+            (byte_at self.now.memory (places_on self.now.flow.p 1)) }
     {
         let place = self.ahead(1);
         wrap_add(place, self.memory.byte(place).cast_signed())

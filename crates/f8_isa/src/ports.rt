@@ -1,3 +1,4 @@
+// The ports as the instruction set keeps them.
 ghost use Rattle.std.specs.Prelude.{◌≡◌};
 ghost use Rattle.f8_isa.specs.KeptPorts.{AreReadable, AreWritable};
 

@@ -1,3 +1,4 @@
+// Accumulator, ISAR, status word and scratchpad.
 use f8_ops::Op;
 use f8_ops::registers::{J, K, Q};
 use f8_words::{Flags, Sum, add9, bcd};
@@ -272,7 +273,8 @@ impl RegisterFile {
 
     #[inline]
     fn load(&mut self, field: u8)
-        ensures { self.new ≡ with_isar_stepped field (record self.old { accumulator = field_byte field self.old }) }
+        ensures { self.new ≡ with_isar_stepped field
+            (record self.old { accumulator = field_byte field self.old }) }
     {
         self.accumulator = self.field(field);
         self.step_isar(field);
@@ -280,7 +282,8 @@ impl RegisterFile {
 
     #[inline]
     fn store(&mut self, field: u8)
-        ensures { self.new ≡ with_isar_stepped field (with_scratch (register_of field self.old) self.old.accumulator self.old) }
+        ensures { self.new ≡ with_isar_stepped field
+            (with_scratch (register_of field self.old) self.old.accumulator self.old) }
     {
         self.set_register(self.named_by(field), self.accumulator);
         self.step_isar(field);
@@ -288,7 +291,8 @@ impl RegisterFile {
 
     #[inline]
     fn add_field(&mut self, field: u8)
-        ensures { self.new ≡ with_isar_stepped field (with_sum (field_byte field self.old) false self.old) }
+        ensures { self.new ≡ with_isar_stepped field
+            (with_sum (field_byte field self.old) false self.old) }
     {
         self.add(self.field(field), false);
         self.step_isar(field);
@@ -296,7 +300,8 @@ impl RegisterFile {
 
     #[inline]
     fn add_decimal_field(&mut self, field: u8)
-        ensures { self.new ≡ with_isar_stepped field (with_decimal_sum (field_byte field self.old) self.old) }
+        ensures { self.new ≡ with_isar_stepped field
+            (with_decimal_sum (field_byte field self.old) self.old) }
     {
         self.add_decimal(self.field(field));
         self.step_isar(field);
@@ -304,7 +309,8 @@ impl RegisterFile {
 
     #[inline]
     fn xor_field(&mut self, field: u8)
-        ensures { self.new ≡ with_isar_stepped field (with_result (bit_xor self.old.accumulator (field_byte field self.old)) self.old) }
+        ensures { self.new ≡ with_isar_stepped field
+            (with_result (bit_xor self.old.accumulator (field_byte field self.old)) self.old) }
     {
         self.set_result(self.accumulator ^ self.field(field));
         self.step_isar(field);
@@ -312,7 +318,8 @@ impl RegisterFile {
 
     #[inline]
     fn and_field(&mut self, field: u8)
-        ensures { self.new ≡ with_isar_stepped field (with_result (bit_and self.old.accumulator (field_byte field self.old)) self.old) }
+        ensures { self.new ≡ with_isar_stepped field
+            (with_result (bit_and self.old.accumulator (field_byte field self.old)) self.old) }
     {
         self.set_result(self.accumulator & self.field(field));
         self.step_isar(field);
@@ -320,7 +327,15 @@ impl RegisterFile {
 
     #[inline]
     fn set_flags(&mut self, sum: Sum)
-        ensures { self.new ≡ record self.old { status = record self.old.status { sign = is_positive sum.value; carry = sum.carry; zero = is_zero sum.value; overflow = sum.overflow } } }
+        ensures { self.new ≡ record self.old {
+          status = record self.old.status {
+            sign = is_positive
+                sum.value;
+            carry = sum.carry;
+            zero = is_zero sum.value;
+            overflow = sum.overflow;
+          };
+        } }
     {
         self.status = Flags {
             sign: sum.value < 0x80,

@@ -7,7 +7,8 @@ use Rattle.f8_spec.specs.declared.instructions.Op.TheVariants.{Ds, LrAR, LrRA, L
 use Rattle.f8_ops.proofs.ValuesBelow.{values_below, same_below}
 
 -- a port from 4 on, by its distance from 4
-from_four : (form : ℕ → Op) (code n : ℕ) → ((k : ℕ) → k < 12 → decoded (code + (4 + k)) ≡ Some (form (4 + k))) → 4 ≤ n → n < 16 → decoded (code + n) ≡ Some (form n)
+from_four : (form : ℕ → Op) (code n : ℕ) → ((k : ℕ) → k < 12 → decoded (code + (4 + k)) ≡ Some (form (4 + k))) → 4 ≤ n →
+    n < 16 → decoded (code + n) ≡ Some (form n)
 from_four form code n each low high =
     let same_port : 4 + (n - 4) ≡ n = omega arith in
     subst (λ (port : ℕ). decoded (code + port) ≡ Some (form port)) same_port (each (n - 4) (omega arith))

@@ -1,3 +1,4 @@
+// The names of the instructions.
 ghost use Rattle.std.specs.Prelude.{◌≡◌};
 ghost use Rattle.f8_spec.specs.Instructions.{mnemonic_of};
 

@@ -1,3 +1,4 @@
+// Opcodes and their instructions, both ways.
 ghost use Rattle.std.specs.Prelude.{◌≡◌, ◌↔◌, IsErr, IfErr, IfOk, IfSome, IfNone};
 ghost use Rattle.std.specs.Result.{result_ok};
 ghost use Rattle.f8_spec.specs.Instructions.{InRange, IsReserved, encoded, decoded};

@@ -1,3 +1,4 @@
+// The instruction table: rows, lengths, clocks and shielding.
 ghost use Rattle.std.specs.Prelude.{◌≡◌};
 ghost use Rattle.f8_spec.specs.Instructions.{row_of, row_clocks, length_of, clocks_of, is_shielding};
 

@@ -1,3 +1,4 @@
+// What the error says.
 use super::*;
 
 // the first and the last opcode of ranges beside reserved ones

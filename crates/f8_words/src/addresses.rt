@@ -1,3 +1,4 @@
+// Sums of addresses.
 ghost use Rattle.std.specs.Prelude.{◌≡◌};
 ghost use Rattle.f8_spec.specs.Words.{wrapped};
 

@@ -1,3 +1,4 @@
+// What sums say of numbers.
 ghost use Rattle.f8_words.specs.SumLaw.{SumLaw};
 
 /// What sums say of numbers: a comparison tells which byte is the greater one and whether they are equal, overflow tells that the sum of signed

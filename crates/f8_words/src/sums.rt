@@ -1,3 +1,4 @@
+// Sums of bytes, binary and decimal.
 ghost use Rattle.std.specs.Prelude.{◌≡◌, ◌<◌, false};
 ghost use Rattle.f8_spec.specs.Words.{decimal_digit, decimal_value};
 ghost use Rattle.f8_words.specs.Sums.{sum_of};

@@ -1,3 +1,4 @@
+// Worked sums.
 use super::*;
 
 #[test]

@@ -1,3 +1,4 @@
+// The sum of a scratchpad.
 ghost use Rattle.std.specs.Prelude.{◌≡◌, sum};
 
 /// The sum of the 64 bytes of a scratchpad.

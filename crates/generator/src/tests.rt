@@ -1,3 +1,4 @@
+// The chips of a number, byte by byte where they are given.
 use super::*;
 use chip_face::ChipSpec;
 use report::Line;

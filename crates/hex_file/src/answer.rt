@@ -1,3 +1,4 @@
+// What comes instead of the bytes of a text.
 use std::alloc::AllocError;
 use thiserror::Error;
 

@@ -1,3 +1,4 @@
+// The bytes that a text of digits spells.
 ghost use Rattle.std.specs.Prelude.{◌≡◌, ◌≤◌, IfOk, vec_len};
 ghost use Rattle.hex_file.specs.DigitText.{bytes_of_text, is_blank};
 ghost use Rattle.hex_file.specs.Answers.{SaysOfText};

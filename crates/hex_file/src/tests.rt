@@ -1,3 +1,4 @@
+// Texts and what is answered to them.
 use super::*;
 use std::alloc::Global;
 use std::test::Fail;

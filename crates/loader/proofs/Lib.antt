@@ -1,4 +1,5 @@
 pub mod WorkLaws
 mod TableRead
+mod ScriptsLoaded
 mod SourcesFilled
 mod GamesLoaded

@@ -1,6 +1,7 @@
+// A file of the store, as a command asks for it.
 ghost use Rattle.std.specs.Prelude.{◌≤◌, IfOk, length};
 ghost use Rattle.loader.specs.Work.{ask};
-ghost use Rattle.loader.specs.Works.{Works, outcome_as};
+ghost use Rattle.loader.specs.Works.{Works, RefusesFrom, order_of, outcome_as};
 
 use super::purposes::Purpose;
 use super::refusals::{Refusal, Stop};
@@ -16,7 +17,9 @@ pub fn fetch<S: Store>(
     name: &str,
     limit: u32,
 ) -> Result<Vec<u8>, Stop>
-    ensures works { Works (S.files store.old) (S.files store.new) (S.faults store.old) (S.faults store.new) (S.fetches store.old) (S.fetches store.new) (ask purpose name.now limit) (outcome_as (λ bytes. bytes.items) result) }
+    ensures works { Works (S.input store.old) (S.input store.new)
+        (ask purpose name.now limit) (outcome_as (λ bytes. bytes.items) result) }
+    ensures order { RefusesFrom (order_of purpose) result }
     ensures within { IfOk result (λ bytes. length bytes.items ≤ limit) }
 {
     match store.fetch(alloc, name, limit) {

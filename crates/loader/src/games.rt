@@ -1,3 +1,4 @@
+// A run that is asked for.
 use chip_face::ChipList;
 use pad_script::Script;
 

@@ -4,7 +4,7 @@ ghost use Rattle.loader.specs.Games.{chips_of, script_by, game_of, image_by, byt
 ghost use Rattle.pad_script.specs.Limits.{HasLimits};
 ghost use Rattle.pad_script.specs.Reading.{seen};
 ghost use Rattle.loader.specs.Seen.{seen_game};
-ghost use Rattle.loader.specs.Works.{Works, outcome_as};
+ghost use Rattle.loader.specs.Works.{Works, RefusesFrom, order_of, outcome_as};
 
 use super::fetching::fetch;
 use super::games::Game;
@@ -31,9 +31,9 @@ const EVERYWHERE: Room = Room {
 };
 
 /// The chips of a description, with the images of their sources.
-#[tactic(auto, unfolding(crate::specs::Games::chips_of), using(crate::proofs::GamesLoaded::chips_loaded))]
+#[tactic(auto, using(crate::proofs::GamesLoaded::chips_stop, crate::proofs::GamesLoaded::chips_unread, crate::proofs::GamesLoaded::chips_loaded))]
 fn load_chips<S: Store>(alloc: Global, store: &mut S, cart: &str) -> Result<ChipList, Stop>
-    ensures { Works (S.files store.old) (S.files store.new) (S.faults store.old) (S.faults store.new) (S.fetches store.old) (S.fetches store.new) (chips_of cart.now) (outcome_as (λ chips. chips) result) }
+    ensures { Works (S.input store.old) (S.input store.new) (chips_of cart.now) result }
 {
     let bytes = fetch(alloc, store, Purpose::Cart, cart, TEXT_LIMIT)?;
     let plan = read_description(alloc, bytes.as_slice())?;
@@ -41,9 +41,11 @@ fn load_chips<S: Store>(alloc: Global, store: &mut S, cart: &str) -> Result<Chip
 }
 
 /// A script.
-#[tactic(auto, unfolding(crate::specs::Games::script_by))]
+#[tactic(auto, using(crate::proofs::ScriptsLoaded::script_read, crate::proofs::ScriptsLoaded::script_stop, crate::proofs::ScriptsLoaded::script_order))]
 fn load_script<S: Store>(alloc: Global, store: &mut S, script: &str) -> Result<Script, Stop>
-    ensures works { Works (S.files store.old) (S.files store.new) (S.faults store.old) (S.faults store.new) (S.fetches store.old) (S.fetches store.new) (script_by script.now) (outcome_as seen result) }
+    ensures works { Works (S.input store.old) (S.input store.new)
+        (script_by script.now) (outcome_as seen result) }
+    ensures order { RefusesFrom (order_of Purpose.Script) result }
     ensures limits { IfOk result (λ script. HasLimits script.end) }
 {
     let text = fetch(alloc, store, Purpose::Script, script, TEXT_LIMIT)?;
@@ -58,14 +60,15 @@ fn load_script<S: Store>(alloc: Global, store: &mut S, script: &str) -> Result<S
 ///
 /// `Refused`: the first file that is too long or at fault. `Store`: the store failed at a file. `Memory`: memory is missing; it says nothing
 /// of the files.
-#[tactic(auto, unfolding(crate::specs::Games::game_of), using(crate::proofs::GamesLoaded::game_loaded, crate::proofs::GamesLoaded::game_stops))]
+#[tactic(auto, using(crate::proofs::GamesLoaded::game_loaded, crate::proofs::GamesLoaded::game_without_chips, crate::proofs::GamesLoaded::game_without_script))]
 pub fn load_game<S: Store>(
     alloc: Global,
     store: &mut S,
     cart: &str,
     script: &str,
 ) -> Result<Game, Stop>
-    ensures works { Works (S.files store.old) (S.files store.new) (S.faults store.old) (S.faults store.new) (S.fetches store.old) (S.fetches store.new) (game_of cart.now script.now) (outcome_as seen_game result) }
+    ensures works { Works (S.input store.old) (S.input store.new)
+        (game_of cart.now script.now) (outcome_as seen_game result) }
     ensures limits { IfOk result (λ game. HasLimits game.script.end) }
 {
     let chips = load_chips(alloc, store, cart)?;
@@ -78,9 +81,9 @@ pub fn load_game<S: Store>(
 /// # Errors
 ///
 /// As those of `load_game`.
-#[tactic(auto, unfolding(crate::specs::Games::image_by))]
+#[tactic(auto, using(crate::proofs::ScriptsLoaded::picture_read, crate::proofs::ScriptsLoaded::picture_stop))]
 pub fn load_image<S: Store>(alloc: Global, store: &mut S, file: &str) -> Result<Image, Stop>
-    ensures { Works (S.files store.old) (S.files store.new) (S.faults store.old) (S.faults store.new) (S.fetches store.old) (S.fetches store.new) (image_by file.now) (outcome_as (λ image. image) result) }
+    ensures { Works (S.input store.old) (S.input store.new) (image_by file.now) result }
 {
     let text = fetch(alloc, store, Purpose::File, file, ASSEMBLY_LIMIT)?;
     read_image(alloc, None, text.as_slice(), EVERYWHERE)
@@ -91,9 +94,10 @@ pub fn load_image<S: Store>(alloc: Global, store: &mut S, file: &str) -> Result<
 /// # Errors
 ///
 /// As those of `load_game`.
-#[tactic(auto, unfolding(crate::specs::Games::bytes_by))]
+#[tactic(auto, using(crate::proofs::ScriptsLoaded::bytes_read, crate::proofs::ScriptsLoaded::bytes_stop))]
 pub fn load_bytes<S: Store>(alloc: Global, store: &mut S, file: &str) -> Result<Vec<u8>, Stop>
-    ensures works { Works (S.files store.old) (S.files store.new) (S.faults store.old) (S.faults store.new) (S.fetches store.old) (S.fetches store.new) (bytes_by file.now) (outcome_as (λ bytes. bytes.items) result) }
+    ensures works { Works (S.input store.old) (S.input store.new)
+        (bytes_by file.now) (outcome_as (λ bytes. bytes.items) result) }
     ensures limit { IfOk result (λ bytes. length bytes.items ≤ 65536) }
 {
     let text = fetch(alloc, store, Purpose::File, file, DIGITS_LIMIT)?;

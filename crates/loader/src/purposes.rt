@@ -1,3 +1,4 @@
+// What the files of a command are for.
 /// What a file is for.
 #[derive(Clone, Copy, Debug, PartialEq, Eq)]
 pub enum Purpose {

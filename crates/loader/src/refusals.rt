@@ -1,3 +1,4 @@
+// Why a command does not get what it wants of its files.
 use super::purposes::Purpose;
 use cartridge::CartFault;
 use f8_asm::AsmFault;

@@ -1,10 +1,10 @@
 // The sources of a description's chips.
-ghost use Rattle.std.specs.Prelude.{◌≡◌, ◌≤◌, ℕ, List, length, IfOk, position, None};
+ghost use Rattle.std.specs.Prelude.{◌≡◌, ◌+◌, ◌≤◌, ℕ, List, length, IfOk, position, None};
 ghost use Rattle.cartridge.specs.Filling.{filled_plan};
 ghost use Rattle.cartridge.specs.Rooms.{LiesIn};
 ghost use Rattle.cartridge.specs.Carts.{wants_image};
 ghost use Rattle.loader.specs.Games.{image_for, filled_at, filled_up_to, planned_chips};
-ghost use Rattle.loader.specs.Works.{Works, outcome_as};
+ghost use Rattle.loader.specs.Works.{Works, RefusesFrom, outcome_as};
 
 use super::fetching::fetch;
 use super::purposes::Purpose;
@@ -20,7 +20,7 @@ use std::alloc::Global;
 pub const ASSEMBLY_LIMIT: u32 = 262_144;
 
 /// The image of a chip's source, in its room.
-#[tactic(auto, unfolding(crate::specs::Games::image_for))]
+#[tactic(auto, using(crate::proofs::SourcesFilled::image_read, crate::proofs::SourcesFilled::image_stop, crate::proofs::SourcesFilled::image_order))]
 fn load_source<S: Store>(
     alloc: Global,
     store: &mut S,
@@ -28,7 +28,8 @@ fn load_source<S: Store>(
     name: &str,
     room: Room,
 ) -> Result<Image, Stop>
-    ensures works { Works (S.files store.old) (S.files store.new) (S.faults store.old) (S.faults store.new) (S.fetches store.old) (S.fetches store.new) (image_for chip name.now room) (outcome_as (λ image. image) result) }
+    ensures works { Works (S.input store.old) (S.input store.new) (image_for chip name.now room) result }
+    ensures order { RefusesFrom (chip + 1) result }
     ensures inside { IfOk result (λ image. LiesIn room image.bytes) }
 {
     let text = fetch(alloc, store, Purpose::Source(chip), name, ASSEMBLY_LIMIT)?;
@@ -38,7 +39,8 @@ fn load_source<S: Store>(
 /// Puts the image of its source into the chip with this number, where the plan has such a chip and it has a source.
 #[tactic(auto, using(crate::proofs::SourcesFilled::filled_none, crate::proofs::SourcesFilled::filled_placeless, crate::proofs::SourcesFilled::same_placeless, crate::proofs::SourcesFilled::filled_some, crate::proofs::SourcesFilled::filled_stop, crate::proofs::SourcesFilled::has_room, crate::proofs::SourcesFilled::same_without))]
 fn fill_at<S: Store>(alloc: Global, store: &mut S, mut plan: Plan, chip: u8) -> Result<Plan, Stop>
-    ensures works { Works (S.files store.old) (S.files store.new) (S.faults store.old) (S.faults store.new) (S.fetches store.old) (S.fetches store.new) (filled_at chip plan) (outcome_as (λ filled. filled) result) }
+    ensures works { Works (S.input store.old) (S.input store.new) (filled_at chip plan) result }
+    ensures order { RefusesFrom (chip + 1) result }
     ensures filled { IfOk result (λ filled. (bytes : List (ℕ × ℕ)) × (filled ≡ filled_plan plan chip bytes)) }
 {
     let Some(name) = plan.source(chip) else {
@@ -54,8 +56,8 @@ fn fill_at<S: Store>(alloc: Global, store: &mut S, mut plan: Plan, chip: u8) -> 
 
 /// Puts the image of its source into each chip that has one, the first chip first.
 fn fill_sources<S: Store>(alloc: Global, store: &mut S, mut plan: Plan) -> Result<Plan, Stop>
-    requires { length plan.chips ≤ 16 }
-    ensures works { Works (S.files store.old) (S.files store.new) (S.faults store.old) (S.faults store.new) (S.fetches store.old) (S.fetches store.new) (filled_up_to 16 plan) (outcome_as (λ filled. filled) result) }
+    requires { length plan.chips ≤ MOST_CHIPS }
+    ensures works { Works (S.input store.old) (S.input store.new) (filled_up_to MOST_CHIPS plan) result }
     ensures filled { IfOk result (λ filled. position wants_image filled.chips ≡ None) }
 {
     for chip in 0..MOST_CHIPS as u8 {
@@ -67,8 +69,8 @@ fn fill_sources<S: Store>(alloc: Global, store: &mut S, mut plan: Plan) -> Resul
 /// The chips of a plan, with the images of their sources.
 #[tactic(auto, using(crate::proofs::GamesLoaded::planned_stops, crate::proofs::GamesLoaded::planned_loaded, crate::proofs::GamesLoaded::cart_is, crate::proofs::GamesLoaded::cart_there))]
 pub fn load_planned<S: Store>(alloc: Global, store: &mut S, plan: Plan) -> Result<ChipList, Stop>
-    requires { length plan.chips ≤ 16 }
-    ensures { Works (S.files store.old) (S.files store.new) (S.faults store.old) (S.faults store.new) (S.fetches store.old) (S.fetches store.new) (planned_chips plan) (outcome_as (λ chips. chips) result) }
+    requires { length plan.chips ≤ MOST_CHIPS }
+    ensures { Works (S.input store.old) (S.input store.new) (planned_chips plan) result }
 {
     let plan = fill_sources(alloc, store, plan)?;
     match plan.cart() {

@@ -1,5 +1,6 @@
 -- A page of one chip: how it is found, and what it says of the chip that is fitted.
-use Rattle.std.proofs.Common.{◌≡◌, ℕ, ◌+◌, ◌-◌, ◌*◌, ◌/◌, ◌%◌, ◌<◌, ◌≤◌, Bool, true, false, List, [], ◌∷◌, ◌++◌, length, take, drop, refl, ap, ◌∙◌, arith, add-one, length-drop}
+use Rattle.std.proofs.Common.{◌≡◌, ℕ, ◌+◌, ◌-◌, ◌*◌, ◌/◌, ◌%◌, ◌<◌, ◌≤◌, Bool, true, false, List, [], ◌∷◌, ◌++◌, length}
+use Rattle.std.proofs.Common.{take, drop, refl, ap, ◌∙◌, arith, add-one, length-drop}
 use Rattle.std.specs.Prelude.{if◌then◌else◌, ◌==◌, slice_get, slice_index, is_some, Option, Some, None, option_map, option_and_then}
 use Rattle.std.proofs.lemmas.List.{take_all, take-append-drop, append-nil, length-take-le, get_or_append_left, get_or-append_right, get_or-replicate}
 use Rattle.f8_spec.specs.ChipState.{place_of, sort_at, held_byte}
@@ -28,9 +29,12 @@ sort_at-page_among (p ∷ ps) rom at =
     by_test (p.number == (at / 256)) (place_of ps (at / 256)) (sort_at-page_among ps (rom_after p.sort rom) at)
   where
     by_test : (test : Bool) (place : Option ℕ) →
-        option_and_then (λ k. option_map (λ (q : Page). q.sort) (slice_get ps k)) place ≡ option_map (λ q. q.sort) (page_among (at / 256) ps (rom_after p.sort rom)) →
+        option_and_then (λ k. option_map (λ (q : Page). q.sort) (slice_get ps k)) place
+        ≡ option_map (λ q. q.sort) (page_among (at / 256) ps (rom_after p.sort rom)) →
         option_and_then (λ k. option_map (λ (q : Page). q.sort) (slice_get (p ∷ ps) k)) (if test then Some 0 else option_map (λ k. k + 1) place)
-        ≡ option_map (λ q. q.sort) (if test then Some (record { sort = p.sort; rom = take (rom_size p.sort) rom }) else page_among (at / 256) ps (rom_after p.sort rom))
+        ≡ option_map (λ q. q.sort) (if test then Some
+        (record { sort = p.sort; rom = take (rom_size p.sort) rom }) else page_among (at / 256) ps
+        (rom_after p.sort rom))
     by_test true place later = refl
     by_test false None later = later
     by_test false (Some k) later = rw add-one later
@@ -89,17 +93,20 @@ byte_in-page_among (p ∷ ps) rom number offset within size =
     by_test : (test : Bool) (place : Option ℕ) →
         option_map (λ k. slice_index (page_bytes ps (rom_after p.sort rom)) (k * 256 + offset)) place
         ≡ option_map (λ q. fitted_byte q.sort q.rom offset) (page_among number ps (rom_after p.sort rom)) →
-        option_map (λ k. slice_index (page_content p.sort rom ++ page_bytes ps (rom_after p.sort rom)) (k * 256 + offset)) (if test then Some 0 else option_map (λ k. k + 1) place)
+        option_map (λ k. slice_index (page_content p.sort rom ++ page_bytes ps (rom_after p.sort rom))
+        (k * 256 + offset)) (if test then Some 0 else option_map (λ k. k + 1) place)
         ≡ option_map (λ q. fitted_byte q.sort q.rom offset)
         (if test then Some (record { sort = p.sort; rom = take (rom_size p.sort) rom }) else page_among number ps (rom_after p.sort rom))
     by_test true place later =
-        let first : slice_index (page_content p.sort rom ++ page_bytes ps (rom_after p.sort rom)) (0 * 256 + offset) ≡ slice_index (page_content p.sort rom) offset
+        let first : slice_index (page_content p.sort rom ++ page_bytes ps (rom_after p.sort rom)) (0 * 256 + offset)
+        ≡ slice_index (page_content p.sort rom) offset
         = let start : 0 + offset ≡ offset = omega arith in
         rw start (get_or_append_left (page_content p.sort rom) (page_bytes ps (rom_after p.sort rom)) 0 offset (omega (arith, own))) in
         ap Some (first ∙ content_byte p.sort rom offset within)
     by_test false None later = later
     by_test false (Some k) later =
-        let behind : slice_index (page_content p.sort rom ++ page_bytes ps (rom_after p.sort rom)) ((k + 1) * 256 + offset) ≡ slice_index (page_bytes ps (rom_after p.sort rom)) (k * 256 + offset)
+        let behind : slice_index (page_content p.sort rom ++ page_bytes ps (rom_after p.sort rom))
+        ((k + 1) * 256 + offset) ≡ slice_index (page_bytes ps (rom_after p.sort rom)) (k * 256 + offset)
         = get_or-append_right (page_content p.sort rom) (page_bytes ps (rom_after p.sort rom)) 256 ((k + 1) * 256 + offset) 0 own (omega arith)
         ∙ ap (slice_index (page_bytes ps (rom_after p.sort rom))) (omega arith) in
         ap Some behind ∙ later
@@ -125,7 +132,13 @@ whole-page_among (p ∷ ps) rom number q size found =
 psu_bytes : (base : ℕ) (rom : List ℕ) → length rom ≡ 1024 → page_bytes (psu_pages base) rom ≡ rom
 psu_bytes base rom size =
     rw (
-      take_all 256 (drop 256 (drop 256 (drop 256 rom))) (omega (arith, length-drop 256 (drop 256 (drop 256 rom)), length-drop 256 (drop 256 rom), length-drop 256 rom)),
+      take_all 256 (drop 256 (drop 256 (drop 256 rom)))
+          (omega (
+            arith,
+            length-drop 256 (drop 256 (drop 256 rom)),
+            length-drop 256 (drop 256 rom),
+            length-drop 256 rom,
+          )),
       append-nil (drop 256 (drop 256 (drop 256 rom))),
       take-append-drop 256 (drop 256 (drop 256 rom)),
       take-append-drop 256 (drop 256 rom),

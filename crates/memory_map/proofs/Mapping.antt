@@ -1,5 +1,6 @@
 -- What the chips that hold a page say of an address in it, and a map that is made page by page.
-use Rattle.std.proofs.Common.{◌≡◌, ℕ, suc, ◌+◌, ◌*◌, ◌/◌, ◌%◌, ◌<◌, List, [], ◌∷◌, ◌++◌, length, map, refl, sym, ap, ◌∙◌, arith, length-append, get_or-set_other, get_or-set_same, inl, inr, ◌-◌}
+use Rattle.std.proofs.Common.{◌≡◌, ℕ, suc, ◌+◌, ◌*◌, ◌/◌, ◌%◌, ◌<◌, List, [], ◌∷◌, ◌++◌, length, map, refl, sym, ap}
+use Rattle.std.proofs.Common.{◌∙◌, arith, length-append, get_or-set_other, get_or-set_same, inl, inr, ◌-◌}
 use Rattle.std.specs.Prelude.{All, filter_map, is_some, if◌then◌else◌, slice_index, slice_index_or, slice_set, Option, Some, None, option_map}
 use Rattle.std.specs.List.{enumerate_from, cons_option}
 use Rattle.std.proofs.lemmas.List.{get_or-replicate, length-replicate, get_or_append_left, get_or-append_right, length-set}
@@ -14,7 +15,8 @@ use Rattle.chip_face.specs.declared.specification.ChipSpec.{ChipSpec}
 use Rattle.memory_map.specs.ChipPages.{PageView, chip_page}
 use Rattle.memory_map.specs.Holders.{OwnedPage, Empty, followed_by, holders_from, holder_of, owned_page}
 use Rattle.memory_map.specs.MapEntries.{entry_of, bytes_by, page_bytes}
-use Rattle.memory_map.specs.MapOf.{MapTable, Tells, IsMapOf, mapped_sort, mapped_owner, mapped_byte, mapped_readers, mapped_takers, page_sort, sort_by, owner_by, seats_of, views_of}
+use Rattle.memory_map.specs.MapOf.{MapTable, Tells, IsMapOf, mapped_sort, mapped_owner, mapped_byte, mapped_readers}
+use Rattle.memory_map.specs.MapOf.{mapped_takers, page_sort, sort_by, owner_by, seats_of, views_of}
 use Rattle.memory_map.specs.MapPorts.{AreReaders, AreTakers}
 use Rattle.memory_map.specs.declared.table.Entry.{Entry}
 use Rattle.memory_map.specs.declared.table.Entry.TheVariants.{Nothing}
@@ -54,7 +56,8 @@ owners_held at place (chip ∷ chips) specs =
     rw tells.held (step (chip_page (at / 256) chip) (owners_held at (place + 1) chips (rest_of chip chips specs)))
   where
     step : (page : Option PageView) →
-        filter_map (holding at) (enumerate_from (place + 1) (seats_of chips)) ≡ map (λ x. x.0) (filter_map (owned_page (at / 256)) (enumerate_from (place + 1) chips)) →
+        filter_map (holding at) (enumerate_from (place + 1) (seats_of chips))
+        ≡ map (λ x. x.0) (filter_map (owned_page (at / 256)) (enumerate_from (place + 1) chips)) →
         cons_option (if is_some page then Some place else None) (filter_map (holding at) (enumerate_from (place + 1) (seats_of chips)))
         ≡ map (λ x. x.0) (cons_option (option_map (λ p. (place, p)) page) (filter_map (owned_page (at / 256)) (enumerate_from (place + 1) chips)))
     step None later = later
@@ -73,7 +76,9 @@ bytes_held at place (chip ∷ chips) specs =
         filter_map (λ v. held_byte v at) (views_of chips)
         ≡ map (λ x. fitted_byte x.1.sort x.1.rom (at % 256)) (filter_map (owned_page (at / 256)) (enumerate_from (place + 1) chips)) →
         cons_option (option_map (λ p. fitted_byte p.sort p.rom (at % 256)) page) (filter_map (λ v. held_byte v at) (views_of chips))
-        ≡ map (λ x. fitted_byte x.1.sort x.1.rom (at % 256)) (cons_option (option_map (λ p. (place, p)) page) (filter_map (owned_page (at / 256)) (enumerate_from (place + 1) chips)))
+        ≡ map (λ x. fitted_byte x.1.sort x.1.rom (at % 256))
+        (cons_option (option_map (λ p. (place, p)) page)
+        (filter_map (owned_page (at / 256)) (enumerate_from (place + 1) chips)))
     step None later = later
     step (Some p) later = ap (λ l. fitted_byte p.sort p.rom (at % 256) ∷ l) later
 

@@ -1,3 +1,4 @@
+// The pages of a chip.
 ghost use Rattle.std.specs.Prelude.{◌≡◌, ◌*◌, ◌%◌, MatchOption, Some, None, length, count_by};
 ghost use Rattle.f8_spec.specs.ChipState.{is_rom};
 ghost use Rattle.chip_face.specs.Fitting.{IsSpec, psu_pages};
@@ -33,7 +34,9 @@ fn psu_pages(base: u16) -> [Page; 4]
 /// The page of a number among some pages, whose ROM bytes lie one page after another.
 fn page_among<'a>(number: u8, pages: &[Page], rom: &'a [u8]) -> Option<HeldPage<'a>>
     requires { length rom.now ≡ 256 * count_by (λ p. is_rom p.sort) pages.now }
-    ensures { MatchOption result (page_among number pages.now rom.now ≡ None) (λ page. page_among number pages.now rom.now ≡ Some (record { sort = page.sort; rom = page.rom.now })) }
+    ensures { MatchOption result (page_among number pages.now rom.now ≡ None)
+        (λ page. page_among number pages.now rom.now
+        ≡ Some (record { sort = page.sort; rom = page.rom.now })) }
 {
     let mut rest = rom;
     for page in pages {
@@ -53,7 +56,9 @@ fn page_among<'a>(number: u8, pages: &[Page], rom: &'a [u8]) -> Option<HeldPage<
 #[tactic(auto, unfolding(crate::specs::ChipPages::chip_page))]
 pub fn chip_page(chip: &ChipSpec, number: u8) -> Option<HeldPage<'_>>
     requires { IsSpec chip.now }
-    ensures { MatchOption result (chip_page number chip.now ≡ None) (λ page. chip_page number chip.now ≡ Some (record { sort = page.sort; rom = page.rom.now })) }
+    ensures { MatchOption result (chip_page number chip.now ≡ None)
+        (λ page. chip_page number chip.now
+        ≡ Some (record { sort = page.sort; rom = page.rom.now })) }
 {
     match chip {
         ChipSpec::Blank(_) => None,

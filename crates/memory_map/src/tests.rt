@@ -1,3 +1,4 @@
+// Maps of worked descriptions.
 ghost use Rattle.std.specs.Prelude.{◌≡◌, IfOk, false};
 ghost use Rattle.chip_face.specs.Fitting.{IsSpec, is_blank};
 

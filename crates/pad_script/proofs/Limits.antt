@@ -1,5 +1,6 @@
 -- The end of a script is one that a line says, and no line says an end beyond its limit.
-use Rattle.std.proofs.Common.{◌≡◌, ℕ, Bool, true, false, cond, List, [], ◌∷◌, ◌++◌, Option, Some, None, Result, Ok, Err, refl, subst, arith}
+use Rattle.std.proofs.Common.{◌≡◌, ℕ, Bool, true, false, cond, List, [], ◌∷◌, ◌++◌, Option, Some, None, Result, Ok, Err}
+use Rattle.std.proofs.Common.{refl, subst, arith}
 use Rattle.text_lines.specs.Printable.{is_printable}
 use Rattle.std.proofs.lemmas.Bool.Decides.{nat_tests}
 use Rattle.std.specs.Prelude.{◌≤◌, ◌&&◌, nat_le, codes, bytes_eq, IfOk, IfSome}
@@ -18,7 +19,8 @@ use Rattle.pad_script.specs.Words.{is_skipped, lone, words}
 use Rattle.text_lines.specs.Lines.{lines}
 use Rattle.pad_script.specs.Numbers.{byte_of, number_of, within}
 use Rattle.pad_script.specs.Reading.{SaysOfText, script_of}
-use Rattle.pad_script.specs.Statements.{at_frame, event_of, frames, keys_of, keys_with, line_of, power, pulse_of, pulse_with, setting, setting_of, show, statement_of, steps, with_byte}
+use Rattle.pad_script.specs.Statements.{at_frame, event_of, frames, keys_of, keys_with, line_of, power, pulse_of}
+use Rattle.pad_script.specs.Statements.{pulse_with, setting, setting_of, show, statement_of, steps, with_byte}
 use Rattle.pad_script.specs.Telling.{ends, said_in, statements}
 use Rattle.pad_script.proofs.Told.{told_answer}
 
@@ -42,11 +44,13 @@ LineLimited said = IfOk said (λ statement. IfSome statement IsLimited)
 up_to : (first last n : ℕ) → (nat_le first n && nat_le n last) ≡ true → n ≤ last
 up_to first last n passed = grind (arith, nat_tests)
 
-frames_within : (n : ℕ) (test : Bool) → (nat_le 1 n && nat_le n 600) ≡ test → SaysLimited (made_of (λ n. Ends (Frames n)) (cond test (Ok n) (Err Range)))
+frames_within : (n : ℕ) (test : Bool) → (nat_le 1 n && nat_le n 600) ≡ test →
+    SaysLimited (made_of (λ n. Ends (Frames n)) (cond test (Ok n) (Err Range)))
 frames_within n true passed = up_to 1 600 n passed
 frames_within n false passed = tt
 
-steps_within : (n : ℕ) (test : Bool) → (nat_le 0 n && nat_le n 1000000) ≡ test → SaysLimited (made_of (λ n. Ends (Steps n)) (cond test (Ok n) (Err Range)))
+steps_within : (n : ℕ) (test : Bool) → (nat_le 0 n && nat_le n 1000000) ≡ test →
+    SaysLimited (made_of (λ n. Ends (Steps n)) (cond test (Ok n) (Err Range)))
 steps_within n true passed = up_to 0 1000000 n passed
 steps_within n false passed = tt
 
@@ -65,7 +69,8 @@ shown_number (Err cause) = tt
 -- ---- lines
 
 -- one of two
-of_both : (test : Bool) (one other : Result Statement ScriptCause) → SaysLimited one → SaysLimited other → SaysLimited (cond test one other)
+of_both : (test : Bool) (one other : Result Statement ScriptCause) → SaysLimited one → SaysLimited other →
+    SaysLimited (cond test one other)
 of_both true one other is_one is_other = is_one
 of_both false one other is_one is_other = is_other
 
@@ -140,7 +145,8 @@ some_limited : (said : Result Statement ScriptCause) → SaysLimited said → Li
 some_limited (Ok statement) is = is
 some_limited (Err cause) is = tt
 
-line_tested : (skipped printable : Bool) (said : Result Statement ScriptCause) → SaysLimited said → LineLimited (cond skipped (Ok None) (cond printable (made_of Some said) (Err Word)))
+line_tested : (skipped printable : Bool) (said : Result Statement ScriptCause) → SaysLimited said →
+    LineLimited (cond skipped (Ok None) (cond printable (made_of Some said) (Err Word)))
 line_tested true printable said is = tt
 line_tested false true said is = some_limited said is
 line_tested false false said is = tt
@@ -155,19 +161,24 @@ line_limited l = line_tested (is_skipped l) (list_all is_printable l) (statement
 abbrev FirstLimited : List Statement → Type 0
 FirstLimited ss = (end : End) (others : List End) → ends ss ≡ end ∷ others → HasLimits end
 
-said_before : (said : Result (Option Statement) ScriptCause) (ss : List Statement) → LineLimited said → FirstLimited ss → FirstLimited (said_in said ++ ss)
+said_before : (said : Result (Option Statement) ScriptCause) (ss : List Statement) → LineLimited said →
+    FirstLimited ss → FirstLimited (said_in said ++ ss)
 said_before (Err cause) ss is behind end others first = behind end others first
 said_before (Ok None) ss is behind end others first = behind end others first
 said_before (Ok (Some (Power byte))) ss is behind end others first = behind end others first
-said_before (Ok (Some (Ends said))) ss is behind end others first = let same : said ≡ end = cc in subst HasLimits same is
+said_before (Ok (Some (Ends said))) ss is behind end others first =
+    let same : said ≡ end = cc in subst HasLimits same is
 said_before (Ok (Some (Comes at))) ss is behind end others first = behind end others first
 said_before (Ok (Some (Shows frame))) ss is behind end others first = behind end others first
 
 first_limited : (ls : List (List ℕ)) → FirstLimited (statements ls)
 first_limited [] end others first = absurd cc
-first_limited (l ∷ ls) end others first = said_before (line_of l) (statements ls) (line_limited l) (first_limited ls) end others first
+first_limited (l ∷ ls) end others first =
+    said_before (line_of l) (statements ls) (line_limited l) (first_limited ls) end others first
 
 -- an answer that says what a text says
-pub limited_answer : (text : List ℕ) (result : Result KeptScript ScriptAnswer) → SaysOfText result (script_of text) → IfOk result (λ script. HasLimits script.end)
-limited_answer text (Ok script) is = let told = told_answer text (Ok script) is in first_limited (lines text) script.end [] told.end
+pub limited_answer : (text : List ℕ) (result : Result KeptScript ScriptAnswer) → SaysOfText result (script_of text) →
+    IfOk result (λ script. HasLimits script.end)
+limited_answer text (Ok script) is =
+    let told = told_answer text (Ok script) is in first_limited (lines text) script.end [] told.end
 limited_answer text (Err e) is = tt

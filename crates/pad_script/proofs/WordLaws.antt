@@ -1,5 +1,6 @@
 -- Where the first word of a text ends.
-use Rattle.std.proofs.Common.{◌≡◌, ℕ, ◌+◌, ◌<◌, ◌≤◌, Bool, true, false, List, [], ◌∷◌, ◌++◌, length, take, drop, get_or, refl, sym, ◌∙◌, ap, arith, add-one, take-append-drop, None}
+use Rattle.std.proofs.Common.{◌≡◌, ℕ, ◌+◌, ◌<◌, ◌≤◌, Bool, true, false, List, [], ◌∷◌, ◌++◌, length, take, drop, get_or}
+use Rattle.std.proofs.Common.{refl, sym, ◌∙◌, ap, arith, add-one, take-append-drop, None}
 use Rattle.std.specs.Prelude.{◌==◌, not, cond}
 use Rattle.std.specs.List.{list_all}
 use Rattle.std.proofs.Math.Seq.{drop-cons}
@@ -33,9 +34,12 @@ pub record NoBlank (n : ℕ) (text : List ℕ) : Type 0 where
   pub is : list_all no_blank (take n text) ≡ true
 
 -- a blank behind these bytes
-pub split_at_blank : (text : List ℕ) (at : ℕ) → NoBlank at text → at < length text → get_or text at 0 ≡ 32 → words text ≡ take at text ∷ words (drop (at + 1) text)
+pub split_at_blank : (text : List ℕ) (at : ℕ) → NoBlank at text → at < length text → get_or text at 0 ≡ 32 →
+    words text ≡ take at text ∷ words (drop (at + 1) text)
 split_at_blank text at none within blank =
-    let parts : text ≡ take at text ++ 32 ∷ drop (at + 1) text = sym (take-append-drop at text) ∙ ap (λ r. take at text ++ r) (rw (add-one, ← blank, drop-cons text at 0) refl) in
+    let parts : text ≡ take at text ++ 32 ∷ drop (at + 1) text =
+    sym (take-append-drop at text)
+    ∙ ap (λ r. take at text ++ r) (rw (add-one, ← blank, drop-cons text at 0) refl) in
     ap words parts ∙ words_at_blank (take at text) (drop (at + 1) text) none.is
 
 -- no blank at all
@@ -50,10 +54,12 @@ with_first-more b (w ∷ ws) = (b ∷ w, ws, refl)
 -- a text has a word
 pub a_word : (text : List ℕ) → (w : List ℕ) × (ws : List (List ℕ)) × (words text ≡ w ∷ ws)
 a_word [] = ([], [], refl)
-a_word (b ∷ bs) = elim (b == 32) as (λ t. (w : List ℕ) × (ws : List (List ℕ)) × (cond t ([] ∷ words bs) (with_first b (words bs)) ≡ w ∷ ws)) [
-  | true ↦ ([], words bs, refl)
-  | false ↦ with_first-more b (words bs)
-]
+a_word (b ∷ bs) =
+    elim (b == 32) as
+    (λ t. (w : List ℕ) × (ws : List (List ℕ)) × (cond t ([] ∷ words bs) (with_first b (words bs)) ≡ w ∷ ws)) [
+      | true ↦ ([], words bs, refl)
+      | false ↦ with_first-more b (words bs)
+    ]
 
 -- two words aren't one
 pub not_lone : (w text : List ℕ) → lone (w ∷ words text) ≡ None

@@ -1,5 +1,6 @@
 -- Where the first fault of a text is, and what it is. This is a law over the reading, and knows nothing of how it goes.
-use Rattle.std.specs.Prelude.{◌≡◌, ℕ, ◌+◌, ◌<◌, ◌≤◌, List, [], ◌∷◌, ◌++◌, length, Option, Some, None, Result, Ok, Err, IsOk}
+use Rattle.std.specs.Prelude.{◌≡◌, ℕ, ◌+◌, ◌<◌, ◌≤◌, List, [], ◌∷◌, ◌++◌, length}
+use Rattle.std.specs.Prelude.{Option, Some, None, Result, Ok, Err, IsOk}
 use Rattle.std.specs.List.{All}
 use Rattle.pad_script.specs.declared.answers.ScriptAnswer.{ScriptAnswer}
 use Rattle.pad_script.specs.declared.answers.ScriptAnswer.TheVariants as answer
@@ -10,7 +11,7 @@ use Rattle.pad_script.specs.declared.script.Script.{Script as KeptScript}
 use Rattle.pad_script.specs.declared.statement.Statement.{Statement}
 use Rattle.pad_script.specs.declared.statement.Statement.TheVariants.{Power, Ends, Comes, Shows}
 use Rattle.pad_script.specs.Statements.{line_of}
-use Rattle.pad_script.specs.Telling.{ends, events, powers, shows, statements}
+use Rattle.pad_script.specs.Telling.{ends, events, powers, said_in, shows, statements}
 
 -- the lines of events and shown frames
 abbrev pub counted_lines : List Statement → ℕ
@@ -38,13 +39,24 @@ IsLineFault before (Ok (Some statement)) cause = IsTooMuch before statement caus
 
 pub data IsFirstFault (ls : List (List ℕ)) (fault : ScriptFault) : Type 0 where
   -- at a line, with no fault before it
-  AtLine : (before : List (List ℕ)) (l : List ℕ) (behind : List (List ℕ)) → ls ≡ before ++ l ∷ behind → HasNoFault before →
+  AtLine : (before : List (List ℕ)) (l : List ℕ) (behind : List (List ℕ)) → ls ≡ before ++ l ∷ behind →
+      HasNoFault before →
       fault.line ≡ length before + 1 → IsLineFault (statements before) (line_of l) fault.cause → IsFirstFault ls fault
   -- behind the last line, where no line is at fault and none is an end
-  BehindLast : HasNoFault ls → ends (statements ls) ≡ [] → fault.line ≡ length ls + 1 → fault.cause ≡ NoEnd → IsFirstFault ls fault
+  BehindLast : HasNoFault ls → ends (statements ls) ≡ [] → fault.line ≡ length ls + 1 → fault.cause ≡ NoEnd →
+      IsFirstFault ls fault
 
--- an answer tells the first fault of a text, or that there is none; want of memory says nothing of it
+-- a line of an event or a shown frame is come to, with no fault before it: such a line takes memory, and no other
+pub record TakesMemory (ls : List (List ℕ)) : Type 0 where
+  pub before : List (List ℕ)
+  pub line : List ℕ
+  pub behind : List (List ℕ)
+  pub parts : ls ≡ before ++ line ∷ behind
+  pub clean : HasNoFault before
+  pub counted : 0 < counted_lines (said_in (line_of line))
+
+-- An answer tells the first fault of a text, or that there is none. Memory is wanting only where a line takes it.
 abbrev pub TellsFault : Result KeptScript ScriptAnswer → List (List ℕ) → Type 0
 TellsFault (Ok script) ls = HasNoFault ls
 TellsFault (Err (answer.Fault fault)) ls = IsFirstFault ls fault
-TellsFault (Err answer.Memory) ls = Unit {0}
+TellsFault (Err answer.Memory) ls = TakesMemory ls

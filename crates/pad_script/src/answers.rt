@@ -58,7 +58,7 @@ pub enum ScriptAnswer {
     /// The text is at fault.
     #[error("{0}")]
     Fault(ScriptFault),
-    /// Memory is missing. It says nothing of the text.
+    /// Memory is missing, at a line of an event or a shown frame.
     #[error("out of memory")]
     Memory,
 }

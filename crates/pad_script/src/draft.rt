@@ -1,8 +1,13 @@
 // What is known after some lines.
-ghost use Rattle.std.specs.Prelude.{◌≡◌, ◌≤◌, ◌+◌, IfOk, length};
-ghost use Rattle.pad_script.specs.Reading.{StepsOfText, SaysOfText, finished, is_full, no_draft, said, read_line};
+ghost use Rattle.std.specs.Prelude.{◌≡◌, ◌<◌, ◌≤◌, ◌+◌, [], ◌∷◌, IfOk, length};
+ghost use Rattle.pad_script.specs.Answers.{answer_as, OnMemory};
+ghost use Rattle.pad_script.specs.FirstFault.{counted_lines};
+ghost use Rattle.pad_script.specs.Reading.{StepsOfText, SaysOfText};
+ghost use Rattle.pad_script.specs.Reading.{finished, is_full, no_draft, said, read_line};
+ghost use Rattle.pad_script.specs.Statements.{line_of as spelled_line};
+ghost use Rattle.pad_script.specs.Telling.{said_in};
 
-use super::answers::{ScriptAnswer, ScriptCause, fault};
+use super::answers::{ScriptAnswer, ScriptCause, ScriptFault, fault};
 use super::event_list::EventList;
 use super::script::{At, End, Script};
 use super::show_list::ShowList;
@@ -54,10 +59,11 @@ impl Draft {
         self.events.len() + self.shows.len() == MOST_LINES
     }
 
-    /// One line more says something.
+    /// One line more says something. Memory is wanting only where that is an event or a shown frame.
     #[tactic(auto, unfolding(crate::specs::Reading::said))]
     fn say(&mut self, line: u32, statement: Statement) -> Result<(), ScriptAnswer>
-        ensures { StepsOfText result self.new (said line self.old statement) }
+        ensures steps { StepsOfText result self.new (said line self.old statement) }
+        ensures memory { OnMemory result (0 < counted_lines (statement ∷ [])) }
     {
         match statement {
             Statement::Power(byte) => {
@@ -88,10 +94,11 @@ impl Draft {
         Ok(())
     }
 
-    /// Reads one line more.
+    /// Reads one line more. Memory is wanting only where it has an event or a shown frame, so never at one that is skipped.
     #[tactic(auto, unfolding(crate::specs::Reading::read_line))]
     pub fn read_line(&mut self, number: u32, line: &[u8]) -> Result<(), ScriptAnswer>
-        ensures { StepsOfText result self.new (read_line number self.old line.now) }
+        ensures steps { StepsOfText result self.new (read_line number self.old line.now) }
+        ensures memory { OnMemory result (0 < counted_lines (said_in (spelled_line line.now))) }
     {
         match line_of(line) {
             Ok(Some(statement)) => self.say(number, statement),
@@ -100,14 +107,17 @@ impl Draft {
         }
     }
 
-    /// The script, where the text ends before this line.
+    /// The script, where the text ends before this line. This takes no memory.
     #[tactic(auto, unfolding(crate::specs::Reading::finished))]
-    pub fn finish(self, number: u32) -> Result<Script, ScriptAnswer>
-        ensures script { SaysOfText result (finished number self) }
+    pub fn finish(self, number: u32) -> Result<Script, ScriptFault>
+        ensures script { SaysOfText (answer_as result) (finished number self) }
         ensures limit { IfOk result (λ script. length script.events + length script.shows ≤ 1024) }
     {
         let Some(end) = self.end else {
-            return Err(fault(number, ScriptCause::NoEnd));
+            return Err(ScriptFault {
+                line: number,
+                cause: ScriptCause::NoEnd,
+            });
         };
         Ok(Script {
             power: self.power.unwrap_or(0),

@@ -1,3 +1,4 @@
+// The events of a script.
 ghost use Rattle.std.specs.Prelude.{◌≡◌, ◌≤◌, length, slice_get, vec_len};
 
 use super::script::At;

@@ -1,3 +1,4 @@
+// The script of a text, line by line.
 ghost use Rattle.std.specs.Prelude.{◌≤◌, ◌+◌, IfOk, length};
 ghost use Rattle.pad_script.specs.FirstFault.{TellsFault};
 ghost use Rattle.pad_script.specs.Limits.{HasLimits};
@@ -13,7 +14,7 @@ use text_lines::first_line;
 
 /// The script of a text, or the text's first fault: that of the first line that has one, and of such a line's faults the first in the
 /// order Word, Number, Range, Twice, TooMany. A text without an end of the run is at fault at the line after its last. `Memory`: memory
-/// is missing; it says nothing of the text. The run of a script ends at frame 600 at the latest, or after 1,000,000 instructions at most.
+/// is missing, at a line of an event or a shown frame, before which no line is at fault. The run of a script ends at frame 600 at the latest, or after 1,000,000 instructions at most.
 pub fn read_script(alloc: Global, text: &[u8]) -> Result<Script, ScriptAnswer>
     requires { length text.now ≤ 16777216 }
     ensures script { SaysOfText result (script_of text.now) }
@@ -31,5 +32,8 @@ pub fn read_script(alloc: Global, text: &[u8]) -> Result<Script, ScriptAnswer>
         rest = behind;
         number += 1;
     }
-    draft.finish(number)
+    match draft.finish(number) {
+        Ok(script) => Ok(script),
+        Err(fault) => Err(ScriptAnswer::Fault(fault)),
+    }
 }

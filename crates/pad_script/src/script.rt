@@ -1,3 +1,4 @@
+// What a run is given.
 use super::event_list::EventList;
 use super::show_list::ShowList;
 pub use console_spec::{At, End, Event};

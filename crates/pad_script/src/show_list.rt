@@ -1,3 +1,4 @@
+// The frames that a script shows.
 ghost use Rattle.std.specs.Prelude.{◌≡◌, ◌≤◌, length, slice_get, vec_len};
 
 use std::marker::Model;

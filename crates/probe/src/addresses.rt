@@ -1,3 +1,4 @@
+// Sums and halves of addresses, apart from those of the chips.
 ghost use Rattle.std.specs.Prelude.{◌≡◌};
 ghost use Rattle.f8_spec.specs.Words.{displaced, with_high, with_low};
 

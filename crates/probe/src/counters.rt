@@ -1,3 +1,4 @@
+// The bus's own reference counters.
 ghost use Rattle.std.specs.Prelude.{◌≡◌};
 
 use super::addresses::{displaced_by, with_high_byte, with_low_byte};
@@ -56,32 +57,32 @@ impl Probe {
     pub fn hear(&mut self, romc: Romc, byte: u8)
         ensures { self.new ≡ probe_after romc byte self.old }
     {
-        match romc.number() {
-            0x00 | 0x03 => self.pc0 = self.pc0.wrapping_add(1),
+        match romc {
+            Romc::FETCH | Romc::OPERAND => self.pc0 = self.pc0.wrapping_add(1),
             // A branch counts from the address of its displacement byte.
-            0x01 => self.pc0 = displaced_by(self.pc0, byte),
-            0x02 | 0x05 => self.dc0 = self.dc0.wrapping_add(1),
-            0x04 => self.pc0 = self.pc1,
+            Romc::DISPLACEMENT => self.pc0 = displaced_by(self.pc0, byte),
+            Romc::READ_DATA | Romc::STORE_DATA => self.dc0 = self.dc0.wrapping_add(1),
+            Romc::RETURN => self.pc0 = self.pc1,
             // Reset.
-            0x08 => {
+            Romc::RESET => {
                 self.pc1 = self.pc0;
                 self.pc0 = 0;
             }
-            0x0A => self.dc0 = displaced_by(self.dc0, byte),
-            0x0C | 0x17 => self.pc0 = with_low_byte(self.pc0, byte),
-            0x0D => self.pc1 = self.pc0.wrapping_add(1),
-            0x0E | 0x19 => self.dc0 = with_low_byte(self.dc0, byte),
+            Romc::ADD_DATA => self.dc0 = displaced_by(self.dc0, byte),
+            Romc::JUMP_LOW | Romc::SET_PROGRAM_LOW => self.pc0 = with_low_byte(self.pc0, byte),
+            Romc::SAVE_NEXT => self.pc1 = self.pc0.wrapping_add(1),
+            Romc::LOAD_DATA_LOW | Romc::SET_DATA_LOW => self.dc0 = with_low_byte(self.dc0, byte),
             // A call: the program counter is kept in the stack register.
-            0x0F | 0x12 => {
+            Romc::VECTOR_LOW | Romc::CALL_LOW => {
                 self.pc1 = self.pc0;
                 self.pc0 = with_low_byte(self.pc0, byte);
             }
-            0x11 | 0x16 => self.dc0 = with_high_byte(self.dc0, byte),
-            0x13 | 0x14 => self.pc0 = with_high_byte(self.pc0, byte),
-            0x15 => self.pc1 = with_high_byte(self.pc1, byte),
-            0x18 => self.pc1 = with_low_byte(self.pc1, byte),
+            Romc::LOAD_DATA_HIGH | Romc::SET_DATA_HIGH => self.dc0 = with_high_byte(self.dc0, byte),
+            Romc::VECTOR_HIGH | Romc::SET_PROGRAM_HIGH => self.pc0 = with_high_byte(self.pc0, byte),
+            Romc::SET_STACK_HIGH => self.pc1 = with_high_byte(self.pc1, byte),
+            Romc::SET_STACK_LOW => self.pc1 = with_low_byte(self.pc1, byte),
             // The two data counters change places.
-            0x1D => std::mem::swap(&mut self.dc0, &mut self.dc1),
+            Romc::EXCHANGE => std::mem::swap(&mut self.dc0, &mut self.dc1),
             _ => {}
         }
         self.last = byte;

@@ -1,3 +1,4 @@
+// Counters by worked steps.
 use super::Probe;
 use romc_table::{Counters, Romc};
 

@@ -1,3 +1,4 @@
+// A 3851 through the trait.
 ghost use Rattle.std.specs.Prelude.{◌≡◌, ◌%◌, IfOk, length};
 ghost use Rattle.chip_face.specs.Fitting.{IsSpec};
 

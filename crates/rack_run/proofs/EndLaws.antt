@@ -5,7 +5,7 @@ use Rattle.f8_spec.specs.ChipState.{ChipView}
 use Rattle.f8_spec.specs.declared.instructions.Op.{Op}
 use Rattle.f8_spec.specs.declared.instructions.Row.{Row}
 use Rattle.console_spec.specs.Processor.{State, own_inputs}
-use Rattle.console_spec.specs.Run.{Position, Turn, Goes, Stops, Done, Unserved, Reserved, next, flat_next, decided, goes_unless, instruction_fault, position_after, opcode_at, power_position, position_after_reset, reset_fault, seats_of}
+use Rattle.console_spec.specs.Run.{Position, Turn, Goes, Stops, Done, Unserved, Reserved, next, flat_next, decided, goes_unless, instruction_fault, position_after, opcode_at, power_position, chain_in_order, position_after_reset, reset_fault, seats_of}
 use Rattle.console_spec.specs.Scripts.{Script, frame_clocks, events_at, most_instructions}
 use Rattle.console_spec.specs.Services.{Fault}
 use Rattle.console_spec.specs.Telling.{Way, Telling, is_over_at, is_over, with_event, with_events, events_behind, moment_of, telling, telling_on, telling_behind, on_rack, on_flat, begun, played_by, referred_by}
@@ -110,8 +110,11 @@ starts : (end : End) (s : State) → s.count ≡ 0 → Suffices end (most_instru
 starts (Steps n) s none = omega (arith, none)
 starts (Frames n) s none = omega arith
 
-starts_reset : (vs : List ChipView) (script : Script) → Suffices script.end (most_instructions script.end) (position_after_reset (begun vs script)).flat.state
-starts_reset vs script = starts script.end (position_after_reset (begun vs script)).flat.state (events_alike (events_at 0 script.events) (power_position vs script.power)).count
+starts_reset : (vs : List ChipView) (chain : List ℕ) (script : Script) →
+    Suffices script.end (most_instructions script.end) (position_after_reset (begun vs chain script)).flat.state
+starts_reset vs chain script =
+    starts script.end (position_after_reset (begun vs chain script)).flat.state
+    (events_alike (events_at 0 script.events) (power_position vs chain script.power)).count
 
 behind_reset : (script : Script) (x : Position) (rest : Position → Telling) → EndsAsAsked script (rest (position_after_reset x)).ending → (fault : Option Fault) →
     EndsAsAsked script (telling_behind x rest (goes_unless fault (position_after_reset x))).ending
@@ -120,9 +123,11 @@ behind_reset script x rest ends (Some fault) = λ done. absurd (unserved_not_don
 
 pub end_law : EndLaw
 unfolding played_by referred_by
-end_law vs traced script =
-    let x = begun vs script in
+end_law vs chain traced script =
+    let x = begun vs chain script in
+    let y = begun vs (chain_in_order vs) script in
     let most = most_instructions script.end in (
-      behind_reset script x (λ z. telling (on_rack traced) script most z) (ends (on_rack traced) script rack_fairly most (position_after_reset x) (starts_reset vs script)) (reset_fault x),
-      ends on_flat script flat_fairly most (position_after_reset x) (starts_reset vs script),
+      behind_reset script x (λ z. telling (on_rack traced) script most z)
+          (ends (on_rack traced) script rack_fairly most (position_after_reset x) (starts_reset vs chain script)) (reset_fault x),
+      ends on_flat script flat_fairly most (position_after_reset y) (starts_reset vs (chain_in_order vs) script),
     )

@@ -9,9 +9,6 @@ use Rattle.console_spec.specs.Telling.{fallen as fallen_at, events_fallen, event
 use Rattle.console_spec.specs.declared.At.{At}
 use Rattle.console_spec.specs.declared.Event.{Event}
 use Rattle.console_spec.specs.declared.Event.TheVariants.{Keys, Pulse}
-use Rattle.f8_isa.specs.IsaState.{IsaState, StandsAt}
-use Rattle.f8_machine.specs.MachineState.{MachineState}
-use Rattle.f8_machine.specs.Refinement.{IsPowered, Represents}
 use Rattle.rack_run.specs.Lives.{Come}
 use Rattle.rack_run.specs.Progressing.{ProgressState, Keeps, ends_at}
 use Rattle.rack_run.proofs.Progressed.{over_is}
@@ -53,22 +50,10 @@ come_next frame all i d olds mids news within came next =
     rw (events_more frame all i d within)
     (come_then (events_at frame (take i all)) (events_at frame (get_or all i d ∷ [])) olds mids news came next)
 
-pub powered_next : (frame : ℕ) (all : List At) (i : ℕ) (d : At) (m : MachineState) (states : List ChipState) (x : Position) →
-    i < length all →
-    IsPowered m states (with_events (events_at frame (get_or all i d ∷ [])) (with_events (events_at frame (take i all)) x)) →
-    IsPowered m states (with_events (events_at frame (take (i + 1) all)) x)
-powered_next frame all i d m states x within holds = rw (with_more frame all i d x within) holds
-
-pub running_next : (frame : ℕ) (all : List At) (i : ℕ) (d : At) (m : MachineState) (states : List ChipState) (x : Position) →
-    i < length all →
-    Represents m states (with_events (events_at frame (get_or all i d ∷ [])) (with_events (events_at frame (take i all)) x)) →
-    Represents m states (with_events (events_at frame (take (i + 1) all)) x)
-running_next frame all i d m states x within holds = rw (with_more frame all i d x within) holds
-
-pub stands_next : (frame : ℕ) (all : List At) (i : ℕ) (d : At) (isa : IsaState) (count : ℕ) (x : Position) → i < length all →
-    StandsAt isa count (with_events (events_at frame (get_or all i d ∷ [])) (with_events (events_at frame (take i all)) x)) →
-    StandsAt isa count (with_events (events_at frame (take (i + 1) all)) x)
-stands_next frame all i d isa count x within holds = rw (with_more frame all i d x within) holds
+pub at_next : (Holds : Position → Type 0) (frame : ℕ) (all : List At) (i : ℕ) (d : At) (x : Position) → i < length all →
+    Holds (with_events (events_at frame (get_or all i d ∷ [])) (with_events (events_at frame (take i all)) x)) →
+    Holds (with_events (events_at frame (take (i + 1) all)) x)
+at_next Holds frame all i d x within holds = subst Holds (sym (with_more frame all i d x within)) holds
 
 pub events_all : (frame : ℕ) (all : List At) (i : ℕ) → length all ≤ i → events_at frame (take i all) ≡ events_at frame all
 events_all frame all i past = ap (events_at frame) (take_all i all past)
@@ -83,7 +68,7 @@ behind_some script p x y fallen frame is same keeps on =
     ∙ ap (λ (b : Bool). if b then [] else events_at frame script.events) (sym (over_is script.end p y.flat.state keeps) ∙ on)
 
 -- a key byte doesn't hang on reset
-event_reset : (e : Event) (x : Position) → with_event e (position_after_reset x) ≡ position_after_reset (with_event e x)
+pub event_reset : (e : Event) (x : Position) → with_event e (position_after_reset x) ≡ position_after_reset (with_event e x)
 event_reset (Keys port byte) x = refl
 event_reset (Pulse chip) x = refl
 

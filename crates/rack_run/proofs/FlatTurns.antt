@@ -1,74 +1,108 @@
--- An instruction of the flat instruction set, an event more, and a run from reset on, from what their parts say.
-use Rattle.std.proofs.Common.{◌≡◌, ℕ, ◌+◌, List, Result, Ok, Err, sym, ap, ◌∙◌, subst}
-use Rattle.std.specs.Prelude.{Option, option_map, IfOk, OnErr}
-use Rattle.console_spec.specs.declared.PortWrite.{PortWrite}
+-- An instruction and an event of the flat instruction set, and a whole run on it, which needs no chip.
+use Rattle.std.proofs.Common.{◌≡◌, ℕ, ◌+◌, ◌≤◌, Bool, true, false, List, [], ◌∷◌, map, length, Option, refl, sym, ap, ◌∙◌, subst, arith}
+use Rattle.std.specs.Prelude.{Result, Ok, Err, IfOk, OnErr}
 use Rattle.console_spec.specs.FlatMachine.{FlatState}
-use Rattle.console_spec.specs.Processor.{State, with_write}
-use Rattle.console_spec.specs.Run.{Position, position_after_reset, power_position}
-use Rattle.console_spec.specs.Scripts.{Script, events_at}
-use Rattle.console_spec.specs.Telling.{Telling, with_events, told_in, referred_by}
-use Rattle.console_spec.specs.declared.At.{At}
-use Rattle.f8_isa.specs.IsaState.{IsaState, StandsAt}
-use Rattle.f8_spec.specs.ChipState.{ChipView}
-use Rattle.outside.specs.SinkRules.{Adds, AddsPart}
-use Rattle.outside.specs.declared.sink.SinkFault.{SinkFault}
-use Rattle.rack_run.specs.Endings.{TellsEnd}
-use Rattle.rack_run.specs.Progressing.{ProgressState, Keeps, progress_with}
+use Rattle.console_spec.specs.Processor.{State}
+use Rattle.console_spec.specs.Run.{Position, Stop, Stops, flat_next, chain_in_order, position_after_reset, power_position}
+use Rattle.console_spec.specs.Scripts.{Script, events_at, most_instructions}
+use Rattle.console_spec.specs.Telling.{Telling, begun, told_in, telling, on_flat, referred_by}
+use Rattle.console_spec.specs.declared.PortWrite.{PortWrite}
+use Rattle.f8_isa.specs.IsaState.{IsaState, StandsAt, LeadsTo}
+use Rattle.f8_machine.proofs.RackLaws.{rack_runs_none}
+use Rattle.f8_machine.specs.Keying.{RackKeyed, RackKeyedBy, is_own}
+use Rattle.f8_spec.specs.ChipState.{ChipState, ChipView}
+use Rattle.outside.specs.SinkRules.{Output, Adds, AddsPart}
+use Rattle.outside.proofs.SinkLaws.{adds_none}
+use Rattle.rack_run.specs.Endings.{TellsEnd, stop_of}
+use Rattle.rack_run.specs.Machines.{flat_readout, flat_reads}
+use Rattle.rack_run.specs.Progressing.{Keeps}
 use Rattle.rack_run.specs.Texts.{text_in}
-use Rattle.rack_run.specs.Turns.{FlatOut, FlatShort, FlatPlays}
+use Rattle.rack_run.specs.Turns.{Readout, readout_of, Advances, Halted, RunsOut, RunsShort, rest_on}
+use Rattle.rack_run.specs.declared.detail.Detail.{Detail}
 use Rattle.rack_run.specs.declared.detail.Detail.TheVariants.{Writes}
 use Rattle.rack_run.specs.declared.ending.Ending.{Ending}
-use Rattle.rack_run.proofs.EventLaws.{events_reset}
-use Rattle.rack_run.proofs.FlatLaws.{start_of, referred_is}
-use Rattle.rack_run.proofs.PlayLaws.{new_progress, keeps_new}
-use Rattle.rack_run.proofs.Progressed.{keeps_more}
+use Rattle.rack_run.specs.declared.ending.Halt.{Halt}
+use Rattle.rack_run.proofs.PlayLaws.{cut_part, new_progress, keeps_new}
+use Rattle.rack_run.proofs.ToldTexts.{text_in-nil}
 use Rattle.rack_run.proofs.TurnLaws.{events_quiet}
 
--- ---- an instruction
-
-pub phi_there : (isa : IsaState) (count : ℕ) (y : Position) → StandsAt isa count y → y.flat.state.phi ≡ isa.phi
-phi_there isa count y stands = ap (λ (f : FlatState). f.state.phi) stands.flat
-
-pub count_there : (isa : IsaState) (count : ℕ) (y : Position) → StandsAt isa count y → y.flat.state.count ≡ count
+count_there : (isa : IsaState) (count : ℕ) (y : Position) → StandsAt isa count y → y.flat.state.count ≡ count
 count_there isa count y stands = ap (λ (f : FlatState). f.state.count) stands.flat
 
--- what is kept goes along with the state after it
-pub keeps_there : (wrote : Option PortWrite) (p q : ProgressState) (phi : ℕ) (s t : State) → Keeps p s →
-    t.writes ≡ with_write wrote s.writes →
-    t.count ≡ p.count + 1 → phi ≡ t.phi → q ≡ progress_with wrote phi p → Keeps q t
-keeps_there wrote p q phi s t keeps writes count same is =
-    subst (λ (r : ProgressState). Keeps r t) (sym (is ∙ ap (λ (n : ℕ). progress_with wrote n p) same))
-    (keeps_more wrote p s t keeps writes (count ∙ ap (λ (n : ℕ). n + 1) keeps.count))
+-- ---- an instruction, with no bus step
 
--- ---- a run from reset on
+pub flat_advances : (detail : Detail) (isa : IsaState) (wrote : Option PortWrite) (states : List ChipState) (a : Output) (x : Position) →
+    LeadsTo x isa (x.flat.state.count + 1) wrote →
+    Advances detail on_flat (λ y. StandsAt isa y.flat.state.count y) wrote states states a a x
+flat_advances detail isa wrote states a x leads =
+    let counts = count_there isa (x.flat.state.count + 1) leads.next leads.stands in
+    record {
+      there = leads.next;
+      turns = leads.goes;
+      at = subst (λ (n : ℕ). StandsAt isa n leads.next) (sym counts) leads.stands;
+      counts = counts;
+      writes = leads.gains;
+      heard = rack_runs_none 0 states;
+      lines = rw (text_in-nil detail) (adds_none a);
+    }
 
--- the events of frame 0 may come behind reset
-pub stands_begun : (isa : IsaState) (vs : List ChipView) (script : Script) (events : List At) → events ≡ script.events →
-    StandsAt isa 0 (with_events (events_at 0 events) (position_after_reset (power_position vs script.power))) →
-    StandsAt isa 0 (start_of vs script)
-stands_begun isa vs script events same stands =
-    subst (λ (y : Position). StandsAt isa 0 y)
-    (ap (λ (es : List At). with_events (events_at 0 es) (position_after_reset (power_position vs script.power))) same
-    ∙ events_reset (events_at 0 script.events) (power_position vs script.power)) stands
+pub flat_halted : (detail : Detail) (isa : IsaState) (states : List ChipState) (a : Output) (x : Position) (halt : Halt) →
+    StandsAt isa x.flat.state.count x → flat_next x ≡ Stops (stop_of halt) →
+    Halted detail on_flat (flat_readout isa) states states a a x halt
+flat_halted detail isa states a x halt stands stops = record {
+  turns = stops;
+  state = flat_reads isa states x stands;
+  heard = rack_runs_none 0 states;
+  lines = rw (text_in-nil detail) (adds_none a);
+}
 
-pub keeps_begun : (isa : IsaState) (vs : List ChipView) (script : Script) (p : ProgressState) (phi : ℕ) →
-    StandsAt isa 0 (start_of vs script) →
-    phi ≡ isa.phi → p ≡ new_progress phi → Keeps p (start_of vs script).flat.state
-keeps_begun isa vs script p phi stands same is =
-    let quiet = events_quiet (events_at 0 script.events) (power_position vs script.power) in
-    subst (λ (q : ProgressState). Keeps q (start_of vs script).flat.state) (sym is)
-    (keeps_new phi (start_of vs script).flat.state quiet.0 quiet.1 (same ∙ sym (phi_there isa 0 (start_of vs script) stands)))
+-- ---- a key byte comes to no chip
 
-module _ (vs : List ChipView) (script : Script) (a b : Option (List ℕ)) where
-  pub out_plays : (result : Result Ending SinkFault) → IfOk result (λ ending. FlatOut script ending a b (start_of vs script)) →
-      IfOk result (λ ending. FlatPlays script ending vs a b)
-  out_plays (Ok ending) out = record {
-    tells = subst (λ (t : Telling). TellsEnd ending t.ending) (sym (referred_is vs script)) out.tells;
-    lines = subst (λ (t : Telling). Adds a b (text_in Writes (told_in t.moments))) (sym (referred_is vs script)) out.lines;
-  }
-  out_plays (Err fault) out = tt
+keyed_by : (own : Bool) (port byte : ℕ) (states : List ChipState) → length states ≤ 0 → RackKeyedBy own port byte states states
+keyed_by true port byte states none = refl
+keyed_by false port byte [] none = tt
+keyed_by false port byte (s ∷ states) none = absurd (some_chip none)
+  where
+    some_chip : length (s ∷ states) ≤ 0 → ⊥
+    some_chip none = omega (arith, none)
 
-  pub short_plays : (result : Result Ending SinkFault) → OnErr result (FlatShort script a b (start_of vs script)) →
-      OnErr result (AddsPart a b (text_in Writes (told_in (referred_by vs script).moments)))
-  short_plays result short =
-      subst (λ (t : Telling). OnErr result (AddsPart a b (text_in Writes (told_in t.moments)))) (sym (referred_is vs script)) short
+pub no_chip_keyed : (port byte : ℕ) (states : List ChipState) → length states ≤ 0 → RackKeyed port byte states states
+no_chip_keyed port byte states none = keyed_by (is_own port) port byte states none
+
+-- ---- a whole run
+
+abbrev pub start_of : List ChipView → Script → Position
+start_of vs script = position_after_reset (begun vs (chain_in_order vs) script)
+
+referred_is : (vs : List ChipView) (script : Script) → referred_by vs script ≡ rest_on on_flat script (start_of vs script)
+unfolding referred_by
+referred_is vs script = refl
+
+module _ (vs : List ChipView) (script : Script) (olds news : List ChipState) (a b : Output) where
+  pub tells_whole : (ending : Ending) → RunsOut Writes on_flat script ending olds news a b (start_of vs script) →
+      TellsEnd ending (referred_by vs script).ending
+  tells_whole ending out = subst (λ (t : Telling). TellsEnd ending t.ending) (sym (referred_is vs script)) out.tells
+
+  pub lines_whole : (ending : Ending) → RunsOut Writes on_flat script ending olds news a b (start_of vs script) →
+      Adds a b (text_in Writes (told_in (referred_by vs script).moments))
+  lines_whole ending out =
+      subst (λ (t : Telling). Adds a b (text_in Writes (told_in t.moments))) (sym (referred_is vs script)) out.lines
+
+  pub lines_cut : RunsShort Writes on_flat script olds news a b (start_of vs script) →
+      AddsPart a b (text_in Writes (told_in (referred_by vs script).moments))
+  lines_cut short =
+      subst (λ (t : Telling). AddsPart a b (text_in Writes (told_in t.moments))) (sym (referred_is vs script))
+      (cut_part Writes (rest_on on_flat script (start_of vs script)).moments olds news a b short)
+
+-- after power-on, reset and the events of frame 0
+pub started : (isa : IsaState) (vs : List ChipView) (script : Script) → StandsAt isa 0 (start_of vs script) →
+    StandsAt isa (start_of vs script).flat.state.count (start_of vs script)
+started isa vs script stands =
+    subst (λ (n : ℕ). StandsAt isa n (start_of vs script)) (sym (count_there isa 0 (start_of vs script) stands)) stands
+
+pub keeps_started : (isa : IsaState) (vs : List ChipView) (script : Script) (phi : ℕ) → StandsAt isa 0 (start_of vs script) →
+    phi ≡ isa.phi → Keeps (new_progress phi) (start_of vs script).flat.state
+keeps_started isa vs script phi stands same =
+    let quiet = events_quiet (events_at 0 script.events) (power_position vs (chain_in_order vs) script.power) in
+    keeps_new phi (start_of vs script).flat.state quiet.0 quiet.1
+    (same ∙ ap (λ (r : Readout). r.phi) (flat_reads isa [] (start_of vs script) (started isa vs script stands)))

@@ -10,8 +10,8 @@ pub mod TellingTexts
 pub mod Outcomes
 pub mod TurnLaws
 pub mod RunLaws
+pub mod MachineTurns
 pub mod PlayLaws
-pub mod FlatLaws
 pub mod FlatTurns
 pub mod EndLaws
 pub mod TraceLaws

@@ -14,13 +14,14 @@ use Rattle.f8_machine.specs.Refinement.{IsPowered}
 use Rattle.f8_machine.specs.Rounds.{RackPowers, RackRuns, heard_of}
 use Rattle.f8_machine.specs.declared.heard.Heard.{Heard}
 use Rattle.f8_machine.proofs.RackLaws.{rack_runs_none}
-use Rattle.outside.specs.SinkRules.{Adds, AddsPart}
+use Rattle.outside.specs.SinkRules.{Output, Adds, AddsPart}
 use Rattle.outside.proofs.SinkLaws.{adds_none, adds_then, adds_part_behind, adds_part_first}
 use Rattle.rack_run.specs.Endings.{bytes_written, Tells, TellsEnd, Plays, PlaysPart, CutShort, run_on}
 use Rattle.rack_run.specs.Lives.{LivesMoment, Lives, Come}
 use Rattle.rack_run.specs.Progressing.{ProgressState, Keeps}
 use Rattle.rack_run.specs.Texts.{is_traced, text_in}
-use Rattle.rack_run.specs.Turns.{ToldBy, RunsOut, RunsShort, rest_on}
+use Rattle.rack_run.specs.Machines.{machine_readout}
+use Rattle.rack_run.specs.Turns.{readout_of, RunsOut, RunsShort, rest_on}
 use Rattle.rack_run.specs.declared.detail.Detail.{Detail}
 use Rattle.rack_run.specs.declared.ending.Ending.{Ending}
 use Rattle.rack_run.proofs.TurnLaws.{events_quiet}
@@ -48,7 +49,7 @@ reset_leads (Some fault) x y e = cc
 
 -- ---- a run that is cut short put a first part of its lines
 
-pub cut_part : (detail : Detail) (ms : List Moment) (olds news : List ChipState) (a b : Option (List ℕ)) → CutShort detail ms olds news a b →
+pub cut_part : (detail : Detail) (ms : List Moment) (olds news : List ChipState) (a b : Output) → CutShort detail ms olds news a b →
     AddsPart a b (text_in detail (told_in ms))
 cut_part detail ms olds news a b cut =
     let whole : text_in detail (told_in ms)
@@ -62,9 +63,9 @@ cut_part detail ms olds news a b cut =
     (text_in detail cut.at.told ++ text_in detail (told_in cut.behind)) cut.lines
     (adds_part_first cut.between b (text_in detail cut.at.told) (text_in detail (told_in cut.behind)) cut.part))
 
-module _ (detail : Detail) (script : Script) (olds powered : List ChipState) (powers : RackPowers script.power olds powered) where
+module _ (detail : Detail) (script : Script) (chain : List ℕ) (olds powered : List ChipState) (powers : RackPowers script.power olds powered) where
   abbrev x : Position
-  x = begun (views olds) script
+  x = begun (views olds) chain script
 
   abbrev turn : Turn
   turn = goes_unless (reset_fault x) (position_after_reset x)
@@ -76,16 +77,16 @@ module _ (detail : Detail) (script : Script) (olds powered : List ChipState) (po
   reset = reset_moment (is_traced detail) x
 
   whole : (t : Turn) → turn ≡ t →
-      run_on detail script olds ≡ record { moments = power_moment script ∷ reset ∷ (later t).moments; ending = (later t).ending }
+      run_on detail script chain olds ≡ record { moments = power_moment script ∷ reset ∷ (later t).moments; ending = (later t).ending }
   unfolding played_by
   whole t turns = ap (λ (u : Turn). record { moments = power_moment script ∷ reset ∷ (later u).moments; ending = (later u).ending }) turns
 
   -- the position that the events of frame 0 leave
   pub quiet_writes : x.flat.state.writes ≡ []
-  quiet_writes = (events_quiet (events_at 0 script.events) (power_position (views olds) script.power)).0
+  quiet_writes = (events_quiet (events_at 0 script.events) (power_position (views olds) chain script.power)).0
 
   pub quiet_count : x.flat.state.count ≡ 0
-  quiet_count = (events_quiet (events_at 0 script.events) (power_position (views olds) script.power)).1
+  quiet_count = (events_quiet (events_at 0 script.events) (power_position (views olds) chain script.power)).1
 
   pub after_writes : (y : Position) → turn ≡ Goes y → y.flat.state.writes ≡ []
   after_writes y turns = sym (ap (λ (z : Position). z.flat.state.writes) (reset_leads (reset_fault x) x y turns)) ∙ quiet_writes
@@ -96,7 +97,7 @@ module _ (detail : Detail) (script : Script) (olds powered : List ChipState) (po
   module _ (mids reset_states : List ChipState) (came : Come (events_at 0 script.events) powered mids) (hs : List Heard)
       (heard : hs ≡ map heard_of (reset_course x).steps)
       (ran : RackRuns hs mids reset_states) (told : List Told) (is : told ≡ told_steps (is_traced detail) (reset_course x))
-      (a b : Option (List ℕ)) where
+      (a b : Output) where
     first_lived : LivesMoment (power_moment script) powered mids
     first_lived = record { between = powered; heard = rack_runs_none 0 powered; came = came }
 
@@ -113,9 +114,9 @@ module _ (detail : Detail) (script : Script) (olds powered : List ChipState) (po
         text_in-append detail reset.told (told_in ms) ∙ ap (λ (l : List Told). text_in detail l ++ text_in detail (told_in ms)) (sym is)
 
     -- the sink fails at a line of reset
-    pub plays_cut : text_in detail told ≢ [] → AddsPart a b (text_in detail told) → PlaysPart detail script olds reset_states a b
+    pub plays_cut : text_in detail told ≢ [] → AddsPart a b (text_in detail told) → PlaysPart detail script chain olds reset_states a b
     plays_cut some part =
-        let cut : CutShort detail (run_on detail script olds).moments powered reset_states a b = record {
+        let cut : CutShort detail (run_on detail script chain olds).moments powered reset_states a b = record {
           before = power_moment script ∷ [];
           at = reset;
           behind = (later turn).moments;
@@ -132,12 +133,12 @@ module _ (detail : Detail) (script : Script) (olds powered : List ChipState) (po
           powered = powered;
           powers = powers;
           cut = cut;
-          part = cut_part detail (run_on detail script olds).moments powered reset_states a b cut;
+          part = cut_part detail (run_on detail script chain olds).moments powered reset_states a b cut;
         }
 
     -- reset isn't served
     pub plays_not : (ending : Ending) (stop : Stop) → turn ≡ Stops stop → Tells ending x.flat.state stop → Adds a b (text_in detail told) →
-        Plays detail script ending olds reset_states a b
+        Plays detail script chain ending olds reset_states a b
     plays_not ending stop turns tells adds =
         let is_whole = whole (Stops stop) turns in
         record {
@@ -152,9 +153,9 @@ module _ (detail : Detail) (script : Script) (olds powered : List ChipState) (po
         }
 
     module _ (y : Position) (turns : turn ≡ Goes y) (adds : Adds a b (text_in detail told)) (news : List ChipState)
-        (c : Option (List ℕ)) where
+        (c : Output) where
       -- the run comes to its end
-      pub plays_on : (ending : Ending) → RunsOut detail script ending reset_states news b c y → Plays detail script ending olds news a c
+      pub plays_on : (ending : Ending) → RunsOut detail (on_rack (is_traced detail)) script ending reset_states news b c y → Plays detail script chain ending olds news a c
       plays_on ending out =
           let is_whole = whole (Goes y) turns in
           record {
@@ -165,14 +166,14 @@ module _ (detail : Detail) (script : Script) (olds powered : List ChipState) (po
                 (mids, first_lived, (reset_states, reset_lived, out.lived));
             tells = subst (λ (t : Telling). TellsEnd ending t.ending) (sym is_whole) out.tells;
             lines = subst (λ (t : Telling). Adds a c (text_in detail (told_in t.moments))) (sym is_whole)
-                (rw (told_first (rest_on detail script y).moments)
-                (adds_then a b c (text_in detail told) (text_in detail (told_in (rest_on detail script y).moments)) adds out.lines));
+                (rw (told_first (rest_on (on_rack (is_traced detail)) script y).moments)
+                (adds_then a b c (text_in detail told) (text_in detail (told_in (rest_on (on_rack (is_traced detail)) script y).moments)) adds out.lines));
           }
 
       -- the sink fails at a line of an instruction
-      pub plays_short : RunsShort detail script reset_states news b c y → PlaysPart detail script olds news a c
+      pub plays_short : RunsShort detail (on_rack (is_traced detail)) script reset_states news b c y → PlaysPart detail script chain olds news a c
       plays_short short =
-          let cut : CutShort detail (run_on detail script olds).moments powered news a c = record {
+          let cut : CutShort detail (run_on detail script chain olds).moments powered news a c = record {
             before = power_moment script ∷ reset ∷ short.before;
             at = short.at;
             behind = short.behind;
@@ -193,29 +194,30 @@ module _ (detail : Detail) (script : Script) (olds powered : List ChipState) (po
             powered = powered;
             powers = powers;
             cut = cut;
-            part = cut_part detail (run_on detail script olds).moments powered news a c cut;
+            part = cut_part detail (run_on detail script chain olds).moments powered news a c cut;
           }
 
 -- ---- what the calls answer
 
-pub told_powered : (m : MachineState) (states : List ChipState) (x : Position) → IsPowered m states x → ToldBy m x.flat.state
-told_powered m states x p = record { flow = p.stands.flow; registers = p.stands.registers; phi = p.stands.phi }
+pub powered_reads : (m : MachineState) (states : List ChipState) (x : Position) → IsPowered m states x →
+    machine_readout m ≡ readout_of x.flat.state
+powered_reads m states x p = rw (p.stands.flow, p.stands.registers, p.stands.phi) refl
 
-module _ {E : Type 0} (detail : Detail) (script : Script) (olds powered : List ChipState) (powers : RackPowers script.power olds powered)
+module _ {E : Type 0} (detail : Detail) (script : Script) (chain : List ℕ) (olds powered : List ChipState) (powers : RackPowers script.power olds powered)
     (mids reset_states : List ChipState)
     (came : Come (events_at 0 script.events) powered mids) (hs : List Heard)
-    (heard : hs ≡ map heard_of (reset_course (x detail script olds powered powers)).steps) (ran : RackRuns hs mids reset_states)
-    (told : List Told) (is : told ≡ told_steps (is_traced detail) (reset_course (x detail script olds powered powers)))
-    (a b : Option (List ℕ)) (adds : Adds a b (text_in detail told))
-    (y : Position) (turns : turn detail script olds powered powers ≡ Goes y) (news : List ChipState) (c : Option (List ℕ)) where
-  pub plays_ok : (r : Result Ending E) → IfOk r (λ ending. RunsOut detail script ending reset_states news b c y) →
-      IfOk r (λ ending. Plays detail script ending olds news a c)
+    (heard : hs ≡ map heard_of (reset_course (x detail script chain olds powered powers)).steps) (ran : RackRuns hs mids reset_states)
+    (told : List Told) (is : told ≡ told_steps (is_traced detail) (reset_course (x detail script chain olds powered powers)))
+    (a b : Output) (adds : Adds a b (text_in detail told))
+    (y : Position) (turns : turn detail script chain olds powered powers ≡ Goes y) (news : List ChipState) (c : Output) where
+  pub plays_ok : (r : Result Ending E) → IfOk r (λ ending. RunsOut detail (on_rack (is_traced detail)) script ending reset_states news b c y) →
+      IfOk r (λ ending. Plays detail script chain ending olds news a c)
   plays_ok (Ok ending) out =
-      plays_on detail script olds powered powers mids reset_states came hs heard ran told is a b y turns adds news c ending out
+      plays_on detail script chain olds powered powers mids reset_states came hs heard ran told is a b y turns adds news c ending out
   plays_ok (Err e) out = tt
 
-  pub plays_err : (r : Result Ending E) → OnErr r (RunsShort detail script reset_states news b c y) →
-      OnErr r (PlaysPart detail script olds news a c)
+  pub plays_err : (r : Result Ending E) → OnErr r (RunsShort detail (on_rack (is_traced detail)) script reset_states news b c y) →
+      OnErr r (PlaysPart detail script chain olds news a c)
   plays_err (Ok ending) short = tt
   plays_err (Err e) short =
-      plays_short detail script olds powered powers mids reset_states came hs heard ran told is a b y turns adds news c short
+      plays_short detail script chain olds powered powers mids reset_states came hs heard ran told is a b y turns adds news c short

@@ -1,10 +1,10 @@
 -- The lines that are told on the way, one by one, and the calls that put them.
 use Rattle.std.proofs.Common.{◌≡◌, ◌≢◌, ℕ, ◌+◌, ◌<◌, ◌≤◌, Bool, true, false, List, [], ◌∷◌, ◌++◌, length, drop, get_or, map, refl, sym, ap, ◌∙◌, arith}
-use Rattle.std.specs.Prelude.{◌==◌, Option, Some, option_map, Result, Ok, Err, OnOk, OnErr}
+use Rattle.std.specs.Prelude.{⊤, ◌==◌, Option, Some, Result, Ok, Err, OnOk, OnErr}
 use Rattle.std.specs.List.{list_any}
 use Rattle.std.proofs.lemmas.List.{append-nil, at_drop_more, at_drop_all}
 use Rattle.std.proofs.lemmas.List.FromFn.{length-map-range_with_len, get_or-map-range_with_len}
-use Rattle.outside.specs.SinkRules.{Adds, AddsPart, HasCause}
+use Rattle.outside.specs.SinkRules.{Output, Adds, AddsPart}
 use Rattle.console_spec.specs.declared.PortWrite.{PortWrite}
 use Rattle.console_spec.specs.Processor.{with_write}
 use Rattle.console_spec.specs.Run.{Position, Goes}
@@ -38,38 +38,32 @@ write_text w = text_told-one (Wrote w) ∙ text_of-one (out_line w)
 -- ---- pieces that are put
 
 -- a piece that is a whole line
-pub puts_piece : {T : Type 0} {E : Type 0} (r : Result T E) (a b : Option (List ℕ)) (n m : ℕ) (piece text : List ℕ) → piece ≡ text →
-    text ≢ [] →
-    OnOk r (Adds a b piece) → OnErr r (AddsPart a b piece) → HasCause n m r → Puts r a b n m text
-puts_piece r a b n m piece text same some ok err cause = puts_line r a b n m text some (rw same at ok) (rw same at err) cause
+pub puts_piece : {T : Type 0} {E : Type 0} (r : Result T E) (a b : Output) (piece text : List ℕ) → piece ≡ text → text ≢ [] →
+    OnOk r (Adds a b piece) → OnErr r (AddsPart a b piece) → Puts r a b text
+puts_piece r a b piece text same some ok err = puts_line r a b text some (rw same at ok) (rw same at err)
 
 -- a piece that is put before another text
-pub puts_ahead : {S : Type 0} {T : Type 0} {E : Type 0} {F : Type 0} (v : S) (r : Result T E) (a b c : Option (List ℕ)) (k m n : ℕ)
-    (piece x y : List ℕ) →
-    piece ≡ x →
-    Adds a b piece → HasCause {T = S} {E = F} k m (Ok v) → Puts r b c m n y → Puts r a c k n (x ++ y)
-puts_ahead {S = S} {F = F} v r a b c k m n piece x y same adds cause later =
-    let first : Puts {T = S} {E = F} (Ok v) a b k m x = record { ok = rw same at adds; err = tt; some = tt; cause = cause } in
-    puts_then v r a b c k m n x y first later
+pub puts_ahead : {T : Type 0} {E : Type 0} (r : Result T E) (a b c : Output) (piece x y : List ℕ) → piece ≡ x → Adds a b piece →
+    Puts r b c y → Puts r a c (x ++ y)
+puts_ahead {E = E} r a b c piece x y same adds later =
+    let first : Puts {T = ⊤} {E = E} (Ok tt) a b x = record { ok = rw same at adds; err = tt; some = tt } in
+    puts_then tt r a b c x y first later
 
 -- a piece that fails before another text
-pub puts_cut : {S : Type 0} {T : Type 0} {E : Type 0} {F : Type 0} (e : E) (f : F) (a b : Option (List ℕ)) (k m : ℕ) (piece x y : List ℕ) →
-    piece ≡ x → x ≢ [] →
-    AddsPart a b piece → HasCause {T = S} {E = E} k m (Err e) → Puts {T = T} {E = F} (Err f) a b k m (x ++ y)
-puts_cut {S = S} {E = E} e f a b k m piece x y same some part cause =
-    let first : Puts {T = S} {E = E} (Err e) a b k m x = record { ok = tt; err = rw same at part; some = some; cause = cause } in
-    puts_first e f a b k m x y first
+pub puts_cut : {T : Type 0} {F : Type 0} (f : F) (a b : Output) (piece x y : List ℕ) → piece ≡ x → x ≢ [] → AddsPart a b piece →
+    Puts {T = T} {E = F} (Err f) a b (x ++ y)
+puts_cut {T = T} {F = F} f a b piece x y same some part =
+    let first : Puts {T = T} {E = F} (Err f) a b x = record { ok = tt; err = rw same at part; some = some } in
+    puts_first f f a b x y first
 
 -- the same told by another value, or by another error
-pub puts_as : {S : Type 0} {T : Type 0} {E : Type 0} {F : Type 0} (u : S) (v : T) (a b : Option (List ℕ)) (n m : ℕ) (text : List ℕ) →
-    Puts {T = S} {E = F} (Ok u) a b n m text → Puts {T = T} {E = E} (Ok v) a b n m text
-puts_as u v a b n m text puts =
-    record { ok = puts.ok; err = tt; some = tt; cause = record { later = puts.cause.later; failed = tt; done = puts.cause.done } }
+pub puts_as : {S : Type 0} {T : Type 0} {E : Type 0} {F : Type 0} (u : S) (v : T) (a b : Output) (text : List ℕ) →
+    Puts {T = S} {E = F} (Ok u) a b text → Puts {T = T} {E = E} (Ok v) a b text
+puts_as u v a b text puts = record { ok = puts.ok; err = tt; some = tt }
 
-pub puts_failed : {S : Type 0} {T : Type 0} {E : Type 0} {F : Type 0} (e : E) (f : F) (a b : Option (List ℕ)) (n m : ℕ) (text : List ℕ) →
-    Puts {T = S} {E = E} (Err e) a b n m text → Puts {T = T} {E = F} (Err f) a b n m text
-puts_failed e f a b n m text puts =
-    record { ok = tt; err = puts.err; some = puts.some; cause = record { later = puts.cause.later; failed = puts.cause.failed; done = tt } }
+pub puts_failed : {S : Type 0} {T : Type 0} {E : Type 0} {F : Type 0} (e : E) (f : F) (a b : Output) (text : List ℕ) →
+    Puts {T = S} {E = E} (Err e) a b text → Puts {T = T} {E = F} (Err f) a b text
+puts_failed e f a b text puts = record { ok = tt; err = puts.err; some = puts.some }
 
 -- ---- served steps
 

@@ -1,40 +1,29 @@
--- One instruction of a run on a rack, from what its parts say.
-use Rattle.std.proofs.Common.{◌≡◌, ◌≢◌, ℕ, ◌+◌, List, [], ◌∷◌, ◌++◌, length, map, Option, Some, None, refl, sym, ap, ◌∙◌, subst}
-use Rattle.std.specs.Prelude.{option_map, Ok, Err}
+-- One instruction of a run, from what its parts say.
+use Rattle.std.proofs.Common.{◌≡◌, ◌≢◌, ℕ, ◌+◌, List, [], ◌∷◌, ◌++◌, length, map, Option, refl, sym, ap, ◌∙◌, subst}
 use Rattle.std.proofs.lemmas.List.{append-nil}
 use Rattle.f8_spec.specs.ChipState.{ChipState}
-use Rattle.console_spec.specs.Processor.{State, with_write}
-use Rattle.console_spec.specs.Run.{Position, Turn, Goes, Stops, goes_unless, decided, opcode_at, instruction_fault, position_after, next, turn_course}
+use Rattle.console_spec.specs.Processor.{with_write}
+use Rattle.console_spec.specs.Run.{Position, Turn, Goes, Stops}
 use Rattle.console_spec.specs.Scripts.{Script}
-use Rattle.console_spec.specs.Telling.{Told, with_event, with_events, events_behind, told_turn, told_steps, moment_of, on_rack}
+use Rattle.console_spec.specs.Telling.{Way, Told, with_event, with_events, events_behind, told_turn, told_steps, moment_of}
 use Rattle.console_spec.specs.declared.Event.{Event}
 use Rattle.console_spec.specs.declared.Event.TheVariants.{Keys, Pulse}
-use Rattle.video.specs.ScreenState.{shown}
-use Rattle.cpu3850.specs.CpuSteps.{CpuState}
-use Rattle.f8_machine.specs.MachineState.{MachineState, steps_in}
-use Rattle.f8_machine.specs.declared.outcome.Outcome.{Outcome}
 use Rattle.console_spec.specs.declared.PortWrite.{PortWrite}
-use Rattle.console_spec.specs.Services.{Fault}
-use Rattle.f8_spec.specs.Instructions.{decoded}
-use Rattle.f8_spec.specs.declared.instructions.Op.{Op}
-use Rattle.f8_machine.specs.Refinement.{Represents, Refines}
+use Rattle.video.specs.ScreenState.{shown}
 use Rattle.f8_machine.specs.Rounds.{RackRuns, heard_of}
-use Rattle.f8_machine.specs.declared.heard.Heard.{Heard}
-use Rattle.outside.specs.SinkRules.{Adds, AddsPart}
+use Rattle.outside.specs.SinkRules.{Output, Adds, AddsPart}
 use Rattle.outside.proofs.SinkLaws.{adds_then, adds_part_behind, adds_part_first}
 use Rattle.rack_run.specs.Endings.{stop_of, bytes_written}
 use Rattle.rack_run.specs.Lives.{LivesMoment, Come}
 use Rattle.rack_run.specs.Progressing.{ProgressState, Keeps, progress_with}
-use Rattle.rack_run.specs.Texts.{is_traced, text_in, outcome_told, Puts}
-use Rattle.rack_run.specs.Turns.{ToldBy, HappenBehind, GoesOn, StopsAt, FailsAt}
+use Rattle.rack_run.specs.Texts.{text_in}
+use Rattle.rack_run.specs.Turns.{Readout, Advances, Halted, StepsFail, StopsShort, steps_text, HappenBehind, moment_text, GoesOn, StopsAt, FailsAt, CutsAt}
 use Rattle.rack_run.specs.declared.detail.Detail.{Detail}
+use Rattle.rack_run.specs.declared.ending.Cut.{Cut}
+use Rattle.rack_run.specs.declared.ending.Cut.TheVariants.{Halt as Halts, Sink}
 use Rattle.rack_run.specs.declared.ending.Halt.{Halt}
-use Rattle.rack_run.proofs.Outcomes.{outcome_is, outcome_heard}
 use Rattle.rack_run.proofs.Progressed.{keeps_more}
 use Rattle.rack_run.proofs.ToldTexts.{text_in-append, some_first, some_behind}
-
-pub told_by : (m : MachineState) (states : List ChipState) (x : Position) → Represents m states x → ToldBy m x.flat.state
-told_by m states x r = record { flow = r.stands.flow; registers = r.stands.registers; phi = r.stands.phi }
 
 -- events leave what is counted
 event_quiet : (e : Event) (x : Position) →
@@ -63,167 +52,90 @@ keeps_events p es x keeps =
       bytes = keeps.bytes ∙ sym (ap bytes_written quiet.0);
     }
 
-module _ (detail : Detail) (script : Script) (x : Position) where
-  abbrev steps : List Told
-  steps = told_steps (is_traced detail) (turn_course x)
+-- what is kept of the progress behind an instruction that is done
+pub keeps_turn : (wrote : Option PortWrite) (p q : ProgressState) (x y : Position) (phi : ℕ) → Keeps p x.flat.state →
+    y.flat.state.count ≡ x.flat.state.count + 1 → y.flat.state.writes ≡ with_write wrote x.flat.state.writes →
+    phi ≡ y.flat.state.phi → q ≡ progress_with wrote phi p → Keeps q y.flat.state
+keeps_turn wrote p q x y phi keeps counts writes same is =
+    rw (is, same) (keeps_more wrote p x.flat.state y.flat.state keeps writes counts)
 
-  abbrev all : List Told
-  all = (moment_of (on_rack (is_traced detail)) script x (next x)).told
+module _ (detail : Detail) (way : Way) (script : Script) (x : Position) where
+  abbrev steps : List Told
+  steps = told_steps way.traced (way.course x)
 
   abbrev behind : Turn → List Told
   behind turn = told_turn script x turn
 
   -- all that is told of an instruction is its steps, and then what is told of its end
-  all_text : (turn : Turn) → next x ≡ turn → text_in detail all ≡ text_in detail steps ++ text_in detail (behind turn)
+  all_text : (turn : Turn) → way.step x ≡ turn →
+      moment_text detail way script x ≡ steps_text detail way x ++ text_in detail (behind turn)
   all_text turn turns =
-      text_in-append detail steps (behind (next x)) ∙ ap (λ (t : Turn). text_in detail steps ++ text_in detail (behind t)) turns
+      text_in-append detail steps (behind (way.step x))
+      ∙ ap (λ (t : Turn). text_in detail steps ++ text_in detail (behind t)) turns
 
-  lives : (turn : Turn) (olds mids news : List ChipState) (hs : List Heard) → next x ≡ turn → hs ≡ map heard_of (turn_course x).steps →
-      RackRuns hs olds mids →
-      Come (events_behind script x turn) mids news → LivesMoment (moment_of (on_rack (is_traced detail)) script x (next x)) olds news
-  lives turn olds mids news hs turns heard ran came = record {
+  lives : (turn : Turn) (olds mids news : List ChipState) → way.step x ≡ turn → RackRuns (map heard_of (way.course x).steps) olds mids →
+      Come (events_behind script x turn) mids news → LivesMoment (moment_of way script x (way.step x)) olds news
+  lives turn olds mids news turns heard came = record {
     between = mids;
-    heard = subst (λ (l : List Heard). RackRuns l olds mids) heard ran;
+    heard = heard;
     came = subst (λ (t : Turn). Come (events_behind script x t) mids news) (sym turns) came;
   }
 
-  -- it is done, and told
-  pub goes_on : (y : Position) (m : MachineState) (p : ProgressState) (olds mids news : List ChipState) (hs : List Heard) (told : List Told)
-      (a b c : Option (List ℕ)) →
-      next x ≡ Goes y →
-      hs ≡ map heard_of (turn_course x).steps → RackRuns hs olds mids → told ≡ steps → Adds a b (text_in detail told) →
-      Adds b c (text_in detail (told_turn script x (Goes y))) → Keeps p y.flat.state →
-      HappenBehind script m mids news x y → GoesOn detail script m p olds news a c x
-  goes_on y m p olds mids news hs told a b c turns heard ran is adds ends keeps happens = record {
-    there = y;
-    turns = turns;
-    represents = happens.represents;
-    keeps = keeps_events p (events_behind script x (Goes y)) y keeps;
-    lived = lives (Goes y) olds mids news hs turns heard ran happens.came;
-    lines =
-        rw (all_text (Goes y) turns)
-        (adds_then a b c (text_in detail steps) (text_in detail (behind (Goes y)))
-        (subst (λ (l : List Told). Adds a b (text_in detail l)) is adds) ends);
-  }
+  module _ (At : Position → Type 0) (wrote : Option PortWrite) (olds mids : List ChipState) (a b : Output)
+      (done : Advances detail way At wrote olds mids a b x) where
+    abbrev end_text : List ℕ
+    end_text = text_in detail (told_turn script x (Goes done.there))
 
-  -- the sink fails at a line of its end
-  pub fails_behind : (y : Position) (olds news : List ChipState) (hs : List Heard) (told : List Told) (a b c : Option (List ℕ)) →
-      next x ≡ Goes y →
-      hs ≡ map heard_of (turn_course x).steps → RackRuns hs olds news → told ≡ steps → Adds a b (text_in detail told) →
-      text_in detail (told_turn script x (Goes y)) ≢ [] →
-      AddsPart b c (text_in detail (told_turn script x (Goes y))) → FailsAt detail script olds news a c x
-  fails_behind y olds news hs told a b c turns heard ran is adds some part = record {
-    heard = subst (λ (l : List Heard). RackRuns l olds news) heard ran;
-    some = rw (all_text (Goes y) turns) (some_behind (text_in detail steps) (text_in detail (behind (Goes y))) some);
-    part =
-        rw (all_text (Goes y) turns)
-        (adds_part_behind a b c (text_in detail steps) (text_in detail (behind (Goes y)))
-        (subst (λ (l : List Told). Adds a b (text_in detail l)) is adds) part);
-  }
+    -- it is done, and told
+    pub goes_on : (Behind : Position → Type 0) (p : ProgressState) (news : List ChipState) (c : Output) →
+        Adds b c end_text → Keeps p done.there.flat.state → HappenBehind script Behind mids news x done.there →
+        GoesOn detail way script Behind p olds news a c x
+    goes_on Behind p news c ends keeps happens = record {
+      there = done.there;
+      turns = done.turns;
+      at = happens.at;
+      keeps = keeps_events p (events_behind script x (Goes done.there)) done.there keeps;
+      lived = lives (Goes done.there) olds mids news done.turns done.heard happens.came;
+      lines = rw (all_text (Goes done.there) done.turns) (adds_then a b c (steps_text detail way x) end_text done.lines ends);
+    }
+
+    -- the sink fails at a line of its end
+    pub fails_behind : (c : Output) → end_text ≢ [] → AddsPart b c end_text → FailsAt detail way script olds mids a c x
+    fails_behind c some part = record {
+      heard = done.heard;
+      some = rw (all_text (Goes done.there) done.turns) (some_behind (steps_text detail way x) end_text some);
+      part =
+          rw (all_text (Goes done.there) done.turns)
+          (adds_part_behind a b c (steps_text detail way x) end_text done.lines part);
+    }
 
   -- it fails at a line of its steps
-  pub fails_first : (olds news : List ChipState) (hs : List Heard) (told : List Told) (a b : Option (List ℕ)) →
-      hs ≡ map heard_of (turn_course x).steps → RackRuns hs olds news → told ≡ steps →
-      text_in detail told ≢ [] → AddsPart a b (text_in detail told) → FailsAt detail script olds news a b x
-  fails_first olds news hs told a b heard ran is some part = record {
-    heard = subst (λ (l : List Heard). RackRuns l olds news) heard ran;
+  pub fails_first : (olds news : List ChipState) (a b : Output) → StepsFail detail way olds news a b x →
+      FailsAt detail way script olds news a b x
+  fails_first olds news a b fails = record {
+    heard = fails.heard;
     some =
-        rw (all_text (next x) refl)
-        (some_first (text_in detail steps) (text_in detail (behind (next x))) (subst (λ (l : List Told). text_in detail l ≢ []) is some));
+        rw (all_text (way.step x) refl) (some_first (steps_text detail way x) (text_in detail (behind (way.step x))) fails.some);
     part =
-        rw (all_text (next x) refl)
-        (adds_part_first a b (text_in detail steps) (text_in detail (behind (next x)))
-        (subst (λ (l : List Told). AddsPart a b (text_in detail l)) is part));
+        rw (all_text (way.step x) refl)
+        (adds_part_first a b (steps_text detail way x) (text_in detail (behind (way.step x))) fails.part);
   }
 
   -- it stops the run
-  pub stops_at : (halt : Halt) (m : MachineState) (p : ProgressState) (olds news : List ChipState) (hs : List Heard) (told : List Told)
-      (a b : Option (List ℕ)) →
-      next x ≡ Stops (stop_of halt) →
-      ToldBy m x.flat.state → Keeps p x.flat.state → hs ≡ map heard_of (turn_course x).steps → RackRuns hs olds news → told ≡ steps →
-      Adds a b (text_in detail told) →
-      StopsAt detail script m p olds news a b x halt
-  stops_at halt m p olds news hs told a b turns state keeps heard ran is adds = record {
-    turns = turns;
-    state = state;
+  pub stops_at : (halt : Halt) (r : Readout) (p : ProgressState) (olds news : List ChipState) (a b : Output) → Keeps p x.flat.state →
+      Halted detail way r olds news a b x halt → StopsAt detail way script r p olds news a b x halt
+  stops_at halt r p olds news a b keeps stops = record {
+    turns = stops.turns;
+    state = stops.state;
     keeps = keeps;
-    lived = lives (Stops (stop_of halt)) olds news news hs turns heard ran refl;
+    lived = lives (Stops (stop_of halt)) olds news news stops.turns stops.heard refl;
     lines =
-        subst (λ (l : List Told). Adds a b (text_in detail l))
-        (is ∙ sym (append-nil steps) ∙ ap (λ (t : Turn). steps ++ behind t) (sym turns)) adds;
+        subst (λ (text : List ℕ). Adds a b text)
+        (ap (text_in detail) (sym (append-nil steps) ∙ ap (λ (t : Turn). steps ++ behind t) (sym stops.turns))) stops.lines;
   }
 
--- a machine that was stopped tells what it told before
-pub told_kept : (m after : MachineState) (s : State) → ToldBy m s → after.flow ≡ m.flow → after.cpu ≡ m.cpu → after.phi ≡ m.phi →
-    ToldBy after s
-told_kept m after s told flow cpu phi = record {
-  flow = flow ∙ told.flow;
-  registers = ap (λ (c : CpuState). c.registers) cpu ∙ told.registers;
-  phi = phi ∙ told.phi;
-}
-
--- ---- the same, from an outcome
-
-module _ (detail : Detail) (script : Script) (x : Position) (outcome : Outcome) (before after : MachineState) (olds mids : List ChipState)
-    (refines : Refines outcome before after mids x)
-    (ran : RackRuns (steps_in outcome) olds mids) where
-  -- the sink fails at a line of its steps
-  pub told_fails : {T : Type 0} {E : Type 0} (e : E) (a b : Option (List ℕ)) (n m : ℕ) →
-      Puts {T = T} (Err e) a b n m (text_in detail (outcome_told detail outcome)) → FailsAt detail script olds mids a b x
-  told_fails e a b n m puts =
-      fails_first detail script x olds mids (steps_in outcome) (outcome_told detail outcome) a b
-      (outcome_heard outcome before after mids x refines) ran (outcome_is detail outcome before after mids x refines)
-      puts.some puts.err
-
-  module _ {T : Type 0} {E : Type 0} (v : T) (a b : Option (List ℕ)) (n m : ℕ)
-      (puts : Puts {E = E} (Ok v) a b n m (text_in detail (outcome_told detail outcome))) where
-    module _ (y : Position) (turns : next x ≡ Goes y) where
-      -- it fails at a line of the end
-      pub end_fails : {T : Type 0} {E : Type 0} (e : E) (c : Option (List ℕ)) (k : ℕ) →
-          Puts {T = T} (Err e) b c m k (text_in detail (told_turn script x (Goes y))) → FailsAt detail script olds mids a c x
-      end_fails e c k end =
-          fails_behind detail script x y olds mids (steps_in outcome) (outcome_told detail outcome) a b c turns
-          (outcome_heard outcome before after mids x refines) ran
-          (outcome_is detail outcome before after mids x refines) puts.ok end.some end.err
-
-      -- it is done
-      pub end_told : {T : Type 0} {E : Type 0} (w : T) (c : Option (List ℕ)) (k : ℕ) (m' : MachineState) (p : ProgressState)
-          (news : List ChipState) →
-          Puts {E = E} (Ok w) b c m k (text_in detail (told_turn script x (Goes y))) → Keeps p y.flat.state →
-          HappenBehind script m' mids news x y → GoesOn detail script m' p olds news a c x
-      end_told w c k m' p news end keeps happens =
-          goes_on detail script x y m' p olds mids news (steps_in outcome) (outcome_told detail outcome) a b c turns
-          (outcome_heard outcome before after mids x refines) ran
-          (outcome_is detail outcome before after mids x refines) puts.ok end.ok keeps happens
-
-    -- it stops the run
-    pub turn_stops : (halt : Halt) (p : ProgressState) → next x ≡ Stops (stop_of halt) → ToldBy after x.flat.state → Keeps p x.flat.state →
-        StopsAt detail script after p olds mids a b x halt
-    turn_stops halt p turns state keeps =
-        stops_at detail script x halt after p olds mids (steps_in outcome) (outcome_told detail outcome) a b turns state keeps
-        (outcome_heard outcome before after mids x refines) ran
-        (outcome_is detail outcome before after mids x refines) puts.ok
-
--- ---- counts and clocks
-
-goes_count : (x y : Position) (fault : Option Fault) (op : Op) → goes_unless fault (position_after op x) ≡ Goes y →
-    y.flat.state.count ≡ x.flat.state.count + 1
-goes_count x y None op e = let same : position_after op x ≡ y = cc in ap (λ (z : Position). z.flat.state.count) (sym same)
-goes_count x y (Some fault) op e = cc
-
-decided_count : (x y : Position) (at code : ℕ) (found : Option Op) →
-    decided (λ op. goes_unless (instruction_fault op x) (position_after op x)) at code found ≡ Goes y →
-    y.flat.state.count ≡ x.flat.state.count + 1
-decided_count x y at code None e = cc
-decided_count x y at code (Some op) e = goes_count x y (instruction_fault op x) op e
-
--- an instruction that is done is counted
-pub next_count : (x y : Position) → next x ≡ Goes y → y.flat.state.count ≡ x.flat.state.count + 1
-next_count x y e = decided_count x y x.flat.state.flow.p (opcode_at x) (decoded (opcode_at x)) e
-
--- what is kept of the progress behind it
-pub progress_kept : (wrote : Option PortWrite) (p q : ProgressState) (x y : Position) (phi : ℕ) → Keeps p x.flat.state → next x ≡ Goes y →
-    y.flat.state.writes ≡ with_write wrote x.flat.state.writes →
-    phi ≡ y.flat.state.phi → q ≡ progress_with wrote phi p → Keeps q y.flat.state
-progress_kept wrote p q x y phi keeps turns writes same is =
-    rw (is, same) (keeps_more wrote p x.flat.state y.flat.state keeps writes (next_count x y turns))
+  -- it is cut short before its end
+  pub cuts_first : (r : Readout) (p : ProgressState) (olds news : List ChipState) (a b : Output) → Keeps p x.flat.state → (cut : Cut) →
+      StopsShort detail way r olds news a b x cut → CutsAt detail way script r p olds news a b x cut
+  cuts_first r p olds news a b keeps (Halts halt) stops = stops_at halt r p olds news a b keeps stops
+  cuts_first r p olds news a b keeps Sink fails = fails_first olds news a b fails

@@ -14,7 +14,7 @@ use Rattle.console_spec.specs.Run.{Ending, Done, Reserved}
 use Rattle.console_spec.specs.Telling.{telling, played_by}
 use Rattle.console_spec.proofs.Played.{played}
 use Rattle.rack_run.specs.Seating.{fitted_views}
-use Rattle.rack_run.specs.Sockets.{shortage_of}
+use Rattle.rack_run.specs.Sockets.{shortage_of, chain_of}
 
 -- a 3851 at 0 with LIS 1, NOP, and a branch to the NOP
 abbrev described : ChipSpec
@@ -93,3 +93,16 @@ with_reserved_state : with_reserved.position.flat.state ≡ record {
 }
 unfolding played_by telling own_inputs effect decoded first_memory
 with_reserved_state = refl
+
+-- ---- the chain of a description
+
+-- a 3853 and two 3851s, on a rack whose sockets are of these kinds: each sits in the first socket of its kind that is left
+mixed_chain : chain_of (ram 0x28 ∷ described ∷ described ∷ []) (kind.Psu ∷ kind.Smi ∷ kind.Psu ∷ kind.Psu ∷ []) ≡ 1 ∷ 0 ∷ 2 ∷ []
+mixed_chain = refl
+
+own_chain : chain_of (described ∷ ram 0x28 ∷ described ∷ ram 0x29 ∷ []) own_sockets ≡ 0 ∷ 12 ∷ 1 ∷ 13 ∷ []
+own_chain = refl
+
+-- a chip for which there is no socket is left out
+short_chain : chain_of (ram 0x28 ∷ described ∷ []) (kind.Psu ∷ []) ≡ 0 ∷ []
+short_chain = refl

@@ -1,5 +1,5 @@
 -- How a run on a rack ends, as the program tells it, and what the rack is then; and how one on the flat instruction set alone ends.
-use Rattle.std.specs.Prelude.{◌≡◌, ◌≢◌, ℕ, ◌≤◌, ◌<◌, List, [], ◌∷◌, ◌++◌, length, map, Option, Some, None}
+use Rattle.std.specs.Prelude.{◌≡◌, ◌≢◌, ℕ, ◌<◌, List, [], ◌∷◌, ◌++◌, length, map, Option, Some, None}
 use Rattle.std.specs.List.{sum_by}
 use Rattle.f8_spec.specs.ChipState.{ChipState}
 use Rattle.console_spec.specs.declared.PortWrite.{PortWrite}
@@ -12,8 +12,7 @@ use Rattle.memory_map.specs.MapOf.{views_of}
 use Rattle.data_bus.specs.Racks.{views}
 use Rattle.f8_machine.specs.Faults.{fault_of}
 use Rattle.f8_machine.specs.Rounds.{RackPowers, RackRuns, heard_of}
-use Rattle.outside.specs.Counts.{Rose}
-use Rattle.outside.specs.SinkRules.{Adds, AddsPart}
+use Rattle.outside.specs.SinkRules.{Output, Adds, AddsPart}
 use Rattle.rack_run.specs.Lives.{Lives}
 use Rattle.rack_run.specs.Texts.{is_traced, text_in}
 use Rattle.rack_run.specs.declared.detail.Detail.{Detail}
@@ -21,8 +20,8 @@ use Rattle.rack_run.specs.declared.detail.Detail.TheVariants.{Writes}
 use Rattle.rack_run.specs.declared.ending.Ending.{Ending}
 use Rattle.rack_run.specs.declared.ending.Halt.{Halt}
 use Rattle.rack_run.specs.declared.ending.Halt.TheVariants.{Fault, Reserved}
-use Rattle.rack_run.specs.declared.flat.ReferFault.{ReferFault}
-use Rattle.rack_run.specs.declared.flat.ReferFault.TheVariants.{Memory, Sink}
+use Rattle.rack_run.specs.declared.on_flat.ReferFault.{ReferFault}
+use Rattle.rack_run.specs.declared.on_flat.ReferFault.TheVariants.{Memory, Sink}
 
 abbrev pub stop_of : Halt → Stop
 stop_of (Fault fault) = Unserved (fault_of fault)
@@ -52,20 +51,21 @@ TellsEnd told ending = Tells told ending.position.flat.state ending.stop
 
 -- ---- on a rack
 
-abbrev pub run_on : Detail → Script → List ChipState → Telling
-run_on detail script states = played_by (views states) (is_traced detail) script
+abbrev pub run_on : Detail → Script → List ℕ → List ChipState → Telling
+run_on detail script chain states = played_by (views states) chain (is_traced detail) script
 
 -- the run to its end: every chip is powered and lives through the moments of the run, and the sink was given all that is told
-pub record Plays (detail : Detail) (script : Script) (told : Ending) (olds news : List ChipState) (old new : Option (List ℕ)) : Type 0 where
+pub record Plays (detail : Detail) (script : Script) (chain : List ℕ) (told : Ending) (olds news : List ChipState) (old new : Output) :
+    Type 0 where
   pub powered : List ChipState
   pub powers : RackPowers script.power olds powered
-  pub lived : Lives (run_on detail script olds).moments powered news
-  pub tells : TellsEnd told (run_on detail script olds).ending
-  pub lines : Adds old new (text_in detail (told_in (run_on detail script olds).moments))
+  pub lived : Lives (run_on detail script chain olds).moments powered news
+  pub tells : TellsEnd told (run_on detail script chain olds).ending
+  pub lines : Adds old new (text_in detail (told_in (run_on detail script chain olds).moments))
 
 -- The sink failed at a line of one of some moments: those before it were lived through and told, its bus steps were heard, and no event
 -- behind it came.
-pub record CutShort (detail : Detail) (ms : List Moment) (olds news : List ChipState) (old new : Option (List ℕ)) : Type 0 where
+pub record CutShort (detail : Detail) (ms : List Moment) (olds news : List ChipState) (old new : Output) : Type 0 where
   pub before : List Moment
   pub at : Moment
   pub behind : List Moment
@@ -74,26 +74,29 @@ pub record CutShort (detail : Detail) (ms : List Moment) (olds news : List ChipS
   pub mids : List ChipState
   pub lived : Lives before olds mids
   pub heard : RackRuns (map heard_of at.heard) mids news
-  pub between : Option (List ℕ)
+  pub between : Output
   pub lines : Adds old between (text_in detail (told_in before))
   pub part : AddsPart between new (text_in detail at.told)
 
 -- the run up to there
-pub record PlaysPart (detail : Detail) (script : Script) (olds news : List ChipState) (old new : Option (List ℕ)) : Type 0 where
+pub record PlaysPart (detail : Detail) (script : Script) (chain : List ℕ) (olds news : List ChipState) (old new : Output) : Type 0 where
   pub powered : List ChipState
   pub powers : RackPowers script.power olds powered
-  pub cut : CutShort detail (run_on detail script olds).moments powered news old new
-  pub part : AddsPart old new (text_in detail (told_in (run_on detail script olds).moments))
+  pub cut : CutShort detail (run_on detail script chain olds).moments powered news old new
+  pub part : AddsPart old new (text_in detail (told_in (run_on detail script chain olds).moments))
 
 -- ---- without a chip
 
--- A whole run on the flat instruction set alone, whose memory is that of the description's chips, each fitted without a patch: the sink was
--- given all that is told.
-pub record Refers (script : Script) (told : Ending) (chips : List ChipSpec) (old new : Option (List ℕ)) : Type 0 where
-  pub tells : TellsEnd told (referred_by (views_of chips) script).ending
-  pub lines : Adds old new (text_in Writes (told_in (referred_by (views_of chips) script).moments))
+-- the run of a description's chips, each fitted without a patch
+abbrev pub run_of : Script → List ChipSpec → Telling
+run_of script chips = referred_by (views_of chips) script
+
+-- A whole run on the flat instruction set alone: the sink was given all that is told.
+pub record Refers (script : Script) (told : Ending) (chips : List ChipSpec) (old new : Output) : Type 0 where
+  pub tells : TellsEnd told (run_of script chips).ending
+  pub lines : Adds old new (text_in Writes (told_in (run_of script chips).moments))
 
 -- where it came to no end: nothing was put where memory was wanting, and a first part where the sink failed
-abbrev pub ReferFails : ReferFault → Script → List ChipSpec → (old new : Option (List ℕ)) → (before now : ℕ) → Type 0
-ReferFails Memory script chips old new before now = (new ≡ old) × (now ≡ before)
-ReferFails Sink script chips old new before now = AddsPart old new (text_in Writes (told_in (referred_by (views_of chips) script).moments)) × (before ≤ now) × Rose before now
+abbrev pub ReferFails : ReferFault → Script → List ChipSpec → (old new : Output) → Type 0
+ReferFails Memory script chips old new = new ≡ old
+ReferFails Sink script chips old new = AddsPart old new (text_in Writes (told_in (run_of script chips).moments))

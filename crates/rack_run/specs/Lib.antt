@@ -5,5 +5,6 @@ pub mod Endings
 pub mod EndLaw
 pub mod TraceLaw
 pub mod Turns
+pub mod Machines
 pub mod Seating
 pub mod Sockets

@@ -9,7 +9,7 @@ use Rattle.f8_machine.specs.HeardSteps.{step_of}
 use Rattle.f8_machine.specs.declared.heard.Heard.{Heard}
 use Rattle.f8_machine.specs.declared.outcome.Outcome.{Outcome}
 use Rattle.f8_machine.specs.declared.outcome.Outcome.TheVariants.{Done, Fault, Reserved}
-use Rattle.outside.specs.SinkRules.{Adds, AddsPart, HasCause}
+use Rattle.outside.specs.SinkRules.{Output, Adds, AddsPart}
 use Rattle.rack_run.specs.declared.detail.Detail.{Detail}
 use Rattle.rack_run.specs.declared.detail.Detail.TheVariants.{Nothing, Writes, Steps}
 
@@ -32,11 +32,10 @@ abbrev pub text_in : Detail → List Told → List ℕ
 text_in detail told = if is_told detail then text_told told else []
 
 -- a call that puts a text: all of it, or a first part where the sink failed, which it doesn't where there is nothing to put
-pub record Puts {T E : Type 0} (result : Result T E) (old new : Option (List ℕ)) (before now : ℕ) (text : List ℕ) : Type 0 where
+pub record Puts {T E : Type 0} (result : Result T E) (old new : Output) (text : List ℕ) : Type 0 where
   pub ok : OnOk result (Adds old new text)
   pub err : OnErr result (AddsPart old new text)
   pub some : OnErr result (text ≢ [])
-  pub cause : HasCause before now result
 
 -- the served steps of reset or an instruction, where they are told, and the step that is not served
 abbrev pub served_told : Detail → List Heard → List Told

@@ -4,9 +4,11 @@
 mod detail;
 mod ending;
 mod events;
-mod flat;
 mod law;
 mod limits;
+mod on_flat;
+mod on_rack;
+mod player;
 mod progress;
 mod run;
 mod seat;
@@ -15,8 +17,8 @@ mod telling;
 
 pub use detail::Detail;
 pub use ending::{Ending, Halt};
-pub use flat::{ReferFault, refer};
 pub use law::{end_law, trace_law};
-pub use run::play;
+pub use on_flat::{ReferFault, refer};
+pub use on_rack::play;
 pub use seat::fit_all;
-pub use sockets::{Shortage, first_shortage};
+pub use sockets::{Shortage, chain_of, first_shortage};

@@ -1,10 +1,13 @@
-ghost use Rattle.std.specs.Prelude.{◌≡◌, ◌≤◌, length, map};
+// The sockets that a description needs of a rack, and those that its chips take.
+ghost use Rattle.std.specs.Prelude.{◌≡◌, ◌≤◌, ◌<◌, ◌==◌, false, length, map, IfSome};
+ghost use Rattle.std.specs.List.{list_any};
 ghost use Rattle.rack_run.specs.Seating.{is_kind, kinds_of};
-ghost use Rattle.rack_run.specs.Sockets.{needed_of, sockets_of, shortage_of, shortage_in};
+ghost use Rattle.rack_run.specs.Sockets.{needed_of, sockets_of, shortage_of, shortage_in, free_socket, chain_of};
 
 use super::seat::is_for;
-use chip_face::{Chip, ChipKind, ChipList, ChipSpec};
+use chip_face::{Chip, ChipKind, ChipList, ChipSpec, MOST_CHIPS};
 use data_bus::Rack;
+use f8_machine::Chain;
 
 /// A kind of which a description has more chips than a rack has sockets for.
 #[derive(Clone, Copy, Debug, PartialEq, Eq)]
@@ -21,7 +24,7 @@ pub struct Shortage {
 
 /// The chips of a kind in a description.
 fn needed(chips: &[ChipSpec], kind: ChipKind) -> u8
-    requires few { length chips.now ≤ 16 }
+    requires few { length chips.now ≤ MOST_CHIPS }
     ensures { result ≡ needed_of kind chips.now }
 {
     let mut count = 0;
@@ -45,7 +48,7 @@ fn is_of(chip: &Box<dyn Chip>, kind: ChipKind) -> bool
 
 /// The sockets of a kind in a rack.
 fn sockets(rack: &Rack, kind: ChipKind) -> u8
-    requires few { length rack.now.items ≤ 16 }
+    requires few { length rack.now.items ≤ MOST_CHIPS }
     ensures { result ≡ sockets_of kind (kinds_of (map state rack.now.items)) }
 {
     let mut count = 0;
@@ -59,8 +62,8 @@ fn sockets(rack: &Rack, kind: ChipKind) -> u8
 
 /// The kind's own shortage, if there is one.
 fn shortage_in_kind(chips: &[ChipSpec], rack: &Rack, kind: ChipKind) -> Option<Shortage>
-    requires few { length rack.now.items ≤ 16 }
-    requires chips { length chips.now ≤ 16 }
+    requires few { length rack.now.items ≤ MOST_CHIPS }
+    requires chips { length chips.now ≤ MOST_CHIPS }
     ensures { result ≡ shortage_in kind chips.now (kinds_of (map state rack.now.items)) }
 {
     let need = needed(chips, kind);
@@ -71,7 +74,7 @@ fn shortage_in_kind(chips: &[ChipSpec], rack: &Rack, kind: ChipKind) -> Option<S
 /// The first kind, the 3851 before the 3853, of which a description has more chips than a rack of at most 16 chips has sockets. That each
 /// chip needs a socket of its kind is this project's own.
 pub fn first_shortage(chips: &ChipList, rack: &Rack) -> Option<Shortage>
-    requires few { length rack.now.items ≤ 16 }
+    requires few { length rack.now.items ≤ MOST_CHIPS }
     ensures { result ≡ shortage_of chips.now (kinds_of (map state rack.now.items)) }
 {
     let chips = chips.as_slice();
@@ -79,4 +82,34 @@ pub fn first_shortage(chips: &ChipList, rack: &Rack) -> Option<Shortage>
         Some(shortage) => Some(shortage),
         None => shortage_in_kind(chips, rack, ChipKind::Smi),
     }
+}
+
+/// The first socket of a kind that isn't in the chain.
+fn free_socket(rack: &Rack, kind: ChipKind, chain: &Chain) -> Option<u8>
+    requires few { length rack.now.items ≤ MOST_CHIPS }
+    ensures socket { result ≡ free_socket kind chain.now 0 (kinds_of (map state rack.now.items)) }
+    ensures fresh { IfSome result (λ socket. list_any (λ held. held == socket) chain.now ≡ false) }
+{
+    for (socket, chip) in rack.iter().enumerate() {
+        let socket = socket as u8;
+        if is_of(chip, kind) && !chain.contains(socket) {
+            return Some(socket);
+        }
+    }
+    None
+}
+
+/// The sockets in which the chips of a description sit in a rack of at most 16 chips, in the order of the description: the k-th chip of a
+/// kind in the k-th socket of that kind. A chip for which the rack has no socket is left out.
+pub fn chain_of(chips: &ChipList, rack: &Rack) -> Chain
+    requires few { length rack.now.items ≤ MOST_CHIPS }
+    ensures { result ≡ chain_of chips.now (kinds_of (map state rack.now.items)) }
+{
+    let mut chain = Chain::new();
+    for chip in chips.as_slice() {
+        if let Some(socket) = free_socket(rack, chip.kind(), &chain) {
+            chain.push(socket);
+        }
+    }
+    chain
 }

@@ -46,7 +46,8 @@ source_text (Some source) = codes " source " ++ decimal source
 
 unfoldable pub asm_line : Option ℕ → ℕ → ℕ → ℕ → List ℕ
 asm_line source line column cause =
-    codes "error asm" ++ source_text source ++ codes " line " ++ decimal line ++ codes " column " ++ decimal column ++ codes " cause " ++ decimal cause ++ codes "\n"
+    codes "error asm" ++ source_text source ++ codes " line " ++ decimal line ++ codes " column " ++ decimal column
+    ++ codes " cause " ++ decimal cause ++ codes "\n"
 
 abbrev pub reader_text : Reader → List ℕ
 reader_text Script = codes "script"

@@ -1,3 +1,4 @@
+// Each line by worked values.
 use super::*;
 use console_board::{PortWrite, Screen};
 use console_spec::{Regs, Who};

@@ -1,3 +1,4 @@
+// The codes of a bus step, each with its name.
 ghost use Rattle.std.specs.Prelude.{◌≡◌, ℕ, ◌<◌, SomeIff};
 
 use std::marker::Model;

@@ -1,3 +1,4 @@
+// Who drives the byte of a step, and by which counter.
 ghost use Rattle.std.specs.Prelude.{◌≡◌};
 ghost use Rattle.f8_spec.specs.BusCodes.{driver_of as driver_by_table, counter_of as counter_by_table};
 
@@ -9,12 +10,23 @@ use f8_spec::{Counter, Driver};
 pub fn driver_of(romc: Romc) -> Driver
     ensures { result ≡ driver_by_table romc }
 {
-    match romc.number() {
-        0x00 | 0x01 | 0x02 | 0x03 | 0x0C | 0x0E | 0x11 => Driver::Memory,
-        0x06 | 0x07 | 0x09 | 0x0B | 0x1E | 0x1F => Driver::CounterByte,
-        0x0F | 0x13 => Driver::Vector,
-        0x1B => Driver::Port,
-        0x04 | 0x0D | 0x10 | 0x1D => Driver::Nobody,
+    match romc {
+        Romc::FETCH
+        | Romc::DISPLACEMENT
+        | Romc::READ_DATA
+        | Romc::OPERAND
+        | Romc::JUMP_LOW
+        | Romc::LOAD_DATA_LOW
+        | Romc::LOAD_DATA_HIGH => Driver::Memory,
+        Romc::TELL_DATA_HIGH
+        | Romc::TELL_STACK_HIGH
+        | Romc::TELL_DATA_LOW
+        | Romc::TELL_STACK_LOW
+        | Romc::TELL_PROGRAM_LOW
+        | Romc::TELL_PROGRAM_HIGH => Driver::CounterByte,
+        Romc::VECTOR_LOW | Romc::VECTOR_HIGH => Driver::Vector,
+        Romc::READ_PORT => Driver::Port,
+        Romc::RETURN | Romc::SAVE_NEXT | Romc::ACKNOWLEDGE | Romc::EXCHANGE => Driver::Nobody,
         _ => Driver::Cpu,
     }
 }
@@ -24,10 +36,18 @@ pub fn driver_of(romc: Romc) -> Driver
 pub fn counter_of(romc: Romc) -> Counter
     ensures { result ≡ counter_by_table romc }
 {
-    match romc.number() {
-        0x00 | 0x01 | 0x03 | 0x0C | 0x0E | 0x11 | 0x1E | 0x1F => Counter::Pc0,
-        0x07 | 0x0B => Counter::Pc1,
-        0x02 | 0x05 | 0x06 | 0x09 => Counter::Dc0,
+    match romc {
+        Romc::FETCH
+        | Romc::DISPLACEMENT
+        | Romc::OPERAND
+        | Romc::JUMP_LOW
+        | Romc::LOAD_DATA_LOW
+        | Romc::LOAD_DATA_HIGH
+        | Romc::TELL_PROGRAM_LOW
+        | Romc::TELL_PROGRAM_HIGH => Counter::Pc0,
+        Romc::TELL_STACK_HIGH | Romc::TELL_STACK_LOW => Counter::Pc1,
+        Romc::READ_DATA | Romc::STORE_DATA | Romc::TELL_DATA_HIGH | Romc::TELL_DATA_LOW =>
+            Counter::Dc0,
         _ => Counter::NoCounter,
     }
 }

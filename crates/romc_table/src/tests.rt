@@ -1,3 +1,4 @@
+// Names and numbers of codes.
 use super::*;
 
 #[test]

@@ -1,5 +1,6 @@
 -- Pages that are filled one after another.
-use Rattle.std.proofs.Common.{◌≡◌, ℕ, ◌+◌, ◌*◌, ◌<◌, ◌≤◌, Bool, true, false, List, ◌++◌, length, get_or, take, drop, refl, sym, ◌∙◌, arith, append_assoc, length-append, length-drop}
+use Rattle.std.proofs.Common.{◌≡◌, ℕ, ◌+◌, ◌*◌, ◌<◌, ◌≤◌, Bool, true, false, List, ◌++◌, length, get_or, take, drop}
+use Rattle.std.proofs.Common.{refl, sym, ◌∙◌, arith, append_assoc, length-append, length-drop}
 use Rattle.std.specs.Prelude.{if◌then◌else◌, replicate}
 use Rattle.std.proofs.lemmas.List.{drop_more, take_all, length-take, length-take-le, length-replicate, drop-drop}
 use Rattle.std.proofs.lemmas.Slice.{take-put_mid, drop-put_mid}
@@ -91,7 +92,14 @@ Filled-more fill pages first now own i size d within page_size written before = 
       (rw behind at whole);
   size =
       let made = before.size in
-      rw (length-append, length-append) (omega (arith, length-take-le (i * 256) now start_within, length-drop size (drop (i * 256) now), length-drop (i * 256) now, in_bytes, own_size));
+      rw (length-append, length-append) (omega (
+        arith,
+        length-take-le (i * 256) now start_within,
+        length-drop size (drop (i * 256) now),
+        length-drop (i * 256) now,
+        in_bytes,
+        own_size,
+      ));
 }
   where
     filled : own ≡ (if is_ram (get_or pages i d).sort then replicate 256 fill else take 256 (drop (i * 256) now))
@@ -107,4 +115,5 @@ Filled-more fill pages first now own i size d within page_size written before = 
     start_within = let all = in_bytes in omega arith
 
     own_size : length own ≡ 256
-    own_size = rw filled (length-own (is_ram (get_or pages i d).sort) fill (drop (i * 256) now) (let all = in_bytes in omega (arith, length-drop (i * 256) now)))
+    own_size = rw filled (length-own (is_ram (get_or pages i d).sort) fill (drop (i * 256) now) (let all = in_bytes in
+        omega (arith, length-drop (i * 256) now)))

@@ -1,5 +1,6 @@
 -- The places of pages whose numbers ascend.
-use Rattle.std.proofs.Common.{◌≡◌, ℕ, zero, suc, ◌+◌, ◌<◌, ◌≤◌, Bool, true, false, List, [], ◌∷◌, ◌++◌, length, get_or, take, map, Option, Some, None, refl, ap, arith}
+use Rattle.std.proofs.Common.{◌≡◌, ℕ, zero, suc, ◌+◌, ◌<◌, ◌≤◌, Bool, true, false, List, [], ◌∷◌, ◌++◌, length, get_or}
+use Rattle.std.proofs.Common.{take, map, Option, Some, None, refl, ap, arith}
 use Rattle.std.specs.Prelude.{◌==◌, if◌then◌else◌, slice_get, slice_set, option_map, replicate}
 use Rattle.std.specs.List.Sorted.{IsStrictlyIncreasing}
 use Rattle.std.proofs.lemmas.Bool.Decides.{nat_tests}
@@ -35,9 +36,11 @@ place_of-none (p ∷ ps) number below =
     rw (other, rest) refl
 
 -- one more page, with that number
-place_of-own : (pages : List Page) (p : Page) (number : ℕ) → place_of pages number ≡ None → (p.number == number) ≡ true → place_of (pages ++ p ∷ []) number ≡ Some (length pages)
+place_of-own : (pages : List Page) (p : Page) (number : ℕ) → place_of pages number ≡ None →
+    (p.number == number) ≡ true → place_of (pages ++ p ∷ []) number ≡ Some (length pages)
 place_of-own [] p number none own = rw own refl
-place_of-own (x ∷ xs) p number none own = step (x.number == number) (place_of xs number) (place_of (xs ++ p ∷ []) number) none (λ rest. place_of-own xs p number rest own)
+place_of-own (x ∷ xs) p number none own = step (x.number == number) (place_of xs number)
+    (place_of (xs ++ p ∷ []) number) none (λ rest. place_of-own xs p number rest own)
   where
     step : (here : Bool) (later now : Option ℕ) → (if here then Some 0 else option_map (λ k. k + 1) later) ≡ None → (later ≡ None → now ≡ Some (length xs)) →
         (if here then Some 0 else option_map (λ k. k + 1) now) ≡ Some (suc (length xs))

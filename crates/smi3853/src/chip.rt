@@ -1,3 +1,4 @@
+// The 3853.
 ghost use Rattle.std.specs.Prelude.{◌≡◌};
 
 use super::space::Space;
@@ -68,7 +69,8 @@ impl Smi {
     /// The high byte of one of the chip's counters, where the chip holds that address.
     #[inline]
     fn high_of(&self, at: u16) -> Option<Offer>
-        ensures { result ≡ (if holds (smi_view self.now) at then Some (byte_offer at (at / 256)) else None) }
+        ensures { result ≡ (if holds (smi_view self.now) at then Some
+            (byte_offer at (at / 256)) else None) }
     {
         if self.holds(at) {
             Some(Offer {
@@ -83,7 +85,8 @@ impl Smi {
     /// The low byte of one of the chip's counters, where the chip holds that address.
     #[inline]
     fn low_of(&self, at: u16) -> Option<Offer>
-        ensures { result ≡ (if holds (smi_view self.now) at then Some (byte_offer at (at % 256)) else None) }
+        ensures { result ≡ (if holds (smi_view self.now) at then Some
+            (byte_offer at (at % 256)) else None) }
     {
         if self.holds(at) {
             Some(Offer {
@@ -98,7 +101,8 @@ impl Smi {
     /// A store at one of the chip's counters, which the chip takes in RAM.
     #[inline]
     fn taken_at(&self, at: u16) -> Option<Offer>
-        ensures { result ≡ (if has_ram_at (smi_view self.now) at then Some (byte_offer at 0) else None) }
+        ensures { result ≡ (if has_ram_at (smi_view self.now) at then Some
+            (byte_offer at 0) else None) }
     {
         if self.takes(at) {
             Some(Offer { byte: 0, at })
@@ -125,7 +129,8 @@ impl Smi {
 
     /// A byte for a port, which is lost where the chip doesn't have it. A write to control ends a latched request.
     fn write_port(&mut self, port: u8, byte: u8)
-        ensures { smi_view self.new ≡ port_written_if (port_role (smi_view self.old) port) byte (smi_view self.old) }
+        ensures { smi_view self.new ≡ port_written_if (port_role (smi_view self.old) port) byte
+            (smi_view self.old) }
     {
         match self.port_offset(port) {
             Some(0) => self.vector = with_high(self.vector, byte),
@@ -164,7 +169,8 @@ impl Chip for Smi {
         requires { IsSpec spec.now }
         ensures ok { OnOk result (Fits spec.now (smi_state self.old) (smi_state self.new)) }
         ensures whole { OnOk result (IsWhole (smi_state self.new).view) }
-        ensures wrong_kind { IsErrOf result FitFault.WrongKind ↔ (kind_of spec.now ≢ (smi_state self.old).view.kind) }
+        ensures wrong_kind { IsErrOf result FitFault.WrongKind
+            ↔ (kind_of spec.now ≢ (smi_state self.old).view.kind) }
         ensures memory { IsErrOf result FitFault.Memory → is_blank spec.now ≡ false }
         ensures err { OnErr result (smi_state self.new ≡ smi_state self.old) }
     {
@@ -200,28 +206,33 @@ impl Chip for Smi {
 
     fn offer(&self, romc: Romc, first: bool) -> Option<Offer> {
         let counters = self.registers.counters(true);
-        match romc.number() {
-            0x00 | 0x01 | 0x03 | 0x0C | 0x0E | 0x11 => self.byte_at(counters.pc0),
-            0x02 => self.byte_at(counters.dc0),
-            0x05 => self.taken_at(counters.dc0),
-            0x06 => self.high_of(counters.dc0),
-            0x07 => self.high_of(counters.pc1),
-            0x09 => self.low_of(counters.dc0),
-            0x0B => self.low_of(counters.pc1),
-            0x1E => self.low_of(counters.pc0),
-            0x1F => self.high_of(counters.pc0),
-            0x0F if first => {
+        match romc {
+            Romc::FETCH
+            | Romc::DISPLACEMENT
+            | Romc::OPERAND
+            | Romc::JUMP_LOW
+            | Romc::LOAD_DATA_LOW
+            | Romc::LOAD_DATA_HIGH => self.byte_at(counters.pc0),
+            Romc::READ_DATA => self.byte_at(counters.dc0),
+            Romc::STORE_DATA => self.taken_at(counters.dc0),
+            Romc::TELL_DATA_HIGH => self.high_of(counters.dc0),
+            Romc::TELL_STACK_HIGH => self.high_of(counters.pc1),
+            Romc::TELL_DATA_LOW => self.low_of(counters.dc0),
+            Romc::TELL_STACK_LOW => self.low_of(counters.pc1),
+            Romc::TELL_PROGRAM_LOW => self.low_of(counters.pc0),
+            Romc::TELL_PROGRAM_HIGH => self.high_of(counters.pc0),
+            Romc::VECTOR_LOW if first => {
                 let at = self.interrupts.given_vector(self.vector);
                 let byte = low_byte(at);
                 Some(Offer { byte, at })
             }
-            0x13 if first => {
+            Romc::VECTOR_HIGH if first => {
                 let at = self.interrupts.given_vector(self.vector);
                 let byte = high_byte(at);
                 Some(Offer { byte, at })
             }
             // A port goes by the last byte, which names it. The chip takes a byte.
-            0x1A => {
+            Romc::WRITE_PORT => {
                 let _offset = self.port_offset(self.last)?;
                 let at = u16::from(self.last);
                 Some(Offer { byte: 0, at })
@@ -232,13 +243,13 @@ impl Chip for Smi {
     }
 
     fn settle(&mut self, romc: Romc, byte: u8, _phi: u8, first: bool) {
-        match romc.number() {
-            0x05 => {
+        match romc {
+            Romc::STORE_DATA => {
                 let at = self.registers.counters(true).dc0;
                 self.store(at, byte);
             }
-            0x13 if first => self.interrupts.acknowledge(),
-            0x1A => self.write_port(self.last, byte),
+            Romc::VECTOR_HIGH if first => self.interrupts.acknowledge(),
+            Romc::WRITE_PORT => self.write_port(self.last, byte),
             _ => {}
         }
         self.registers.hear(romc, byte, true);

@@ -1,3 +1,4 @@
+// How a 3853's pages are filled.
 ghost use Rattle.std.specs.Prelude.{◌≡◌, ◌≤◌, ◌*◌, ◌++◌, IfOk, OnOk, length, map, count_by, replicate, if◌then◌else◌};
 ghost use Rattle.std.specs.List.Sorted.{IsStrictlyIncreasing};
 ghost use Rattle.f8_spec.specs.ChipState.{filled_bytes, is_ram, is_rom};

@@ -1,3 +1,4 @@
+// The pages of a 3853 and the bytes in them.
 ghost use Rattle.std.specs.Prelude.{ℕ, ◌≡◌, ◌*◌, ◌/◌, ◌<◌, IfOk, IfSome, length, is_some, slice_index, if◌then◌else◌};
 ghost use Rattle.f8_spec.specs.ChipState.{byte_in, bytes_with, filled_bytes, is_ram, is_sort_at, place_of};
 ghost use Rattle.chip_face.specs.Fitting.{IsSmiSpec, page_bytes};
@@ -31,7 +32,8 @@ impl Space {
     /// The space of a specification before power-on, or want of memory: all of it is taken here.
     pub fn new(alloc: Global, pages: &[Page], rom: &[u8]) -> Result<Space, AllocError>
         requires { IsSmiSpec pages.now rom.now }
-        ensures contents { IfOk result (λ space. space ≡ record { pages = pages.now; bytes = page_bytes pages.now rom.now }) }
+        ensures contents { IfOk result (λ space. space
+            ≡ record { pages = pages.now; bytes = page_bytes pages.now rom.now }) }
         ensures size { IfOk result (λ space. length space.bytes ≡ length space.pages * 256) }
         ensures below { IfOk result (λ space. (place : ℕ) → slice_index space.bytes place < 256) }
     {
@@ -87,7 +89,8 @@ impl Space {
     #[inline]
     pub fn store(&mut self, at: u16, byte: u8)
         ensures pages { self.new.pages ≡ self.old.pages }
-        ensures bytes { self.new.bytes ≡ (if is_sort_at is_ram self.old.pages at then bytes_with self.old.pages self.old.bytes at byte else self.old.bytes) }
+        ensures bytes { self.new.bytes ≡ (if is_sort_at is_ram self.old.pages at then bytes_with
+            self.old.pages self.old.bytes at byte else self.old.bytes) }
     {
         if let Some(place) = self.place(at) {
             if self.pages[place].sort == PageSort::Ram {

@@ -1,3 +1,4 @@
+// A 3853 through the trait.
 use super::*;
 use chip_face::{Bytes, Chip, ChipKind, ChipSpec, Offer, Page, PageList, PageSort};
 use romc_table::{Counters, Romc};

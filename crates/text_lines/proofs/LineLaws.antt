@@ -1,5 +1,6 @@
 -- Where the first line of a text ends.
-use Rattle.std.proofs.Common.{◌≡◌, ℕ, ◌+◌, ◌<◌, ◌≤◌, Bool, true, List, [], ◌∷◌, ◌++◌, length, length-drop, take, drop, get_or, refl, sym, ◌∙◌, ap, arith, add-one, take-append-drop}
+use Rattle.std.proofs.Common.{◌≡◌, ℕ, ◌+◌, ◌<◌, ◌≤◌, Bool, true, List, [], ◌∷◌, ◌++◌, length, length-drop, take, drop}
+use Rattle.std.proofs.Common.{get_or, refl, sym, ◌∙◌, ap, arith, add-one, take-append-drop}
 use Rattle.std.specs.Prelude.{◌==◌, not}
 use Rattle.std.specs.List.{list_all}
 use Rattle.std.proofs.Math.Seq.{drop-cons}
@@ -46,9 +47,11 @@ pub record NoFeed (n : ℕ) (text : List ℕ) : Type 0 where
   pub is : list_all no_feed (take n text) ≡ true
 
 -- an LF behind these bytes
-pub split_at_feed : (text : List ℕ) (at : ℕ) → NoFeed at text → at < length text → get_or text at 0 ≡ 10 → lines text ≡ without_return (take at text) ∷ lines (drop (at + 1) text)
+pub split_at_feed : (text : List ℕ) (at : ℕ) → NoFeed at text → at < length text → get_or text at 0 ≡ 10 →
+    lines text ≡ without_return (take at text) ∷ lines (drop (at + 1) text)
 split_at_feed text at none within feed =
-    let parts : text ≡ take at text ++ 10 ∷ drop (at + 1) text = sym (take-append-drop at text) ∙ ap (λ r. take at text ++ r) (rw (add-one, ← feed, drop-cons text at 0) refl) in
+    let parts : text ≡ take at text ++ 10 ∷ drop (at + 1) text =
+        sym (take-append-drop at text) ∙ ap (λ r. take at text ++ r) (rw (add-one, ← feed, drop-cons text at 0) refl) in
     ap lines parts ∙ lines_at_feed (take at text) (drop (at + 1) text) none.is
 
 -- no LF at all

@@ -1,3 +1,4 @@
+// Lines and printable characters.
 use super::*;
 use std::test::Fail;
 

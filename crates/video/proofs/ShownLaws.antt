@@ -1,5 +1,6 @@
 -- What is shown after some writes, and after one more.
-use Rattle.std.proofs.Common.{◌≡◌, ◌≢◌, ℕ, ◌+◌, ◌<◌, true, false, List, [], ◌∷◌, ◌++◌, length, get_or, set, map, refl, sym, ap, ◌∙◌, arith, ⊎_elim, eq-eqb, lit<}
+use Rattle.std.proofs.Common.{◌≡◌, ◌≢◌, ℕ, ◌+◌, ◌<◌, true, false, List, [], ◌∷◌, ◌++◌, length, get_or, set, map, refl}
+use Rattle.std.proofs.Common.{sym, ap, ◌∙◌, arith, ⊎_elim, eq-eqb, lit<}
 use Rattle.std.specs.Prelude.{Bool, ◌&&◌, ◌==◌, if◌then◌else◌, codes}
 use Rattle.std.specs.List.{range_with_len}
 use Rattle.std.proofs.lemmas.Simd.{map-map}
@@ -103,7 +104,8 @@ pub after_write-shown : (w : PortWrite) (ws : List PortWrite) → after_write w.
 unfolding after_write
 after_write-shown w ws =
     let strobe : (if w.port == 0 then is_raised w.byte else is_raised (latch_of 0 ws)) ≡ is_raised (latch_of 0 (w ∷ ws)) = strobe-next w ws in
-    let rows : (if is_rise w ws then drawn (latches_of ws) (rows_of (pixels_of ws)) else rows_of (pixels_of ws)) ≡ rows_of (pixels_of (w ∷ ws)) = rows-next w ws in
+    let rows : (if is_rise w ws then drawn (latches_of ws) (rows_of (pixels_of ws)) else rows_of (pixels_of ws))
+        ≡ rows_of (pixels_of (w ∷ ws)) = rows-next w ws in
     ap (λ b. record { latches = latches_of (w ∷ ws); strobe = b; rows = (after_write w.port w.byte (shown ws)).rows }) strobe
     ∙ ap (λ r. record { latches = latches_of (w ∷ ws); strobe = is_raised (latch_of 0 (w ∷ ws)); rows = r }) rows
 

@@ -1,3 +1,4 @@
+// Pixels, palettes and rows.
 use super::*;
 
 // a screen that was given some writes, each a port and a byte

@@ -1,3 +1,4 @@
+// The screen: video memory and the latches of its ports.
 use std::marker::Model;
 
 /// The screen of the console: video memory of 128 by 64 pixels of 2 bits, and the latches of the ports that write it. The rules are this
@@ -58,7 +59,8 @@ impl Screen {
     /// Takes a write to a port. Ports 1, 4 and 5 are latched, a rise of bit 5 of port 0 draws a pixel, and other ports change nothing.
     pub fn port(&mut self, port: u8, byte: u8)
         ensures next { self.new ≡ after_write port byte self.old }
-        ensures display { (phi : ℕ) (ws : List PortWrite) → self.old ≡ shown ws → self.new ≡ shown (record { phi = phi; port = port; byte = byte } ∷ ws) }
+        ensures display { (phi : ℕ) (ws : List PortWrite) → self.old ≡ shown ws →
+            self.new ≡ shown (record { phi = phi; port = port; byte = byte } ∷ ws) }
     {
         match port {
             0 => self.take_strobe(byte),
@@ -115,7 +117,8 @@ impl Screen {
     pub fn row_text(&self, y: u8) -> [u8; 130]
         requires { y < 64 }
         ensures value { result ≡ digits_in (pixel_in self.now.rows) y }
-        ensures display { (ws : List PortWrite) → self.now ≡ shown ws → result ++ codes "\n" ≡ picture_row y ws }
+        ensures display { (ws : List PortWrite) → self.now ≡ shown ws →
+            result ++ codes "\n" ≡ picture_row y ws }
     {
         let mut text = [b' '; 130];
         text[0] = b'0' + self.palette(y);

@@ -11,7 +11,8 @@ returns-in-Err c =
     let size = length-map c.args.tables.now seen_table in
     let at = get_or-map seen_table c.args.tables.now c.loop-index.index c.index-tables-index.result ∙ ap seen_table (sym c.index-tables-index.is) in
     rw c.answer_at.ensures
-    (chips_stop (λ (chips : Vec ChipPlan Global). map seen_chip chips.items) (map seen_table c.args.tables.now) c.loop-index.index (seen_table c.index-tables-index.result) c.in-Err.stop
+    (chips_stop (λ (chips : Vec ChipPlan Global). map seen_chip chips.items)
+    (map seen_table c.args.tables.now) c.loop-index.index (seen_table c.index-tables-index.result) c.in-Err.stop
     (map seen_chip c.loop-index.chips.items) (omega (arith, size)) at c.in-Err.ensures c.loop-index.invariant)
 
 pub loop-index-preserved : goal.loop-index-preserved

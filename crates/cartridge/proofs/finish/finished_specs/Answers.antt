@@ -19,7 +19,8 @@ loop-index-init c = none_finished c.args.specs.items c.args.sources.items c.requ
 pub returns-then-not-rom : goal.returns-then-not-rom
 returns-then-not-rom c =
     first_unfilled (seen_chips c.args.specs.items c.args.sources.items) c.loop-index.index c.loop-index.specs.items c.loop-index.sources.items c.in-Some.rom
-    c.loop-index.invariant (within (goal.at.returns-then-not-rom c).After-take) (sym (rw (sym c.take.ensures.value ∙ c.in-Some.is) at c.index_mut.ensures.value))
+    c.loop-index.invariant (within (goal.at.returns-then-not-rom c).After-take)
+    (sym (rw (sym c.take.ensures.value ∙ c.in-Some.is) at c.index_mut.ensures.value))
     c.if-not-rom.true
 
 pub loop-index-preserved : goal.loop-index-preserved
@@ -42,6 +43,8 @@ returns c =
     let size = length-seen_chips c.args.specs.items c.args.sources.items c.requires.paired in
     let whole = c.args.specs.ok.0 in
     let end : c.loop-index.index ≡ length (seen_chips c.args.specs.items c.args.sources.items) = omega (arith, size, c.len-index-end.ensures, whole) in (
-      none_unfilled (seen_chips c.args.specs.items c.args.sources.items) c.loop-index.index c.loop-index.specs.items c.loop-index.sources.items c.loop-index.invariant end,
-      all_finished (seen_chips c.args.specs.items c.args.sources.items) c.loop-index.index c.loop-index.specs.items c.loop-index.sources.items c.loop-index.invariant end,
+      none_unfilled (seen_chips c.args.specs.items c.args.sources.items) c.loop-index.index c.loop-index.specs.items
+          c.loop-index.sources.items c.loop-index.invariant end,
+      all_finished (seen_chips c.args.specs.items c.args.sources.items) c.loop-index.index c.loop-index.specs.items
+          c.loop-index.sources.items c.loop-index.invariant end,
     )

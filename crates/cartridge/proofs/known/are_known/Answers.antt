@@ -16,5 +16,6 @@ over-keys keys (e ∷ entries) = ap (λ (rest : Bool). is_spelled keys (string_b
 
 pub returns : goal.returns
 returns c =
-    all_from_yields_List (λ name. is_spelled c.args.keys.now (string_bytes name)) _ _ _ c.all.ensures.ran (YieldsList-from_rest (keys_of c.args.table.now.entries) cc) (λ x b q k. search (rules, tests))
+    all_from_yields_List (λ name. is_spelled c.args.keys.now (string_bytes name)) _ _ _ c.all.ensures.ran
+    (YieldsList-from_rest (keys_of c.args.table.now.entries) cc) (λ x b q k. search (rules, tests))
     ∙ over-keys c.args.keys.now c.args.table.now.entries

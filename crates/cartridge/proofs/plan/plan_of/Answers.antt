@@ -10,7 +10,9 @@ use Rattle.cartridge.proofs.plan.plan_of.Goals.{In-None}
 all_read : (c : In-None) → seen_chips c.loop-chip.specs.items c.loop-chip.sources.items ≡ map planned_chip (map seen_chip c.args.cart.chips.items)
 all_read c =
     let gives = c.into_iter-chip-iterator.ensures.into_iter_gives in
-    let read = YieldsList-end (YieldsList-from_vec {s = c.into_iter-chip-iterator.result} c.args.cart.chips.items gives.0 (gives.1 ∙ c.args.cart.chips.ok.0)) c.loop-chip.yielded c.loop-chip.chip-iterator c.loop-chip.yielded_by
+    let read = YieldsList-end (YieldsList-from_vec
+    {s = c.into_iter-chip-iterator.result} c.args.cart.chips.items gives.0 (gives.1 ∙ c.args.cart.chips.ok.0))
+    c.loop-chip.yielded c.loop-chip.chip-iterator c.loop-chip.yielded_by
     c.next.result c.next.new.self c.in-None.is c.next.ensures.steps in
     plans_all c.args.cart.chips.items c.loop-chip.yielded c.loop-chip.specs.items c.loop-chip.sources.items read.0 c.loop-chip.invariant
 

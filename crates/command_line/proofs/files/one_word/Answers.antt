@@ -1,4 +1,6 @@
-use Rattle.std.proofs.Common.{◌≡◌, ◌∙◌, ◌⊎◌, Option, Some, None, map, drop, string_bytes, option_map, ap, ap₂, sym, subst}
+-- What the parser made of one word.
+use Rattle.std.proofs.Common.{◌≡◌, ◌∙◌, ◌⊎◌, Option, Some, None, map, drop, string_bytes, option_map, ap, ap₂, sym}
+use Rattle.std.proofs.Common.{subst}
 use Rattle.clap.specs.Simple.{app_of, is_simple, matches_of, with_rule}
 use Rattle.clap.specs.Faults.{fault_of, is_simple_and_free}
 use Rattle.clap.specs.Kinds.{HasKind}
@@ -20,18 +22,30 @@ pub returns-in_err-matches-clause-refused : goal.returns-in_err-matches-clause-r
 returns-in_err-matches-clause-refused c =
     let name = c.as_str.result.now in
     let words = map string_bytes c.args.words.now in
-    let app_is : app_of c.in_ok-command.command ≡ word_app name = c.in_ok-command.ensures.shape c.wanted.ensures.local ∙ ap₂ with_rule c.bare.ensures c.wanted.ensures.rule in
-    let kinds = subst (λ a. HasKind (fault_of a words) c.in_err-matches.field-0.0) app_is (c.in_err-matches.ensures.kinds (ap is_simple_and_free app_is ∙ one_word_free name)) in
-    passed_up c.from_residual-in_err-matches.result c.in_err-matches.field-0.0 (λ e. (kind_of e ≡ OutOfMemory) ⊎ (one_of (drop 1 words) ≡ None))
+    let app_is : app_of c.in_ok-command.command ≡ word_app name =
+    c.in_ok-command.ensures.shape c.wanted.ensures.local ∙ ap₂ with_rule c.bare.ensures c.wanted.ensures.rule in
+    let kinds =
+    subst (λ a. HasKind (fault_of a words) c.in_err-matches.field-0.0) app_is
+    (c.in_err-matches.ensures.kinds (ap is_simple_and_free app_is ∙ one_word_free name)) in
+    passed_up c.from_residual-in_err-matches.result c.in_err-matches.field-0.0
+    (λ e. (kind_of e ≡ OutOfMemory) ⊎ (one_of (drop 1 words) ≡ None))
     c.from_residual-in_err-matches.ensures.1
-    (refused_is word_row Some (fault_of (word_app name) words) (matches_of (word_app name) words) (one_of (drop 1 words)) (one_word_read name words (words_utf8 c.args.words.now)) c.in_err-matches.field-0.0 kinds)
+    (refused_is word_row Some (fault_of (word_app name) words) (matches_of (word_app name) words) (one_of (drop 1 words))
+    (one_word_read name words (words_utf8 c.args.words.now)) c.in_err-matches.field-0.0 kinds)
 
 pub returns-clause-word : goal.returns-clause-word
 returns-clause-word c =
     let name = c.as_str.result.now in
     let words = map string_bytes c.args.words.now in
-    let app_is : app_of c.in_ok-command.command ≡ word_app name = c.in_ok-command.ensures.shape c.wanted.ensures.local ∙ ap₂ with_rule c.bare.ensures c.wanted.ensures.rule in
-    let none = ap (λ a. fault_of a words) (sym app_is) ∙ c.in_ok-matches.ensures.kinds (ap is_simple_and_free app_is ∙ one_word_free name) in
-    let rows = (c.in_ok-matches.ensures.matches (ap is_simple app_is ∙ one_word_simple name)).0 ∙ ap (λ a. matches_of a words) app_is in
+    let app_is : app_of c.in_ok-command.command ≡ word_app name =
+    c.in_ok-command.ensures.shape c.wanted.ensures.local ∙ ap₂ with_rule c.bare.ensures c.wanted.ensures.rule in
+    let none =
+    ap (λ a. fault_of a words) (sym app_is)
+    ∙ c.in_ok-matches.ensures.kinds (ap is_simple_and_free app_is ∙ one_word_free name) in
+    let rows =
+    (c.in_ok-matches.ensures.matches (ap is_simple app_is ∙ one_word_simple name)).0
+    ∙ ap (λ a. matches_of a words) app_is in
     c.get_str.ensures ∙ (first_value-rows (found_of c.in_ok-matches.matches) _ ∙ (ap word_row rows
-    ∙ some_is _ _ (given_is word_row Some (fault_of (word_app name) words) (matches_of (word_app name) words) (one_of (drop 1 words)) (one_word_read name words (words_utf8 c.args.words.now)) none)))
+    ∙ some_is _ _
+    (given_is word_row Some (fault_of (word_app name) words) (matches_of (word_app name) words) (one_of (drop 1 words))
+    (one_word_read name words (words_utf8 c.args.words.now)) none)))

@@ -1,3 +1,4 @@
+-- A command as clap's definitions see it.
 use Rattle.std.proofs.Common.{◌∙◌, true, ap}
 use Rattle.clap.specs.Simple.{app_of_fields, on_top}
 use Rattle.command_line.proofs.parsers.bare.Goals as goal

@@ -1,4 +1,6 @@
-use Rattle.std.proofs.Common.{◌≡◌, ◌∙◌, ◌⊎◌, rules, List, Bool, true, false, codes, Option, Some, None, map, drop, string_bytes, option_map, ap, ap₂, sym, subst}
+-- What the parser made of the words of a run.
+use Rattle.std.proofs.Common.{◌≡◌, ◌∙◌, ◌⊎◌, rules, List, Bool, true, false, codes, Option, Some, None, map, drop}
+use Rattle.std.proofs.Common.{string_bytes, option_map, ap, ap₂, sym, subst}
 use Rattle.std.specs.Option.{option_zip}
 use Rattle.clap.specs.Simple.{app_of, is_simple, matches_of, with_rule}
 use Rattle.clap.specs.Faults.{fault_of, is_simple_and_free}
@@ -17,7 +19,8 @@ use Rattle.command_line.proofs.PlayRun.{RunRow, run_given, run_row, play_app, pl
 use Rattle.command_line.proofs.play.play.Goals as goal
 
 -- what the flag's value reads as
-flag_is : (read : Bool) (text : Option Text) (traced : Bool) → text ≡ Some (bool_text traced) → (text ≡ Some (codes "true") → read ≡ true)
+flag_is : (read : Bool) (text : Option Text) (traced : Bool) → text ≡ Some (bool_text traced) →
+    (text ≡ Some (codes "true") → read ≡ true)
     → (text ≡ Some (codes "false") → read ≡ false) → read ≡ traced
 flag_is read text true is on off = on is
 flag_is read text false is on off = off is
@@ -33,9 +36,12 @@ files_are run read (Some a) (Some b) e f g =
     let script_is : b.now ≡ run.script = cc in
     λ i. Some (Play (cart_is i) (script_is i) (g i))
 
-run_is : (asked : Option Run) (read : Bool) (cart script : Option (Bor Text)) (rows : List Row) → option_map run_given asked ≡ Some (run_row rows)
-    → (one_of (codes "trace") rows ≡ Some (codes "true") → read ≡ true) → (one_of (codes "trace") rows ≡ Some (codes "false") → read ≡ false)
-    → option_map (λ s. s.now) cart ≡ first_of (codes "cart") rows → option_map (λ s. s.now) script ≡ first_of (codes "script") rows
+run_is : (asked : Option Run) (read : Bool) (cart script : Option (Bor Text)) (rows : List Row) →
+    option_map run_given asked ≡ Some (run_row rows)
+    → (one_of (codes "trace") rows ≡ Some (codes "true") → read ≡ true) →
+    (one_of (codes "trace") rows ≡ Some (codes "false") → read ≡ false)
+    → option_map (λ s. s.now) cart ≡ first_of (codes "cart") rows →
+    option_map (λ s. s.now) script ≡ first_of (codes "script") rows
     → option_map (λ files. Play files.0.now files.1.now read) (option_zip cart script) ≡ option_map played asked
 run_is None read cart script rows e on off f g = cc
 run_is (Some run) read cart script rows e on off f g =
@@ -53,7 +59,8 @@ returns-in_err-matches-clause-refused c =
     c.in_ok-command.ensures.shape c.wanted-2.ensures.local ∙ ap₂ with_rule first c.wanted-2.ensures.rule in
     let kinds = subst (λ a. HasKind (fault_of a words) c.in_err-matches.field-0.0) app_is
     (c.in_err-matches.ensures.kinds (ap is_simple_and_free app_is ∙ play_free name)) in
-    passed_up c.from_residual-in_err-matches.result c.in_err-matches.field-0.0 (λ e. (kind_of e ≡ OutOfMemory) ⊎ (run_of (drop 1 words) ≡ None))
+    passed_up c.from_residual-in_err-matches.result c.in_err-matches.field-0.0
+    (λ e. (kind_of e ≡ OutOfMemory) ⊎ (run_of (drop 1 words) ≡ None))
     c.from_residual-in_err-matches.ensures.1
     (refused_is run_row run_given (fault_of (play_app name) words) (matches_of (play_app name) words) (run_of (drop 1 words))
     (play_read name words (words_utf8 c.args.words.now)) c.in_err-matches.field-0.0 kinds)
@@ -66,8 +73,12 @@ returns-clause-run c =
     let first = c.in_ok-arg-2.ensures.shape c.wanted.ensures.local ∙ ap₂ with_rule flagged c.wanted.ensures.rule in
     let app_is : app_of c.in_ok-command.command ≡ play_app name =
     c.in_ok-command.ensures.shape c.wanted-2.ensures.local ∙ ap₂ with_rule first c.wanted-2.ensures.rule in
-    let none = ap (λ a. fault_of a words) (sym app_is) ∙ c.in_ok-matches.ensures.kinds (ap is_simple_and_free app_is ∙ play_free name) in
-    let rows = (c.in_ok-matches.ensures.matches (ap is_simple app_is ∙ play_simple name)).0 ∙ ap (λ a. matches_of a words) app_is in
+    let none =
+    ap (λ a. fault_of a words) (sym app_is)
+    ∙ c.in_ok-matches.ensures.kinds (ap is_simple_and_free app_is ∙ play_free name) in
+    let rows =
+    (c.in_ok-matches.ensures.matches (ap is_simple app_is ∙ play_simple name)).0
+    ∙ ap (λ a. matches_of a words) app_is in
     let found = found_of c.in_ok-matches.matches in
     let flag = one_text-rows found (codes "trace") in
     let asked = run_of (drop 1 words) in
@@ -76,6 +87,7 @@ returns-clause-run c =
     let seen : option_map seen_command c.map.result
     ≡ option_map (λ files. Play files.0.now files.1.now c.get_flag-traced.result) c.zip-files.result = search rules in
     seen ∙ ap (option_map (λ files. Play files.0.now files.1.now c.get_flag-traced.result)) c.zip-files.ensures
-    ∙ run_is asked c.get_flag-traced.result c.get_str.result c.get_str-2.result (rows_of found) (given ∙ ap Some (ap run_row (sym rows)))
+    ∙ run_is asked c.get_flag-traced.result c.get_str.result c.get_str-2.result (rows_of found)
+    (given ∙ ap Some (ap run_row (sym rows)))
     (λ on. c.get_flag-traced.ensures.value (flag ∙ on)) (λ off. c.get_flag-traced.ensures.other (flag ∙ off))
     (c.get_str.ensures ∙ first_value-rows found _) (c.get_str-2.ensures ∙ first_value-rows found _)

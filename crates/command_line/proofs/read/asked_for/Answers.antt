@@ -1,4 +1,6 @@
-use Rattle.std.proofs.Common.{◌≡◌, ◌∙◌, ◌<◌, Bool, true, false, List, [], ◌∷◌, None, String, string_bytes, codes, bytes_eq, get_or, length, map, arith, refl, sym, ap}
+-- The first word is no command.
+use Rattle.std.proofs.Common.{◌≡◌, ◌∙◌, ◌<◌, Bool, true, false, List, [], ◌∷◌, None, String, string_bytes, codes}
+use Rattle.std.proofs.Common.{bytes_eq, get_or, length, map, arith, refl, sym, ap}
 use Rattle.std.proofs.lemmas.Slice.Eq.{bytes_eq-Decides}
 use Rattle.clap.specs.Walk.{Text}
 use Rattle.command_line.specs.CommandLine.{command_of}
@@ -12,7 +14,8 @@ differs word other never = go (bytes_eq word other) refl
     go false e = e
 
 -- the first word is no command
-unknown : {Z : Type 0} (words : List (String Z)) (name : String Z) (text : Text) → 0 < length words → name ≡ get_or words 0 name → text ≡ string_bytes name
+unknown : {Z : Type 0} (words : List (String Z)) (name : String Z) (text : Text) → 0 < length words →
+    name ≡ get_or words 0 name → text ≡ string_bytes name
     → (text ≡ codes "play" → ⊥) → (text ≡ codes "ref" → ⊥) → (text ≡ codes "asm" → ⊥) → (text ≡ codes "dis" → ⊥)
     → (text ≡ codes "gen" → ⊥) → None ≡ command_of (map string_bytes words)
 unknown [] name text lt at is no_play no_ref no_asm no_dis no_gen = absurd (omega arith)
@@ -29,4 +32,5 @@ pub returns-in_default-as_str-clause-asked : goal.returns-in_default-as_str-clau
 returns-in_default-as_str-clause-asked c =
     let first = c.in-Some.ensures.item in
     unknown c.args.words.now c.in-Some.name.now c.as_str.result.now first.3.0 first.1 c.as_str.ensures.value
-    c.in_default-as_str.not-play c.in_default-as_str.not-ref c.in_default-as_str.not-asm c.in_default-as_str.not-dis c.in_default-as_str.not-gen
+    c.in_default-as_str.not-play c.in_default-as_str.not-ref c.in_default-as_str.not-asm c.in_default-as_str.not-dis
+    c.in_default-as_str.not-gen

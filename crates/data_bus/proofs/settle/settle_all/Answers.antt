@@ -6,7 +6,8 @@ use Rattle.data_bus.proofs.settle.settle_all.Goals as goal
 
 pub settle_at-requires : goal.settle_at-requires
 settle_at-requires g c =
-    let kept = unchanged_at (λ b. (goal.Chip-dyn g (b.vtable, b.value)).state b.value) (SettlesStep c.args.cycle.now.romc c.args.cycle.now.long c.args.cycle.now.first c.args.byte)
+    let kept = unchanged_at (λ b. (goal.Chip-dyn g (b.vtable, b.value)).state b.value)
+    (SettlesStep c.args.cycle.now.romc c.args.cycle.now.long c.args.cycle.now.first c.args.byte)
     c.deref_mut-chip-items.result.now c.loop-i.chip-items c.loop-i.i c.chip-item.result c.loop-i-test.true c.loop-i.auto.chip-items c.loop-i.invariant in
     c.requires.chosen c.loop-i.i _ (rw c.deref_mut-chip-items.ensures.value at kept)
 
@@ -15,8 +16,10 @@ loop-i-init g c = changed-none _ _
 
 pub loop-i-preserved : goal.loop-i-preserved
 loop-i-preserved g c =
-    changed-more (λ b. (goal.Chip-dyn g (b.vtable, b.value)).state b.value) (SettlesStep c.args.cycle.now.romc c.args.cycle.now.long c.args.cycle.now.first c.args.byte)
-    c.deref_mut-chip-items.result.now c.loop-i.chip-items c.loop-i.i c.chip-item.result c.settle_at.new.chip c.loop-i-test.true c.loop-i.auto.chip-items c.loop-i.invariant c.settle_at.ensures
+    changed-more (λ b. (goal.Chip-dyn g (b.vtable, b.value)).state b.value)
+    (SettlesStep c.args.cycle.now.romc c.args.cycle.now.long c.args.cycle.now.first c.args.byte)
+    c.deref_mut-chip-items.result.now c.loop-i.chip-items c.loop-i.i c.chip-item.result c.settle_at.new.chip
+    c.loop-i-test.true c.loop-i.auto.chip-items c.loop-i.invariant c.settle_at.ensures
 
 pub returns : goal.returns
 returns g c =

@@ -4,4 +4,5 @@ use Rattle.data_bus.proofs.Judging.{poll_answer-polled}
 use Rattle.data_bus.proofs.transfer.ruling.Goals as goal
 
 pub returns : goal.returns
-returns g c = c.decide.ensures ∙ rw (c.gather-poll.ensures, c.rule_of.ensures.table, c.reference_of.ensures) (poll_answer-polled c.args.cycle.now _ _ c.rule_of.ensures.below)
+returns g c = c.decide.ensures ∙ rw (c.gather-poll.ensures, c.rule_of.ensures.table, c.reference_of.ensures)
+    (poll_answer-polled c.args.cycle.now _ _ c.rule_of.ensures.below)

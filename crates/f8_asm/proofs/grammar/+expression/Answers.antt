@@ -15,12 +15,16 @@ pub level-returns-in_err-right-clause-value : goal.level-returns-in_err-right-cl
 level-returns-in_err-right-clause-value t c =
     let front = c.in-Some.ensures.cases.0 in
     let told = err_from_is_err_and c.from_residual-in_err-right.result c.from_residual-in_err-right.ensures.1 in
-    rw (told.1, told.2) (sym (chain_fails _ _ _ (rw front at c.loop-first.invariant.on) c.in-Some-operator_at.operator c.in_err-right.field-0.0 c.in-Some-operator_at.ensures c.in_err-right.ensures.value))
+    rw (told.1, told.2) (sym (chain_fails _ _ _
+    (rw front at c.loop-first.invariant.on) c.in-Some-operator_at.operator c.in_err-right.field-0.0
+    c.in-Some-operator_at.ensures c.in_err-right.ensures.value))
 
 pub level-loop-first-preserved : goal.level-loop-first-preserved
 level-loop-first-preserved t c =
     let front = c.in-Some.ensures.cases.0 in
-    let more = chain_goes _ _ _ (rw front at c.loop-first.invariant.on) c.in-Some-operator_at.operator c.in_ok-right.right c.in_ok-right.after.now c.in-Some-operator_at.ensures c.in_ok-right.ensures.value c.in_ok-right.ensures.consumes in
+    let more = chain_goes _ _ _ (rw front at c.loop-first.invariant.on) c.in-Some-operator_at.operator
+    c.in_ok-right.right c.in_ok-right.after.now c.in-Some-operator_at.ensures c.in_ok-right.ensures.value
+    c.in_ok-right.ensures.consumes in
     record { on = rw c.both-left.ensures more; less = omega (arith, ap length front, c.in_ok-right.ensures.consumes) }
 
 pub level-returns-clause-value : goal.level-returns-clause-value
@@ -28,21 +32,29 @@ level-returns-clause-value t c =
     let none = nil_from_length c.loop-first.rest.now c.in_default.ensures.cases in
     rw none (sym (chain_ends _ _ _ (rw none at c.loop-first.invariant.on)))
 
-pub opened-returns-then-depth-eq0-clause-value : goal.opened-returns-then-depth-eq0-clause-value
-opened-returns-then-depth-eq0-clause-value t c = rw c.form.ensures (opened_none _ c.args.depth c.args.column c.args.mark c.args.tokens.now (grind (arith, nat_tests)) (grind (arith, nat_tests)))
+pub mark_operand-returns-then-depth-eq0-clause-value : goal.mark_operand-returns-then-depth-eq0-clause-value
+mark_operand-returns-then-depth-eq0-clause-value t c =
+    rw c.form.ensures (opened_none _ c.args.depth c.args.column c.args.mark c.args.tokens.now (grind (arith, nat_tests))
+    (grind (arith, nat_tests)))
 
-pub opened-returns-in-45-clause-value : goal.opened-returns-in-45-clause-value
-opened-returns-in-45-clause-value t c = c.behind_prefix.ensures.value ∙ opened_minus _ c.args.depth c.args.column c.args.mark c.args.tokens.now (grind (arith, nat_tests)) (omega arith)
+pub mark_operand-returns-in-45-clause-value : goal.mark_operand-returns-in-45-clause-value
+mark_operand-returns-in-45-clause-value t c = c.behind_prefix.ensures.value
+    ∙ opened_minus _ c.args.depth c.args.column c.args.mark c.args.tokens.now (grind (arith, nat_tests)) (omega arith)
 
-pub opened-returns-in-60-clause-value : goal.opened-returns-in-60-clause-value
-opened-returns-in-60-clause-value t c = c.behind_prefix-in-60.ensures.value ∙ opened_low _ c.args.depth c.args.column c.args.mark c.args.tokens.now (grind (arith, nat_tests)) (omega arith)
+pub mark_operand-returns-in-60-clause-value : goal.mark_operand-returns-in-60-clause-value
+mark_operand-returns-in-60-clause-value t c = c.behind_prefix-in-60.ensures.value
+    ∙ opened_low _ c.args.depth c.args.column c.args.mark c.args.tokens.now (grind (arith, nat_tests)) (omega arith)
 
-pub opened-returns-in-62-clause-value : goal.opened-returns-in-62-clause-value
-opened-returns-in-62-clause-value t c = c.behind_prefix-in-62.ensures.value ∙ opened_high _ c.args.depth c.args.column c.args.mark c.args.tokens.now (grind (arith, nat_tests)) (omega arith)
+pub mark_operand-returns-in-62-clause-value : goal.mark_operand-returns-in-62-clause-value
+mark_operand-returns-in-62-clause-value t c = c.behind_prefix-in-62.ensures.value
+    ∙ opened_high _ c.args.depth c.args.column c.args.mark c.args.tokens.now (grind (arith, nat_tests)) (omega arith)
 
-pub opened-returns-in-40-clause-value : goal.opened-returns-in-40-clause-value
-opened-returns-in-40-clause-value t c = c.parenthesised.ensures.value ∙ opened_parenthesis _ c.args.depth c.args.column c.args.mark c.args.tokens.now (grind (arith, nat_tests)) (omega arith)
+pub mark_operand-returns-in-40-clause-value : goal.mark_operand-returns-in-40-clause-value
+mark_operand-returns-in-40-clause-value t c = c.parenthesis_expression.ensures.value
+    ∙ opened_parenthesis _ c.args.depth c.args.column c.args.mark c.args.tokens.now (grind (arith, nat_tests))
+    (omega arith)
 
 pub operand-returns-in-Mark-clause-value : goal.operand-returns-in-Mark-clause-value
 operand-returns-in-Mark-clause-value t c =
-    rw c.in-Some.ensures.cases.0 (c.opened.ensures.value ∙ operand_mark _ c.args.depth c.in-Mark.mark c.in-Some.first.now c.in-Some.behind.now (sym c.in-Mark.is))
+    rw c.in-Some.ensures.cases.0 (c.mark_operand.ensures.value
+    ∙ operand_mark _ c.args.depth c.in-Mark.mark c.in-Some.first.now c.in-Some.behind.now (sym c.in-Mark.is))

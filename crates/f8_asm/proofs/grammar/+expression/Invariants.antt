@@ -5,11 +5,11 @@ use Rattle.f8_asm.proofs.Chain.{ChainOn}
 use Rattle.f8_asm.proofs.grammar.+expression.Given as goal
 
 -- each call opens one more, or goes to a tighter operator, or from an operand to what it is made of
-abbrev pub decreases-parenthesised : goal.decreases-parenthesised
-decreases-parenthesised l = 16 * l.depth + 8
+abbrev pub decreases-parenthesis_expression : goal.decreases-parenthesis_expression
+decreases-parenthesis_expression l = 16 * l.depth + 8
 
-abbrev pub decreases-opened : goal.decreases-opened
-decreases-opened l = 16 * l.depth
+abbrev pub decreases-mark_operand : goal.decreases-mark_operand
+decreases-mark_operand l = 16 * l.depth
 
 abbrev pub decreases-behind_prefix : goal.decreases-behind_prefix
 decreases-behind_prefix l = 16 * l.depth + 2

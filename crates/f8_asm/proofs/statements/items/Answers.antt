@@ -19,9 +19,12 @@ pub returns-in_err-rest : goal.returns-in_err-rest
 returns-in_err-rest c =
     let told = err_from_is_err_and c.from_residual-in_err-rest.result c.from_residual-in_err-rest.ensures.1 in
     let some : 0 < length c.in_ok-operand.behind.now = grind (arith, nat_tests) in
-    rw (told.1, told.2) (on_no_comma _ c.loop-found.invariant c.in_ok-operand.behind.now c.in_ok-operand.operand c.in_err-rest.field-0.0 some c.in_ok-operand.ensures.value c.in_err-rest.ensures.value)
+    rw (told.1, told.2) (on_no_comma _ c.loop-found.invariant c.in_ok-operand.behind.now c.in_ok-operand.operand
+    c.in_err-rest.field-0.0 some c.in_ok-operand.ensures.value c.in_err-rest.ensures.value)
 
 pub loop-found-preserved : goal.loop-found-preserved
 loop-found-preserved c =
     let some : 0 < length c.in_ok-operand.behind.now = grind (arith, nat_tests) in
-    rw c.in_ok-push.ensures.items (on_comma _ c.loop-found.invariant c.in_ok-operand.behind.now c.in_ok-rest.rest.now c.in_ok-operand.operand some c.in_ok-operand.ensures.value c.in_ok-rest.ensures.value (omega (arith, c.in_ok-rest.ensures.consumes, c.in_ok-operand.ensures.consumes)))
+    rw c.in_ok-push.ensures.items (on_comma _ c.loop-found.invariant c.in_ok-operand.behind.now c.in_ok-rest.rest.now
+    c.in_ok-operand.operand some c.in_ok-operand.ensures.value c.in_ok-rest.ensures.value
+    (omega (arith, c.in_ok-rest.ensures.consumes, c.in_ok-operand.ensures.consumes)))

@@ -8,4 +8,7 @@ loop-count-preserved c = c.in_ok-push.ensures.items ∙ ap (λ r. r ++ None ∷ 
 pub returns : goal.returns
 returns c =
     let all : c.loop-count._count ≡ 65536 = omega arith in
-    record { value = are_no_bytes c.loop-count._count c.loop-count.table.items all c.loop-count.invariant; length = all_addresses c.loop-count._count c.loop-count.table.items all c.loop-count.invariant }
+    record {
+      value = are_no_bytes c.loop-count._count c.loop-count.table.items all c.loop-count.invariant;
+      length = all_addresses c.loop-count._count c.loop-count.table.items all c.loop-count.invariant;
+    }

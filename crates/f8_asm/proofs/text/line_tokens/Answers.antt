@@ -15,9 +15,13 @@ returns-in-Ok-tokens c =
 pub returns-in-Err-Bad : goal.returns-in-Err-Bad
 returns-in-Err-Bad c =
     let is = c.in-Ok.ensures.cases in
-    rw c.fault-in-Err-Bad.ensures (some_utf8 c.args.number c.args.bytes.now is.1 ∙ ap (tokens_in c.args.number) (ap tokens_of (sym is.0) ∙ rw c.in-Err-Bad.field-0-is at c.in-Err-Bad.ensures.err))
+    rw c.fault-in-Err-Bad.ensures (some_utf8 c.args.number c.args.bytes.now is.1
+    ∙ ap (tokens_in c.args.number) (ap tokens_of (sym is.0)
+    ∙ rw c.in-Err-Bad.field-0-is at c.in-Err-Bad.ensures.err))
 
 pub returns-in-Err-Wide : goal.returns-in-Err-Wide
 returns-in-Err-Wide c =
     let is = c.in-Ok.ensures.cases in
-    rw c.fault-in-Err-Wide.ensures (some_utf8 c.args.number c.args.bytes.now is.1 ∙ ap (tokens_in c.args.number) (ap tokens_of (sym is.0) ∙ rw c.in-Err-Wide.field-0-is at c.in-Err-Wide.ensures.err))
+    rw c.fault-in-Err-Wide.ensures (some_utf8 c.args.number c.args.bytes.now is.1
+    ∙ ap (tokens_in c.args.number) (ap tokens_of (sym is.0)
+    ∙ rw c.in-Err-Wide.field-0-is at c.in-Err-Wide.ensures.err))

@@ -1,18 +1,19 @@
 use Rattle.std.proofs.lemmas.Result.{err_from_is_err_and}
-use Rattle.pad_script.specs.Reading.{seen}
-use Rattle.loader.proofs.GamesLoaded.{game_loaded, game_stops}
+use Rattle.loader.proofs.GamesLoaded.{game_loaded, game_without_chips, game_without_script}
 use Rattle.loader.proofs.loading.load_game.Goals as goal
+
+pub returns-in_err-chips-clause-works : goal.returns-in_err-chips-clause-works
+returns-in_err-chips-clause-works g c =
+    let stopped = err_from_is_err_and c.from_residual.result c.from_residual.ensures.1 in
+    rw (stopped.1, stopped.2) (game_without_chips _ _ c.args.cart.now c.args.script.now _ c.in_err-chips.ensures)
 
 pub returns-in_err-script-clause-works : goal.returns-in_err-script-clause-works
 returns-in_err-script-clause-works g c =
-    let told = err_from_is_err_and c.from_residual-in_err-script.result c.from_residual-in_err-script.ensures.1 in
-    rw (told.1, told.2)
-    (game_stops (g.S.Store.files c.args.store.now) (g.S.Store.files c.load_chips.new.store) (g.S.Store.files c.load_script.new.store) (g.S.Store.faults c.args.store.now) (g.S.Store.faults c.load_chips.new.store)
-    (g.S.Store.faults c.load_script.new.store) (g.S.Store.fetches c.args.store.now) (g.S.Store.fetches c.load_chips.new.store) (g.S.Store.fetches c.load_script.new.store) c.args.cart.now c.args.script.now
-    c.in_ok-chips.chips c.in_err-script.field-0.0 c.in_ok-chips.ensures c.in_err-script.ensures.works)
+    let stopped = err_from_is_err_and c.from_residual-in_err-script.result c.from_residual-in_err-script.ensures.1 in
+    rw (stopped.1, stopped.2)
+    (game_without_script _ _ _ c.args.cart.now c.args.script.now _ _ c.in_ok-chips.ensures c.in_err-script.ensures.works
+    c.in_err-script.ensures.order)
 
 pub returns-clause-works : goal.returns-clause-works
 returns-clause-works g c =
-    game_loaded (g.S.Store.files c.args.store.now) (g.S.Store.files c.load_chips.new.store) (g.S.Store.files c.load_script.new.store) (g.S.Store.faults c.args.store.now) (g.S.Store.faults c.load_chips.new.store)
-    (g.S.Store.faults c.load_script.new.store) (g.S.Store.fetches c.args.store.now) (g.S.Store.fetches c.load_chips.new.store) (g.S.Store.fetches c.load_script.new.store) c.args.cart.now c.args.script.now
-    c.in_ok-chips.chips (seen c.in_ok-script.script) c.in_ok-chips.ensures c.in_ok-script.ensures.works
+    game_loaded _ _ _ c.args.cart.now c.args.script.now _ _ c.in_ok-chips.ensures c.in_ok-script.ensures.works

@@ -7,8 +7,7 @@ use Rattle.loader.proofs.sources.fill_sources.Given as goal
 
 abbrev pub invariant-loop-chip : goal.invariant-loop-chip
 invariant-loop-chip g l = record {
-  works : Works (g.S.Store.files l.fn.store) (g.S.Store.files l.store) (g.S.Store.faults l.fn.store) (g.S.Store.faults l.store) (g.S.Store.fetches l.fn.store) (g.S.Store.fetches l.store)
-      (filled_up_to l.chip l.fn.plan) (Ok l.plan);
+  works : Works (g.S.Store.input l.fn.store) (g.S.Store.input l.store) (filled_up_to l.chip l.fn.plan) (Ok l.plan);
   none : NoneWants l.chip l.plan.chips;
   size : length l.plan.chips ≡ length l.fn.plan.chips;
 }

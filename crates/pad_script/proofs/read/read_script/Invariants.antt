@@ -1,12 +1,13 @@
-use Rattle.std.proofs.Common.{◌≡◌, ◌+◌, ◌≤◌, length}
+-- The lines so far are read into the draft, and each takes a byte.
+use Rattle.std.proofs.Common.{◌≡◌, ◌+◌, ◌≤◌, List, ◌++◌, ℕ, length}
 use Rattle.text_lines.specs.Lines.{lines}
-use Rattle.pad_script.specs.Reading.{read_lines, no_draft}
+use Rattle.pad_script.specs.Reading.{Draft}
+use Rattle.pad_script.proofs.LineSteps.{Reads}
 use Rattle.pad_script.proofs.read.read_script.Given as goal
 
--- the lines read and those that follow make the whole, and each line takes a byte
 abbrev pub invariant-loop-rest : goal.invariant-loop-rest
 invariant-loop-rest l = record {
-  is : read_lines l.number l.draft (lines l.rest) ≡ read_lines 1 no_draft (lines l.text);
+  reads : Reads l.text l.rest l.number l.draft;
   counted : 1 ≤ l.number;
   room : l.number + length l.rest ≤ length l.text + 1;
 }

@@ -1,3 +1,4 @@
+-- The first word ends at the first blank.
 use Rattle.std.proofs.Common.{◌≡◌, arith, get_or}
 use Rattle.std.proofs.lemmas.Bool.Decides.{nat_tests}
 use Rattle.std.proofs.lemmas.List.{take_rest}

@@ -1,3 +1,4 @@
+-- No blank stands before this place.
 use Rattle.pad_script.proofs.WordLaws.{NoBlank}
 use Rattle.pad_script.proofs.words.first_word.Given as goal
 

@@ -1,47 +1,33 @@
--- An instruction, with what is told of it.
-use Rattle.std.proofs.Common.{◌≡◌, ◌∙◌, sym, ap, arith}
+-- An instruction, with what is told of its end and the events behind it.
+use Rattle.std.proofs.Common.{◌∙◌, sym, ap}
+use Rattle.std.proofs.lemmas.Result.{err_from_is_err_and}
+use Rattle.pad_script.specs.Reading.{seen}
 use Rattle.rack_run.proofs.Progressed.{frame_falls}
-use Rattle.rack_run.proofs.TurnLaws.{told_by, told_kept, told_fails, end_fails, end_told, turn_stops, progress_kept}
+use Rattle.rack_run.proofs.TurnLaws.{cuts_first, fails_behind, goes_on, keeps_turn}
 use Rattle.rack_run.proofs.run.turn.Goals as goal
 
+pub returns-in_err-wrote-clause-cut : goal.returns-in_err-wrote-clause-cut
+returns-in_err-wrote-clause-cut g c = λ x at keeps.
+    let p = err_from_is_err_and c.from_residual.result c.from_residual.ensures.1 in
+    rw (p.1, p.2)
+    (cuts_first c.args.detail (g.P.Player.way c.args.detail) (seen c.args.script.now) x (g.P.Player.readout c.advance.new.self)
+    c.args.progress.now _ _ _ _ keeps c.in_err-wrote.field-0.0 (c.in_err-wrote.ensures.cut x at))
+
 pub returns-in_default-clause-cut : goal.returns-in_default-clause-cut
-returns-in_default-clause-cut g c = λ x r keeps.
-    told_fails _ _ x c.instr-outcome.result _ _ _ _
-    (c.instr-outcome.ensures.refines x r) c.instr-outcome.ensures.ran c.in_default.field-0 _ _ _ _ c.in_default.ensures
+returns-in_default-clause-cut g c = λ x at keeps.
+    let done = c.in_ok-wrote.ensures.goes x at in
+    let phi = c.clocks.ensures ∙ ap (λ r. r.phi) (g.met.P.Player.reads c.advance.new.self _ done.there done.at) in
+    let puts = c.in_default.ensures.puts x done.there keeps (sym phi) done.writes in
+    fails_behind c.args.detail (g.P.Player.way c.args.detail) (seen c.args.script.now) x _ _ _ _ _ _ done _ puts.some puts.err
 
-pub tell_end-requires-clause-onward : goal.tell_end-requires-clause-onward
-tell_end-requires-clause-onward g c = omega (arith, c.requires.phi, c.phi.ensures, c.instr-outcome.ensures.onward)
-
-pub returns-in_default-tell_end-clause-cut : goal.returns-in_default-tell_end-clause-cut
-returns-in_default-tell_end-clause-cut g c = λ x r keeps.
-    let refines = c.instr-outcome.ensures.refines x r in
-    let done = rw c.in-Done.is at refines in
-    end_fails _ _ x c.instr-outcome.result _ _ _ _ refines c.instr-outcome.ensures.ran c.in-Ok.field-0 _ _ _ _ c.in-Ok.ensures
-    done.after done.turns c.in_default-tell_end.field-0 _ _
-    (c.in_default-tell_end.ensures.puts x done.after keeps (sym (c.phi.ensures ∙ done.represents.stands.phi)) done.written)
-
-pub returns-in-Ok-tell_end-clause-goes : goal.returns-in-Ok-tell_end-clause-goes
-returns-in-Ok-tell_end-clause-goes g c = λ x r keeps.
-    let refines = c.instr-outcome.ensures.refines x r in
-    let done = rw c.in-Done.is at refines in
-    let phi : c.phi.result ≡ done.after.flat.state.phi = c.phi.ensures ∙ done.represents.stands.phi in
-    let kept = progress_kept c.in-Done.wrote _ _ x done.after c.phi.result keeps done.turns done.written phi c.tell_end.ensures.after in
-    end_told _ _ x c.instr-outcome.result _ _ _ _ refines c.instr-outcome.ensures.ran c.in-Ok.field-0 _ _ _ _ c.in-Ok.ensures
-    done.after done.turns c.in-Ok-tell_end.fallen _ _ _ _ _
-    (c.in-Ok-tell_end.ensures.puts x done.after keeps (sym phi) done.written) kept
-    (c.happen_behind.ensures.behind x done.after done.represents kept
-    (c.in-Ok-tell_end.ensures.fallen ∙ frame_falls _ x.flat.state done.after.flat.state c.phi.result keeps phi))
-
-pub returns-in-Fault-clause-cut : goal.returns-in-Fault-clause-cut
-returns-in-Fault-clause-cut g c = λ x r keeps.
-    let refines = c.instr-outcome.ensures.refines x r in
-    let faulted = rw c.in-Fault.is at refines in
-    turn_stops _ _ x c.instr-outcome.result _ _ _ _ refines c.instr-outcome.ensures.ran c.in-Ok.field-0 _ _ _ _ c.in-Ok.ensures _ _ faulted.turns
-    (told_kept _ _ _ (told_by _ _ x r) (ap (λ m. m.flow) faulted.kept) (ap (λ m. m.cpu) faulted.kept) (ap (λ m. m.phi) faulted.kept)) keeps
-
-pub returns-in-Reserved-clause-cut : goal.returns-in-Reserved-clause-cut
-returns-in-Reserved-clause-cut g c = λ x r keeps.
-    let refines = c.instr-outcome.ensures.refines x r in
-    let halted = rw c.in-Reserved.is at refines in
-    turn_stops _ _ x c.instr-outcome.result _ _ _ _ refines c.instr-outcome.ensures.ran c.in-Ok.field-0 _ _ _ _ c.in-Ok.ensures _ _ halted.turns
-    (told_kept _ _ _ (told_by _ _ x r) (ap (λ m. m.flow) halted.kept) (ap (λ m. m.cpu) halted.kept) (ap (λ m. m.phi) halted.kept)) keeps
+pub returns-clause-goes : goal.returns-clause-goes
+returns-clause-goes g c = λ x at keeps.
+    let done = c.in_ok-wrote.ensures.goes x at in
+    let phi = c.clocks.ensures ∙ ap (λ r. r.phi) (g.met.P.Player.reads c.advance.new.self _ done.there done.at) in
+    let puts = c.in-Ok.ensures.puts x done.there keeps (sym phi) done.writes in
+    let kept = keeps_turn c.in_ok-wrote.wrote c.args.progress.now c.tell_end.new.progress x done.there c.clocks.result keeps done.counts
+    done.writes phi c.in-Ok.ensures.after in
+    let falls = c.in-Ok.ensures.fallen
+    ∙ frame_falls c.args.progress.now x.flat.state done.there.flat.state c.clocks.result keeps phi in
+    goes_on c.args.detail (g.P.Player.way c.args.detail) (seen c.args.script.now) x _ _ _ _ _ _ done _ _ _ _ puts.ok kept
+    (c.happen_behind.ensures.behind x done.there done.at kept falls)

@@ -10,25 +10,18 @@ pub loop-y-preserved : goal.loop-y-preserved
 loop-y-preserved g c = record {
   so_far = λ ws screen.
       let line : c.as_bytes.result.now ≡ picture_row c.loop-y.y ws = c.as_bytes.ensures.value ∙ c.row_line.ensures.display ws screen in
-      so_far_more _ _ _ _ _ _ _ _ _ _ _ (c.loop-y.invariant.so_far ws screen) (rows_more ws c.loop-y.y c.loop-y-test.true)
-      (rw line at c.in_ok-put.ensures.ok) c.in_ok-put.ensures.cause;
-  faults = c.in_ok-put.ensures.cause.done ∙ c.loop-y.invariant.faults;
+      so_far_more _ _ _ _ _ _ _ (c.loop-y.invariant.so_far ws screen) (rows_more ws c.loop-y.y c.loop-y-test.true)
+      (rw line at c.in_ok-put.ensures.ok);
 }
 
-pub returns-clause-puts : goal.returns-clause-puts
-returns-clause-puts g c =
-    λ ws screen. so_far_all _ _ _ _ _ _ _ (c.loop-y.invariant.so_far ws screen) (rows_all ws c.loop-y.y c.loop-y-test.false)
+pub returns : goal.returns
+returns g c =
+    λ ws screen. so_far_all _ _ _ _ _ (c.loop-y.invariant.so_far ws screen) (rows_all ws c.loop-y.y c.loop-y-test.false)
 
-pub returns-in_err-put-clause-puts : goal.returns-in_err-put-clause-puts
-returns-in_err-put-clause-puts g c = λ ws screen.
+pub returns-in_err-put : goal.returns-in_err-put
+returns-in_err-put g c = λ ws screen.
     let p = err_from_is_err_and c.from_residual.result c.from_residual.ensures.1 in
     let line : c.as_bytes.result.now ≡ picture_row c.loop-y.y ws = c.as_bytes.ensures.value ∙ c.row_line.ensures.display ws screen in
     rw p.1
-    (so_far_cut _ _ _ _ _ _ _ _ _ _ _ _ (c.loop-y.invariant.so_far ws screen) (rows_more ws c.loop-y.y c.loop-y-test.true) (row_some _ _)
-    (rw line at c.in_err-put.ensures.err) c.in_err-put.ensures.cause)
-
-pub returns-in_err-put-clause-cause : goal.returns-in_err-put-clause-cause
-returns-in_err-put-clause-cause g c =
-    let p = err_from_is_err_and c.from_residual.result c.from_residual.ensures.1 in
-    let cause = rw c.loop-y.invariant.faults at c.in_err-put.ensures.cause in
-    rw p.1 (record { later = cause.later; failed = cause.failed; done = tt })
+    (so_far_cut _ _ _ _ _ _ _ _ (c.loop-y.invariant.so_far ws screen) (rows_more ws c.loop-y.y c.loop-y-test.true) (row_some _ _)
+    (rw line at c.in_err-put.ensures.err))

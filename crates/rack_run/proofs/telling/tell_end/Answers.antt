@@ -16,7 +16,7 @@ returns-in_err-tell_turn-clause-puts g c = λ x y keeps clocks writes.
     end_told c.args.detail
     (seen c.args.script.now) c.as_slice.result.now c.args.wrote c.step-fallen.result c.args.phi c.args.progress.now x y keeps clocks writes
     c.step-fallen.ensures.frame c.as_slice.ensures.frames in
-    rw p.1 (puts_same _ _ _ _ _ _ _ told (puts_failed _ _ _ _ _ _ _ (c.in_err-tell_turn.ensures.puts y.flat.state.writes screen)))
+    rw p.1 (puts_same _ _ _ _ _ told (puts_failed _ _ _ _ _ (c.in_err-tell_turn.ensures y.flat.state.writes screen)))
 
 pub returns-clause-puts : goal.returns-clause-puts
 returns-clause-puts g c = λ x y keeps clocks writes.
@@ -26,15 +26,4 @@ returns-clause-puts g c = λ x y keeps clocks writes.
     end_told c.args.detail
     (seen c.args.script.now) c.as_slice.result.now c.args.wrote c.step-fallen.result c.args.phi c.args.progress.now x y keeps clocks writes
     c.step-fallen.ensures.frame c.as_slice.ensures.frames in
-    puts_same _ _ _ _ _ _ _ told (puts_as _ _ _ _ _ _ _ (c.in_ok-tell_turn.ensures.puts y.flat.state.writes screen))
-
-pub returns-in_err-tell_turn-clause-count : goal.returns-in_err-tell_turn-clause-count
-returns-in_err-tell_turn-clause-count g c =
-    let p = err_from_is_err_and c.from_residual.result c.from_residual.ensures.1 in
-    let cause = c.in_err-tell_turn.ensures.cause in
-    rw p.1 (record { later = cause.later; failed = cause.failed; done = tt })
-
-pub returns-clause-count : goal.returns-clause-count
-returns-clause-count g c =
-    let cause = c.in_ok-tell_turn.ensures.cause in
-    record { later = cause.later; failed = tt; done = cause.done }
+    puts_same _ _ _ _ _ told (puts_as _ _ _ _ _ (c.in_ok-tell_turn.ensures y.flat.state.writes screen))

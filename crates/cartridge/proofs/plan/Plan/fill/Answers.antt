@@ -8,7 +8,8 @@ use Rattle.cartridge.proofs.plan.Plan.fill.Goals.{After-from, In-Some, in-Some, 
 
 within : (c : After-from) → c.args.chip < length c.self.inside.sources.items
 within c =
-    has_source c.self.inside.specs.items c.self.inside.sources.items c.args.chip (λ s. LiesIn s.room c.args.image.now.bytes) (rw (← c.self.view_is) at c.requires)
+    has_source c.self.inside.specs.items c.self.inside.sources.items c.args.chip
+    (λ s. LiesIn s.room c.args.image.now.bytes) (rw (← c.self.view_is) at c.requires)
 
 here : (c : In-Some) → get_or c.self.inside.sources.items c.args.chip (Some c.in-Some.rom) ≡ Some c.in-Some.rom
 here c = sym (rw (c.in-Some.is, c.from.ensures) at c.index_mut.ensures.value)

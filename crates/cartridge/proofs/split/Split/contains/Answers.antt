@@ -5,4 +5,5 @@ use Rattle.cartridge.proofs.split.Split.contains.Goals as goal
 
 pub returns : goal.returns
 returns c =
-    any_from_yields_List (λ other. other == c.args.register) _ _ _ c.any.ensures.ran (YieldsList-from_slice c.args.self.now cc) (λ x b q k. search (rules, tests))
+    any_from_yields_List (λ other. other == c.args.register) _ _ _ c.any.ensures.ran
+    (YieldsList-from_slice c.args.self.now cc) (λ x b q k. search (rules, tests))

@@ -1,0 +1,30 @@
+-- The run on the instruction set is that of the definitions, with no chip.
+use Rattle.console_spec.specs.Run.{power_position, chain_in_order}
+use Rattle.memory_map.specs.MapOf.{views_of}
+use Rattle.pad_script.specs.Reading.{seen}
+use Rattle.rack_run.proofs.FlatTurns.{start_of, started, keeps_started, tells_whole, lines_whole, lines_cut}
+use Rattle.rack_run.proofs.on_flat.refer.Goals as goal
+
+pub returns-in-Ok-run-clause-refers : goal.returns-in-Ok-run-clause-refers
+returns-in-Ok-run-clause-refers g c =
+    let script = seen c.args.script.now in
+    let vs = views_of c.args.chips.now in
+    let begun = rw c.as_slice.ensures.events at
+    (c.happen_at.ensures.begins (power_position vs (chain_in_order vs) script.power) c.in-Ok.ensures.stands) in
+    let keeps = keeps_started c.happen_at.new.player vs script c.phi.result begun c.phi.ensures in
+    let out = c.in-Ok-run.ensures.out (start_of vs script) (started c.happen_at.new.player vs script begun)
+    (rw c.new-progress.ensures keeps) in
+    record {
+      tells = tells_whole vs script _ _ _ _ c.in-Ok-run.ending out;
+      lines = lines_whole vs script _ _ _ _ c.in-Ok-run.ending out;
+    }
+
+pub returns-clause-failed : goal.returns-clause-failed
+returns-clause-failed g c =
+    let script = seen c.args.script.now in
+    let vs = views_of c.args.chips.now in
+    let begun = rw c.as_slice.ensures.events at
+    (c.happen_at.ensures.begins (power_position vs (chain_in_order vs) script.power) c.in-Ok.ensures.stands) in
+    let keeps = keeps_started c.happen_at.new.player vs script c.phi.result begun c.phi.ensures in
+    lines_cut vs script _ _ _ _
+    (c.in-Err.ensures.short (start_of vs script) (started c.happen_at.new.player vs script begun) (rw c.new-progress.ensures keeps))

@@ -1,0 +1,85 @@
+from __future__ import annotations
+
+import random
+import tempfile
+import unittest
+from pathlib import Path
+
+import tool
+from tool import call, needs_program
+
+try:
+    import tomllib
+except ImportError:
+    tomllib = None
+
+needs_toml = unittest.skipUnless(tomllib, 'Python before 3.11 has no reader of TOML')
+
+
+class Describe(unittest.TestCase):
+    def setUp(self):
+        folder = tempfile.TemporaryDirectory()
+        self.addCleanup(folder.cleanup)
+        self.folder = Path(folder.name)
+
+    def described(self, *words: object, **files: bytes):
+        for name, data in files.items():
+            (self.folder / name).write_bytes(data)
+        return call('describe', *words, cwd=self.folder)
+
+    def refused(self, hint: str, *words: object, **files: bytes) -> None:
+        done = self.described(*words, **files)
+        self.assertEqual((done.text, done.returncode, done.told.count('\n')), ('', 1, 1))
+        self.assertIn(hint, done.told)
+
+    def test_a_small_file_is_one_3851(self):
+        done = self.described('game.bin', **{'game.bin': bytes.fromhex('2b90feffff')})
+        self.assertEqual(done.text, 'format = 1\n\n# game.bin: 5 bytes from 0000 on, CRC-32 CC0F4489\n[[chip]]\nkind = "3851"\n'
+                                    'base = 0x0000\nports = 4\nrom = "2B90FE"\n')
+        self.assertEqual((done.returncode, done.told), (0, ''))
+
+    @needs_toml
+    def test_bytes_come_out_again(self):
+        data = random.Random(1976).randbytes(2500) + b'\x00'
+        chips = tomllib.loads(self.described('--at', '0800', 'a', a=data).text)['chip']
+        self.assertEqual([(chip['base'], chip['ports']) for chip in chips], [(0x800, 4), (0xC00, 8), (0x1000, 12)])
+        self.assertEqual(bytes.fromhex(''.join(chip['rom'] for chip in chips)), data)
+
+    @needs_toml
+    def test_files_follow_each_other_and_ports_leave_room_for_the_3853(self):
+        chips = tomllib.loads(self.described('a', 'b', '--ram', '28-29', a=b'\x2b', b=b'\x00' * 2049).text)['chip']
+        self.assertEqual([(chip['base'], chip['ports']) for chip in chips[:4]], [(0, 4), (0x400, 8), (0x800, 16), (0xC00, 20)])
+        self.assertEqual(chips[4], {'kind': '3853', 'ram_page': 0x28, 'ram_pages': 2})
+
+    @needs_toml
+    def test_rom_pages_of_a_3853(self):
+        chips = tomllib.loads(self.described('--smi', '--ram', '28', '--at', '0100', 'a', a=b'\x2b' * 257).text)['chip']
+        self.assertEqual(chips, [{'kind': '3853', 'rom_page': 1, 'rom_pages': 2, 'ram_page': 0x28, 'ram_pages': 1, 'rom': '2B' * 257}])
+
+    def test_what_cannot_be_done(self):
+        self.refused('no bytes', 'a', a=b'')
+        self.refused('no multiple of 1,024', '--at', '0100', 'a', a=b'\x2b')
+        self.refused('13 chips of the kind 3851', 'a', a=b'\x2b' * 12289)
+        self.refused('ROM and RAM would both have 0300 to 03FF', '--ram', '03', 'a', a=b'\x2b')
+        self.refused('there is room for 1,024', '--at', 'FC00', 'a', a=b'\x2b' * 1025)
+        self.refused('the program takes 65,536', '--smi', 'a', a=b'\x2b' * 40_000)
+        self.refused('the last is 255', '--ports', '252', 'a', a=b'\x2b' * 1025)
+        self.refused('no/such/file', 'no/such/file')
+        self.assertEqual(self.described('--ram', '2800', 'a').returncode, 2)
+        self.assertEqual(self.described('--ports', '5', 'a').returncode, 2)
+        self.assertEqual(self.described().returncode, 2)
+
+    @needs_program
+    def test_the_program_takes_the_descriptions(self):
+        script = self.folder / 'script.txt'
+        script.write_text('steps 3\n')
+        long = bytes.fromhex('290800') + b'\x2b' * 2045 + bytes.fromhex('90ff')
+        for words, regs in ((['a'], 'P=0800'), (['a', '--ram', '28'], 'P=0800'), (['--smi', '--ram', '28', 'a'], 'P=0800')):
+            (self.folder / 'cart.toml').write_text(self.described(*words, a=long).text)
+            done = call('explain', tool.PROGRAM, 'play', 'cart.toml', script, cwd=self.folder)
+            self.assertIn(f'stop done\nregs {regs}', done.text)
+            self.assertEqual(done.returncode, 0)
+
+
+if __name__ == '__main__':
+    unittest.main()

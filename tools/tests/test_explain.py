@@ -1,0 +1,177 @@
+from __future__ import annotations
+
+import os
+import re
+import sys
+import tempfile
+import unittest
+from pathlib import Path
+from textwrap import dedent
+
+import tool
+from tool import call, needs_program
+
+CHIP = 'format = 1\n\n[[chip]]\nkind = "3851"\nbase = 0x0000\nports = 4\n'
+HAS_TOML = sys.version_info >= (3, 11)
+
+
+class Explain(unittest.TestCase):
+    tool = tool.load('explain')
+
+    def explained(self, line: str, **files: str) -> str:
+        """What is said of a line, where the files cart, script or file have these texts."""
+        here = os.getcwd()
+        with tempfile.TemporaryDirectory() as folder:
+            for name, text in files.items():
+                (Path(folder) / name).write_bytes(text.encode())
+            os.chdir(folder)
+            try:
+                told = self.tool.explain(line, self.tool.Files(names={name: name for name in files}))
+            finally:
+                os.chdir(here)
+        return ''.join(line + '\n' for line in told)
+
+    def assert_asm(self, text: str, column: int, cause: int, hint: str) -> None:
+        told = self.explained(f'error asm file line 1 column {column} cause {cause}', file=text)
+        self.assertIn(hint, told)
+        self.assertIn(f'file, line 1, column {column}\n    {text}\n    {" " * (column - 1)}^\nCause {cause}, ', told)
+
+    def test_a_line_is_shown_whole(self):
+        told = self.explained('error asm file line 2 column 6 cause 11', file='\tNOP\r\n\tLI 0x20 ; blue\r\n')
+        self.assertEqual(re.sub(r' \(docs/\w+\.md\)\.', '', told), dedent('''\
+            file, line 2, column 6
+                \tLI 0x20 ; blue
+                \t    ^
+            Cause 11, Form: the tokens make no statement
+            A hexadecimal number begins with `$`: write `$20` for `0x20`.
+            '''))
+
+    def test_columns_count_bytes(self):
+        told = self.explained("error asm file line 1 column 11 cause 6", file="LI 'é'+256")
+        self.assertIn("\n    LI 'é'+256\n             ^\n", told)
+
+    def test_other_ways_to_write_numbers(self):
+        self.assert_asm(' LI 20H', 7, 11, 'write `$20` for `20H`')
+        self.assert_asm(" LI H'20'", 6, 2, "write `$20` for `H'20'`")
+        self.assert_asm(' LI 0b101', 6, 11, 'write `%101`')
+        self.assert_asm(' LI #$20', 5, 2, 'needs no `#`')
+        self.assert_asm(' LI FFH', 5, 5, '`$FF`')
+
+    def test_other_ways_to_write_statements(self):
+        self.assert_asm('START = $0400', 7, 2, '`START: EQU $0400`')
+        self.assert_asm('*=$0800', 2, 2, '`ORG $0800`')
+        self.assert_asm(' .byte 1', 2, 11, 'A directive has no dot. Bytes are given by DB')
+        self.assert_asm(' INCLUDE "ves.h"', 10, 2, 'no INCLUDE')
+        self.assert_asm('LOOP LI 5', 1, 3, 'colon after it: `LOOP:`')
+        self.assert_asm('LOOP', 1, 3, 'colon after it: `LOOP:`')
+        self.assert_asm(' LSI 4', 2, 3, 'Is `LI` or `LIS` meant?')
+        self.assert_asm(' LR A,(IS)+', 8, 11, 'is `S`')
+        self.assert_asm(' LR DC0,Q', 9, 11, 'is named `DC`')
+        self.assert_asm(' LR A,R5', 7, 5, 'write `5` for `R5`')
+        self.assert_asm(' LI 256', 5, 6, '-128 to 255')
+        self.assert_asm(' LI', 4, 11, 'Something is missing here')
+
+    def test_names(self):
+        self.assertIn('Is `LOOP` meant? Names keep their case.',
+                      self.explained('error asm file line 2 column 5 cause 5', file='LOOP: NOP\n BR loop\n'))
+        self.assertIn('is given in line 2', self.explained('error asm file line 1 column 6 cause 5', file=' ORG X\nX: NOP\n'))
+        self.assertIn('was given in line 1 already', self.explained('error asm file line 2 column 1 cause 4', file='X: NOP\nX: NOP\n'))
+
+    @unittest.skipUnless(HAS_TOML, 'Python before 3.11 has no reader of TOML')
+    def test_a_fault_of_toml_has_its_line(self):
+        told = self.explained('error cart toml', cart=CHIP.replace('0x0000', '$0400'))
+        self.assertIn('cart, line 5, column 8\n    base = $0400\n           ^\nTOML: Invalid value.\n', told)
+        self.assertIn('begins with 0x', told)
+        self.assertIn('there twice', self.explained('error cart toml', cart=CHIP + 'ports = 4\n'))
+        self.assertIn('`"a.f8"`', self.explained('error cart toml', cart=CHIP + 'source = a.f8\n'))
+        self.assertIn('not UTF-8', call('explain', '--cart', '/bin/sh', stdin='error cart toml\n').told)
+
+    @unittest.skipUnless(HAS_TOML, 'Python before 3.11 has no reader of TOML')
+    def test_keys_of_a_description(self):
+        told = self.explained('error cart chip 0 key ? cause 2', cart=CHIP.replace('ports', 'port'))
+        self.assertIn('cart, line 6\n    port = 4\n`port` is no key here: is `ports` meant?\n', told)
+        told = self.explained('error cart chip 0 key base cause 5', cart=CHIP.replace('0x0000', '0x0500'))
+        self.assertIn('The nearest that fit: 0x0400 and 0x0800.', told)
+        self.assertIn('a multiple of 1,024', told)
+        self.assertIn('half a byte', self.explained('error cart chip 0 key rom cause 7', cart=CHIP + 'rom = "2B0"\n'))
+        self.assertIn("there is ' '", self.explained('error cart chip 0 key rom cause 7', cart=CHIP + 'rom = "2B 00"\n'))
+        self.assertIn('`kind = "3851"`', self.explained('error cart chip 0 key kind cause 3', cart=CHIP.replace('"', '')))
+        self.assertIn('Put it before', self.explained('error cart key format cause 1', cart=CHIP[10:] + 'format = 1\n'))
+
+    @unittest.skipUnless(HAS_TOML, 'Python before 3.11 has no reader of TOML')
+    def test_a_source_beside_the_description(self):
+        with tempfile.TemporaryDirectory() as folder:
+            (Path(folder) / 'cart.toml').write_text(CHIP + 'source = "game.f8"\n')
+            (Path(folder) / 'game.f8').write_text('')
+            done = call('explain', '--cart', f'{folder}/cart.toml', stdin='error store source 0\n', cwd=Path(folder).parent)
+        self.assertIn(f'write `source = "{Path(folder).name}/game.f8"`', done.told)
+
+    def test_scripts(self):
+        for text, cause, hint in (('steps = 5', 1, 'Only blanks'), ('steps 5 ', 1, 'after the last word'), ('STEPS 5', 1, 'small letters'),
+                                  ('power 5', 2, '`05`'), ('power 0x05', 2, 'nothing else: `05`'), ('at 3 keys 0 01', 2, '`00`'),
+                                  ('frame 5', 1, 'Is `frames` meant?'), ('at 3 key 00 01', 1, 'Is `keys` meant?'), ('frames 601', 3, '1 to 600'),
+                                  ('steps 5 # all', 1, 'line of its own'), ('', 6, 'Add a line')):
+            told = self.explained(f'error script line 1 cause {cause}', script=text + '\n')
+            self.assertIn(hint, told, text)
+            self.assertIn(f'Cause {cause}, ', told)
+        self.assertIn('Cause 6, NoEnd', self.explained('error script line 1 cause 6'))
+        self.assertIn('script, line 2\n    at 1 pulse 0', self.explained('error script unbuilt', script='frames 2\nat 1 pulse 0\n'))
+
+    def test_files_of_digits(self):
+        self.assertIn('file, line 2, column 3\n    2B,90', self.explained('error hex', file='2B\n2B,90\n'))
+        self.assertIn('lines of asm', self.explained('error hex', file='0000 2B90FE\nsym LOOP 1\n'))
+        self.assertIn('half a byte', self.explained('error hex', file='2B9'))
+
+    @unittest.skipUnless(HAS_TOML, 'Python before 3.11 has no reader of TOML')
+    def test_stop_lines_name_the_chips(self):
+        two = CHIP + 'rom = "2B"\n[[chip]]\nkind = "3853"\nram_page = 0x28\nram_pages = 1\n'
+        told = self.explained('stop conflict romc 02 socket 0 at 0010 socket 12 at 2800', cart=two)
+        self.assertIn('Socket 0 has chip 0 of the description, the 3851 at 0000; it is at 0010.', told)
+        self.assertIn('Socket 12 has chip 1 of the description, the 3853; it is at 2800.', told)
+        self.assertIn('XDC', told)
+        self.assertIn('belongs to chip 0', self.explained('stop undriven romc 00 at 0000', cart=two))
+        self.assertIn('No chip has that address', self.explained('stop undriven romc 00 at 0400', cart=two))
+        self.assertIn('the port 0008', self.explained('stop undriven romc 1B at 0008', cart=two))
+        self.assertRegex(self.explained('stop reserved FF at 0001'), '(?s)0001.*A ROM has FF')
+
+    def test_the_line_may_have_lines_behind_it(self):
+        done = call('explain', stdin='verdict unchecked\nstop reserved 2D at 0000\nregs P=0000\ntotal 0 instructions 14 phi\n')
+        self.assertIn('Look whether 0000 holds data', done.told)
+
+    def test_a_good_run_gets_no_word(self):
+        lines = 'verdict unchecked\nstop done\nregs P=0000\n'
+        done = call('explain', stdin=lines)
+        self.assertEqual((done.text, done.told, done.returncode), (lines, '', 0))
+        self.assertEqual(call('explain').told, '')
+
+    def test_words_and_statuses(self):
+        self.assertIn('Cause 3, Range', call('explain', 'error', 'script', 'line', 1, 'cause', 3).told)
+        self.assertEqual(call('explain', 'error', 'of', 'another', 'kind').returncode, 1)
+        done = call('explain', sys.executable, '-c', 'print("error words"); raise SystemExit(1)', 'paly', 'a', 'b')
+        self.assertEqual((done.text, done.returncode), ('error words\n', 1))
+        self.assertIn('./channel_f play --trace CART SCRIPT', done.told)
+        self.assertEqual(call('explain', 'no/such/program').returncode, 1)
+
+    def test_every_cause_of_the_pages_is_found(self):
+        lines = [f'error asm {what} line 1 column 1 cause {n}' for what in ('file', 'source 0') for n in (1, 2, 3, 4, 5, 6, 7, 8, 9, 11)]
+        lines += [f'error cart key {key} cause {n}' for key, n in (('format', 1), ('?', 2), ('chip', 3), ('split', 4), ('chip', 6))]
+        lines += [f'error cart chip 0 key {key} cause {n}'
+                  for key, n in (('rom', 1), ('?', 2), ('base', 3), ('base', 4), ('base', 5), ('rom', 7), ('source', 8))]
+        lines += [f'error script line 1 cause {n}' for n in range(1, 7)]
+        for line in lines:
+            self.assertRegex('\n'.join(self.tool.explain(line, self.tool.Files())), r'Cause \d+, \w+: .+ \(docs/\w+\.md\)', line)
+        self.assertIn('not found', self.explained('error asm file line 1 column 1 cause 10'))
+
+    @needs_program
+    def test_the_program_and_the_pages_agree(self):
+        done = call('explain', tool.PROGRAM, 'play', 'cartridges/parted/cart.toml', 'cartridges/parted/script.txt')
+        self.assertEqual(done.returncode, 3)
+        self.assertIn('stop astray romc 02 socket 0 at 0014 reference 0013\n', done.text)
+        self.assertIn('The reference is 0013', done.told)
+        done = call('explain', tool.PROGRAM, 'paly', 'a', 'b')
+        self.assertEqual((done.text, done.returncode), ('error words\n', 1))
+        self.assertIn('is `play` meant?', done.told)
+
+
+if __name__ == '__main__':
+    unittest.main()

@@ -1,0 +1,104 @@
+from __future__ import annotations
+
+import struct
+import subprocess
+import sys
+import tempfile
+import unittest
+import zlib
+from pathlib import Path
+
+import tool
+from tool import call, frame, needs_program
+
+BEFORE = 'verdict unchecked\nout 32 00 20\n'
+AFTER = 'stop done\nregs P=0009\n'
+# Row 0 begins with 0 1 2 3, and row 1 with 3 3 3 3.
+CORNER = ['0123' + '0' * 124, '3333' + '0' * 124] + ['0' * 128] * 62
+
+
+class Frames(unittest.TestCase):
+    def test_plain_picture_stands_behind_its_line(self):
+        done = call('frames', '--plain', stdin=BEFORE + frame(rows=CORNER) + AFTER)
+        lines = done.text.split('\n')
+        self.assertEqual(lines[:3], ['verdict unchecked', 'frame 20 phi 596600 tone 0', '_jg#'])
+        self.assertEqual(lines[34:], ['stop done', 'regs P=0009', ''])
+        self.assertEqual((done.returncode, done.told), (0, ''))
+
+    def test_half_blocks_have_the_upper_colour_as_ink_and_the_lower_as_ground(self):
+        done = call('frames', '--depth', '24', '--colours', '000000,010101,020202,030303', stdin=frame(rows=CORNER))
+        self.assertTrue(done.text.split('\n')[1].startswith(
+            '\x1b[38;2;0;0;0;48;2;3;3;3m▀\x1b[38;2;1;1;1;48;2;3;3;3m▀\x1b[38;2;2;2;2;48;2;3;3;3m▀\x1b[38;2;3;3;3;48;2;3;3;3m▀'))
+
+    def test_256_colours_are_the_nearest(self):
+        frames = tool.load('frames')
+        self.assertEqual([frames.nearest_of_256(c) for c in ((0, 0, 0), (255, 0, 0), (8, 8, 8), (128, 128, 128))], [16, 196, 232, 244])
+
+    def test_narrow_picture_has_64_characters(self):
+        line = call('frames', '--narrow', '--depth', '24', stdin=frame()).text.split('\n')[1]
+        self.assertEqual(sum(c in ' ▗▖▄▝▐▞▟▘▚▌▙▀▜▛█' for c in line), 64)
+
+    def test_no_two_pairs_look_alike_in_plain(self):
+        self.assertEqual(len(set(''.join(tool.load('frames').PLAIN))), 16)
+
+    def test_writes_are_kept_on_request(self):
+        self.assertIn('out 32 00 20\n', call('frames', '--writes', stdin=BEFORE).text)
+
+    def test_refusal_and_empty_input_pass(self):
+        self.assertEqual(call('frames', stdin='error words\n').text, 'error words\n')
+        self.assertEqual(call('frames').stdout, b'')
+
+    def test_bytes_that_are_no_text_pass(self):
+        self.assertEqual(call('frames', stdin=b'\xff\x00\nno line feed').stdout, b'\xff\x00\nno line feed')
+
+    def test_frame_that_is_cut_off_loses_no_line(self):
+        whole = frame()
+        for cut in (whole[:40], whole[:1000], whole[:-1][:-130], whole.split('\n')[0] + '\n' + AFTER):
+            done = call('frames', '--plain', stdin=cut)
+            self.assertEqual(done.text, cut)
+            self.assertIn('frame 20 is cut off', done.told)
+
+    def test_frame_in_a_cut_frame_is_drawn(self):
+        done = call('frames', '--plain', stdin=frame(1)[:400] + '\n' + frame(2, CORNER))
+        self.assertIn('frame 2 phi 596600 tone 0\n_jg#\n', done.text)
+
+    def test_png_holds_the_pixels(self):
+        with tempfile.TemporaryDirectory() as folder:
+            done = call('frames', '--png', folder, '--scale', 1, '--colours', 'grey', stdin=frame(7, CORNER) + AFTER)
+            self.assertEqual(done.text, 'frame 7 phi 596600 tone 0\n' + AFTER)
+            data = (Path(folder) / 'frame-007.png').read_bytes()
+        self.assertEqual(struct.unpack('>II', data[16:24]), (128, 64))
+        self.assertEqual(data[data.index(b'PLTE') + 4:][:12], bytes.fromhex('ffffffaaaaaa555555000000'))
+        start = data.index(b'IDAT')
+        body = zlib.decompress(data[start + 4:start + 4 + struct.unpack('>I', data[start - 4:start])[0]])
+        self.assertEqual((len(body), body[:3], body[33:36]), (64 * 33, b'\x00\x1b\x00', b'\x00\xff\x00'))
+
+    def test_status_is_that_of_the_command(self):
+        done = call('frames', sys.executable, '-c', 'print("error words"); raise SystemExit(3)')
+        self.assertEqual((done.text, done.returncode), ('error words\n', 3))
+
+    def test_wrong_words_and_missing_files(self):
+        self.assertEqual(call('frames', '--colours', 'pink').returncode, 2)
+        self.assertEqual(call('frames', '--scale', '0').returncode, 2)
+        done = call('frames', 'no/such/file')
+        self.assertEqual((done.returncode, done.told), (1, 'frames: no/such/file: No such file or directory\n'))
+
+    def test_reader_that_goes_away_leaves_no_talk(self):
+        run = f'{sys.executable} {tool.TOOLS / "frames"} --plain | head -1'
+        done = subprocess.run(['sh', '-c', run], input=(frame() * 200).encode(), capture_output=True)
+        self.assertEqual((done.stdout, done.stderr), (b'frame 20 phi 596600 tone 0\n', b''))
+
+    @needs_program
+    def test_the_first_frames_of_the_lighthouse(self):
+        with tempfile.TemporaryDirectory() as folder:
+            script = Path(folder) / 'script.txt'
+            script.write_text('show 1\nshow 2\nframes 2\n')
+            done = call('frames', '--plain', tool.PROGRAM, 'play', 'cartridges/lighthouse/cart.toml', script)
+        self.assertEqual([line.split()[1] for line in done.text.split('\n') if line.startswith('frame ')], ['1', '2'])
+        self.assertEqual(done.text.count('\n'), 1 + 2 * 33 + 1 + 6)
+        self.assertIn('\nstop done\n', done.text)
+        self.assertNotIn('\nout ', done.text)
+
+
+if __name__ == '__main__':
+    unittest.main()

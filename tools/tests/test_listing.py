@@ -1,0 +1,95 @@
+from __future__ import annotations
+
+import sys
+import tempfile
+import unittest
+from pathlib import Path
+
+import tool
+from tool import call, needs_program
+
+
+class Listing(unittest.TestCase):
+    def listed(self, text: str | bytes, *words: str):
+        with tempfile.TemporaryDirectory() as folder:
+            path = Path(folder) / 'text.f8'
+            path.write_bytes(text if isinstance(text, bytes) else text.encode())
+            return call('listing', *words, path)
+
+    @needs_program
+    def test_lines_have_their_addresses_and_bytes(self):
+        done = self.listed('; a comment\nCOUNT: EQU 3\n ORG $0400\n\nLOOP: LI COUNT ; é\n BR LOOP\nALONE:\n DB 1,2,3,4,5,6,7\n')
+        self.assertEqual(done.text.split('\n\n')[0].split('\n'), [
+            '    1                           ; a comment',
+            '    2        = 03               COUNT: EQU 3',
+            '    3  0400                      ORG $0400',
+            '    4',
+            '    5  0400  20 03              LOOP: LI COUNT ; é',
+            '    6  0402  90 FD               BR LOOP',
+            '    7  0404                     ALONE:',
+            '    8  0404  01 02 03 04 05 06   DB 1,2,3,4,5,6,7',
+            '       040A  07'])
+        self.assertEqual(done.text.split('\n\n')[1].split('\n'), [
+            'COUNT    03       3  line    2  used 5', 'LOOP    400    1024  line    5  used 6', 'ALONE   404    1028  line    7  used -', ''])
+        self.assertEqual((done.returncode, done.told), (0, ''))
+
+    @needs_program
+    def test_org_may_lead_back_and_have_a_label(self):
+        done = self.listed(' ORG $10\n NOP\nBEFORE: ORG 2\n NOP\n ORG 2+1\n')
+        self.assertEqual([line[7:16].strip() for line in done.text.split('\n')[:5]], ['0010', '0010  2B', '0002', '0002  2B', '0003'])
+        self.assertIn('BEFORE    11      17  line    3', done.text)
+
+    @needs_program
+    def test_names_that_look_like_its_own(self):
+        done = self.listed('_1: NOP\n NOP\n__3: NOP\n; ' + '_' * 40 + '\n')
+        self.assertIn('    2  0001  2B', done.text)
+        self.assertEqual(done.returncode, 0)
+
+    @needs_program
+    def test_text_of_nothing(self):
+        self.assertEqual(self.listed('').text, '    1\n')
+
+    @needs_program
+    def test_line_feeds_of_windows(self):
+        self.assertIn('0001  2B                  NOP\n', self.listed(b' NOP\r\n NOP\r\n').text)
+
+    @needs_program
+    def test_long_text_is_marked_in_portions(self):
+        text = ' NOP\n' * 300 + ';' + 'x' * 260_000 + '\n' + ' POP\n'
+        done = self.listed(text)
+        self.assertEqual((done.returncode, done.told), (0, ''))
+        self.assertIn('  302  012C  1C ', done.text)
+        done = self.listed(';' + 'x' * 262_142 + '\n')
+        self.assertEqual(done.returncode, 1)
+        self.assertIn('too long for a listing', done.told)
+
+    @needs_program
+    def test_refusal_passes_with_its_place_and_status(self):
+        done = self.listed(' NOP\n LI 0x20\n')
+        self.assertEqual((done.text, done.returncode), ('error asm file line 2 column 6 cause 11\n', 2))
+        done = call('listing', 'no/such/file')
+        self.assertEqual((done.text, done.returncode), ('error store file\n', 4))
+
+    @needs_program
+    def test_bytes_are_those_of_asm_in_every_cartridge(self):
+        listing = tool.load('listing')
+        for path in sorted((tool.TOP / 'cartridges').glob('*/*.f8')):
+            assembler = listing.Assembler([str(tool.PROGRAM)])
+            image = assembler.file(str(path))
+            lines = listing.placed(path.read_bytes(), image, assembler)
+            placed = {line.address + n: byte for line in lines for n, byte in enumerate(line.bytes)}
+            self.assertEqual(placed, image.bytes, path)
+
+    def test_names_of_a_line(self):
+        line = tool.load('listing').Line(1, b"X: DB 'A',';',$FF,Y ; Z")
+        self.assertEqual(list(line.names()), [b'X', b'DB', b'Y'])
+
+    def test_program_that_fails(self):
+        stub = f'{sys.executable} -c "print(\'error words\'); raise SystemExit(1)"'
+        done = self.listed('', '--program', stub)
+        self.assertEqual((done.text, done.returncode), ('error words\n', 1))
+        self.assertEqual(self.listed('', '--program', 'no/such/program').returncode, 1)
+
+
+if __name__ == '__main__':
+    unittest.main()
