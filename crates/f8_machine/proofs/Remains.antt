@@ -79,8 +79,6 @@ module _ (i : Inputs) (x : Position) (aim : Aim) (s : MicroStep) (rest : List Mi
         told_so_far = served.recorded
             ∙ ap (λ (l : List Heard). l ++ heard_served (bus_step s) byte served.socket ∷ []) left.told_so_far
             ∙ ap (λ (b : ℕ). map heard_of left.so_far ++ heard_served (bus_step s) b served.socket ∷ []) same
-            ∙ ap (λ w. map heard_of left.so_far ++ record (heard_served (bus_step s)
-            (byte_of i s.source) served.socket) { who = w } ∷ []) (sym (left.along.quiet.0 served.socket))
             ∙ sym (map-append heard_of left.so_far (traced i s served.socket ∷ []));
         along = subst (λ (p : ProbeState). Along i x aim rest p (views states_now)
             (left.so_far ++ traced i s served.socket ∷ [])) (sym now_probe)

@@ -219,7 +219,6 @@ module _ (i : Inputs) (x : Position) (aim : Aim) (s : Step) (later : List Step) 
         whole = long_more (s.romc == 0x05) (seats_of x.copies) (place_in s.romc probe.count probe.last)
             (byte_of i s.source) left.memory left.whole;
         values = left.values.1;
-        quiet = left.quiet.1;
         small = behind.small;
         fault = behind.fault;
         course = behind.course;
