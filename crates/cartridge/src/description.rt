@@ -40,7 +40,7 @@ pub struct Described {
 fn tables_at<'a>(alloc: Global, table: &'a Table) -> Result<Vec<&'a Table>, TableStop>
     ensures says { SaysOfTable (λ ts. map seen_table ts.items) result
         (usually ChipKey [] tables_told (table_view table.now)) }
-    ensures few { IfOk result (λ ts. vec_len ts ≤ 16) }
+    ensures few { IfOk result (λ ts. vec_len ts ≤ MOST_CHIPS) }
 {
     let key = Key::Chip;
     let Some(value) = value_at(table, key) else {
@@ -64,7 +64,7 @@ fn tables_at<'a>(alloc: Global, table: &'a Table) -> Result<Vec<&'a Table>, Tabl
 #[tactic(auto, unfolding(crate::specs::Description::top_of))]
 fn top_of<'a>(alloc: Global, table: &'a Table) -> Result<Top<'a>, TableStop>
     ensures says { SaysOfTable seen_top result (top_told (table_view table.now)) }
-    ensures few { IfOk result (λ top. vec_len top.tables ≤ 16) }
+    ensures few { IfOk result (λ top. vec_len top.tables ≤ MOST_CHIPS) }
 {
     known(&TOP_KEYS, table)?;
     needed_number(table, Key::Format, 1, 1)?;
@@ -90,7 +90,7 @@ fn answer_at(chip: Option<u8>, stop: TableStop) -> CartAnswer
 /// The chips of some tables.
 #[tactic(auto, using(crate::proofs::ChipsRead::chips_none, crate::proofs::ChipsRead::chips_more, crate::proofs::ChipsRead::chips_bad, crate::proofs::ChipsRead::chips_all))]
 fn chips_of(alloc: Global, tables: &[&Table]) -> Result<Vec<ChipPlan>, CartAnswer>
-    requires { length tables.now ≤ 16 }
+    requires { length tables.now ≤ MOST_CHIPS }
     ensures { SaysOfDescription (λ chips. map seen_chip chips.items) result
         (chips_from 0 (map seen_table tables.now)) }
 {

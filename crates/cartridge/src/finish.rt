@@ -5,7 +5,7 @@ ghost use Rattle.cartridge.specs.Plans.{seen_chips};
 
 use super::rom_source::SourceRom;
 use super::split::Split;
-use chip_face::{Bytes, ChipList, ChipSpec};
+use chip_face::{Bytes, ChipList, ChipSpec, MOST_CHIPS};
 use thiserror::Error;
 
 /// A cartridge: the registers that the checker tracks, and the chips in the order of the description.
@@ -39,7 +39,7 @@ pub fn finished_specs(
     mut sources: Vec<Option<SourceRom>>,
 ) -> Result<Vec<ChipSpec>, Unfilled>
     requires paired { length specs.items ≡ length sources.items }
-    requires few { length specs.items ≤ 16 }
+    requires few { length specs.items ≤ MOST_CHIPS }
     ensures { let chips = seen_chips specs.items sources.items in
         MatchResult result
         (λ specs. (position wants_image chips ≡ None) × (specs.items ≡ map specification_of chips))

@@ -38,13 +38,13 @@ who_by Port socket = socket_or_nobody socket
 who_by CpuDriver socket = Cpu
 who_by NobodyDriver socket = Nobody
 
--- in the code 1C the CPU drives the number of a port, and else nobody drives
-abbrev pub who_idles : Source → Who
-who_idles PortNumber = Cpu
-who_idles source = Nobody
+-- Who drives in a step: in the code 1C the CPU where the byte is the number of a port, and else nobody; in every other code by the table.
+abbrev pub driver_idling : Source → Driver
+driver_idling PortNumber = CpuDriver
+driver_idling source = NobodyDriver
 
-abbrev pub who_of : Step → Option ℕ → Who
-who_of s socket = if s.romc == 0x1C then who_idles s.source else who_by (driver_of s.romc) socket
+abbrev pub driver_in : Step → Driver
+driver_in s = if s.romc == 0x1C then driver_idling s.source else driver_of s.romc
 
 abbrev pub taker_by : BusRule → Option ℕ → Option ℕ
 taker_by Read socket = None
@@ -60,7 +60,7 @@ traced i s socket = record {
   romc = s.romc;
   long = s.long;
   byte = byte_of i s.source;
-  who = who_of s socket;
+  who = who_by (driver_in s) socket;
   taker = taker_by (rule_of s.romc) socket;
 }
 

@@ -10,6 +10,7 @@ use Rattle.f8_spec.specs.declared.instructions.Row.{Row}
 use Rattle.f8_spec.specs.declared.instructions.Row.TheVariants.{Idle, StackToK, StackFromK, CallK, JumpQ, DataToPair}
 use Rattle.f8_spec.specs.declared.instructions.Row.TheVariants.{DataFromQ, DataFromH, ReadData, StoreData, Immediate}
 use Rattle.f8_spec.specs.declared.instructions.Row.TheVariants.{PortIn, PortOut, Call, Jump, AddData, ShortIn, ShortOut}
+use Rattle.console_spec.specs.BusTrace.{driver_in}
 use Rattle.console_spec.specs.Processor.{Registers, at_power, scratch_byte, with_scratch, effect, is_taken, port_field}
 use Rattle.cpu3850.specs.CpuPorts.{PortBytes, clear_ports, read_by, put_by}
 use Rattle.cpu3850.specs.declared.steps.Step.{Step}
@@ -35,7 +36,7 @@ powered fill = record { registers = (at_power fill).registers; ports = clear_por
 
 -- a step of the lists, as the bus is told it
 abbrev pub bus_step : MicroStep → Step
-bus_step s = record { romc = s.romc; long = s.long }
+bus_step s = record { romc = s.romc; long = s.long; driver = driver_in s }
 
 -- the steps of an instruction; the flag says that a branch is taken
 abbrev pub listed : Op → Bool → List Step

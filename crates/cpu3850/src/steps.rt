@@ -1,11 +1,12 @@
 // The bus steps of each instruction.
 ghost use Rattle.std.specs.Prelude.{◌≡◌, ◌==◌, ◌<◌, ◌≤◌, ◌++◌, [], ◌∷◌, true, false, if◌then◌else◌, map, sum_by, length};
 ghost use Rattle.f8_spec.specs.MicroSteps.{step_clocks, steps_before_fetch};
+ghost use Rattle.f8_spec.specs.BusCodes.{driver_of as driver_by_table};
 ghost use Rattle.f8_spec.specs.Instructions.{clocks_of};
 ghost use Rattle.cpu3850.specs.CpuSteps.{bus_step, listed};
 
 use f8_ops::{Op, Row, row_of};
-use romc_table::Romc;
+use romc_table::{Driver, Romc, driver_of};
 use std::marker::Model;
 
 /// The steps of the longest list: four, and the last fetch.
@@ -22,6 +23,9 @@ const LONG: u8 = 6;
 pub struct Step {
     pub romc: Romc,
     pub long: bool,
+
+    /// Who drives the byte, which the code alone tells but for 1C: there the CPU drives the number of a port, and else nobody drives.
+    pub driver: Driver,
 }
 
 /// What a list of steps is kept as: the first `count` of the items.
@@ -110,6 +114,7 @@ impl Steps {
                 items: [Step {
                     romc: Romc::FETCH,
                     long: false,
+                    driver: Driver::Memory,
                 }; MOST_STEPS],
                 count: 0,
             },
@@ -128,16 +133,36 @@ impl Steps {
 
     fn long(self, romc: Romc) -> Steps
         requires { length self < 5 }
-        ensures { result ≡ self ++ (record { romc = romc; long = true }) ∷ [] }
+        ensures { result ≡ self ++ (record { romc = romc; long = true; driver = driver_by_table romc }) ∷ [] }
     {
-        self.then(Step { romc, long: true })
+        self.then(Step {
+            romc,
+            long: true,
+            driver: driver_of(romc),
+        })
     }
 
     fn short(self, romc: Romc) -> Steps
         requires { length self < 5 }
-        ensures { result ≡ self ++ (record { romc = romc; long = false }) ∷ [] }
+        ensures { result ≡ self ++ (record { romc = romc; long = false; driver = driver_by_table romc }) ∷ [] }
     {
-        self.then(Step { romc, long: false })
+        self.then(Step {
+            romc,
+            long: false,
+            driver: driver_of(romc),
+        })
+    }
+
+    /// The CPU works by itself, and nobody drives.
+    fn idle(self) -> Steps
+        requires { length self < 5 }
+        ensures { result ≡ self ++ (record { romc = 0x1C; long = false; driver = Driver.Nobody }) ∷ [] }
+    {
+        self.then(Step {
+            romc: Romc::IDLE,
+            long: false,
+            driver: Driver::Nobody,
+        })
     }
 }
 
@@ -159,6 +184,7 @@ pub fn list(op: Op, taken: bool) -> Steps
     before_fetch(row, taken).then(Step {
         romc: Romc::FETCH,
         long,
+        driver: Driver::Memory,
     })
 }
 
@@ -168,7 +194,7 @@ fn before_fetch(row: Row, taken: bool) -> Steps
     let none = Steps::none();
     match row {
         Row::Plain | Row::PlainLong => none,
-        Row::Idle => none.short(Romc::IDLE),
+        Row::Idle => none.idle(),
         Row::StackToK => none.long(Romc::TELL_STACK_HIGH).long(Romc::TELL_STACK_LOW),
         Row::StackFromK => none.long(Romc::SET_STACK_HIGH).long(Romc::SET_STACK_LOW),
         Row::CallK => none.long(Romc::CALL_LOW).long(Romc::SET_PROGRAM_HIGH),
@@ -199,7 +225,7 @@ fn before_fetch(row: Row, taken: bool) -> Steps
             .short(Romc::OPERAND),
         Row::Exchange => none.short(Romc::EXCHANGE),
         Row::AddData => none.long(Romc::ADD_DATA),
-        Row::Branch => displacement(none.short(Romc::IDLE), taken),
+        Row::Branch => displacement(none.idle(), taken),
         Row::BranchIsar => displacement(none, taken),
         Row::ShortIn => none.long(Romc::IDLE).long(Romc::READ_PORT),
         Row::ShortOut => none.long(Romc::IDLE).long(Romc::WRITE_PORT),
@@ -209,10 +235,11 @@ fn before_fetch(row: Row, taken: bool) -> Steps
 /// The step at the displacement byte of a branch, after others.
 fn displacement(steps: Steps, taken: bool) -> Steps
     requires { length steps < 5 }
-    ensures { result ≡ steps ++ (if taken then record {
-      romc = 0x01;
-      long = true;
-    } else record { romc = 0x03; long = false }) ∷ [] }
+    ensures { result ≡ steps ++ (record {
+      romc = if taken then 0x01 else 0x03;
+      long = taken;
+      driver = Driver.Memory;
+    }) ∷ [] }
 {
     if taken {
         steps.long(Romc::DISPLACEMENT)

@@ -132,6 +132,7 @@ fn lists_of_steps(rt: HostRuntime) -> Result<(), Fail> {
         let fetch = Step {
             romc: Romc::FETCH,
             long: code == 0x30,
+            driver: Driver::Memory,
         };
         assert_eq!(rt; steps.as_slice().last().copied(), Some(fetch), "of {code}");
     }

@@ -37,7 +37,7 @@ impl Parties {
 
     /// Adds a party behind the others.
     pub fn push(&mut self, party: Party)
-        requires { length self.old < 16 }
+        requires { length self.old < MOST_CHIPS }
         ensures { self.new ≡ self.old ++ party ∷ [] }
     {
         let len = self.len;
@@ -48,7 +48,7 @@ impl Parties {
     /// All of them.
     pub fn as_slice(&self) -> &[Party]
         ensures value { result.now ≡ self.now }
-        ensures few { length result.now ≤ 16 }
+        ensures few { length result.now ≤ MOST_CHIPS }
     {
         let len = self.len;
         &self.items[..len]
@@ -57,7 +57,7 @@ impl Parties {
     /// How many there are.
     pub fn len(&self) -> usize
         ensures value { result ≡ length self.now }
-        ensures few { result ≤ 16 }
+        ensures few { result ≤ MOST_CHIPS }
     {
         self.len
     }

@@ -5,6 +5,7 @@ ghost use Rattle.data_bus.specs.Polling.{no_poll, polled};
 
 use super::ask::{Answer, Question, ask};
 use super::{Parties, Rack};
+use chip_face::MOST_CHIPS;
 use f8_spec::{BusRule, Party};
 
 /// What one pass over the chips gathers in a bus step.
@@ -36,7 +37,7 @@ impl Poll {
 
     /// Counts one more chip's answer.
     fn count(&mut self, socket: u8, answer: Answer)
-        requires { length self.old.parties < 16 }
+        requires { length self.old.parties < MOST_CHIPS }
         ensures counted { self.new ≡ counted socket answer self.old }
         ensures few { length self.new.parties ≤ length self.old.parties + 1 }
     {
@@ -62,7 +63,7 @@ impl Poll {
 
 /// One pass over the chips: each is asked at most once.
 fn ask_all(rack: &Rack, question: &Question) -> Poll
-    requires few { length rack.now.items ≤ 16 }
+    requires few { length rack.now.items ≤ MOST_CHIPS }
     requires chosen { AllMayHear question.now.romc question.now.first (map state rack.now.items) }
     ensures { result ≡ polled question.now.rule question.now.romc question.now.reference
         question.now.first 0 (views (map state rack.now.items)) no_poll }
@@ -79,7 +80,7 @@ fn ask_all(rack: &Rack, question: &Question) -> Poll
 /// What the chips answer in a step. In a step in which no chip drives or takes, none is asked.
 #[tactic(auto, using(crate::proofs::Judging::polled_unasked))]
 pub(crate) fn gather(rack: &Rack, question: &Question) -> Poll
-    requires few { length rack.now.items ≤ 16 }
+    requires few { length rack.now.items ≤ MOST_CHIPS }
     requires chosen { AllMayHear question.now.romc question.now.first (map state rack.now.items) }
     ensures { result ≡ polled question.now.rule question.now.romc question.now.reference
         question.now.first 0 (views (map state rack.now.items)) no_poll }

@@ -7,7 +7,7 @@ ghost use Rattle.data_bus.specs.Racks.{AllMayHear, RackSettles, SettlesStep};
 
 use super::ask::is_first;
 use super::{Cycle, Rack};
-use chip_face::Chip;
+use chip_face::{Chip, MOST_CHIPS};
 
 /// The length of a step in Φ.
 fn clocks(long: bool) -> u8
@@ -29,7 +29,7 @@ fn settle_at(chip: &mut Box<dyn Chip>, socket: u8, cycle: &Cycle, byte: u8)
 
 /// Every chip hears a served step, once.
 pub(crate) fn settle_all(rack: &mut Rack, cycle: &Cycle, byte: u8)
-    requires few { length rack.old.items ≤ 16 }
+    requires few { length rack.old.items ≤ MOST_CHIPS }
     requires chosen { AllMayHear cycle.now.romc cycle.now.first (map state rack.old.items) }
     ensures settled { RackSettles cycle.now.romc cycle.now.long cycle.now.first byte
         (map state rack.old.items) (map state rack.new.items) }

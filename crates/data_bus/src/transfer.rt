@@ -10,6 +10,7 @@ use super::poll::gather;
 use super::rule::rule_of;
 use super::settle::settle_all;
 use super::{BusFault, Cycle, Rack, Served};
+use chip_face::MOST_CHIPS;
 use probe::Probe;
 use romc_table::{Counter, Romc, counter_of};
 
@@ -29,7 +30,7 @@ fn reference_of(probe: &Probe, romc: Romc) -> u16
 /// What a step is to answer: every chip is asked, at most once, and the bus rule decides. Nothing changes.
 #[tactic(auto, using(crate::proofs::Racks::may_hear_all))]
 fn ruling(rack: &Rack, probe: &Probe, cycle: &Cycle) -> Result<Served, BusFault>
-    requires few { length rack.now.items ≤ 16 }
+    requires few { length rack.now.items ≤ MOST_CHIPS }
     requires chosen { ChosenAsks cycle.now.romc cycle.now.first (map state rack.now.items) }
     ensures { result ≡ step_answer cycle.now probe.now (map state rack.now.items) }
 {
@@ -50,7 +51,7 @@ fn ruling(rack: &Rack, probe: &Probe, cycle: &Cycle) -> Result<Served, BusFault>
 /// last byte that it heard, which names the port; where all have heard the same steps, that is the probe's.
 #[tactic(auto, using(crate::proofs::Racks::may_hear_all, crate::proofs::Racks::stays_all))]
 pub fn step(rack: &mut Rack, probe: &mut Probe, cycle: Cycle) -> Result<Served, BusFault>
-    requires few { length rack.old.items ≤ 16 }
+    requires few { length rack.old.items ≤ MOST_CHIPS }
     requires chosen { ChosenAsks cycle.romc cycle.first (map state rack.old.items) }
     ensures answer { result ≡ step_answer cycle probe.old (map state rack.old.items) }
 

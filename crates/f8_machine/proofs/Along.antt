@@ -31,7 +31,6 @@ use Rattle.probe.specs.ProbeState.{ProbeState}
 use Rattle.f8_machine.specs.RackViews.{HoldsFlat, HoldsPorts, AreCopies}
 use Rattle.console_spec.specs.declared.PortWrite.{PortWrite}
 use Rattle.f8_machine.proofs.PortValues.{PortValues, writes_along}
-use Rattle.f8_machine.proofs.StepTests.{Quiet}
 use Rattle.f8_machine.proofs.Places.{places_along, named_place}
 use Rattle.f8_machine.proofs.Values.{Values, ValueIs, memory_along}
 use Rattle.f8_machine.proofs.Bounds.{AreAt}
@@ -70,7 +69,6 @@ pub record Along (i : Inputs) (x : Position) (aim : Aim) (rest : List Step) (pro
   pub whole : length memory ≡ 65536
   pub values : Values (seats_of x.copies) i rest probe.count probe.last memory
   pub port_values : PortValues (seats_of x.copies) x.flat.state.keys aim.phi i rest probe.last writes
-  pub quiet : Quiet rest
   pub small : AreAt x.flat.state.flow accesses
   pub fault : first_fault x.flat.state.flow x.copies accesses ≡ aim.fault
   pub course : with_steps so_far (course_of i x.flat.state.flow x.copies rest accesses) ≡ aim.course

@@ -36,7 +36,7 @@ use Rattle.f8_machine.proofs.Written.{row_none, written_by}
 
 -- ---- what computes for each row
 
--- no step acknowledges an interrupt, and the code and the length of each say who drives
+-- no step acknowledges an interrupt
 pub usual_steps : (row : Row) (taken : Bool) → list_all is_usual (steps_of row taken) ≡ true
 usual_steps Branch true = refl
 usual_steps Branch false = refl

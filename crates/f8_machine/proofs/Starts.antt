@@ -27,7 +27,6 @@ use Rattle.f8_machine.specs.Refinement.{AreAddresses, RackStands}
 use Rattle.f8_machine.proofs.Bounds.{GetsBytes}
 use Rattle.f8_machine.proofs.Along.{Aim, Along}
 use Rattle.f8_machine.proofs.Rows.{row_facts, usual_steps, memory_goes, values_of, places_small}
-use Rattle.f8_machine.proofs.StepTests.{quiet_by}
 
 -- ---- an instruction
 
@@ -75,7 +74,6 @@ along-starts op x probe states bytes addresses rack whole =
           (from_port op seats x.flat);
       writes_later = facts.ports.writes i.taken seats
           (flat_after op seats x.flat).state.phi i probe.last x.flat.state.writes;
-      quiet = quiet_by (steps_of row i.taken) (usual_steps row i.taken);
       small = places_small row i c bytes addresses;
       fault = ap (first_fault c x.copies) (accesses-with_opcode row i.opcode (gets op (seats_of x.copies) x.flat));
       course = refl;
@@ -114,7 +112,6 @@ reset-starts x probe states rack whole = record {
   values = (tt, (tt, (refl, tt)));
   port_values = (tt, (tt, (tt, tt)));
   writes_later = refl;
-  quiet = quiet_by reset_steps refl;
   small = (λ read. omega arith, tt);
   fault = refl;
   course = refl;

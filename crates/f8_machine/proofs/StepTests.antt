@@ -1,19 +1,14 @@
--- What is asked of each bus step of an instruction, as tests that compute: no step acknowledges an interrupt, and the code and the length
--- say who drives.
+-- What is asked of each bus step of an instruction, as tests that compute: no step acknowledges an interrupt.
 use Rattle.std.proofs.Common.{◌≡◌, ℕ, Bool, true, false, List, [], ◌∷◌, map, Option, refl}
 use Rattle.std.specs.Prelude.{◌==◌, ◌&&◌, ◌||◌, not, if◌then◌else◌}
 use Rattle.std.specs.List.{list_all}
 use Rattle.f8_spec.specs.BusCodes.{driver_of}
-use Rattle.f8_spec.specs.MicroSteps.{Source, PortNumber, Step as MicroStep}
+use Rattle.f8_spec.specs.MicroSteps.{Step as MicroStep}
 use Rattle.f8_spec.specs.declared.bus.Driver.{Driver}
 use Rattle.f8_spec.specs.declared.bus.Driver.TheVariants.{Port}
-use Rattle.console_spec.specs.BusTrace.{who_by, who_idles, who_of}
-use Rattle.console_spec.specs.declared.Who.{Who}
-use Rattle.console_spec.specs.declared.Who.TheVariants.{Cpu, Nobody}
 use Rattle.cpu3850.specs.declared.steps.Step.{Step}
 use Rattle.cpu3850.specs.CpuSteps.{bus_step}
 use Rattle.f8_machine.specs.BusSteps.{IsPlain}
-use Rattle.f8_machine.specs.HeardSteps.{who_drove}
 
 -- a fact for a branch that is taken and one that is not
 pub by_taken : (P : Bool → Type 0) → P true → P false → (taken : Bool) → P taken
@@ -30,13 +25,9 @@ not_true false is = refl
 
 -- ---- the trace
 
--- in a long step of the code 1C the CPU drives the number of a port, and in a short one nobody drives
-abbrev pub is_long_for : Source → Bool → Bool
-is_long_for PortNumber long = long
-is_long_for source long = not long
-
+-- the step acknowledges no interrupt
 abbrev pub is_usual : MicroStep → Bool
-is_usual s = not (s.romc == 0x0F || s.romc == 0x13) && (if s.romc == 0x1C then is_long_for s.source s.long else true)
+is_usual s = not (s.romc == 0x0F || s.romc == 0x13)
 
 abbrev pub ArePlain : List Step → Type 0
 ArePlain [] = Unit {0}
@@ -45,37 +36,8 @@ ArePlain (s ∷ later) = IsPlain s.romc × ArePlain later
 pub plain_by : (steps : List MicroStep) → list_all is_usual steps ≡ true → ArePlain (map bus_step steps)
 plain_by [] all = tt
 plain_by (s ∷ later) all =
-    let both = both_true (is_usual s) (list_all is_usual later) all in (
-      not_true (s.romc == 0x0F || s.romc == 0x13) (both_true (not (s.romc == 0x0F || s.romc == 0x13)) _ both.0).0,
-      plain_by later both.1,
-    )
-
--- the trace of each step tells who drives by the code
-abbrev pub Quiet : List MicroStep → Type 0
-Quiet [] = Unit {0}
-Quiet (s ∷ later) = ((socket : Option ℕ) → who_of s socket ≡ who_drove s.romc s.long socket) × Quiet later
-
-idles_by : (source : Source) (long : Bool) → is_long_for source long ≡ true →
-    who_idles source ≡ (if long then Cpu else Nobody)
-idles_by PortNumber true is = refl
-idles_by PortNumber false is = cc
-idles_by source true is = cc
-idles_by source false is = refl
-
-who_by_code : (idle : Bool) (source : Source) (long : Bool) (other : Who) →
-    (if idle then is_long_for source long else true) ≡ true →
-    (if idle then who_idles source else other) ≡ (if idle then (if long then Cpu else Nobody) else other)
-who_by_code true source long other is = idles_by source long is
-who_by_code false source long other is = refl
-
-pub quiet_by : (steps : List MicroStep) → list_all is_usual steps ≡ true → Quiet steps
-quiet_by [] all = tt
-quiet_by (s ∷ later) all =
-    let both = both_true (is_usual s) (list_all is_usual later) all in (
-      λ socket. who_by_code (s.romc == 0x1C) s.source s.long (who_by (driver_of s.romc) socket)
-          (both_true (not (s.romc == 0x0F || s.romc == 0x13)) _ both.0).1,
-      quiet_by later both.1,
-    )
+    let both = both_true (is_usual s) (list_all is_usual later) all in
+    (not_true (s.romc == 0x0F || s.romc == 0x13) both.0, plain_by later both.1)
 
 -- ---- the ports
 

@@ -2,7 +2,7 @@
 use Rattle.std.specs.Prelude.{◌≡◌, ℕ, false, ◌==◌, ◌||◌, List, [], ◌∷◌, ◌++◌, Option, Some, None}
 use Rattle.f8_spec.specs.ChipState.{ChipState}
 use Rattle.f8_spec.specs.BusArbitration.{Served, rule_of, view_verdict, bus_byte}
-use Rattle.console_spec.specs.BusTrace.{taker_by}
+use Rattle.console_spec.specs.BusTrace.{taker_by, who_by}
 use Rattle.console_spec.specs.Services.{fault_by}
 use Rattle.probe.specs.ProbeState.{ProbeState, probe_after}
 use Rattle.cpu3850.specs.declared.steps.Step.{Step}
@@ -10,7 +10,6 @@ use Rattle.data_bus.specs.Racks.{RackSettles, RackStays, named_views}
 use Rattle.data_bus.specs.Steps.{probe_place}
 use Rattle.data_bus.specs.declared.fault.BusFault.{BusFault}
 use Rattle.f8_machine.specs.Faults.{fault_of}
-use Rattle.f8_machine.specs.HeardSteps.{who_drove}
 use Rattle.f8_machine.specs.declared.heard.Heard.{Heard}
 
 -- a code of no acknowledgement
@@ -23,7 +22,7 @@ heard_served step byte socket = record {
   romc = step.romc;
   long = step.long;
   byte = byte;
-  who = who_drove step.romc step.long socket;
+  who = who_by step.driver socket;
   taker = taker_by (rule_of step.romc) socket;
 }
 

@@ -39,7 +39,7 @@ pub(crate) fn bus_step(
         romc: step.romc,
         long: step.long,
         byte: served.byte,
-        who: who_drove(step.romc, step.long, served.socket),
+        who: who_drove(step.driver, served.socket),
         taker: taker(step.romc, served.socket),
     });
     Ok(served.byte)

@@ -1,11 +1,10 @@
 //! A bus step as a trace tells it.
 ghost use Rattle.std.specs.Prelude.{◌≡◌};
 ghost use Rattle.f8_spec.specs.BusArbitration.{rule_of};
-ghost use Rattle.console_spec.specs.BusTrace.{taker_by};
-ghost use Rattle.f8_machine.specs.HeardSteps.{who_drove};
+ghost use Rattle.console_spec.specs.BusTrace.{taker_by, who_by};
 
 use console_spec::Who;
-use romc_table::{Driver, Romc, driver_of};
+use romc_table::{Driver, Romc};
 
 /// A served bus step as a trace tells it: its code, whether it is a long one, of 6 Φ in place of 4, and its byte.
 #[derive(Clone, Copy, Debug, PartialEq, Eq)]
@@ -21,15 +20,11 @@ pub struct Heard {
     pub taker: Option<u8>,
 }
 
-/// Who drives the byte of a step that is served by the chip in a socket. In the code 1C the CPU drives the number of a port where the
-/// step is a long one, and else nobody drives.
-pub(crate) fn who_drove(romc: Romc, long: bool, socket: Option<u8>) -> Who
-    ensures { result ≡ who_drove romc long socket }
+/// Who drove the byte of a step that was served, by the chip in a socket where a chip drives.
+pub(crate) fn who_drove(driver: Driver, socket: Option<u8>) -> Who
+    ensures { result ≡ who_by driver socket }
 {
-    if romc == Romc::IDLE {
-        return if long { Who::Cpu } else { Who::Nobody };
-    }
-    match driver_of(romc) {
+    match driver {
         Driver::Memory | Driver::CounterByte | Driver::Vector | Driver::Port => match socket {
             Some(socket) => Who::Socket(socket),
             None => Who::Nobody,

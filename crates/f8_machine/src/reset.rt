@@ -13,21 +13,25 @@ use chip_face::{Chip, MOST_CHIPS};
 use cpu3850::{Romc, Step};
 use data_bus::Rack;
 use probe::Probe;
+use romc_table::Driver;
 
 /// The steps of reset: the CPU works by itself, the program counters go to 0, and the opcode there is fetched.
 const IDLE: Step = Step {
     romc: Romc::IDLE,
     long: false,
+    driver: Driver::Nobody,
 };
 
 const TO_ZERO: Step = Step {
     romc: Romc::RESET,
     long: true,
+    driver: Driver::Cpu,
 };
 
 const FETCH: Step = Step {
     romc: Romc::FETCH,
     long: false,
+    driver: Driver::Memory,
 };
 
 /// A bus step in which the CPU places 00.

@@ -30,11 +30,11 @@ sort_at-page_among (p ∷ ps) rom at =
   where
     by_test : (test : Bool) (place : Option ℕ) →
         option_and_then (λ k. option_map (λ (q : Page). q.sort) (slice_get ps k)) place
-            ≡ option_map (λ q. q.sort) (page_among (at / 256) ps (rom_after p.sort rom)) →
+        ≡ option_map (λ q. q.sort) (page_among (at / 256) ps (rom_after p.sort rom)) →
         option_and_then (λ k. option_map (λ (q : Page). q.sort) (slice_get (p ∷ ps) k)) (if test then Some 0 else option_map (λ k. k + 1) place)
         ≡ option_map (λ q. q.sort) (if test then Some
-            (record { sort = p.sort; rom = take (rom_size p.sort) rom }) else page_among (at / 256) ps
-            (rom_after p.sort rom))
+        (record { sort = p.sort; rom = take (rom_size p.sort) rom }) else page_among (at / 256) ps
+        (rom_after p.sort rom))
     by_test true place later = refl
     by_test false None later = later
     by_test false (Some k) later = rw add-one later
@@ -94,19 +94,19 @@ byte_in-page_among (p ∷ ps) rom number offset within size =
         option_map (λ k. slice_index (page_bytes ps (rom_after p.sort rom)) (k * 256 + offset)) place
         ≡ option_map (λ q. fitted_byte q.sort q.rom offset) (page_among number ps (rom_after p.sort rom)) →
         option_map (λ k. slice_index (page_content p.sort rom ++ page_bytes ps (rom_after p.sort rom))
-            (k * 256 + offset)) (if test then Some 0 else option_map (λ k. k + 1) place)
+        (k * 256 + offset)) (if test then Some 0 else option_map (λ k. k + 1) place)
         ≡ option_map (λ q. fitted_byte q.sort q.rom offset)
         (if test then Some (record { sort = p.sort; rom = take (rom_size p.sort) rom }) else page_among number ps (rom_after p.sort rom))
     by_test true place later =
         let first : slice_index (page_content p.sort rom ++ page_bytes ps (rom_after p.sort rom)) (0 * 256 + offset)
-            ≡ slice_index (page_content p.sort rom) offset
+        ≡ slice_index (page_content p.sort rom) offset
         = let start : 0 + offset ≡ offset = omega arith in
         rw start (get_or_append_left (page_content p.sort rom) (page_bytes ps (rom_after p.sort rom)) 0 offset (omega (arith, own))) in
         ap Some (first ∙ content_byte p.sort rom offset within)
     by_test false None later = later
     by_test false (Some k) later =
         let behind : slice_index (page_content p.sort rom ++ page_bytes ps (rom_after p.sort rom))
-            ((k + 1) * 256 + offset) ≡ slice_index (page_bytes ps (rom_after p.sort rom)) (k * 256 + offset)
+        ((k + 1) * 256 + offset) ≡ slice_index (page_bytes ps (rom_after p.sort rom)) (k * 256 + offset)
         = get_or-append_right (page_content p.sort rom) (page_bytes ps (rom_after p.sort rom)) 256 ((k + 1) * 256 + offset) 0 own (omega arith)
         ∙ ap (slice_index (page_bytes ps (rom_after p.sort rom))) (omega arith) in
         ap Some behind ∙ later
@@ -133,8 +133,12 @@ psu_bytes : (base : ℕ) (rom : List ℕ) → length rom ≡ 1024 → page_bytes
 psu_bytes base rom size =
     rw (
       take_all 256 (drop 256 (drop 256 (drop 256 rom)))
-          (omega (arith, length-drop 256 (drop 256 (drop 256 rom)), length-drop 256 (drop 256 rom),
-          length-drop 256 rom)),
+          (omega (
+            arith,
+            length-drop 256 (drop 256 (drop 256 rom)),
+            length-drop 256 (drop 256 rom),
+            length-drop 256 rom,
+          )),
       append-nil (drop 256 (drop 256 (drop 256 rom))),
       take-append-drop 256 (drop 256 (drop 256 rom)),
       take-append-drop 256 (drop 256 rom),

@@ -57,7 +57,7 @@ owners_held at place (chip ∷ chips) specs =
   where
     step : (page : Option PageView) →
         filter_map (holding at) (enumerate_from (place + 1) (seats_of chips))
-            ≡ map (λ x. x.0) (filter_map (owned_page (at / 256)) (enumerate_from (place + 1) chips)) →
+        ≡ map (λ x. x.0) (filter_map (owned_page (at / 256)) (enumerate_from (place + 1) chips)) →
         cons_option (if is_some page then Some place else None) (filter_map (holding at) (enumerate_from (place + 1) (seats_of chips)))
         ≡ map (λ x. x.0) (cons_option (option_map (λ p. (place, p)) page) (filter_map (owned_page (at / 256)) (enumerate_from (place + 1) chips)))
     step None later = later
@@ -77,8 +77,8 @@ bytes_held at place (chip ∷ chips) specs =
         ≡ map (λ x. fitted_byte x.1.sort x.1.rom (at % 256)) (filter_map (owned_page (at / 256)) (enumerate_from (place + 1) chips)) →
         cons_option (option_map (λ p. fitted_byte p.sort p.rom (at % 256)) page) (filter_map (λ v. held_byte v at) (views_of chips))
         ≡ map (λ x. fitted_byte x.1.sort x.1.rom (at % 256))
-            (cons_option (option_map (λ p. (place, p)) page)
-            (filter_map (owned_page (at / 256)) (enumerate_from (place + 1) chips)))
+        (cons_option (option_map (λ p. (place, p)) page)
+        (filter_map (owned_page (at / 256)) (enumerate_from (place + 1) chips)))
     step None later = later
     step (Some p) later = ap (λ l. fitted_byte p.sort p.rom (at % 256) ∷ l) later
 

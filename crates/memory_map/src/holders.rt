@@ -1,7 +1,7 @@
 // Which chips hold a page, and its bytes.
 use super::pages::{HeldPage, chip_page};
 use super::table::Entry;
-use chip_face::{ChipSpec, PAGE_SIZE, PageSort};
+use chip_face::{ChipSpec, MOST_CHIPS, PAGE_SIZE, PageSort};
 use std::alloc::AllocError;
 
 /// The chips that hold a page of 256 addresses: none, the one at a place among the chips, or two and more.
@@ -20,7 +20,7 @@ impl<'a> Holder<'a> {
 
     /// The holders of the page of a number.
     pub fn of(chips: &'a [ChipSpec], number: u8) -> Holder<'a>
-        requires few { length chips.now ≤ 16 }
+        requires few { length chips.now ≤ MOST_CHIPS }
         requires specified { All IsSpec chips.now }
         ensures { seen result ≡ holder_of number chips.now }
     {

@@ -6,7 +6,7 @@ ghost use Rattle.chip_face.specs.Fitting.{IsSpec, fitted};
 ghost use Rattle.memory_map.specs.MapOf.{seats_of};
 ghost use Rattle.memory_map.specs.MapPorts.{AreReaders, AreTakers};
 
-use chip_face::{ChipSpec, SMI_FIRST_PORT};
+use chip_face::{ChipSpec, MOST_CHIPS, SMI_FIRST_PORT};
 
 /// A chip has a port as a data port. Of a 3851's four ports those are the first two; a 3853 has none.
 fn has_data_port(chip: &ChipSpec, port: u8) -> bool
@@ -33,7 +33,7 @@ fn has_port(chip: &ChipSpec, port: u8) -> bool
 
 /// How many chips have a port as a data port.
 fn readers(chips: &[ChipSpec], port: u8) -> u8
-    requires few { length chips.now ≤ 16 }
+    requires few { length chips.now ≤ MOST_CHIPS }
     requires specified { All IsSpec chips.now }
     ensures { result ≡ readers port (seats_of chips.now) }
 {
@@ -48,7 +48,7 @@ fn readers(chips: &[ChipSpec], port: u8) -> u8
 
 /// How many chips have a port.
 fn takers(chips: &[ChipSpec], port: u8) -> u8
-    requires few { length chips.now ≤ 16 }
+    requires few { length chips.now ≤ MOST_CHIPS }
     requires specified { All IsSpec chips.now }
     ensures { result ≡ takers port (seats_of chips.now) }
 {
@@ -63,7 +63,7 @@ fn takers(chips: &[ChipSpec], port: u8) -> u8
 
 /// For each port how many chips have it as a data port.
 pub fn all_readers(chips: &[ChipSpec]) -> [u8; 256]
-    requires few { length chips.now ≤ 16 }
+    requires few { length chips.now ≤ MOST_CHIPS }
     requires specified { All IsSpec chips.now }
     ensures { AreReaders chips.now result }
 {
@@ -76,7 +76,7 @@ pub fn all_readers(chips: &[ChipSpec]) -> [u8; 256]
 
 /// For each port how many chips have it.
 pub fn all_takers(chips: &[ChipSpec]) -> [u8; 256]
-    requires few { length chips.now ≤ 16 }
+    requires few { length chips.now ≤ MOST_CHIPS }
     requires specified { All IsSpec chips.now }
     ensures { AreTakers chips.now result }
 {

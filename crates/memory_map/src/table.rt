@@ -1,7 +1,7 @@
 // The map: what each address is to the chips of a description.
 use super::holders::Holder;
 use super::ports::{all_readers, all_takers};
-use chip_face::{ChipList, ChipSpec, PageSort};
+use chip_face::{ChipList, ChipSpec, MOST_CHIPS, PageSort};
 use console_spec::Sort;
 use f8_spec::Memory;
 use std::alloc::{AllocError, Global};
@@ -60,7 +60,7 @@ impl Map {
     }
 
     fn of_slice(alloc: Global, chips: &[ChipSpec]) -> Result<Map, AllocError>
-        requires few { length chips.now ≤ 16 }
+        requires few { length chips.now ≤ MOST_CHIPS }
         requires specified { All IsSpec chips.now }
         ensures { IfOk result (λ map. IsMapOf map chips.now) }
     {

@@ -1,6 +1,8 @@
 -- What is read of a reader, where the bytes that it has left are known.
-use Rattle.std.specs.Prelude.{◌≡◌, ℕ, ◌+◌, List, ◌++◌, length, Option}
+use Rattle.std.specs.Prelude.{◌≡◌, ⊤, ℕ, ◌+◌, ◌<◌, List, ◌++◌, length, Option, Result, Ok, Err}
 use Rattle.std.specs.Io.KnownBytes.{Consumes, IsAtEnd}
+use Rattle.outside.specs.declared.store.FetchFault.{FetchFault}
+use Rattle.outside.specs.declared.store.FetchFault.TheVariants.{Failed, TooLong, Memory}
 
 -- a piece of so many bytes was read and appended, and one of none only at the end
 pub record PieceRead (old new : Option (List ℕ)) (before after : List ℕ) (count : ℕ) : Type 0 where
@@ -20,3 +22,16 @@ pub record ReadPast (old new : Option (List ℕ)) (limit : ℕ) : Type 0 where
   pub bytes : List ℕ
   pub consumed : Consumes old new bytes
   pub past : length bytes ≡ limit + 1
+
+-- bytes were read, at least one, that found no room
+pub record ReadWithoutRoom (old new : Option (List ℕ)) : Type 0 where
+  pub bytes : List ℕ
+  pub consumed : Consumes old new bytes
+  pub some : 0 < length bytes
+
+-- what is said of a call that answers `Memory`
+abbrev pub WhereWanting : {T : Type 0} → Result T FetchFault → Type 0 → Type 0
+WhereWanting (Ok x) Said = ⊤
+WhereWanting (Err Failed) Said = ⊤
+WhereWanting (Err TooLong) Said = ⊤
+WhereWanting (Err Memory) Said = Said

@@ -1,36 +1,36 @@
-ghost use Rattle.std.specs.Prelude.{◌≡◌, ◌≤◌, ◌<◌, length, IfOk, Ok, Err, MatchResult};
-ghost use Rattle.outside.specs.Reading.{PieceRead, AllRead, ReadPast};
-ghost use Rattle.outside.specs.StoreRules.{WhereLong};
+ghost use Rattle.std.specs.Prelude.{◌≡◌, ◌≤◌, ◌<◌, length, IfOk};
+ghost use Rattle.outside.specs.Reading.{PieceRead, AllRead, ReadPast, ReadWithoutRoom, WhereWanting};
+ghost use Rattle.outside.specs.StoreRules.{CountsFault, WhereLong};
 
+use super::counted_reader::{CountedReader, or_failed};
 use super::store::{FetchFault, Store};
 use std::alloc::Global;
+use std::fs;
 use std::io::Read;
 use std::rt::Files;
-use std::{fs, io};
 
 /// How many bytes are read at once.
 const PIECE: usize = 4096;
 
-/// What the system gave. Any error of it is a failed fetch, and none is want of memory.
-fn or_failed<T>(outcome: io::Result<T>) -> Result<T, FetchFault>
-    ensures { MatchResult outcome (λ given. result ≡ Ok given) (λ _. result ≡ Err FetchFault.Failed) }
-{
-    match outcome {
-        Ok(given) => Ok(given),
-        Err(_) => Err(FetchFault::Failed),
-    }
-}
-
 /// Appends one piece of at most `most` bytes, and says how many it has: none at the end. Nothing is appended at a fault.
-fn read_piece<F: Read>(file: &mut F, bytes: &mut Vec<u8>, most: usize) -> Result<usize, FetchFault>
+fn read_piece<F: Read + Drop>(
+    file: &mut CountedReader<F>,
+    bytes: &mut Vec<u8>,
+    most: usize,
+) -> Result<usize, FetchFault>
     requires { 0 < most }
-    ensures read { IfOk result (λ count. PieceRead (F.remaining file.old) (F.remaining file.new) bytes.old.items bytes.new.items count) }
+    ensures read { IfOk result (λ count. PieceRead (F.remaining file.old.reader) (F.remaining file.new.reader) bytes.old.items bytes.new.items count) }
     ensures within { IfOk result (λ count. count ≤ most) }
-    ensures fault { WhereLong result ⊥ }
+    ensures cause { CountsFault file.old.failures file.new.failures result }
+    ensures long { WhereLong result ⊥ }
+    ensures wanting { WhereWanting result (ReadWithoutRoom (F.remaining file.old.reader) (F.remaining file.new.reader)) }
 {
     let mut piece = [0; PIECE];
     let room = &mut piece[..most.min(PIECE)];
-    let taken = or_failed(file.read(room))?;
+    let taken = file.read(room)?;
+    if taken == 0 {
+        return Ok(0);
+    }
     match bytes.extend_from_slice(&room[..taken]) {
         Ok(()) => Ok(taken),
         Err(_) => Err(FetchFault::Memory),
@@ -38,11 +38,20 @@ fn read_piece<F: Read>(file: &mut F, bytes: &mut Vec<u8>, most: usize) -> Result
 }
 
 /// The bytes that a reader has up to its end, where they are at most `limit`. Not more than one byte past the limit is read.
-#[tactic(auto, using(crate::proofs::Reading::reads_none, crate::proofs::Reading::reads_more))]
-fn read_whole<F: Read>(alloc: Global, file: &mut F, limit: u32) -> Result<Vec<u8>, FetchFault>
+///
+/// `Failed` comes only where the reader failed, `TooLong` only where it had more than `limit` bytes, and `Memory` only where it gave bytes
+/// for which there is no room.
+#[tactic(auto, using(crate::proofs::Reading::reads_none, crate::proofs::Reading::reads_more, crate::proofs::Reading::reads_without_room))]
+fn read_whole<F: Read + Drop>(
+    alloc: Global,
+    file: &mut CountedReader<F>,
+    limit: u32,
+) -> Result<Vec<u8>, FetchFault>
     ensures within { IfOk result (λ bytes. length bytes.items ≤ limit) }
-    ensures all { IfOk result (λ bytes. AllRead (F.remaining file.old) (F.remaining file.new) bytes.items) }
-    ensures long { WhereLong result (ReadPast (F.remaining file.old) (F.remaining file.new) limit) }
+    ensures all { IfOk result (λ bytes. AllRead (F.remaining file.old.reader) (F.remaining file.new.reader) bytes.items) }
+    ensures cause { CountsFault file.old.failures file.new.failures result }
+    ensures long { WhereLong result (ReadPast (F.remaining file.old.reader) (F.remaining file.new.reader) limit) }
+    ensures wanting { WhereWanting result (ReadWithoutRoom (F.remaining file.old.reader) (F.remaining file.new.reader)) }
 {
     let limit = limit as usize;
     let mut bytes = Vec::new(alloc);
@@ -78,8 +87,8 @@ impl<R: Files + Drop> FileStore<R> {
     fn read(&self, alloc: Global, name: &str, limit: u32) -> Result<Vec<u8>, FetchFault>
         ensures within { IfOk result (λ bytes. length bytes.items ≤ limit) }
     {
-        let mut file = or_failed(fs::open(&self.system, name))?;
-        read_whole(alloc, &mut file, limit)
+        let file = or_failed(fs::open(&self.system, name))?;
+        read_whole(alloc, &mut CountedReader::new(file), limit)
     }
 }
 

@@ -2,6 +2,7 @@
 #![tactic(auto)]
 
 mod call_list;
+mod counted_reader;
 mod file_list;
 mod file_store;
 mod memory_sinks;

@@ -1,0 +1,92 @@
+"""The cartridges as they lie in cartridges/, on the built program: real files, sources that are fetched, a 3853 in its socket."""
+from __future__ import annotations
+
+import subprocess
+import unittest
+
+from tool import PROGRAM, TOP, needs_program
+
+# What a run has to end with, by the words in front of the cartridge's files. The lines are those of the cartridge's README. The totals were
+# counted by hand, by docs/MACHINE.md: 14 clocks of reset, and then, for instance in `parted`, DCI 24, XDC 8, DCI 24, LIS 4, LR 4, LM 10,
+# XDC 8, ST 10, XDC 8, DS 6 and BNZ 14 up to the LM that isn't served.
+RUNS = [
+    (['play'], 'product', 0, [
+        'stop done',
+        'regs P=0022 P1=0000 D0=0000 D1=0000 A=00 IS=00 W=05',
+        's00 80 64 00 4F 44 00 00 00 00 00 00 00 00 00 00 00',
+        'total 200 instructions 1586 phi']),
+    (['ref'], 'product', 0, [
+        'stop done',
+        'regs P=0022 P1=0000 D0=0000 D1=0000 A=00 IS=00 W=05',
+        's00 80 64 00 4F 44 00 00 00 00 00 00 00 00 00 00 00',
+        'total 200 instructions 1586 phi']),
+    (['play'], 'two_roms', 0, [
+        'stop done',
+        'regs P=0017 P1=0016 D0=280B D1=0000 A=E8 IS=56 W=07',
+        's00 90 E9 00 E9 E8 EE EE EE EE EE EE EE EE EE EE EE',
+        'total 200 instructions 1712 phi']),
+    (['play'], 'parted', 3, [
+        'stop astray romc 02 socket 0 at 0014 reference 0013',
+        'regs P=0009 P1=0000 D0=0013 D1=2801 A=C0 IS=00 W=03',
+        's00 03 00 00 00 00 00 00 00 00 00 00 00 00 00 00 00',
+        'total 11 instructions 134 phi']),
+    (['play', '--trace'], 'parted', 3, [
+        'bus 02 L -- fault',
+        'stop astray romc 02 socket 0 at 0014 reference 0013',
+        'regs P=0009 P1=0000 D0=0013 D1=2801 A=C0 IS=00 W=03',
+        's00 03 00 00 00 00 00 00 00 00 00 00 00 00 00 00 00',
+        'total 11 instructions 134 phi']),
+    (['play'], 'lighthouse', 0, [
+        'frame 20 phi 596600 tone 0',
+        'frame 40 phi 1193204 tone 0',
+        'frame 43 phi 1282700 tone 2',
+        'stop done']),
+]
+
+# Without chips the copy of `parted` is done: four bytes are gone over, the last of them is 11, and r0 is 0.
+PARTED_WITHOUT_CHIPS = ['stop done', 'regs P=0010 P1=0000 D0=0016 D1=2804 A=11 IS=00 W=07', 'total 100 instructions 1294 phi']
+
+
+def run(command: list[str], name: str) -> tuple[int, list[str]]:
+    words = [*command, f'cartridges/{name}/cart.toml', f'cartridges/{name}/script.txt']
+    done = subprocess.run([PROGRAM, *words], cwd=TOP, capture_output=True, text=True, timeout=60)
+    return done.returncode, done.stdout.splitlines()
+
+
+@needs_program
+class Cartridges(unittest.TestCase):
+    def assert_in_order(self, expected: list[str], lines: list[str]):
+        self.assertEqual([line for line in lines if line in expected], expected)
+
+    def test_each_run_ends_as_its_readme_says(self):
+        for command, name, status, expected in RUNS:
+            with self.subTest(words=[*command, name]):
+                ended, lines = run(command, name)
+                self.assertEqual(ended, status)
+                self.assert_in_order(expected, lines)
+                self.assertEqual(lines[0] == 'verdict unchecked', command[0] == 'play')
+                self.assertTrue(lines[-1].startswith('total '))
+
+    def test_copy_with_both_data_counters_is_done_without_chips(self):
+        ended, lines = run(['ref'], 'parted')
+        self.assertEqual(ended, 0)
+        self.assert_in_order(PARTED_WITHOUT_CHIPS, lines)
+
+    def test_readmes_have_the_lines(self):
+        for command, name, _, expected in RUNS:
+            text = (TOP / 'cartridges' / name / 'README.md').read_text()
+            for line in expected:
+                self.assertTrue(line in text or line.startswith(('total', 'bus')), line)
+
+    def test_pictures_of_the_lighthouse_are_those_of_its_readme(self):
+        _, lines = run(['play'], 'lighthouse')
+        text = (TOP / 'cartridges/lighthouse/README.md').read_text()
+        for number in (20, 43):
+            shown = text.partition(f'\nFrame {number}:\n\n')[2].partition('\n\n')[0].splitlines()
+            at = next(at for at, line in enumerate(lines) if line.startswith(f'frame {number} '))
+            rows = [line[2:].translate(str.maketrans('0123', ' .o#')) for line in lines[at + 1:at + 65:2]]
+            self.assertEqual([f'    {row}'.rstrip() for row in rows], [line.rstrip() for line in shown])
+
+
+if __name__ == '__main__':
+    unittest.main()
