@@ -3,7 +3,7 @@ use Rattle.std.specs.Prelude.{◌≡◌, ◌≢◌, ℕ, ◌<◌, List, [], ◌�
 use Rattle.std.specs.List.{sum_by}
 use Rattle.f8_spec.specs.ChipState.{ChipState}
 use Rattle.console_spec.specs.declared.PortWrite.{PortWrite}
-use Rattle.console_spec.specs.Processor.{State, shown}
+use Rattle.console_spec.specs.Processor.{State, told_regs}
 use Rattle.console_spec.specs.Run.{Stop, Done, Unserved, Reserved as ReservedStop, Ending as FlatEnding}
 use Rattle.console_spec.specs.Scripts.{Script}
 use Rattle.console_spec.specs.Telling.{Moment, Telling, played_by, referred_by, told_in}
@@ -37,7 +37,7 @@ bytes_written writes = sum_by (λ w. w.byte) writes
 
 -- a state and a stop are told with registers, instructions, clocks and writes
 pub record Tells (told : Ending) (state : State) (stop : Stop) : Type 0 where
-  pub regs : told.regs ≡ shown state
+  pub regs : told.regs ≡ told_regs state
   pub isar : told.regs.isar < 64
   pub halt : stop_at told.halt ≡ stop
   pub count : told.count ≡ state.count
@@ -55,8 +55,8 @@ abbrev pub run_on : Detail → Script → List ℕ → List ChipState → Tellin
 run_on detail script chain states = played_by (views states) chain (is_traced detail) script
 
 -- the run to its end: every chip is powered and lives through the moments of the run, and the sink was given all that is told
-pub record Plays (detail : Detail) (script : Script) (chain : List ℕ) (told : Ending) (olds news : List ChipState) (old new : Output) :
-    Type 0 where
+pub record Plays (detail : Detail) (script : Script) (chain : List ℕ) (told : Ending) (olds news : List ChipState)
+    (old new : Output) : Type 0 where
   pub powered : List ChipState
   pub powers : RackPowers script.power olds powered
   pub lived : Lives (run_on detail script chain olds).moments powered news
@@ -79,7 +79,8 @@ pub record CutShort (detail : Detail) (ms : List Moment) (olds news : List ChipS
   pub part : AddsPart between new (text_in detail at.told)
 
 -- the run up to there
-pub record PlaysPart (detail : Detail) (script : Script) (chain : List ℕ) (olds news : List ChipState) (old new : Output) : Type 0 where
+pub record PlaysPart (detail : Detail) (script : Script) (chain : List ℕ) (olds news : List ChipState)
+    (old new : Output) : Type 0 where
   pub powered : List ChipState
   pub powers : RackPowers script.power olds powered
   pub cut : CutShort detail (run_on detail script chain olds).moments powered news old new

@@ -1,3 +1,4 @@
+// What a run keeps beside its player: the screen and the counts.
 use console_board::{Board, PortWrite, Screen};
 use console_spec::End;
 use std::marker::Model;
@@ -27,21 +28,29 @@ impl Model for Progress {
 
     ghost Value = { ProgressState };
 
-    ghost view = { λ p. record { screen = p.board.screen; phi = p.board.phi; count = p.count; writes = p.writes; bytes = p.bytes } };
+    ghost view = { λ p. record {
+      screen = p.board.screen;
+      phi = p.board.phi;
+      count = p.count;
+      writes = p.writes;
+      bytes = p.bytes;
+    } };
 
-    ghost invariant = { λ p. (p.frames ≡ frames_by p.board.phi) × (p.writes ≤ p.count) × (p.bytes ≤ 255 * p.writes) };
+    ghost invariant = { λ p.
+        (p.frames ≡ frames_by p.board.phi) × (p.writes ≤ p.count) × (p.bytes ≤ 255 * p.writes) };
 }
 
 impl Progress {
     ghost use Rattle.std.specs.Prelude.{◌≡◌, ◌≤◌, ◌<◌, ◌+◌, ◌^◌, []};
     ghost use Rattle.console_spec.specs.Scripts.{frame_clocks};
-    ghost use Rattle.video.specs.ScreenState.{shown};
+    ghost use Rattle.video.specs.ScreenState.{screen_after};
     ghost use Rattle.rack_run.specs.Progressing.{ProgressState, progress_with, frame_at, ends_at};
 
     /// After reset, with its clocks in Φ: nothing was written, and no instruction was done.
     pub(crate) fn new(phi: u64) -> Progress
         requires { phi < frame_clocks }
-        ensures { result ≡ record { screen = shown []; phi = phi; count = 0; writes = 0; bytes = 0 } }
+        ensures { result
+            ≡ record { screen = screen_after []; phi = phi; count = 0; writes = 0; bytes = 0 } }
     {
         let mut board = Board::new();
         board.frame_due(phi);
