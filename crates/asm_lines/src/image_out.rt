@@ -1,8 +1,9 @@
 // The lines of an image, one after the other.
 ghost use Rattle.std.specs.Prelude.{◌≡◌, ◌≤◌, ◌<◌, length, map, min, OnOk, OnErr};
 ghost use Rattle.console_spec.specs.RunText.{text_of};
-ghost use Rattle.outside.specs.SinkRules.{Adds, AddsPart, HasCause};
-ghost use Rattle.asm_lines.specs.ImageLines.{image_lines, byte_line as spelled_bytes, byte_lines, symbol_line as spelled_symbol};
+ghost use Rattle.outside.specs.SinkRules.{Adds, AddsPart};
+ghost use Rattle.asm_lines.specs.ImageLines.{byte_line as spelled_bytes, byte_lines};
+ghost use Rattle.asm_lines.specs.ImageLines.{symbol_line as spelled_symbol, symbol_lines, image_lines};
 ghost use Rattle.asm_lines.specs.Rows.{following};
 
 use f8_asm::Image;
@@ -31,7 +32,8 @@ fn row_length(first: u16, entries: &[(u16, u8)]) -> usize
 /// The line of some entries, at most 16, that lie at this address and those that follow it.
 fn byte_line(first: u16, entries: &[(u16, u8)]) -> Line
     requires { length entries.now ≤ 16 }
-    ensures { result ≡ spelled_bytes (record { first = first; bytes = map (λ e. e.1) entries.now }) }
+    ensures { result
+        ≡ spelled_bytes (record { first = first; bytes = map (λ e. e.1) entries.now }) }
 {
     let mut line = Line::new();
     line.hex4(first);
@@ -44,9 +46,10 @@ fn byte_line(first: u16, entries: &[(u16, u8)]) -> Line
 }
 
 fn put_bytes<K: Sink>(sink: &mut K, entries: &[(u16, u8)]) -> Result<(), SinkFault>
-    ensures ok { OnOk result (Adds (K.written sink.old) (K.written sink.new) (text_of (byte_lines entries.now))) }
-    ensures err { OnErr result (AddsPart (K.written sink.old) (K.written sink.new) (text_of (byte_lines entries.now))) }
-    ensures cause { HasCause (K.faults sink.old) (K.faults sink.new) result }
+    ensures ok { OnOk result (Adds (K.output sink.old) (K.output sink.new)
+        (text_of (byte_lines entries.now))) }
+    ensures err { OnErr result (AddsPart (K.output sink.old) (K.output sink.new)
+        (text_of (byte_lines entries.now))) }
 {
     let mut rest = entries;
     while let Some(((first, _byte), _others)) = rest.split_first() {
@@ -73,9 +76,10 @@ fn symbol_line(name: &str, value: i64) -> Line
 }
 
 fn put_symbols<K: Sink>(sink: &mut K, image: &Image) -> Result<(), SinkFault>
-    ensures ok { OnOk result (Adds (K.written sink.old) (K.written sink.new) (text_of (map spelled_symbol image.now.symbols))) }
-    ensures err { OnErr result (AddsPart (K.written sink.old) (K.written sink.new) (text_of (map spelled_symbol image.now.symbols))) }
-    ensures cause { HasCause (K.faults sink.old) (K.faults sink.new) result }
+    ensures ok { OnOk result (Adds (K.output sink.old) (K.output sink.new)
+        (text_of (symbol_lines image.now))) }
+    ensures err { OnErr result (AddsPart (K.output sink.old) (K.output sink.new)
+        (text_of (symbol_lines image.now))) }
 {
     for k in 0..image.symbol_count() {
         if let Some((name, value)) = image.symbol(k) {
@@ -95,9 +99,10 @@ fn put_symbols<K: Sink>(sink: &mut K, image: &Image) -> Result<(), SinkFault>
 /// The sink failed at a line, and a first part of the lines was written.
 #[tactic(auto, unfolding(crate::specs::ImageLines::image_lines))]
 pub fn put_image<K: Sink>(sink: &mut K, image: &Image) -> Result<(), SinkFault>
-    ensures ok { OnOk result (Adds (K.written sink.old) (K.written sink.new) (text_of (image_lines image.now))) }
-    ensures err { OnErr result (AddsPart (K.written sink.old) (K.written sink.new) (text_of (image_lines image.now))) }
-    ensures cause { HasCause (K.faults sink.old) (K.faults sink.new) result }
+    ensures ok { OnOk result (Adds (K.output sink.old) (K.output sink.new)
+        (text_of (image_lines image.now))) }
+    ensures err { OnErr result (AddsPart (K.output sink.old) (K.output sink.new)
+        (text_of (image_lines image.now))) }
 {
     put_bytes(sink, image.bytes())?;
     put_symbols(sink, image)

@@ -1,6 +1,6 @@
 // The lines of a text, one after the other.
 ghost use Rattle.std.specs.Prelude.{◌≡◌, ◌==◌, ◌≤◌, ◌<◌, length, position, IfSome, OnOk, OnErr};
-ghost use Rattle.outside.specs.SinkRules.{Adds, AddsPart, HasCause};
+ghost use Rattle.outside.specs.SinkRules.{Adds, AddsPart};
 ghost use Rattle.asm_lines.specs.ListingLines.{first_line_length};
 
 use f8_asm::Text;
@@ -32,9 +32,8 @@ fn first_line_length(text: &[u8]) -> usize
 ///
 /// The sink failed at a line, and a first part of the text was written.
 pub fn put_listing<K: Sink>(sink: &mut K, text: &Text) -> Result<(), SinkFault>
-    ensures ok { OnOk result (Adds (K.written sink.old) (K.written sink.new) text.now) }
-    ensures err { OnErr result (AddsPart (K.written sink.old) (K.written sink.new) text.now) }
-    ensures cause { HasCause (K.faults sink.old) (K.faults sink.new) result }
+    ensures ok { OnOk result (Adds (K.output sink.old) (K.output sink.new) text.now) }
+    ensures err { OnErr result (AddsPart (K.output sink.old) (K.output sink.new) text.now) }
 {
     let mut rest = text.as_bytes();
     while !rest.is_empty() {

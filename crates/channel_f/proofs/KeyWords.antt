@@ -4,7 +4,9 @@ use Rattle.text_lines.specs.Printable.{is_printable}
 use Rattle.std.specs.Prelude.{IsTrue}
 use Rattle.std.specs.List.{list_all}
 use Rattle.cartridge.specs.declared.keys.Key.{Key}
-use Rattle.cartridge.specs.declared.keys.Key.TheVariants.{Format, Split, Chip, Kind, Base, Ports, Vector, RomPage, RomPages, RamPage, RamPages, VoidPage, VoidPages, Interrupt, Rom, Source, Other}
+use Rattle.cartridge.specs.declared.keys.Key.TheVariants.{Format, Split, Chip, Kind, Base, Ports, Vector, RomPage}
+use Rattle.cartridge.specs.declared.keys.Key.TheVariants.{RomPages, RamPage, RamPages, VoidPage, VoidPages, Interrupt}
+use Rattle.cartridge.specs.declared.keys.Key.TheVariants.{Rom, Source, Other}
 use Rattle.cartridge.specs.Keys.{key_word}
 
 pub word_short : (key : Key) → length (key_word key) ≤ 16

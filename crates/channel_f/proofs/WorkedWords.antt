@@ -9,9 +9,10 @@ use Rattle.loader.specs.Work.{Gives}
 use Rattle.channel_f.specs.Answers.{answer_of}
 
 -- one word too few, whatever the rack and the files
-one_word : (rack : List ChipState) (files : List NamedBytes) → answer_of rack (command_of (codes "play" ∷ codes "a" ∷ [])) files ≡ record {
-  asks = [];
-  end = Gives (record { status = 1; lines = codes "error words\n" ∷ [] });
-}
+one_word : (rack : List ChipState) (files : List NamedBytes) →
+    answer_of rack (command_of (codes "play" ∷ codes "a" ∷ [])) files ≡ record {
+      asks = [];
+      end = Gives (record { status = 1; lines = codes "error words\n" ∷ [] });
+    }
 unfolding words_line
 one_word rack files = refl

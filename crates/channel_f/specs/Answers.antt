@@ -1,5 +1,6 @@
 -- What the program answers: its lines and its status.
 use Rattle.std.specs.Prelude.{ℕ, Bool, nat_lt, if◌then◌else◌, List, [], ◌∷◌, length, Option, Some, None, option_map}
+use Rattle.chip_face.specs.declared.sizes.TheConstants.{MOST_CHIPS}
 use Rattle.f8_spec.specs.ChipState.{ChipState}
 use Rattle.console_spec.specs.Run.{Stop, Done, Unserved, Reserved}
 use Rattle.console_spec.specs.RunText.{flat_telling_lines}
@@ -8,7 +9,7 @@ use Rattle.console_spec.specs.declared.End.TheVariants.{Frames}
 use Rattle.generator.specs.GeneratedChips.{chips_of_seed}
 use Rattle.memory_map.specs.MapOf.{views_of}
 use Rattle.rack_run.specs.Seating.{kinds_of, fitted_views}
-use Rattle.rack_run.specs.Sockets.{shortage_of}
+use Rattle.rack_run.specs.Sockets.{chain_of, shortage_of}
 use Rattle.rack_run.specs.declared.sockets.Shortage.{Shortage}
 use Rattle.report.specs.RefusalLines.{words_line, rack_line, sockets_line}
 use Rattle.f8_asm.specs.Image.{Picture}
@@ -38,7 +39,8 @@ shortage_line s = sockets_line s.kind s.need s.have
 -- the line of why a game is not begun on a rack, if it is not
 unfoldable pub refusal : Game → List ChipState → Option (List ℕ)
 refusal game rack =
-    if nat_lt 16 (length rack) then Some (rack_line (length rack)) else option_map shortage_line (shortage_of game.chips (kinds_of rack))
+    if nat_lt MOST_CHIPS (length rack) then Some (rack_line (length rack))
+    else option_map shortage_line (shortage_of game.chips (kinds_of rack))
 
 -- ---- runs
 
@@ -48,9 +50,13 @@ status_of Done = 0
 status_of (Unserved fault) = 3
 status_of (Reserved at code) = 8
 
+-- the sockets of the chips of a game, in the order of its description
+abbrev pub game_chain : Game → List ChipState → List ℕ
+game_chain game rack = chain_of game.chips (kinds_of rack)
+
 -- the run of a game on the chips of a rack, fitted for it, each with its own patch in its bytes
 abbrev pub game_run : Manner → Game → List ChipState → Telling
-game_run manner game rack = run_by manner game.script (fitted_views game.chips rack)
+game_run manner game rack = run_by manner game.script (game_chain game rack) (fitted_views game.chips rack)
 
 abbrev pub run_answer : Manner → Telling → Answer
 run_answer manner run = record { status = status_of run.ending.stop; lines = lines_by manner run }
@@ -70,7 +76,10 @@ play_answer traced rack game = game_answer (Whole traced) rack game
 
 -- the generated cartridge runs for 60 frames, without keys and shown frames
 abbrev pub generated_game : ℕ → Game
-generated_game seed = record { script = record { power = 0; end = Frames 60; events = []; shows = [] }; chips = chips_of_seed seed }
+generated_game seed = record {
+  script = record { power = 0; end = Frames 60; events = []; shows = [] };
+  chips = chips_of_seed seed;
+}
 
 abbrev pub gen_answer : List ChipState → ℕ → Answer
 gen_answer rack seed = game_answer (Summary seed) rack (generated_game seed)
@@ -96,7 +105,8 @@ words_answer = record { status = 1; lines = words_line ∷ [] }
 -- What is due, as a work over the files: each file is read before the next one is asked for, and the rack is looked at after all of them.
 abbrev pub answer_of : List ChipState → Option Command → Work Answer
 answer_of rack None = gives words_answer
-answer_of rack (Some (Play cart script traced)) = game_of cart script >>= λ game. gives (play_answer traced rack game)
+answer_of rack (Some (Play cart script traced)) =
+    game_of cart script >>= λ game. gives (play_answer traced rack game)
 answer_of rack (Some (Ref cart script)) = game_of cart script >>= λ game. gives (ref_answer game)
 answer_of rack (Some (Asm file)) = image_by file >>= λ picture. gives (asm_answer picture)
 answer_of rack (Some (Dis file)) = bytes_by file >>= λ bytes. gives (dis_answer bytes)

@@ -1,12 +1,14 @@
 -- The same call, by the files that the store tells: when each status comes, and how many files are asked for.
-use Rattle.std.specs.Prelude.{◌≡◌, ℕ, ◌<◌, ◌⊎◌, List, Option, Some, None}
+use Rattle.std.specs.Prelude.{◌≡◌, ℕ, ◌<◌, ◌⊎◌, List, [], ◌∷◌, Option, Some, None}
 use Rattle.console_spec.specs.RunText.{text_of}
 use Rattle.outside.specs.Counts.{Rose}
 use Rattle.outside.specs.SinkRules.{Adds}
 use Rattle.outside.specs.StoreRules.{NamedBytes}
-use Rattle.loader.specs.Work.{End, Gives, Refuses, Lacks, Work}
-use Rattle.loader.specs.Works.{AsksFew, HasFiles}
-use Rattle.channel_f.specs.Answers.{Answer, refused}
+use Rattle.loader.specs.declared.refusals.Refusal.{Refusal}
+use Rattle.loader.specs.Games.{Game}
+use Rattle.loader.specs.Work.{Ask, End, Gives, Refuses, Lacks, Work}
+use Rattle.loader.specs.Works.{AsksFew, HasFiles, Misses, order_of, file_of}
+use Rattle.channel_f.specs.Answers.{Answer, refusal, refused}
 use Rattle.channel_f.specs.Commands.{Around}
 
 -- what is due where no file is missing
@@ -16,21 +18,41 @@ due (Refuses refusal) = Some (refused refusal)
 due Lacks = None
 
 -- the status is the one that is due, with all of its lines
-pub record Answered (before after : Around) (said : ℕ) (answer : Answer) : Type 0 where
+pub record Answered (old new : Around) (said : ℕ) (answer : Answer) : Type 0 where
   pub status : said ≡ answer.status
-  pub lines : Adds before.written after.written (text_of answer.lines)
+  pub lines : Adds old.output new.output (text_of answer.lines)
 
-pub record IsComplete (before after : Around) (said : ℕ) (work : Work Answer) : Type 0 where
+-- the line of a file that is refused was written, and that file or one that is asked for before it is missing
+pub record RefusesBehind (old new : Around) (files : List NamedBytes) (asks : List Ask) : Type 0 where
+  pub refusal : Refusal
+  pub lines : Adds old.output new.output (text_of (refused refusal).lines)
+  pub misses : Misses files asks (order_of (file_of refusal))
+
+-- the line of a rack that has no place for a game was written
+pub record RefusesRack (old new : Around) : Type 0 where
+  pub game : Game
+  pub line : List ℕ
+  pub due : refusal game old.rack ≡ Some line
+  pub lines : Adds old.output new.output (text_of (line ∷ []))
+
+pub record IsComplete (old new : Around) (said : ℕ) (work : Work Answer) : Type 0 where
   -- Where the store tells its files and has all that are asked for, and neither count rose, the call answers what is due, or memory was
   -- wanting.
-  pub answers : (files : List NamedBytes) → (answer : Answer) → before.files ≡ Some files → due (work files).end ≡ Some answer →
-      (Rose before.store_faults after.store_faults → ⊥) → (Rose before.sink_faults after.sink_faults → ⊥) → Answered before after said answer ⊎ (said ≡ 6)
+  pub answers : (files : List NamedBytes) (answer : Answer) → old.input.files ≡ Some files →
+      due (work files).end ≡ Some answer →
+      (Rose old.input.faults new.input.faults → ⊥) → (Rose old.output.faults new.output.faults → ⊥) →
+      Answered old new said answer ⊎ (said ≡ 6)
   -- where a file is missing, the store failed, or memory was wanting
-  pub lacks : (files : List NamedBytes) → after.files ≡ Some files → due (work files).end ≡ None → (said ≡ 4) ⊎ (said ≡ 5) ⊎ (said ≡ 6)
+  pub lacks : (files : List NamedBytes) → new.input.files ≡ Some files → due (work files).end ≡ None →
+      (said ≡ 4) ⊎ (said ≡ 5) ⊎ (said ≡ 6)
+  -- where a file is missing and the store made something up for it, no file before it is refused
+  pub refused : (files : List NamedBytes) → old.input.files ≡ Some files → due (work files).end ≡ None → said ≡ 2 →
+      RefusesBehind old new files (work files).asks ⊎ RefusesRack old new
   -- no more files are asked for than there are to be had, with the first that is missing or refused
-  pub bound : (files : List NamedBytes) → before.files ≡ Some files → HasFiles (work files).end ⊎ (after.files ≡ Some files) → AsksFew before.fetches after.fetches (work files).asks
+  pub bound : (files : List NamedBytes) → old.input.files ≡ Some files →
+      HasFiles (work files).end ⊎ (new.input.files ≡ Some files) → AsksFew old.input new.input (work files).asks
   -- a failing store and a failing sink are told
-  pub store : said ≡ 4 → Rose before.store_faults after.store_faults
-  pub store_told : before.store_faults < after.store_faults → (said ≡ 4) ⊎ (said ≡ 5)
-  pub sink : said ≡ 5 → Rose before.sink_faults after.sink_faults
-  pub sink_told : before.sink_faults < after.sink_faults → said ≡ 5
+  pub store : said ≡ 4 → Rose old.input.faults new.input.faults
+  pub store_told : old.input.faults < new.input.faults → (said ≡ 4) ⊎ (said ≡ 5)
+  pub sink : said ≡ 5 → Rose old.output.faults new.output.faults
+  pub sink_told : old.output.faults < new.output.faults → said ≡ 5

@@ -1,6 +1,6 @@
 -- How a run on a rack is told: whole, as `play` does, with every bus step or without, or by a summary, as `gen` does.
 use Rattle.std.specs.Prelude.{ℕ, true, false, sum, List, [], ◌∷◌, length}
-use Rattle.f8_spec.specs.ChipState.{ChipView}
+use Rattle.f8_spec.specs.ChipState.{ChipView, ChipState}
 use Rattle.console_spec.specs.Processor.{shown}
 use Rattle.console_spec.specs.Run.{Stop, Ending}
 use Rattle.console_spec.specs.RunText.{verdict_line, stop_line, total_line, told_lines, ending_lines, telling_lines}
@@ -8,7 +8,9 @@ use Rattle.console_spec.specs.Scripts.{Script}
 use Rattle.console_spec.specs.Telling.{Telling, played_by}
 use Rattle.console_spec.specs.declared.Regs.{Regs}
 use Rattle.console_spec.specs.declared.VerdictWord.TheVariants.{Unchecked}
+use Rattle.data_bus.specs.Racks.{views}
 use Rattle.generator.specs.SummaryLines.{gen_line, writes_line, scratch_sum_line}
+use Rattle.loader.specs.Games.{Game}
 use Rattle.rack_run.specs.Endings.{bytes_written, stop_at}
 use Rattle.rack_run.specs.Texts.{is_traced}
 use Rattle.rack_run.specs.declared.detail.Detail.{Detail}
@@ -23,8 +25,13 @@ detail_of (Whole true) = Steps
 detail_of (Whole false) = Writes
 detail_of (Summary seed) = Nothing
 
-abbrev pub run_by : Manner → Script → List ChipView → Telling
-run_by manner script vs = played_by vs (is_traced (detail_of manner)) script
+-- a run of a script on chips that are fitted, with the chain of those described
+abbrev pub run_by : Manner → Script → List ℕ → List ChipView → Telling
+run_by manner script chain vs = played_by vs chain (is_traced (detail_of manner)) script
+
+-- the same on the chips of a rack that is fitted
+abbrev pub run_fitted : Manner → Game → List ℕ → List ChipState → Telling
+run_fitted manner game chain fitted = run_by manner game.script chain (views fitted)
 
 -- before it begins
 abbrev pub opening_lines : Manner → List (List ℕ)
@@ -51,7 +58,14 @@ abbrev pub lines_by : Manner → Telling → List (List ℕ)
 lines_by (Whole traced) t = telling_lines t
 lines_by (Summary seed) t = gen_line seed ∷ verdict_line Unchecked ∷ summary_lines t.ending
 
--- the same from an ending as a run tells it
-abbrev pub told_closing : Manner → ToldEnding → List (List ℕ)
-told_closing (Whole traced) told = told_lines (stop_at told.halt) told.regs told.count told.phi
-told_closing (Summary seed) told = told_summary (stop_at told.halt) told.regs told.count told.phi told.writes told.bytes
+-- ---- the same from an ending as a run tells it
+
+abbrev pub ending_told : ToldEnding → List (List ℕ)
+ending_told told = told_lines (stop_at told.halt) told.regs told.count told.phi
+
+abbrev pub summary_told : ToldEnding → List (List ℕ)
+summary_told told = told_summary (stop_at told.halt) told.regs told.count told.phi told.writes told.bytes
+
+abbrev pub closing_told : Manner → ToldEnding → List (List ℕ)
+closing_told (Whole traced) told = ending_told told
+closing_told (Summary seed) told = summary_told told

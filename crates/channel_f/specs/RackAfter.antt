@@ -1,69 +1,87 @@
 -- What becomes of the rack in a call: fitting, and then power-on and the moments of the run, one after another, and nothing else.
 use Rattle.std.specs.Prelude.{◌≡◌, ◌≢◌, ℕ, ◌⊎◌, List, ◌++◌, Option, Some, None, Result, Ok, Err}
-use Rattle.f8_spec.specs.ChipState.{ChipView, ChipState}
+use Rattle.f8_spec.specs.ChipState.{ChipState}
 use Rattle.console_spec.specs.RunText.{text_of}
-use Rattle.console_spec.specs.Telling.{told_in}
+use Rattle.console_spec.specs.Telling.{Telling, told_in}
 use Rattle.f8_machine.specs.Rounds.{RackPowers}
+use Rattle.outside.specs.SinkRules.{Output, Adds, AddsPart}
 use Rattle.rack_run.specs.Endings.{CutShort}
 use Rattle.rack_run.specs.Lives.{Lives}
-use Rattle.rack_run.specs.Seating.{seated, fitted_views, RackFits, RackFitsInPart}
+use Rattle.rack_run.specs.Seating.{seated, RackFits, RackFitsInPart}
 use Rattle.rack_run.specs.Texts.{text_in}
 use Rattle.loader.specs.declared.refusals.Stop.{Stop}
 use Rattle.loader.specs.Games.{Game}
-use Rattle.channel_f.specs.Answers.{refusal}
-use Rattle.channel_f.specs.Manners.{detail_of, run_by, opening_lines, closing_lines}
+use Rattle.channel_f.specs.Answers.{refusal, game_run}
+use Rattle.channel_f.specs.Manners.{detail_of, opening_lines, closing_lines}
 use Rattle.channel_f.specs.declared.manner.Manner.{Manner}
-use Rattle.outside.specs.SinkRules.{Adds, AddsPart}
 
--- Every chip is powered, and lives through the moments of the game's run on these chips: so it stands where the bus steps and the keys lead,
--- and a chip that tells what it heard heard these steps and nothing else.
-pub record RanOn (manner : Manner) (game : Game) (vs : List ChipView) (fitted news : List ChipState) : Type 0 where
+-- ---- a run on chips that are fitted
+
+-- Every chip is powered with this byte, and lives through the moments of the run on these chips: so it stands where the bus steps and the
+-- keys lead, and a chip that tells what it heard heard these steps and nothing else.
+pub record RanOn (power : ℕ) (run : Telling) (fitted news : List ChipState) : Type 0 where
   pub powered : List ChipState
-  pub powers : RackPowers game.script.power fitted powered
-  pub lived : Lives (run_by manner game.script vs).moments powered news
+  pub powers : RackPowers power fitted powered
+  pub lived : Lives run.moments powered news
 
 -- the sink failed at a line before the run began
-pub record FailedBefore (old new : Option (List ℕ)) (manner : Manner) (fitted news : List ChipState) : Type 0 where
+pub record FailedBefore (old new : Output) (manner : Manner) (fitted news : List ChipState) : Type 0 where
   pub same : news ≡ fitted
   pub part : AddsPart old new (text_of (opening_lines manner))
 
 -- it failed at a line of the run, at whose instruction, or at whose reset, the chips stand
-pub record FailedDuring (old new : Option (List ℕ)) (manner : Manner) (game : Game) (vs : List ChipView) (fitted news : List ChipState) : Type 0 where
+pub record FailedDuring (old new : Output) (manner : Manner) (power : ℕ) (run : Telling)
+    (fitted news : List ChipState) : Type 0 where
   pub powered : List ChipState
-  pub powers : RackPowers game.script.power fitted powered
-  pub between : Option (List ℕ)
+  pub powers : RackPowers power fitted powered
+  pub between : Output
   pub opening : Adds old between (text_of (opening_lines manner))
-  pub cut : CutShort (detail_of manner) (run_by manner game.script vs).moments powered news between new
+  pub cut : CutShort (detail_of manner) run.moments powered news between new
 
 -- it failed at a line behind the run
-pub record FailedAfter (old new : Option (List ℕ)) (manner : Manner) (game : Game) (vs : List ChipView) (fitted news : List ChipState) : Type 0 where
-  pub ran : RanOn manner game vs fitted news
-  pub between : Option (List ℕ)
-  pub told : Adds old between (text_of (opening_lines manner) ++ text_in (detail_of manner) (told_in (run_by manner game.script vs).moments))
-  pub part : AddsPart between new (text_of (closing_lines manner (run_by manner game.script vs).ending))
+pub record FailedAfter (old new : Output) (manner : Manner) (power : ℕ) (run : Telling)
+    (fitted news : List ChipState) : Type 0 where
+  pub ran : RanOn power run fitted news
+  pub between : Output
+  pub told : Adds old between (text_of (opening_lines manner) ++ text_in (detail_of manner) (told_in run.moments))
+  pub part : AddsPart between new (text_of (closing_lines manner run.ending))
 
 -- What a run on chips that are fitted makes of them.
-pub record OnFitted (old new : Option (List ℕ)) (said : ℕ) (manner : Manner) (game : Game) (vs : List ChipView) (fitted news : List ChipState) : Type 0 where
-  pub ran : said ≢ 5 → RanOn manner game vs fitted news
-  pub failed : said ≡ 5 → FailedBefore old new manner fitted news ⊎ FailedDuring old new manner game vs fitted news ⊎ FailedAfter old new manner game vs fitted news
+pub record OnFitted (old new : Output) (said : ℕ) (manner : Manner) (power : ℕ) (run : Telling)
+    (fitted news : List ChipState) : Type 0 where
+  pub ran : said ≢ 5 → RanOn power run fitted news
+  pub failed : said ≡ 5 →
+      FailedBefore old new manner fitted news
+      ⊎ FailedDuring old new manner power run fitted news
+      ⊎ FailedAfter old new manner power run fitted news
+
+-- ---- a game on a rack
 
 -- the chips are fitted as the game has it, and then the run is theirs
-pub record PlayedOn (old new : Option (List ℕ)) (said : ℕ) (manner : Manner) (game : Game) (rack news : List ChipState) : Type 0 where
+pub record PlayedOn (old new : Output) (said : ℕ) (manner : Manner) (game : Game)
+    (rack news : List ChipState) : Type 0 where
   pub fitted : List ChipState
   pub fits : RackFits (seated game.chips rack) rack fitted
-  pub on : OnFitted old new said manner game (fitted_views game.chips rack) fitted news
+  pub on : OnFitted old new said manner game.script.power (game_run manner game rack) fitted news
 
--- What a call that plays a game says of the rack. Where memory was wanting, the first chips may have been fitted, but never all of them.
-pub record Plays (old new : Option (List ℕ)) (said : ℕ) (manner : Manner) (game : Game) (rack news : List ChipState) : Type 0 where
-  pub wanting : said ≡ 6 → RackFitsInPart (seated game.chips rack) rack news
+-- What a call that plays a game says of the rack. Where memory was wanting, the first chips may have been fitted, or all of them, and
+-- no more became of them.
+pub record Plays (old new : Output) (said : ℕ) (manner : Manner) (game : Game)
+    (rack news : List ChipState) : Type 0 where
+  pub wanting : said ≡ 6 →
+      RackFitsInPart (seated game.chips rack) rack news ⊎ RackFits (seated game.chips rack) rack news
   pub played : said ≢ 6 → PlayedOn old new said manner game rack news
 
 -- a game that is refused leaves the rack as it was
-abbrev pub PlaysUnless : Option (List ℕ) → Option (List ℕ) → Option (List ℕ) → ℕ → Manner → Game → List ChipState → List ChipState → Type 0
+abbrev pub PlaysUnless : Option (List ℕ) → Output → Output → ℕ → Manner → Game → List ChipState → List ChipState →
+    Type 0
 PlaysUnless (Some line) old new said manner game rack news = news ≡ rack
 PlaysUnless None old new said manner game rack news = Plays old new said manner game rack news
 
+abbrev pub PlaysGame : Output → Output → ℕ → Manner → Game → List ChipState → List ChipState → Type 0
+PlaysGame old new said manner game rack news = PlaysUnless (refusal game rack) old new said manner game rack news
+
 -- where the files gave no game, it leaves it, too
-abbrev pub RackAfter : Option (List ℕ) → Option (List ℕ) → ℕ → Manner → Result Game Stop → List ChipState → List ChipState → Type 0
-RackAfter old new said manner (Ok game) rack news = PlaysUnless (refusal game rack) old new said manner game rack news
+abbrev pub RackAfter : Output → Output → ℕ → Manner → Result Game Stop → List ChipState → List ChipState → Type 0
+RackAfter old new said manner (Ok game) rack news = PlaysGame old new said manner game rack news
 RackAfter old new said manner (Err stop) rack news = news ≡ rack

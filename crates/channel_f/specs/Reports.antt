@@ -1,47 +1,38 @@
 -- What a call says of the sink, and of the status that it ends with.
-use Rattle.std.specs.Prelude.{◌≡◌, ◌≢◌, ℕ, ◌⊎◌, List, [], Option}
+use Rattle.std.specs.Prelude.{◌≡◌, ◌≢◌, ℕ, ◌⊎◌, List, []}
 use Rattle.console_spec.specs.RunText.{text_of}
-use Rattle.outside.specs.Counts.{Rose}
-use Rattle.outside.specs.SinkRules.{Adds, AddsPart}
+use Rattle.outside.specs.SinkRules.{Output, Adds, AddsPart}
 use Rattle.loader.specs.declared.refusals.Stop.{Stop}
 use Rattle.loader.specs.declared.refusals.Stop.TheVariants.{Refused, Store, Memory}
 use Rattle.channel_f.specs.Answers.{Answer, refused, not_had}
 
--- What a call that writes lines and ends with a status says: what the sink was given, old and new, and its count of faults, before and
--- after, beside the status and the lines that are due.
-pub record Reports (old new : Option (List ℕ)) (before now : ℕ) (said : ℕ) (due : ℕ) (lines : List (List ℕ)) : Type 0 where
+-- What a call that writes lines and ends with a status says: the sink, old and new, beside the status and the lines that are due.
+pub record Reports (old new : Output) (said due : ℕ) (lines : List (List ℕ)) : Type 0 where
   -- the status is the one that is due, but 5 where the sink failed
   pub which : (said ≡ due) ⊎ (said ≡ 5)
-  -- the sink was given all the lines and nothing else
+  -- the sink was given all the lines and nothing else, and its count of faults stays
   pub whole : said ≢ 5 → Adds old new (text_of lines)
   -- where the sink failed, its count rose, and it was given a first part of the lines
   pub part : said ≡ 5 → AddsPart old new (text_of lines)
-  pub fault : said ≡ 5 → Rose before now
-  -- where it did not fail, the count stays
-  pub count : said ≢ 5 → now ≡ before
 
 -- What a call says that answers a command, where memory may be wanting.
-pub record Answers (old new : Option (List ℕ)) (before now : ℕ) (said : ℕ) (due : Answer) : Type 0 where
+pub record Answers (old new : Output) (said : ℕ) (due : Answer) : Type 0 where
   -- the status is the one that is due, but 5 where the sink failed, and 6 where memory was wanting
   pub which : (said ≡ due.status) ⊎ (said ≡ 5) ⊎ (said ≡ 6)
-  -- the sink was given the lines that are due, all of them and nothing else
+  -- the sink was given the lines that are due, all of them and nothing else, and its count of faults stays
   pub whole : said ≢ 5 → said ≢ 6 → Adds old new (text_of due.lines)
   -- where the sink failed, its count rose, and it was given a first part of those lines
   pub part : said ≡ 5 → AddsPart old new (text_of due.lines)
-  pub fault : said ≡ 5 → Rose before now
-  -- where it did not fail, the count stays
-  pub count : said ≢ 5 → now ≡ before
-  -- where memory was wanting, nothing was written
+  -- where memory was wanting, nothing was written, and the count stays
   pub nothing : said ≡ 6 → Adds old new []
 
 -- memory was wanting, and nothing was written
-pub record Wants (old new : Option (List ℕ)) (before now : ℕ) (said : ℕ) : Type 0 where
+pub record Wants (old new : Output) (said : ℕ) : Type 0 where
   pub status : said ≡ 6
   pub nothing : Adds old new []
-  pub count : now ≡ before
 
 -- what a call says that files stopped
-abbrev pub Stops : Option (List ℕ) → Option (List ℕ) → ℕ → ℕ → ℕ → Stop → Type 0
-Stops old new before now said (Refused refusal) = Reports old new before now said (refused refusal).status (refused refusal).lines
-Stops old new before now said (Store purpose) = Reports old new before now said (not_had purpose).status (not_had purpose).lines
-Stops old new before now said Memory = Wants old new before now said
+abbrev pub Stops : Output → Output → ℕ → Stop → Type 0
+Stops old new said (Refused refusal) = Reports old new said (refused refusal).status (refused refusal).lines
+Stops old new said (Store purpose) = Reports old new said (not_had purpose).status (not_had purpose).lines
+Stops old new said Memory = Wants old new said

@@ -1,7 +1,8 @@
 -- The exit statuses as numbers.
 use Rattle.std.specs.Prelude.{ℕ}
 use Rattle.channel_f.specs.declared.status.Status.{Status}
-use Rattle.channel_f.specs.declared.status.Status.TheVariants.{Done, Words, Input, Fault, Store, Sink, Memory, Reserved, NoWords}
+use Rattle.channel_f.specs.declared.status.Status.TheVariants.{Done, Words, Input, Fault, Store, Sink, Memory, Reserved}
+use Rattle.channel_f.specs.declared.status.Status.TheVariants.{NoWords}
 
 abbrev pub exit_code : Status → ℕ
 exit_code Done = 0

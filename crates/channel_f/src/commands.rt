@@ -1,11 +1,11 @@
 // What each command answers.
 ghost use Rattle.std.specs.Prelude.{◌≡◌, ◌≤◌, IfOk, map, length};
 ghost use Rattle.loader.specs.Games.{game_of, image_by, bytes_by};
-ghost use Rattle.channel_f.specs.Answers.{refusal, generated_game, gen_answer, ref_answer, asm_answer, dis_answer};
+ghost use Rattle.channel_f.specs.Answers.{generated_game, gen_answer, ref_answer, asm_answer, dis_answer};
 ghost use Rattle.channel_f.specs.Commands.{around, Told, TellsGame};
 ghost use Rattle.loader.specs.Seen.{seen_game};
 ghost use Rattle.pad_script.specs.Limits.{HasLimits};
-ghost use Rattle.channel_f.specs.RackAfter.{PlaysUnless};
+ghost use Rattle.channel_f.specs.RackAfter.{PlaysGame};
 ghost use Rattle.channel_f.specs.Reports.{Answers};
 ghost use Rattle.channel_f.specs.Statuses.{exit_code};
 
@@ -36,7 +36,10 @@ pub fn answer_play<S: Store, K: Sink>(
     sink: &mut K,
     rack: &mut Rack,
 ) -> Status
-    ensures { TellsGame (around (K.written sink.old) (K.faults sink.old) (S.files store.old) (S.faults store.old) (S.fetches store.old)) (around (K.written sink.new) (K.faults sink.new) (S.files store.new) (S.faults store.new) (S.fetches store.new)) (exit_code result) traced (map state rack.old.items) (map state rack.new.items) (game_of cart.now script.now) }
+    ensures { TellsGame
+        (around (K.output sink.old) (S.input store.old) (map state rack.old.items))
+        (around (K.output sink.new) (S.input store.new) (map state rack.new.items))
+        (exit_code result) traced (game_of cart.now script.now) }
 {
     match load_game(alloc, store, cart, script) {
         Ok(game) => play_game(alloc, &game, Manner::Whole { traced }, sink, rack),
@@ -53,7 +56,8 @@ pub fn answer_ref<S: Store, K: Sink>(
     store: &mut S,
     sink: &mut K,
 ) -> Status
-    ensures { Told (around (K.written sink.old) (K.faults sink.old) (S.files store.old) (S.faults store.old) (S.fetches store.old)) (around (K.written sink.new) (K.faults sink.new) (S.files store.new) (S.faults store.new) (S.fetches store.new)) (exit_code result) (game_of cart.now script.now) ref_answer }
+    ensures { Told (K.output sink.old) (K.output sink.new) (S.input store.old) (S.input store.new)
+        (exit_code result) (game_of cart.now script.now) ref_answer }
 {
     match load_game(alloc, store, cart, script) {
         Ok(game) => refer_game(alloc, &game, sink),
@@ -69,7 +73,8 @@ pub fn answer_asm<S: Store, K: Sink>(
     store: &mut S,
     sink: &mut K,
 ) -> Status
-    ensures { Told (around (K.written sink.old) (K.faults sink.old) (S.files store.old) (S.faults store.old) (S.fetches store.old)) (around (K.written sink.new) (K.faults sink.new) (S.files store.new) (S.faults store.new) (S.fetches store.new)) (exit_code result) (image_by file.now) asm_answer }
+    ensures { Told (K.output sink.old) (K.output sink.new) (S.input store.old) (S.input store.new)
+        (exit_code result) (image_by file.now) asm_answer }
 {
     match load_image(alloc, store, file) {
         Ok(image) => put_picture(sink, &image),
@@ -81,7 +86,7 @@ pub fn answer_asm<S: Store, K: Sink>(
 #[tactic(auto, using(crate::proofs::Games::answers_of, crate::proofs::Games::answers_wanting))]
 fn list_bytes<K: Sink>(alloc: Global, bytes: &[u8], sink: &mut K) -> Status
     requires { length bytes.now ≤ 65536 }
-    ensures { Answers (K.written sink.old) (K.written sink.new) (K.faults sink.old) (K.faults sink.new) (exit_code result) (dis_answer bytes.now) }
+    ensures { Answers (K.output sink.old) (K.output sink.new) (exit_code result) (dis_answer bytes.now) }
 {
     match disassemble(alloc, bytes) {
         Ok(text) => put_text(sink, &text),
@@ -97,7 +102,8 @@ pub fn answer_dis<S: Store, K: Sink>(
     store: &mut S,
     sink: &mut K,
 ) -> Status
-    ensures { Told (around (K.written sink.old) (K.faults sink.old) (S.files store.old) (S.faults store.old) (S.fetches store.old)) (around (K.written sink.new) (K.faults sink.new) (S.files store.new) (S.faults store.new) (S.fetches store.new)) (exit_code result) (bytes_by file.now) dis_answer }
+    ensures { Told (K.output sink.old) (K.output sink.new) (S.input store.old) (S.input store.new)
+        (exit_code result) (bytes_by file.now) dis_answer }
 {
     match load_bytes(alloc, store, file) {
         Ok(bytes) => list_bytes(alloc, bytes.as_slice(), sink),
@@ -124,8 +130,10 @@ fn generate(alloc: Global, seed: u32) -> Result<Game, Memory>
 
 /// `gen N`.
 pub fn answer_gen<K: Sink>(alloc: Global, seed: u32, sink: &mut K, rack: &mut Rack) -> Status
-    ensures answers { Answers (K.written sink.old) (K.written sink.new) (K.faults sink.old) (K.faults sink.new) (exit_code result) (gen_answer (map state rack.old.items) seed) }
-    ensures rack { PlaysUnless (refusal (generated_game seed) (map state rack.old.items)) (K.written sink.old) (K.written sink.new) (exit_code result) (Manner.Summary seed) (generated_game seed) (map state rack.old.items) (map state rack.new.items) }
+    ensures answers { Answers (K.output sink.old) (K.output sink.new) (exit_code result)
+        (gen_answer (map state rack.old.items) seed) }
+    ensures rack { PlaysGame (K.output sink.old) (K.output sink.new) (exit_code result)
+        (Manner.Summary seed) (generated_game seed) (map state rack.old.items) (map state rack.new.items) }
 {
     match generate(alloc, seed) {
         Ok(game) => play_game(alloc, &game, Manner::Summary { seed }, sink, rack),

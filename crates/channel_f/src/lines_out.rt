@@ -1,11 +1,12 @@
+// The lines that are written, each as one put.
 ghost use Rattle.std.specs.Prelude.{◌≡◌, ◌≢◌, ◌<◌, [], ◌∷◌, OnOk, OnErr};
-ghost use Rattle.console_spec.specs.RunText.{told_lines, stop_line as spelled_stop, text_of};
+ghost use Rattle.console_spec.specs.RunText.{stop_line as spelled_stop, text_of};
 ghost use Rattle.rack_run.specs.Endings.{stop_at};
 ghost use Rattle.channel_f.specs.Answers.{status_of};
-ghost use Rattle.channel_f.specs.Manners.{opening_lines, told_summary, told_closing};
+ghost use Rattle.channel_f.specs.Manners.{opening_lines, ending_told, summary_told, closing_told};
 ghost use Rattle.channel_f.specs.Reports.{Reports};
 ghost use Rattle.asm_lines.specs.ImageLines.{image_lines};
-ghost use Rattle.outside.specs.SinkRules.{Adds, AddsPart, HasCause};
+ghost use Rattle.outside.specs.SinkRules.{Adds, AddsPart};
 ghost use Rattle.channel_f.specs.Statuses.{exit_code};
 
 use super::manner::Manner;
@@ -19,9 +20,8 @@ use report::{Line, VerdictWord};
 
 /// Each line is one put.
 fn put_all<K: Sink>(sink: &mut K, lines: &[Line]) -> Result<(), SinkFault>
-    ensures ok { OnOk result (Adds (K.written sink.old) (K.written sink.new) (text_of lines.now)) }
-    ensures err { OnErr result (AddsPart (K.written sink.old) (K.written sink.new) (text_of lines.now)) }
-    ensures cause { HasCause (K.faults sink.old) (K.faults sink.new) result }
+    ensures ok { OnOk result (Adds (K.output sink.old) (K.output sink.new) (text_of lines.now)) }
+    ensures err { OnErr result (AddsPart (K.output sink.old) (K.output sink.new) (text_of lines.now)) }
 {
     for line in lines {
         sink.put(line.as_bytes())?;
@@ -42,7 +42,7 @@ fn stop_line(halt: &Option<Halt>) -> Line
 /// The lines of a run from its stop line on. ISAR is below 64.
 fn lines_of(ending: &Ending) -> [Line; 7]
     requires { ending.now.regs.isar < 64 }
-    ensures { result ≡ told_lines (stop_at ending.now.halt) ending.now.regs ending.now.count ending.now.phi }
+    ensures { result ≡ ending_told ending.now }
 {
     [
         stop_line(&ending.halt),
@@ -68,7 +68,8 @@ fn status_at(halt: &Option<Halt>) -> Status
 /// Writes lines, and then ends with a status.
 pub fn put_lines<K: Sink>(sink: &mut K, lines: &[Line], status: Status) -> Status
     requires { exit_code status ≢ 5 }
-    ensures { Reports (K.written sink.old) (K.written sink.new) (K.faults sink.old) (K.faults sink.new) (exit_code result) (exit_code status) lines.now }
+    ensures { Reports (K.output sink.old) (K.output sink.new)
+        (exit_code result) (exit_code status) lines.now }
 {
     match put_all(sink, lines) {
         Ok(()) => status,
@@ -79,16 +80,18 @@ pub fn put_lines<K: Sink>(sink: &mut K, lines: &[Line], status: Status) -> Statu
 /// Writes the lines of a run from its stop line on, and ends with its status. ISAR is below 64.
 pub fn put_ending<K: Sink>(sink: &mut K, ending: &Ending) -> Status
     requires { ending.now.regs.isar < 64 }
-    ensures { Reports (K.written sink.old) (K.written sink.new) (K.faults sink.old) (K.faults sink.new) (exit_code result) (status_of (stop_at ending.now.halt)) (told_lines (stop_at ending.now.halt) ending.now.regs ending.now.count ending.now.phi) }
+    ensures { Reports (K.output sink.old) (K.output sink.new) (exit_code result)
+        (status_of (stop_at ending.now.halt)) (ending_told ending.now) }
 {
     put_lines(sink, lines_of(ending).as_slice(), status_at(&ending.halt))
 }
 
 /// The lines before a run on a rack.
 pub fn put_opening<K: Sink>(sink: &mut K, manner: Manner) -> Result<(), SinkFault>
-    ensures ok { OnOk result (Adds (K.written sink.old) (K.written sink.new) (text_of (opening_lines manner))) }
-    ensures err { OnErr result (AddsPart (K.written sink.old) (K.written sink.new) (text_of (opening_lines manner))) }
-    ensures cause { HasCause (K.faults sink.old) (K.faults sink.new) result }
+    ensures ok { OnOk result (Adds (K.output sink.old) (K.output sink.new)
+        (text_of (opening_lines manner))) }
+    ensures err { OnErr result (AddsPart (K.output sink.old) (K.output sink.new)
+        (text_of (opening_lines manner))) }
 {
     let verdict = report::verdict_line(VerdictWord::Unchecked);
     match manner {
@@ -99,7 +102,7 @@ pub fn put_opening<K: Sink>(sink: &mut K, manner: Manner) -> Result<(), SinkFaul
 
 /// The lines that sum up a run.
 fn summary_of(ending: &Ending) -> [Line; 4]
-    ensures { result ≡ told_summary (stop_at ending.now.halt) ending.now.regs ending.now.count ending.now.phi ending.now.writes ending.now.bytes }
+    ensures { result ≡ summary_told ending.now }
 {
     [
         stop_line(&ending.halt),
@@ -112,7 +115,8 @@ fn summary_of(ending: &Ending) -> [Line; 4]
 /// Writes the lines behind a run on a rack, and ends with its status. ISAR is below 64.
 pub fn put_closing<K: Sink>(sink: &mut K, manner: Manner, ending: &Ending) -> Status
     requires { ending.now.regs.isar < 64 }
-    ensures { Reports (K.written sink.old) (K.written sink.new) (K.faults sink.old) (K.faults sink.new) (exit_code result) (status_of (stop_at ending.now.halt)) (told_closing manner ending.now) }
+    ensures { Reports (K.output sink.old) (K.output sink.new) (exit_code result)
+        (status_of (stop_at ending.now.halt)) (closing_told manner ending.now) }
 {
     match manner {
         Manner::Whole { .. } => put_ending(sink, ending),
@@ -124,7 +128,8 @@ pub fn put_closing<K: Sink>(sink: &mut K, manner: Manner, ending: &Ending) -> St
 
 /// Writes the lines of an image.
 pub fn put_picture<K: Sink>(sink: &mut K, image: &Image) -> Status
-    ensures { Reports (K.written sink.old) (K.written sink.new) (K.faults sink.old) (K.faults sink.new) (exit_code result) 0 (image_lines image.now) }
+    ensures { Reports (K.output sink.old) (K.output sink.new)
+        (exit_code result) 0 (image_lines image.now) }
 {
     match put_image(sink, image) {
         Ok(()) => Status::Done,
@@ -134,7 +139,8 @@ pub fn put_picture<K: Sink>(sink: &mut K, image: &Image) -> Status
 
 /// Writes the lines of a text that was disassembled.
 pub fn put_text<K: Sink>(sink: &mut K, text: &Text) -> Status
-    ensures { Reports (K.written sink.old) (K.written sink.new) (K.faults sink.old) (K.faults sink.new) (exit_code result) 0 (text.now ∷ []) }
+    ensures { Reports (K.output sink.old) (K.output sink.new)
+        (exit_code result) 0 (text.now ∷ []) }
 {
     match put_listing(sink, text) {
         Ok(()) => Status::Done,

@@ -1,3 +1,4 @@
+// How a run on a rack is told.
 use rack_run::Detail;
 
 /// How a run on a rack is told.

@@ -6,10 +6,11 @@ ghost use Rattle.data_bus.specs.Racks.{views};
 ghost use Rattle.f8_machine.specs.Refinement.{AreWhole};
 ghost use Rattle.loader.specs.Seen.{seen_game};
 ghost use Rattle.pad_script.specs.Limits.{HasLimits};
-ghost use Rattle.channel_f.specs.Answers.{status_of, refusal as spelled_refusal, run_answer, game_run, game_answer, ref_answer};
-ghost use Rattle.channel_f.specs.Manners.{run_by, lines_by};
+ghost use Rattle.channel_f.specs.Answers.{status_of, refusal as spelled_refusal, run_answer, game_run};
+ghost use Rattle.channel_f.specs.Answers.{game_answer, ref_answer};
+ghost use Rattle.channel_f.specs.Manners.{run_fitted, lines_by};
 ghost use Rattle.channel_f.specs.Reports.{Answers, Reports};
-ghost use Rattle.channel_f.specs.RackAfter.{OnFitted, Plays, PlaysUnless};
+ghost use Rattle.channel_f.specs.RackAfter.{OnFitted, Plays, PlaysGame};
 ghost use Rattle.channel_f.specs.Statuses.{exit_code};
 
 use super::lines_out::{put_closing, put_ending, put_lines, put_opening};
@@ -20,7 +21,7 @@ use f8_machine::{Chain, Rack};
 use f8_spec::Memory;
 use loader::Game;
 use outside::{Sink, SinkFault};
-use rack_run::{ReferFault, first_shortage, fit_all, play, refer};
+use rack_run::{ReferFault, chain_of, first_shortage, fit_all, play, refer};
 use report::Line;
 use std::alloc::Global;
 
@@ -28,7 +29,7 @@ use std::alloc::Global;
 #[tactic(auto, unfolding(crate::specs::Answers::refusal))]
 fn refusal(game: &Game, rack: &Rack) -> Option<Line>
     ensures line { result ≡ spelled_refusal (seen_game game.now) (map state rack.now.items) }
-    ensures few { result ≡ None → length rack.now.items ≤ 16 }
+    ensures few { result ≡ None → length rack.now.items ≤ MOST_CHIPS }
 {
     if rack.len() > MOST_CHIPS {
         return Some(report::error_rack(rack.len() as u64));
@@ -38,18 +39,28 @@ fn refusal(game: &Game, rack: &Rack) -> Option<Line>
 }
 
 /// The opening lines, the run, and the closing lines, on a rack that is fitted for the game.
-fn play_fitted<K: Sink>(game: &Game, manner: Manner, sink: &mut K, rack: &mut Rack) -> Status
-    requires few { length rack.old.items ≤ 16 }
+fn play_fitted<K: Sink>(
+    game: &Game,
+    manner: Manner,
+    chain: Chain,
+    sink: &mut K,
+    rack: &mut Rack,
+) -> Status
+    requires few { length rack.old.items ≤ MOST_CHIPS }
     requires whole { AreWhole (map state rack.old.items) }
     requires ports { LeaveOwnPorts (map seat_of (views (map state rack.old.items))) }
     requires limits { HasLimits game.now.script.end }
-    ensures reports { Reports (K.written sink.old) (K.written sink.new) (K.faults sink.old) (K.faults sink.new) (exit_code result) (status_of (run_by manner (seen_game game.now).script (views (map state rack.old.items))).ending.stop) (lines_by manner (run_by manner (seen_game game.now).script (views (map state rack.old.items)))) }
-    ensures rack { OnFitted (K.written sink.old) (K.written sink.new) (exit_code result) manner (seen_game game.now) (views (map state rack.old.items)) (map state rack.old.items) (map state rack.new.items) }
+    ensures reports { Reports (K.output sink.old) (K.output sink.new) (exit_code result)
+        (status_of (run_fitted manner (seen_game game.now) chain (map state rack.old.items)).ending.stop)
+        (lines_by manner (run_fitted manner (seen_game game.now) chain (map state rack.old.items))) }
+    ensures rack { OnFitted (K.output sink.old) (K.output sink.new) (exit_code result) manner game.now.script.power
+        (run_fitted manner (seen_game game.now) chain (map state rack.old.items))
+        (map state rack.old.items) (map state rack.new.items) }
 {
     let Ok(()) = put_opening(sink, manner) else {
         return Status::Sink;
     };
-    match play(rack, sink, Chain::new(), &game.script, manner.detail()) {
+    match play(rack, sink, chain, &game.script, manner.detail()) {
         Ok(ending) => put_closing(sink, manner, &ending),
         Err(SinkFault) => Status::Sink,
     }
@@ -63,13 +74,16 @@ fn fit_and_play<K: Sink>(
     sink: &mut K,
     rack: &mut Rack,
 ) -> Status
-    requires few { length rack.old.items ≤ 16 }
+    requires few { length rack.old.items ≤ MOST_CHIPS }
     requires limits { HasLimits game.now.script.end }
-    ensures answers { Answers (K.written sink.old) (K.written sink.new) (K.faults sink.old) (K.faults sink.new) (exit_code result) (run_answer manner (game_run manner (seen_game game.now) (map state rack.old.items))) }
-    ensures rack { Plays (K.written sink.old) (K.written sink.new) (exit_code result) manner (seen_game game.now) (map state rack.old.items) (map state rack.new.items) }
+    ensures answers { Answers (K.output sink.old) (K.output sink.new) (exit_code result)
+        (run_answer manner (game_run manner (seen_game game.now) (map state rack.old.items))) }
+    ensures rack { Plays (K.output sink.old) (K.output sink.new) (exit_code result)
+        manner (seen_game game.now) (map state rack.old.items) (map state rack.new.items) }
 {
+    let chain = chain_of(&game.chips, rack);
     match fit_all(alloc, &game.chips, rack) {
-        Ok(()) => play_fitted(game, manner, sink, rack),
+        Ok(()) => play_fitted(game, manner, chain, sink, rack),
         Err(Memory) => Status::Memory,
     }
 }
@@ -83,8 +97,10 @@ pub fn play_game<K: Sink>(
     rack: &mut Rack,
 ) -> Status
     requires limits { HasLimits game.now.script.end }
-    ensures answers { Answers (K.written sink.old) (K.written sink.new) (K.faults sink.old) (K.faults sink.new) (exit_code result) (game_answer manner (map state rack.old.items) (seen_game game.now)) }
-    ensures rack { PlaysUnless (spelled_refusal (seen_game game.now) (map state rack.old.items)) (K.written sink.old) (K.written sink.new) (exit_code result) manner (seen_game game.now) (map state rack.old.items) (map state rack.new.items) }
+    ensures answers { Answers (K.output sink.old) (K.output sink.new) (exit_code result)
+        (game_answer manner (map state rack.old.items) (seen_game game.now)) }
+    ensures rack { PlaysGame (K.output sink.old) (K.output sink.new) (exit_code result)
+        manner (seen_game game.now) (map state rack.old.items) (map state rack.new.items) }
 {
     match refusal(game, rack) {
         Some(line) => put_lines(sink, [line].as_slice(), Status::Input),
@@ -95,7 +111,8 @@ pub fn play_game<K: Sink>(
 /// A game on the flat instruction set alone.
 pub fn refer_game<K: Sink>(alloc: Global, game: &Game, sink: &mut K) -> Status
     requires limits { HasLimits game.now.script.end }
-    ensures { Answers (K.written sink.old) (K.written sink.new) (K.faults sink.old) (K.faults sink.new) (exit_code result) (ref_answer (seen_game game.now)) }
+    ensures { Answers (K.output sink.old) (K.output sink.new) (exit_code result)
+        (ref_answer (seen_game game.now)) }
 {
     match refer(alloc, sink, &game.chips, &game.script) {
         Ok(ending) => put_ending(sink, &ending),

@@ -2,7 +2,9 @@
 ghost use Rattle.std.specs.Prelude.{◌≡◌, ◌≤◌, IsTrue, length};
 ghost use Rattle.std.specs.List.{list_all};
 ghost use Rattle.text_lines.specs.Printable.{is_printable};
-ghost use Rattle.channel_f.specs.Refusals.{purpose_word as spelled_word, purpose_number as told_number, unbuilt_line as spelled_unbuilt, refusal_line as spelled_refusal, missing_line as spelled_missing};
+ghost use Rattle.channel_f.specs.Refusals.{purpose_word as spelled_word, purpose_number as told_number};
+ghost use Rattle.channel_f.specs.Refusals.{unbuilt_line as spelled_unbuilt, refusal_line as spelled_refusal};
+ghost use Rattle.channel_f.specs.Refusals.{missing_line as spelled_missing};
 ghost use Rattle.channel_f.specs.Reports.{Stops};
 ghost use Rattle.channel_f.specs.Statuses.{exit_code};
 
@@ -87,7 +89,7 @@ fn missing_line(purpose: Purpose) -> Line
 
 /// Tells why files stopped a command. Where memory was wanting, nothing is written.
 pub fn put_stop<K: Sink>(sink: &mut K, stop: Stop) -> Status
-    ensures { Stops (K.written sink.old) (K.written sink.new) (K.faults sink.old) (K.faults sink.new) (exit_code result) stop }
+    ensures { Stops (K.output sink.old) (K.output sink.new) (exit_code result) stop }
 {
     match stop {
         Stop::Refused(refusal) => {

@@ -1,3 +1,4 @@
+// How the program ends.
 /// How the program ends, with its exit status.
 #[derive(Clone, Copy)]
 pub enum Status {

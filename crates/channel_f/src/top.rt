@@ -1,3 +1,4 @@
+// The top call of the program.
 ghost use Rattle.std.specs.Prelude.{map, string_bytes};
 ghost use Rattle.command_line.specs.CommandLine.{command_of};
 ghost use Rattle.channel_f.specs.Answers.{answer_of};
@@ -23,7 +24,10 @@ fn answer_words<S: Store, K: Sink>(
     sink: &mut K,
     rack: &mut Rack,
 ) -> Status
-    ensures { Says (around (K.written sink.old) (K.faults sink.old) (S.files store.old) (S.faults store.old) (S.fetches store.old)) (around (K.written sink.new) (K.faults sink.new) (S.files store.new) (S.faults store.new) (S.fetches store.new)) (exit_code result) (map state rack.old.items) (map state rack.new.items) (command_of (map string_bytes words.now)) }
+    ensures { Says
+        (around (K.output sink.old) (S.input store.old) (map state rack.old.items))
+        (around (K.output sink.new) (S.input store.new) (map state rack.new.items))
+        (exit_code result) (command_of (map string_bytes words.now)) }
 {
     match read_words(alloc, words) {
         Ok(
@@ -81,8 +85,14 @@ pub fn console<S: Store, K: Sink>(
     sink: &mut K,
     rack: &mut Rack,
 ) -> u8
-    ensures says { Says (around (K.written sink.old) (K.faults sink.old) (S.files store.old) (S.faults store.old) (S.fetches store.old)) (around (K.written sink.new) (K.faults sink.new) (S.files store.new) (S.faults store.new) (S.fetches store.new)) result (map state rack.old.items) (map state rack.new.items) (command_of (map string_bytes words.now)) }
-    ensures complete { IsComplete (around (K.written sink.old) (K.faults sink.old) (S.files store.old) (S.faults store.old) (S.fetches store.old)) (around (K.written sink.new) (K.faults sink.new) (S.files store.new) (S.faults store.new) (S.fetches store.new)) result (answer_of (map state rack.old.items) (command_of (map string_bytes words.now))) }
+    ensures says { Says
+        (around (K.output sink.old) (S.input store.old) (map state rack.old.items))
+        (around (K.output sink.new) (S.input store.new) (map state rack.new.items))
+        result (command_of (map string_bytes words.now)) }
+    ensures complete { IsComplete
+        (around (K.output sink.old) (S.input store.old) (map state rack.old.items))
+        (around (K.output sink.new) (S.input store.new) (map state rack.new.items))
+        result (answer_of (map state rack.old.items) (command_of (map string_bytes words.now))) }
 {
     answer_words(alloc, words, store, sink, rack).code()
 }

@@ -125,11 +125,11 @@ own_latch (Outs n) accumulator p latches are two = λ own.
 own_latch op accumulator p latches are two = tt
 
 -- the write that is told, by the processor and the record of the machine
-pub told_of : (told : Option PortWrite) (found : Option Op) (op : Op) (phi : ℕ) (latches own : List ℕ)
+pub write_as_told : (told : Option PortWrite) (found : Option Op) (op : Op) (phi : ℕ) (latches own : List ℕ)
     (steps steps_told : List Heard) →
     told ≡ done_write found phi latches steps → found ≡ Some op → latches ≡ own → steps ≡ steps_told →
     told ≡ done_write (Some op) phi own steps_told
-told_of told found op phi latches own steps steps_told e held same same_steps =
+write_as_told told found op phi latches own steps steps_told e held same same_steps =
     e ∙ ap (λ (o : Option Op). done_write o phi latches steps) held
     ∙ ap (λ (l : List ℕ). done_write (Some op) phi l steps) same ∙ ap (done_write (Some op) phi own) same_steps
 

@@ -1,5 +1,6 @@
 -- The chips of a cartridge and what a script says, one after the other.
-use Rattle.std.proofs.Common.{◌≡◌, ℕ, zero, suc, ◌+◌, ◌-◌, ◌<◌, ◌≤◌, List, map, Option, Some, None, Result, Ok, Err, subst, arith}
+use Rattle.std.proofs.Common.{◌≡◌, ℕ, zero, suc, ◌+◌, ◌-◌, ◌<◌, ◌≤◌, List, map, Option, Some, None, Result, Ok, Err}
+use Rattle.std.proofs.Common.{subst, arith}
 use Rattle.std.specs.Prelude.{position}
 use Rattle.outside.specs.StoreRules.{NamedBytes, Input}
 use Rattle.chip_face.specs.declared.sizes.TheConstants.{MOST_CHIPS}
@@ -14,10 +15,12 @@ use Rattle.f8_asm.specs.declared.answers.Room.{Room}
 use Rattle.loader.specs.declared.purposes.Purpose.TheVariants.{Cart as CartFile, Script, Source}
 use Rattle.loader.specs.declared.refusals.Stop.{Stop}
 use Rattle.loader.specs.Readings.{Says, assembled, description_of}
-use Rattle.loader.specs.Games.{Game, image_for, filled_from, filled_at, filled_up_to, planned_chips, chips_of, script_by, game_of}
+use Rattle.loader.specs.Games.{Game, image_for, filled_from, filled_at, filled_up_to, planned_chips, chips_of}
+use Rattle.loader.specs.Games.{script_by, game_of}
 use Rattle.loader.specs.Work.{Work, gives, reads, ask, ◌>>=◌}
 use Rattle.loader.specs.Works.{order_of, RefusesFrom, Works}
-use Rattle.loader.proofs.WorkLaws.{works_gives, works_read, works_unsaid, works_then, works_done, works_stop, from_first}
+use Rattle.loader.proofs.WorkLaws.{works_gives, works_read, works_unsaid, works_then, works_done, works_stop}
+use Rattle.loader.proofs.WorkLaws.{from_first}
 use Rattle.loader.proofs.WorkLaws.{IsOrdered, ordered_gives, ordered_reads, ordered_ask, ordered_more, ordered_then}
 
 -- ---- the order of sources
@@ -33,7 +36,8 @@ ordered_from : (chip : ℕ) (plan : Planned) (source : Option DescribedSource) �
     IsOrdered (chip + 1) (filled_from chip plan source)
 ordered_from chip plan None = ordered_gives (chip + 1) plan
 ordered_from chip plan (Some source) =
-    ordered_then (chip + 1) (image_for chip source.name source.room) (λ picture. gives (filled_plan plan chip picture.bytes))
+    ordered_then (chip + 1) (image_for chip source.name source.room)
+    (λ picture. gives (filled_plan plan chip picture.bytes))
     (ordered_image chip source.name source.room)
     (λ picture. ordered_gives (chip + 1) (filled_plan plan chip picture.bytes))
 
@@ -147,7 +151,8 @@ chips_stop a b cart stop works =
     works_stop a b (ask CartFile cart 65536) (λ bytes. reads (description_of bytes) >>= planned_chips) stop works
 
 chips_read : (a b c : Input) (cart bytes : List ℕ) (outcome : Result (List ChipSpec) Stop) →
-    Works a b (ask CartFile cart 65536) (Ok bytes) → Works b c (reads (description_of bytes) >>= planned_chips) outcome →
+    Works a b (ask CartFile cart 65536) (Ok bytes) →
+    Works b c (reads (description_of bytes) >>= planned_chips) outcome →
     Works a c (chips_of cart) outcome
 unfolding chips_of
 chips_read a b c cart bytes outcome first second =
@@ -167,7 +172,8 @@ pub chips_loaded : (a b c : Input) (cart bytes : List ℕ) (plan : Planned) (out
 chips_loaded a b c cart bytes plan outcome first read second =
     chips_read a b c cart bytes outcome first
     (works_then b b c (reads (description_of bytes)) plan planned_chips outcome 0
-    (ordered_reads 0 (description_of bytes)) (from_first outcome) (works_read b (description_of bytes) plan read) second)
+    (ordered_reads 0 (description_of bytes)) (from_first outcome) (works_read b (description_of bytes) plan read)
+    second)
 
 -- a run behind its chips
 abbrev with_script : List ℕ → List ChipSpec → Work Game

@@ -19,7 +19,8 @@ use Rattle.loader.specs.Works.{order_of, file_of, RefusesFrom, outcome_as, Works
 use Rattle.loader.proofs.WorkLaws.{works_stop, works_text, works_seen, from_first}
 
 -- the script is what is refused
-unbuilt_order : (built : Bool) (script : RunScript) (r : Refusal) → (if built then Err refusal.Unbuilt else Ok script) ≡ Err r →
+unbuilt_order : (built : Bool) (script : RunScript) (r : Refusal) →
+    (if built then Err refusal.Unbuilt else Ok script) ≡ Err r →
     order_of Script ≤ order_of (file_of r)
 unbuilt_order true script r e = let same : refusal.Unbuilt ≡ r = cc e in rw (← same) (omega arith)
 unbuilt_order false script r e = cc e

@@ -1,5 +1,6 @@
 -- The images of sources are put into a plan.
-use Rattle.std.proofs.Common.{◌≡◌, ℕ, zero, suc, ◌+◌, ◌<◌, ◌≤◌, true, false, List, [], ◌∷◌, length, slice_get, Option, Some, None}
+use Rattle.std.proofs.Common.{◌≡◌, ℕ, zero, suc, ◌+◌, ◌<◌, ◌≤◌, true, false, List, [], ◌∷◌, length, slice_get, Option}
+use Rattle.std.proofs.Common.{Some, None}
 use Rattle.std.proofs.Common.{Result, Ok, Err, refl, sym, ap, arith, inl, inr}
 use Rattle.std.specs.Prelude.{◌⊎◌, nat_le, nat_lt, option_map, option_and_then, position}
 use Rattle.std.specs.List.{position_or_len}
@@ -8,8 +9,8 @@ use Rattle.std.proofs.lemmas.Option.{slice_get_within}
 use Rattle.outside.specs.StoreRules.{NamedBytes, Input}
 use Rattle.cartridge.specs.Carts.{wants_image}
 use Rattle.cartridge.specs.ChipTables.{DescribedSource}
-use Rattle.cartridge.specs.Filling.{PlannedSource, PlannedChip, Planned, source_at, HasRoomFor, filled_source, filled_chip}
-use Rattle.cartridge.specs.Filling.{filled_plan, with_change_at}
+use Rattle.cartridge.specs.Filling.{PlannedSource, PlannedChip, Planned, source_at, HasRoomFor, filled_source}
+use Rattle.cartridge.specs.Filling.{filled_chip, filled_plan, with_change_at}
 use Rattle.cartridge.specs.Rooms.{LiesIn}
 use Rattle.f8_asm.specs.declared.answers.AsmFault.{AsmFault}
 use Rattle.f8_asm.specs.declared.answers.Room.{Room}
@@ -73,10 +74,12 @@ record IsSource (source : Option DescribedSource) (name : List ℕ) (room : Room
   named : known.name ≡ name
   placed : known.room ≡ room
 
-is_source : (source : Option DescribedSource) (name : List ℕ) (room : Room) → Some name ≡ option_map (λ s. s.name) source →
+is_source : (source : Option DescribedSource) (name : List ℕ) (room : Room) →
+    Some name ≡ option_map (λ s. s.name) source →
     Some room ≡ option_map (λ s. s.room) source → IsSource source name room
 is_source None name room n r = cc n
-is_source (Some s) name room n r = record { known = s; is = refl; named = sym (some_same n); placed = sym (some_same r) }
+is_source (Some s) name room n r =
+    record { known = s; is = refl; named = sym (some_same n); placed = sym (some_same r) }
   where
     some_same : {A : Type 0} {x y : A} → Some x ≡ Some y → x ≡ y
     some_same e = cc e
@@ -159,14 +162,16 @@ none_wants_first chips k chip below here = absurd (omega (arith, below))
 filled_wants_none : (bytes : List (ℕ × ℕ)) (chip : PlannedChip) → wants_image (filled_chip bytes chip) ≡ false
 filled_wants_none bytes chip = by_source chip.source
   where
-    by_source : (source : Option PlannedSource) → wants_image (record { spec = chip.spec; source = option_map (filled_source bytes) source }) ≡ false
+    by_source : (source : Option PlannedSource) →
+        wants_image (record { spec = chip.spec; source = option_map (filled_source bytes) source }) ≡ false
     by_source None = refl
     by_source (Some s) = refl
 
 -- one more chip doesn't
 wants_less : (bytes : List (ℕ × ℕ)) (place k : ℕ) (chips : List PlannedChip) (chip : PlannedChip) →
     slice_get (with_change_at (filled_chip bytes) place chips) k ≡ Some chip →
-    ((j : ℕ) (c : PlannedChip) → j < place → slice_get chips j ≡ Some c → wants_image c ≡ false) → k < place + 1 → wants_image chip ≡ false
+    ((j : ℕ) (c : PlannedChip) → j < place → slice_get chips j ≡ Some c → wants_image c ≡ false) → k < place + 1 →
+    wants_image chip ≡ false
 wants_less bytes place k [] chip here none below = cc here
 wants_less bytes zero zero (c ∷ chips) chip here none below =
     let e : filled_chip bytes c ≡ chip = cc here in
@@ -174,7 +179,8 @@ wants_less bytes zero zero (c ∷ chips) chip here none below =
 wants_less bytes zero (suc k) (c ∷ chips) chip here none below = absurd (omega (arith, below))
 wants_less bytes (suc place) zero (c ∷ chips) chip here none below = none 0 chip (omega arith) here
 wants_less bytes (suc place) (suc k) (c ∷ chips) chip here none below =
-    wants_less bytes place k chips chip here (λ j d less there. none (suc j) d (omega (arith, less)) there) (omega (arith, below))
+    wants_less bytes place k chips chip here (λ j d less there. none (suc j) d (omega (arith, less)) there)
+    (omega (arith, below))
 
 pub none_wants_more : (n : ℕ) (bytes : List (ℕ × ℕ)) (plan filled : Planned) → filled ≡ filled_plan plan n bytes →
     NoneWants n plan.chips → NoneWants (n + 1) filled.chips
@@ -203,8 +209,8 @@ pub none_wants_all : (n : ℕ) (chips : List PlannedChip) → length chips ≤ n
     position wants_image chips ≡ None
 none_wants_all n chips few none =
     let all = none_passes chips (λ k chip here.
-        let within = slice_get_within chips k chip here in
-        none k chip (omega (arith, few, within)) here) in
+    let within = slice_get_within chips k chip here in
+    none k chip (omega (arith, few, within)) here) in
     rw (all, lt_self (length chips)) refl
 
 changed_length : {A : Type 0} (f : A → A) (place : ℕ) (xs : List A) → length (with_change_at f place xs) ≡ length xs

@@ -8,7 +8,8 @@ use Rattle.toml.specs.Parse.{parse_document}
 use Rattle.loader.specs.declared.refusals.Refusal.TheVariants.{Document}
 use Rattle.loader.specs.Readings.{table_told, table_of}
 
-pub table_there : (bytes : List ℕ) (table : Members) → IsUtf8 bytes → parse_document bytes ≡ Some table → table_of bytes ≡ Ok table
+pub table_there : (bytes : List ℕ) (table : Members) → IsUtf8 bytes → parse_document bytes ≡ Some table →
+    table_of bytes ≡ Ok table
 unfolding table_of
 table_there bytes table is read = let t = is_utf8-from_IsUtf8 bytes is in rw (t, read) refl
 
@@ -16,6 +17,7 @@ pub no_table : (bytes : List ℕ) → (IsUtf8 bytes → parse_document bytes ≡
 unfolding table_of
 no_table bytes none = by_test (is_utf8 bytes) refl
   where
-    by_test : (b : Bool) → is_utf8 bytes ≡ b → (if b then table_told (parse_document bytes) else Err Document) ≡ Err Document
+    by_test : (b : Bool) → is_utf8 bytes ≡ b →
+        (if b then table_told (parse_document bytes) else Err Document) ≡ Err Document
     by_test true e = rw (none (IsUtf8-from_is_utf8 bytes e)) refl
     by_test false e = refl

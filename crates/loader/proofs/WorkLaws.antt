@@ -1,6 +1,7 @@
 -- Works one after another.
 use Rattle.std.proofs.Common.{◌≡◌, ℕ, zero, suc, ◌+◌, ◌<◌, ◌≤◌, ◌⊎◌, inl, inr, List, [], ◌∷◌, ◌++◌, length, slice_get}
-use Rattle.std.proofs.Common.{Option, Some, None, Result, Ok, Err, true, false, refl, sym, ap, ◌∙◌, subst, arith, length-append}
+use Rattle.std.proofs.Common.{Option, Some, None, Result, Ok, Err, true, false, refl, sym, ap, ◌∙◌, subst, arith}
+use Rattle.std.proofs.Common.{length-append}
 use Rattle.std.proofs.lemmas.Bool.{le-leb}
 use Rattle.std.proofs.lemmas.Bool.Decides.{leb_tells}
 use Rattle.std.specs.Prelude.{nat_le, if◌then◌else◌, IsSome}
@@ -13,8 +14,10 @@ use Rattle.loader.specs.declared.refusals.Refusal.{Refusal}
 use Rattle.loader.specs.declared.refusals.Refusal.TheVariants.{Long}
 use Rattle.loader.specs.declared.refusals.Stop.{Stop}
 use Rattle.loader.specs.declared.refusals.Stop.TheVariants.{Refused, Store, Memory}
-use Rattle.loader.specs.Work.{Ask, End, Gives, Refuses, Lacks, Course, Work, gives, reads, end_of, found, ask, continued, ◌>>=◌}
-use Rattle.loader.specs.Works.{more, AsksFew, FailsAt, Follows, StoreFails, order_of, file_of, RefusesFrom, Misses, RefusesBy}
+use Rattle.loader.specs.Work.{Ask, End, Gives, Refuses, Lacks, Course, Work, gives, reads, end_of, found, ask}
+use Rattle.loader.specs.Work.{continued, ◌>>=◌}
+use Rattle.loader.specs.Works.{more, AsksFew, FailsAt, Follows, StoreFails, order_of, file_of, RefusesFrom, Misses}
+use Rattle.loader.specs.Works.{RefusesBy}
 use Rattle.loader.specs.Works.{HasFiles, Works, outcome_as}
 use Rattle.loader.specs.Readings.{Says}
 
@@ -37,7 +40,8 @@ works_gives now x = record {
   fails = refl;
 }
 
-pub works_read : {A : Type 0} (now : Input) (read : Result A Refusal) (x : A) → read ≡ Ok x → Works now now (reads read) (Ok x)
+pub works_read : {A : Type 0} (now : Input) (read : Result A Refusal) (x : A) → read ≡ Ok x →
+    Works now now (reads read) (Ok x)
 works_read now read x e = rw e (works_gives now x)
 
 works_unread : {A : Type 0} (now : Input) (read : Result A Refusal) (r : Refusal) → read ≡ Err r →
@@ -105,7 +109,8 @@ module _ (old new : Input) (purpose : Purpose) (name : List ℕ) (limit : ℕ) w
     fails = faults;
   }
 
-  pub ask_failed : {T : Type 0} (outcome : Result T FetchFault) → Fetches old new name outcome → Rose old.faults new.faults →
+  pub ask_failed : {T : Type 0} (outcome : Result T FetchFault) → Fetches old new name outcome →
+      Rose old.faults new.faults →
       Works old new (ask purpose name limit) (Err (Store purpose))
   ask_failed outcome fetches rose = record {
     same = fetches.same;
@@ -115,7 +120,8 @@ module _ (old new : Input) (purpose : Purpose) (name : List ℕ) (limit : ℕ) w
     fails = rose;
   }
 
-  pub ask_memory : {T : Type 0} (outcome : Result T FetchFault) → Fetches old new name outcome → new.faults ≡ old.faults →
+  pub ask_memory : {T : Type 0} (outcome : Result T FetchFault) → Fetches old new name outcome →
+      new.faults ≡ old.faults →
       Works old new (ask purpose name limit) (Err Memory)
   ask_memory outcome fetches faults = record {
     same = fetches.same;
@@ -261,7 +267,8 @@ ordered_ask last purpose name limit early = record {
         never true e = cc e
         never false e = cc e
 
-pub ordered_more : {A : Type 0} (less more : ℕ) (work : Work A) → less ≤ more → IsOrdered less work → IsOrdered more work
+pub ordered_more : {A : Type 0} (less more : ℕ) (work : Work A) → less ≤ more → IsOrdered less work →
+    IsOrdered more work
 ordered_more less more work far ordered = record {
   within = λ files place ask here. let early = ordered.within files place ask here in omega (arith, early, far);
   lacks = λ files e. farther files (work files).asks (ordered.lacks files e);
@@ -288,7 +295,8 @@ ordered_then {A = A} {B = B} last work f first second = record {
         (place : ℕ) (ask : Ask) → slice_get (continued asks end (λ x. f x files)).asks place ≡ Some ask →
         order_of ask.purpose ≤ last
     within files asks (Gives x) early place ask here =
-        in_either (λ (a : Ask). order_of a.purpose ≤ last) asks (f x files).asks early ((second x).within files) place ask here
+        in_either (λ (a : Ask). order_of a.purpose ≤ last) asks (f x files).asks early ((second x).within files) place
+        ask here
     within files asks (Refuses r) early place ask here = early place ask here
     within files asks Lacks early place ask here = early place ask here
 
@@ -338,7 +346,8 @@ follows_behind a b c asks course (Err Memory) count follows =
           ∙ more_behind a.fetches (length asks) follows.count;
     }
 
-has_first : {A B : Type 0} (asks : List Ask) (end : End A) (f : A → Course B) → HasFiles (continued asks end f).end → HasFiles end
+has_first : {A B : Type 0} (asks : List Ask) (end : End A) (f : A → Course B) → HasFiles (continued asks end f).end →
+    HasFiles end
 has_first asks (Gives x) f has = tt
 has_first asks (Refuses refusal) f has = tt
 has_first asks Lacks f has = has
@@ -442,7 +451,8 @@ stops_first old new asks (Gives x) f Memory follows =
 stops_first old new asks (Refuses refusal) f Memory follows = follows
 stops_first old new asks Lacks f Memory follows = follows
 
-refuses_first : {A B : Type 0} (files : List NamedBytes) (asks : List Ask) (end : End A) (f : A → Course B) (stop : Stop) →
+refuses_first : {A B : Type 0} (files : List NamedBytes) (asks : List Ask) (end : End A) (f : A → Course B)
+    (stop : Stop) →
     RefusesBy files (record { asks = asks; end = end }) (Err stop) → RefusesBy files (continued asks end f) (Err stop)
 refuses_first files asks end f (Refused r) (inl is) = rw is (inl refl)
 refuses_first files asks (Gives x) f (Refused r) (inr misses) =
@@ -452,7 +462,8 @@ refuses_first files asks Lacks f (Refused r) (inr misses) = inr misses
 refuses_first files asks end f (Store purpose) refuses = tt
 refuses_first files asks end f Memory refuses = tt
 
-pub works_stop : {A B : Type 0} (a b : Input) (work : Work A) (f : A → Work B) (stop : Stop) → Works a b work (Err stop) →
+pub works_stop : {A B : Type 0} (a b : Input) (work : Work A) (f : A → Work B) (stop : Stop) →
+    Works a b work (Err stop) →
     Works a b (work >>= f) (Err stop)
 works_stop {A = A} {B = B} a b work f stop first = record {
   same = first.same;

@@ -21,7 +21,8 @@ use Rattle.loader.specs.declared.purposes.Purpose.TheVariants.{File}
 use Rattle.loader.specs.declared.refusals.Refusal.{Refusal}
 use Rattle.loader.specs.declared.refusals.Stop.{Stop}
 use Rattle.loader.specs.declared.refusals.Stop.TheVariants.{Refused, Store, Memory}
-use Rattle.loader.specs.declared.refusals.Refusal.TheVariants.{Document, Cart, Assembly, Script as AtScript, Unbuilt, Digits, Long}
+use Rattle.loader.specs.declared.refusals.Refusal.TheVariants.{Document, Cart, Assembly, Script as AtScript, Unbuilt}
+use Rattle.loader.specs.declared.refusals.Refusal.TheVariants.{Digits, Long}
 
 -- an answer, as it is seen, is what is read of bytes; want of memory says nothing of them
 abbrev pub Says : {A B : Type 0} → (A → B) → Result A Stop → Result B Refusal → Type 0

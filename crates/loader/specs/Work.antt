@@ -1,5 +1,6 @@
 -- What a command wants of its files, as a function of the files: what it asks for, one after another, and how it ends.
-use Rattle.std.specs.Prelude.{ℕ, nat_le, if◌then◌else◌, List, [], ◌∷◌, ◌++◌, length, Option, Some, None, Result, Ok, Err}
+use Rattle.std.specs.Prelude.{ℕ, nat_le, if◌then◌else◌, List, [], ◌∷◌, ◌++◌, length, Option, Some, None, Result, Ok}
+use Rattle.std.specs.Prelude.{Err}
 use Rattle.outside.specs.StoreRules.{NamedBytes, bytes_of}
 use Rattle.loader.specs.declared.purposes.Purpose.{Purpose}
 use Rattle.loader.specs.declared.refusals.Refusal.{Refusal}

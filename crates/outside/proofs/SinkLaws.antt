@@ -70,7 +70,8 @@ pub put_so_far_all : (a b : Output) (all : List ℕ) → PutSoFar a b all [] →
 put_so_far_all a b all so_far =
     subst (λ (bytes : List ℕ). Adds a b bytes) (sym (so_far.whole ∙ append-nil so_far.first)) so_far.adds
 
-pub put_so_far_part : (a b c : Output) (all piece rest : List ℕ) → PutSoFar a b all (piece ++ rest) → AddsPart b c piece →
+pub put_so_far_part : (a b c : Output) (all piece rest : List ℕ) → PutSoFar a b all (piece ++ rest) →
+    AddsPart b c piece →
     AddsPart a c all
 put_so_far_part a b c all piece rest so_far part =
     rw so_far.whole (adds_part_then a b c so_far.first piece rest so_far.adds part)

@@ -1,5 +1,6 @@
 -- The sinks in memory, as contracts see them.
-use Rattle.std.specs.Prelude.{ℕ, ◌+◌, ◌-◌, ◌^◌, Bool, not, ◌&&◌, ◌==◌, nat_le, if◌then◌else◌, min, List, ◌++◌, length, take, Some, None}
+use Rattle.std.specs.Prelude.{ℕ, ◌+◌, ◌-◌, ◌^◌, Bool, not, ◌&&◌, ◌==◌, nat_le, if◌then◌else◌, min, List, ◌++◌, length}
+use Rattle.std.specs.Prelude.{take, Some, None}
 use Rattle.std.specs.List.{list_any}
 use Rattle.outside.specs.Counts.{one_more}
 use Rattle.outside.specs.SinkRules.{Output}
@@ -33,7 +34,8 @@ abbrev pub after_put : KeptBytes → List ℕ → KeptBytes
 after_put s piece =
     if fails_next s then record s { calls = one_more s.calls; faults = one_more s.faults } else
     if has_room s piece then record s { calls = one_more s.calls; bytes = s.bytes ++ piece } else
-    record s { calls = one_more s.calls; faults = one_more s.faults; bytes = s.bytes ++ take (s.room - length s.bytes) piece }
+    record s
+    { calls = one_more s.calls; faults = one_more s.faults; bytes = s.bytes ++ take (s.room - length s.bytes) piece }
 
 -- A sink that never fails: the bytes kept, how many bytes it has room for, and how many came that it did not keep.
 pub record SureBytes : Type 0 where

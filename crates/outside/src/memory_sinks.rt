@@ -1,6 +1,7 @@
 // The sinks in memory.
 ghost use Rattle.std.specs.Prelude.{◌≡◌, [], IfOk, OnOk, OnErr, is_ok, IsOk};
-ghost use Rattle.outside.specs.MemorySinks.{output_of, takes_whole, after_put, sure_output_of, after_sure_put};
+ghost use Rattle.outside.specs.MemorySinks.{output_of, takes_whole, after_put};
+ghost use Rattle.outside.specs.MemorySinks.{sure_output_of, after_sure_put};
 ghost use Rattle.outside.specs.SinkRules.{Adds, AddsPart};
 
 use super::call_list::CallList;
@@ -27,7 +28,8 @@ impl Model for MemSink {
 
     ghost Value = { KeptBytes };
 
-    ghost view = { λ s. record { bytes = s.bytes.items; room = s.room; failing = s.failing; calls = s.calls; faults = s.faults } };
+    ghost view = { λ s. record {
+        bytes = s.bytes.items; room = s.room; failing = s.failing; calls = s.calls; faults = s.faults } };
 
     ghost invariant = { λ s. (vec_len s.bytes ≤ s.room) × (s.room ≤ vec_capacity s.bytes) };
 }
@@ -35,7 +37,8 @@ impl Model for MemSink {
 impl MemSink {
     /// An empty sink with room for `room` bytes, which is reserved at once, and the calls that are to fail.
     pub fn new(alloc: Global, room: u32, failing: CallList) -> Result<MemSink, Memory>
-        ensures { IfOk result (λ sink. sink ≡ record { bytes = []; room = room; failing = failing; calls = 0; faults = 0 }) }
+        ensures { IfOk result (λ sink.
+            sink ≡ record { bytes = []; room = room; failing = failing; calls = 0; faults = 0 }) }
     {
         let room = room as usize;
         match Vec::with_capacity(alloc, room) {
@@ -132,8 +135,10 @@ impl Sink for SureSink {
     ghost output = { λ s. sure_output_of s };
 
     fn put(&mut self, piece: &[u8]) -> Result<(), SinkFault>
-        ensures ok { OnOk result (Adds (sure_output_of self.old) (sure_output_of self.new) piece.now) }
-        ensures err { OnErr result (AddsPart (sure_output_of self.old) (sure_output_of self.new) piece.now) }
+        ensures ok { OnOk result
+            (Adds (sure_output_of self.old) (sure_output_of self.new) piece.now) }
+        ensures err { OnErr result
+            (AddsPart (sure_output_of self.old) (sure_output_of self.new) piece.now) }
         ensures outcome { IsOk result }
         ensures after { self.new ≡ after_sure_put self.old piece.now }
     {

@@ -42,10 +42,14 @@ impl<W: Write + Drop> Sink for OutSink<W> {
     ghost output = { λ s. untold_output s.faults };
 
     fn put(&mut self, piece: &[u8]) -> Result<(), SinkFault>
-        ensures ok { OnOk result (Adds (untold_output self.old.faults) (untold_output self.new.faults) piece.now) }
-        ensures err { OnErr result (AddsPart (untold_output self.old.faults) (untold_output self.new.faults) piece.now) }
-        ensures whole { OnOk result (Appends (W.contents self.old.out) (W.contents self.new.out) piece.now) }
-        ensures part { OnErr result (AppendsPart (W.contents self.old.out) (W.contents self.new.out) piece.now) }
+        ensures ok { OnOk result
+            (Adds (untold_output self.old.faults) (untold_output self.new.faults) piece.now) }
+        ensures err { OnErr result
+            (AddsPart (untold_output self.old.faults) (untold_output self.new.faults) piece.now) }
+        ensures whole { OnOk result
+            (Appends (W.contents self.old.out) (W.contents self.new.out) piece.now) }
+        ensures part { OnErr result
+            (AppendsPart (W.contents self.old.out) (W.contents self.new.out) piece.now) }
     {
         let outcome = put_whole(&mut self.out, piece);
         if outcome.is_err() {

@@ -1,5 +1,6 @@
 -- The sockets of a kind, one after another: how many there are, and the first that is free.
-use Rattle.std.proofs.Common.{◌≡◌, ℕ, ◌+◌, ◌<◌, Bool, true, false, List, ◌∷◌, length, get_or, map, take, drop, Option, Some, refl, sym, ap, ◌∙◌, arith}
+use Rattle.std.proofs.Common.{◌≡◌, ℕ, ◌+◌, ◌<◌, Bool, true, false, List, ◌∷◌, length, get_or, map, take, drop, Option}
+use Rattle.std.proofs.Common.{Some, refl, sym, ap, ◌∙◌, arith}
 use Rattle.std.specs.Prelude.{◌==◌, ◌&&◌, not, if◌then◌else◌}
 use Rattle.std.specs.List.{list_any}
 use Rattle.std.proofs.Math.ListN.{get_or-map}
@@ -17,7 +18,8 @@ module _ {X : Type 0} (V : X → ChipState) (kind : ChipKind) (xs : List X) (i :
       ∙ ap (λ (s : ChipState). s.view.kind) (get_or-map V xs i x)
       ∙ ap (λ (y : X). (V y).view.kind) (sym is)
 
-  kind_there : x ≡ get_or xs i x → is_kind kind (get_or (kinds_of (map V xs)) i (V x).view.kind) ≡ is_kind kind (V x).view.kind
+  kind_there : x ≡ get_or xs i x →
+      is_kind kind (get_or (kinds_of (map V xs)) i (V x).view.kind) ≡ is_kind kind (V x).view.kind
   kind_there is = ap (is_kind kind) (kind_at is)
 
   within_kinds : i < length xs → i < length (kinds_of (map V xs))
@@ -26,12 +28,14 @@ module _ {X : Type 0} (V : X → ChipState) (kind : ChipKind) (xs : List X) (i :
   pub counted_yes : i < length xs → x ≡ get_or xs i x → is_kind kind (V x).view.kind ≡ true →
       sockets_of kind (take (i + 1) (kinds_of (map V xs))) ≡ sockets_of kind (take i (kinds_of (map V xs))) + 1
   counted_yes within is same =
-      count_by_more_yes (is_kind kind) (kinds_of (map V xs)) i (V x).view.kind (within_kinds within) (kind_there is ∙ same)
+      count_by_more_yes (is_kind kind) (kinds_of (map V xs)) i (V x).view.kind (within_kinds within)
+      (kind_there is ∙ same)
 
   pub counted_no : i < length xs → x ≡ get_or xs i x → is_kind kind (V x).view.kind ≡ false →
       sockets_of kind (take (i + 1) (kinds_of (map V xs))) ≡ sockets_of kind (take i (kinds_of (map V xs)))
   counted_no within is other =
-      count_by_more_no (is_kind kind) (kinds_of (map V xs)) i (V x).view.kind (within_kinds within) (kind_there is ∙ other)
+      count_by_more_no (is_kind kind) (kinds_of (map V xs)) i (V x).view.kind (within_kinds within)
+      (kind_there is ∙ other)
 
   module _ (chain : List ℕ) (within : i < length xs) (is : x ≡ get_or xs i x) where
     abbrev kinds : List ChipKind
@@ -55,7 +59,9 @@ module _ {X : Type 0} (V : X → ChipState) (kind : ChipKind) (xs : List X) (i :
     -- it is in the chain
     pub free_held : list_any (λ held. held == i) chain ≡ true →
         free_socket kind chain i (drop i kinds) ≡ free_socket kind chain (i + 1) (drop (i + 1) kinds)
-    free_held held = here ∙ rw held (passed (is_kind kind (V x).view.kind) (Some i) (free_socket kind chain (i + 1) (drop (i + 1) kinds)))
+    free_held held =
+        here
+        ∙ rw held (passed (is_kind kind (V x).view.kind) (Some i) (free_socket kind chain (i + 1) (drop (i + 1) kinds)))
       where
         passed : (b : Bool) (first later : Option ℕ) → (if b && not true then first else later) ≡ later
         passed true first later = refl

@@ -1,14 +1,19 @@
 -- A run ends as its script asks.
-use Rattle.std.proofs.Common.{◌≡◌, ◌≢◌, ℕ, zero, suc, ◌+◌, ◌*◌, ◌≤◌, Bool, true, false, List, [], ◌∷◌, Option, Some, None, refl, ◌∙◌, arith}
+use Rattle.std.proofs.Common.{◌≡◌, ◌≢◌, ℕ, zero, suc, ◌+◌, ◌*◌, ◌≤◌, Bool, true, false, List, [], ◌∷◌, Option, Some}
+use Rattle.std.proofs.Common.{None, refl, ◌∙◌, arith}
 use Rattle.f8_spec.specs.Instructions.{decoded, row_of, row_clocks}
 use Rattle.f8_spec.specs.ChipState.{ChipView}
 use Rattle.f8_spec.specs.declared.instructions.Op.{Op}
 use Rattle.f8_spec.specs.declared.instructions.Row.{Row}
 use Rattle.console_spec.specs.Processor.{State, own_inputs}
-use Rattle.console_spec.specs.Run.{Position, Turn, Goes, Stops, Done, Unserved, Reserved, next, flat_next, decided, goes_unless, instruction_fault, position_after, opcode_at, power_position, chain_in_order, position_after_reset, reset_fault, seats_of}
+use Rattle.console_spec.specs.Run.{Position, Turn, Goes, Stops, Done, Unserved, Reserved, next, flat_next, decided}
+use Rattle.console_spec.specs.Run.{goes_unless, instruction_fault, position_after, opcode_at, power_position}
+use Rattle.console_spec.specs.Run.{chain_in_order, position_after_reset, reset_fault, seats_of}
 use Rattle.console_spec.specs.Scripts.{Script, frame_clocks, events_at, most_instructions}
 use Rattle.console_spec.specs.Services.{Fault}
-use Rattle.console_spec.specs.Telling.{Way, Telling, is_over_at, is_over, with_event, with_events, events_behind, moment_of, telling, telling_on, telling_behind, on_rack, on_flat, begun, played_by, referred_by}
+use Rattle.console_spec.specs.Telling.{Way, Telling, is_over_at, is_over, with_event, with_events, events_behind}
+use Rattle.console_spec.specs.Telling.{moment_of, telling, telling_on, telling_behind, on_rack, on_flat, begun}
+use Rattle.console_spec.specs.Telling.{played_by, referred_by}
 use Rattle.console_spec.specs.declared.Event.{Event}
 use Rattle.console_spec.specs.declared.Event.TheVariants.{Keys, Pulse}
 use Rattle.console_spec.specs.declared.End.{End}
@@ -24,7 +29,12 @@ some_clocks : (row : Row) (taken : Bool) → 1 ≤ row_clocks row taken
 some_clocks row taken = grind arith
 
 counts_after : (op : Op) (x : Position) → Counts x (position_after op x)
-counts_after op x = record { one = refl; clocks = omega (arith, some_clocks (row_of op) (own_inputs op x.flat.memory (seats_of x.copies) x.flat.state).taken) }
+counts_after op x =
+    record {
+      one = refl;
+      clocks =
+          omega (arith, some_clocks (row_of op) (own_inputs op x.flat.memory (seats_of x.copies) x.flat.state).taken);
+    }
 
 -- a turn that leads on counts, and one that stops the run isn't told as the end of its instructions
 abbrev IsFair : Position → Turn → Type 0
@@ -41,11 +51,13 @@ goes_fairly : (op : Op) (x : Position) (fault : Option Fault) → IsFair x (goes
 goes_fairly op x None = counts_after op x
 goes_fairly op x (Some fault) = unserved_not_done fault
 
-rack_decides : (x : Position) (op : Option Op) → IsFair x (decided (λ op. goes_unless (instruction_fault op x) (position_after op x)) x.flat.state.flow.p (opcode_at x) op)
+rack_decides : (x : Position) (op : Option Op) →
+    IsFair x (decided (λ op. goes_unless (instruction_fault op x) (position_after op x)) x.flat.state.flow.p (opcode_at x) op)
 rack_decides x None = reserved_not_done x.flat.state.flow.p (opcode_at x)
 rack_decides x (Some op) = goes_fairly op x (instruction_fault op x)
 
-flat_decides : (x : Position) (op : Option Op) → IsFair x (decided (λ op. Goes (position_after op x)) x.flat.state.flow.p (opcode_at x) op)
+flat_decides : (x : Position) (op : Option Op) →
+    IsFair x (decided (λ op. Goes (position_after op x)) x.flat.state.flow.p (opcode_at x) op)
 flat_decides x None = reserved_not_done x.flat.state.flow.p (opcode_at x)
 flat_decides x (Some op) = counts_after op x
 
@@ -76,7 +88,8 @@ abbrev Suffices : End → ℕ → State → Type 0
 Suffices (Steps n) left s = s.count + left ≡ n
 Suffices (Frames n) left s = n * frame_clocks ≤ s.phi + left
 
-suffices_later : (end : End) (left : ℕ) (x y z : Position) → Counts x y → Alike y z → Suffices end (suc left) x.flat.state → Suffices end left z.flat.state
+suffices_later : (end : End) (left : ℕ) (x y z : Position) → Counts x y → Alike y z →
+    Suffices end (suc left) x.flat.state → Suffices end left z.flat.state
 suffices_later (Steps n) left x y z counts alike enough = omega (arith, counts.one, alike.count, enough)
 suffices_later (Frames n) left x y z counts alike enough = omega (arith, counts.clocks, alike.phi, enough)
 
@@ -88,14 +101,18 @@ module _ (way : Way) (script : Script) (fairly : (x : Position) → IsFair x (wa
   abbrev EndsFrom : ℕ → Position → Type 0
   EndsFrom left x = EndsAsAsked script (telling way script left x).ending
 
-  by_turn : (left : ℕ) (x : Position) → Suffices script.end (suc left) x.flat.state → ((z : Position) → Suffices script.end left z.flat.state → EndsFrom left z) → (turn : Turn) → IsFair x turn →
-      EndsAsAsked script (telling_on script x (moment_of way script x (way.step x)) (λ z. telling way script left z) turn).ending
+  by_turn : (left : ℕ) (x : Position) → Suffices script.end (suc left) x.flat.state →
+      ((z : Position) → Suffices script.end left z.flat.state → EndsFrom left z) → (turn : Turn) → IsFair x turn →
+      EndsAsAsked script
+      (telling_on script x (moment_of way script x (way.step x)) (λ z. telling way script left z) turn).ending
   by_turn left x enough later (Goes y) counts =
       let there = with_events (events_behind script x (Goes y)) y in
-      later there (suffices_later script.end left x y there counts (events_alike (events_behind script x (Goes y)) y) enough)
+      later there
+      (suffices_later script.end left x y there counts (events_alike (events_behind script x (Goes y)) y) enough)
   by_turn left x enough later (Stops stop) other = λ done. absurd (other done)
 
-  by_test : (left : ℕ) (x : Position) (over : Bool) → is_over script x ≡ over → EndsAsAsked script (telling_on script x (moment_of way script x (way.step x)) (λ z. telling way script left z) (way.step x)).ending →
+  by_test : (left : ℕ) (x : Position) (over : Bool) → is_over script x ≡ over →
+      EndsAsAsked script (telling_on script x (moment_of way script x (way.step x)) (λ z. telling way script left z) (way.step x)).ending →
       EndsFrom (suc left) x
   unfolding telling
   by_test left x true over rest = rw over (λ done. over)
@@ -104,7 +121,9 @@ module _ (way : Way) (script : Script) (fairly : (x : Position) → IsFair x (wa
   ends : (left : ℕ) (x : Position) → Suffices script.end left x.flat.state → EndsFrom left x
   unfolding telling
   ends zero x enough = λ done. none_left script.end x.flat.state enough
-  ends (suc left) x enough = by_test left x (is_over script x) refl (by_turn left x enough (λ z here. ends left z here) (way.step x) (fairly x))
+  ends (suc left) x enough =
+      by_test left x (is_over script x) refl
+      (by_turn left x enough (λ z here. ends left z here) (way.step x) (fairly x))
 
 starts : (end : End) (s : State) → s.count ≡ 0 → Suffices end (most_instructions end) s
 starts (Steps n) s none = omega (arith, none)
@@ -116,7 +135,8 @@ starts_reset vs chain script =
     starts script.end (position_after_reset (begun vs chain script)).flat.state
     (events_alike (events_at 0 script.events) (power_position vs chain script.power)).count
 
-behind_reset : (script : Script) (x : Position) (rest : Position → Telling) → EndsAsAsked script (rest (position_after_reset x)).ending → (fault : Option Fault) →
+behind_reset : (script : Script) (x : Position) (rest : Position → Telling) →
+    EndsAsAsked script (rest (position_after_reset x)).ending → (fault : Option Fault) →
     EndsAsAsked script (telling_behind x rest (goes_unless fault (position_after_reset x))).ending
 behind_reset script x rest ends None = ends
 behind_reset script x rest ends (Some fault) = λ done. absurd (unserved_not_done fault done)
@@ -128,6 +148,7 @@ end_law vs chain traced script =
     let y = begun vs (chain_in_order vs) script in
     let most = most_instructions script.end in (
       behind_reset script x (λ z. telling (on_rack traced) script most z)
-          (ends (on_rack traced) script rack_fairly most (position_after_reset x) (starts_reset vs chain script)) (reset_fault x),
+          (ends (on_rack traced) script rack_fairly most (position_after_reset x) (starts_reset vs chain script))
+          (reset_fault x),
       ends on_flat script flat_fairly most (position_after_reset y) (starts_reset vs (chain_in_order vs) script),
     )

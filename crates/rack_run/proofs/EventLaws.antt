@@ -1,5 +1,6 @@
 -- Events, one after another.
-use Rattle.std.proofs.Common.{◌≡◌, ℕ, ◌+◌, ◌<◌, ◌≤◌, Bool, true, false, List, [], ◌∷◌, ◌++◌, take, length, get_or, refl, sym, ap, ◌∙◌, subst}
+use Rattle.std.proofs.Common.{◌≡◌, ℕ, ◌+◌, ◌<◌, ◌≤◌, Bool, true, false, List, [], ◌∷◌, ◌++◌, take, length, get_or, refl}
+use Rattle.std.proofs.Common.{sym, ap, ◌∙◌, subst}
 use Rattle.std.specs.Prelude.{◌==◌, if◌then◌else◌, Option, Some}
 use Rattle.std.proofs.lemmas.List.{take_more, take_all}
 use Rattle.f8_spec.specs.ChipState.{ChipState}
@@ -13,11 +14,13 @@ use Rattle.rack_run.specs.Lives.{Come}
 use Rattle.rack_run.specs.Progressing.{ProgressState, Keeps, ends_at}
 use Rattle.rack_run.proofs.Progressed.{over_is}
 
-append_if : (b : Bool) (e : Event) (es fs : List Event) → (if b then e ∷ (es ++ fs) else es ++ fs) ≡ (if b then e ∷ es else es) ++ fs
+append_if : (b : Bool) (e : Event) (es fs : List Event) →
+    (if b then e ∷ (es ++ fs) else es ++ fs) ≡ (if b then e ∷ es else es) ++ fs
 append_if true e es fs = refl
 append_if false e es fs = refl
 
-pub events-append : (frame : ℕ) (xs ys : List At) → events_at frame (xs ++ ys) ≡ events_at frame xs ++ events_at frame ys
+pub events-append : (frame : ℕ) (xs ys : List At) →
+    events_at frame (xs ++ ys) ≡ events_at frame xs ++ events_at frame ys
 events-append frame [] ys = refl
 events-append frame (a ∷ xs) ys =
     ap (λ (es : List Event). if a.frame == frame then a.event ∷ es else es) (events-append frame xs ys)
@@ -27,14 +30,16 @@ pub with-append : (es fs : List Event) (x : Position) → with_events (es ++ fs)
 with-append [] fs x = refl
 with-append (e ∷ es) fs x = with-append es fs (with_event e x)
 
-pub come_then : (es fs : List Event) (olds mids news : List ChipState) → Come es olds mids → Come fs mids news → Come (es ++ fs) olds news
+pub come_then : (es fs : List Event) (olds mids news : List ChipState) → Come es olds mids → Come fs mids news →
+    Come (es ++ fs) olds news
 come_then [] fs olds mids news same later = subst (λ (states : List ChipState). Come fs states news) same later
 come_then (e ∷ es) fs olds mids news came later = (came.0, came.1, come_then es fs came.0 mids news came.2 later)
 
 -- the events up to the next of a list
 pub events_more : (frame : ℕ) (all : List At) (i : ℕ) (d : At) → i < length all →
     events_at frame (take (i + 1) all) ≡ events_at frame (take i all) ++ events_at frame (get_or all i d ∷ [])
-events_more frame all i d within = ap (events_at frame) (take_more all i d within) ∙ events-append frame (take i all) (get_or all i d ∷ [])
+events_more frame all i d within =
+    ap (events_at frame) (take_more all i d within) ∙ events-append frame (take i all) (get_or all i d ∷ [])
 
 pub with_more : (frame : ℕ) (all : List At) (i : ℕ) (d : At) (x : Position) → i < length all →
     with_events (events_at frame (take (i + 1) all)) x
@@ -55,23 +60,28 @@ pub at_next : (Holds : Position → Type 0) (frame : ℕ) (all : List At) (i : �
     Holds (with_events (events_at frame (take (i + 1) all)) x)
 at_next Holds frame all i d x within holds = subst Holds (sym (with_more frame all i d x within)) holds
 
-pub events_all : (frame : ℕ) (all : List At) (i : ℕ) → length all ≤ i → events_at frame (take i all) ≡ events_at frame all
+pub events_all : (frame : ℕ) (all : List At) (i : ℕ) → length all ≤ i →
+    events_at frame (take i all) ≡ events_at frame all
 events_all frame all i past = ap (events_at frame) (take_all i all past)
 
 -- ---- the events behind an instruction
 
-pub behind_some : (script : Script) (p : ProgressState) (x y : Position) (fallen : Option ℕ) (frame : ℕ) → fallen ≡ Some frame →
+pub behind_some : (script : Script) (p : ProgressState) (x y : Position) (fallen : Option ℕ) (frame : ℕ) →
+    fallen ≡ Some frame →
     fallen ≡ fallen_at x.flat.state y.flat.state → Keeps p y.flat.state →
     ends_at script.end p ≡ false → events_behind script x (Goes y) ≡ events_at frame script.events
 behind_some script p x y fallen frame is same keeps on =
     ap (λ (f : Option ℕ). events_fallen script f y) (sym same ∙ is)
-    ∙ ap (λ (b : Bool). if b then [] else events_at frame script.events) (sym (over_is script.end p y.flat.state keeps) ∙ on)
+    ∙ ap (λ (b : Bool). if b then [] else events_at frame script.events)
+    (sym (over_is script.end p y.flat.state keeps) ∙ on)
 
 -- a key byte doesn't hang on reset
-pub event_reset : (e : Event) (x : Position) → with_event e (position_after_reset x) ≡ position_after_reset (with_event e x)
+pub event_reset : (e : Event) (x : Position) →
+    with_event e (position_after_reset x) ≡ position_after_reset (with_event e x)
 event_reset (Keys port byte) x = refl
 event_reset (Pulse chip) x = refl
 
-pub events_reset : (es : List Event) (x : Position) → with_events es (position_after_reset x) ≡ position_after_reset (with_events es x)
+pub events_reset : (es : List Event) (x : Position) →
+    with_events es (position_after_reset x) ≡ position_after_reset (with_events es x)
 events_reset [] x = refl
 events_reset (e ∷ es) x = ap (with_events es) (event_reset e x) ∙ events_reset es (with_event e x)

@@ -1,11 +1,11 @@
 -- An instruction and an event of the flat instruction set, and a whole run on it, which needs no chip.
-use Rattle.std.proofs.Common.{◌≡◌, ℕ, ◌+◌, ◌≤◌, Bool, true, false, List, [], ◌∷◌, map, length, Option, refl, sym, ap, ◌∙◌, subst, arith}
-use Rattle.std.specs.Prelude.{Result, Ok, Err, IfOk, OnErr}
+use Rattle.std.proofs.Common.{◌≡◌, ℕ, ◌+◌, ◌≤◌, Bool, true, false, List, [], ◌∷◌, length, Option, refl, sym, ap}
+use Rattle.std.proofs.Common.{◌∙◌, subst, arith}
 use Rattle.console_spec.specs.FlatMachine.{FlatState}
-use Rattle.console_spec.specs.Processor.{State}
-use Rattle.console_spec.specs.Run.{Position, Stop, Stops, flat_next, chain_in_order, position_after_reset, power_position}
-use Rattle.console_spec.specs.Scripts.{Script, events_at, most_instructions}
-use Rattle.console_spec.specs.Telling.{Telling, begun, told_in, telling, on_flat, referred_by}
+use Rattle.console_spec.specs.Run.{Position, Stops, flat_next, chain_in_order, position_after_reset}
+use Rattle.console_spec.specs.Run.{power_position}
+use Rattle.console_spec.specs.Scripts.{Script, events_at}
+use Rattle.console_spec.specs.Telling.{Telling, begun, told_in, on_flat, referred_by}
 use Rattle.console_spec.specs.declared.PortWrite.{PortWrite}
 use Rattle.f8_isa.specs.IsaState.{IsaState, StandsAt, LeadsTo}
 use Rattle.f8_machine.proofs.RackLaws.{rack_runs_none}
@@ -17,7 +17,7 @@ use Rattle.rack_run.specs.Endings.{TellsEnd, stop_of}
 use Rattle.rack_run.specs.Machines.{flat_readout, flat_reads}
 use Rattle.rack_run.specs.Progressing.{Keeps}
 use Rattle.rack_run.specs.Texts.{text_in}
-use Rattle.rack_run.specs.Turns.{Readout, readout_of, Advances, Halted, RunsOut, RunsShort, rest_on}
+use Rattle.rack_run.specs.Turns.{Readout, StepsDone, StepsHalt, RunsOut, RunsShort, rest_on}
 use Rattle.rack_run.specs.declared.detail.Detail.{Detail}
 use Rattle.rack_run.specs.declared.detail.Detail.TheVariants.{Writes}
 use Rattle.rack_run.specs.declared.ending.Ending.{Ending}
@@ -31,10 +31,11 @@ count_there isa count y stands = ap (λ (f : FlatState). f.state.count) stands.f
 
 -- ---- an instruction, with no bus step
 
-pub flat_advances : (detail : Detail) (isa : IsaState) (wrote : Option PortWrite) (states : List ChipState) (a : Output) (x : Position) →
+pub flat_steps_done : (detail : Detail) (isa : IsaState) (wrote : Option PortWrite) (states : List ChipState)
+    (a : Output) (x : Position) →
     LeadsTo x isa (x.flat.state.count + 1) wrote →
-    Advances detail on_flat (λ y. StandsAt isa y.flat.state.count y) wrote states states a a x
-flat_advances detail isa wrote states a x leads =
+    StepsDone detail on_flat (λ y. StandsAt isa y.flat.state.count y) wrote states states a a x
+flat_steps_done detail isa wrote states a x leads =
     let counts = count_there isa (x.flat.state.count + 1) leads.next leads.stands in
     record {
       there = leads.next;
@@ -46,10 +47,11 @@ flat_advances detail isa wrote states a x leads =
       lines = rw (text_in-nil detail) (adds_none a);
     }
 
-pub flat_halted : (detail : Detail) (isa : IsaState) (states : List ChipState) (a : Output) (x : Position) (halt : Halt) →
+pub flat_steps_halt : (detail : Detail) (isa : IsaState) (states : List ChipState) (a : Output) (x : Position)
+    (halt : Halt) →
     StandsAt isa x.flat.state.count x → flat_next x ≡ Stops (stop_of halt) →
-    Halted detail on_flat (flat_readout isa) states states a a x halt
-flat_halted detail isa states a x halt stands stops = record {
+    StepsHalt detail on_flat (flat_readout isa) states states a a x halt
+flat_steps_halt detail isa states a x halt stands stops = record {
   turns = stops;
   state = flat_reads isa states x stands;
   heard = rack_runs_none 0 states;
@@ -58,7 +60,8 @@ flat_halted detail isa states a x halt stands stops = record {
 
 -- ---- a key byte comes to no chip
 
-keyed_by : (own : Bool) (port byte : ℕ) (states : List ChipState) → length states ≤ 0 → RackKeyedBy own port byte states states
+keyed_by : (own : Bool) (port byte : ℕ) (states : List ChipState) → length states ≤ 0 →
+    RackKeyedBy own port byte states states
 keyed_by true port byte states none = refl
 keyed_by false port byte [] none = tt
 keyed_by false port byte (s ∷ states) none = absurd (some_chip none)
@@ -74,7 +77,8 @@ no_chip_keyed port byte states none = keyed_by (is_own port) port byte states no
 abbrev pub start_of : List ChipView → Script → Position
 start_of vs script = position_after_reset (begun vs (chain_in_order vs) script)
 
-referred_is : (vs : List ChipView) (script : Script) → referred_by vs script ≡ rest_on on_flat script (start_of vs script)
+referred_is : (vs : List ChipView) (script : Script) →
+    referred_by vs script ≡ rest_on on_flat script (start_of vs script)
 unfolding referred_by
 referred_is vs script = refl
 
@@ -95,14 +99,15 @@ module _ (vs : List ChipView) (script : Script) (olds news : List ChipState) (a 
       (cut_part Writes (rest_on on_flat script (start_of vs script)).moments olds news a b short)
 
 -- after power-on, reset and the events of frame 0
-pub started : (isa : IsaState) (vs : List ChipView) (script : Script) → StandsAt isa 0 (start_of vs script) →
+pub stands_at_start : (isa : IsaState) (vs : List ChipView) (script : Script) → StandsAt isa 0 (start_of vs script) →
     StandsAt isa (start_of vs script).flat.state.count (start_of vs script)
-started isa vs script stands =
+stands_at_start isa vs script stands =
     subst (λ (n : ℕ). StandsAt isa n (start_of vs script)) (sym (count_there isa 0 (start_of vs script) stands)) stands
 
-pub keeps_started : (isa : IsaState) (vs : List ChipView) (script : Script) (phi : ℕ) → StandsAt isa 0 (start_of vs script) →
+pub keeps_at_start : (isa : IsaState) (vs : List ChipView) (script : Script) (phi : ℕ) →
+    StandsAt isa 0 (start_of vs script) →
     phi ≡ isa.phi → Keeps (new_progress phi) (start_of vs script).flat.state
-keeps_started isa vs script phi stands same =
+keeps_at_start isa vs script phi stands same =
     let quiet = events_quiet (events_at 0 script.events) (power_position vs (chain_in_order vs) script.power) in
     keeps_new phi (start_of vs script).flat.state quiet.0 quiet.1
-    (same ∙ ap (λ (r : Readout). r.phi) (flat_reads isa [] (start_of vs script) (started isa vs script stands)))
+    (same ∙ ap (λ (r : Readout). r.phi) (flat_reads isa [] (start_of vs script) (stands_at_start isa vs script stands)))

@@ -1,10 +1,11 @@
 -- An instruction of a machine on its rack, from what the machine answers.
-use Rattle.std.proofs.Common.{◌≡◌, ◌≢◌, ℕ, ◌+◌, List, [], map, Option, Some, None, refl, sym, ap, ◌∙◌, subst}
-use Rattle.std.specs.Prelude.{Result, Err}
+use Rattle.std.proofs.Common.{◌≡◌, ◌≢◌, ℕ, ◌+◌, List, [], map, Option, Some, None, refl, sym, ap, subst}
+use Rattle.std.specs.Prelude.{Err}
 use Rattle.f8_spec.specs.ChipState.{ChipState}
 use Rattle.f8_spec.specs.Instructions.{decoded}
 use Rattle.f8_spec.specs.declared.instructions.Op.{Op}
-use Rattle.console_spec.specs.Run.{Position, Goes, Stops, goes_unless, decided, opcode_at, instruction_fault, position_after, next, turn_course}
+use Rattle.console_spec.specs.Run.{Position, Goes, Stops, goes_unless, decided, opcode_at, instruction_fault}
+use Rattle.console_spec.specs.Run.{position_after, next, turn_course}
 use Rattle.console_spec.specs.Services.{Fault}
 use Rattle.console_spec.specs.Telling.{Way, on_rack}
 use Rattle.console_spec.specs.declared.PortWrite.{PortWrite}
@@ -18,7 +19,7 @@ use Rattle.outside.specs.SinkRules.{Output, Adds, AddsPart}
 use Rattle.rack_run.specs.Endings.{stop_of}
 use Rattle.rack_run.specs.Machines.{machine_readout}
 use Rattle.rack_run.specs.Texts.{is_traced, text_in, outcome_told, Puts}
-use Rattle.rack_run.specs.Turns.{readout_of, steps_text, Advances, Halted, StepsFail}
+use Rattle.rack_run.specs.Turns.{readout_of, steps_text, StepsDone, StepsHalt, StepsFail}
 use Rattle.rack_run.specs.declared.detail.Detail.{Detail}
 use Rattle.rack_run.specs.declared.ending.Halt.{Halt}
 use Rattle.rack_run.proofs.Outcomes.{outcome_is, outcome_heard}
@@ -56,7 +57,8 @@ module _ (detail : Detail) (x : Position) (outcome : Outcome) (before after : Ma
   way = on_rack (is_traced detail)
 
   heard_steps : RackRuns (map heard_of (turn_course x).steps) olds news
-  heard_steps = subst (λ (hs : List Heard). RackRuns hs olds news) (outcome_heard outcome before after news x refines) ran
+  heard_steps =
+      subst (λ (hs : List Heard). RackRuns hs olds news) (outcome_heard outcome before after news x refines) ran
 
   text_is : text_in detail (outcome_told detail outcome) ≡ steps_text detail way x
   text_is = ap (text_in detail) (outcome_is detail outcome before after news x refines)
@@ -75,10 +77,10 @@ module _ (detail : Detail) (x : Position) (outcome : Outcome) (before after : Ma
     told_lines = subst (λ (text : List ℕ). Adds a b text) text_is lines
 
     -- it is done
-    pub advances : (wrote : Option PortWrite) (steps : List Heard) →
+    pub steps_done : (wrote : Option PortWrite) (steps : List Heard) →
         IsDone after news (next x) (turn_course x) x.flat.state.writes wrote steps →
-        Advances detail way (λ y. Represents after news y) wrote olds news a b x
-    advances wrote steps done = record {
+        StepsDone detail way (λ y. Represents after news y) wrote olds news a b x
+    steps_done wrote steps done = record {
       there = done.after;
       turns = done.turns;
       at = done.represents;
@@ -89,6 +91,6 @@ module _ (detail : Detail) (x : Position) (outcome : Outcome) (before after : Ma
     }
 
     -- it stops the run
-    pub halted : (halt : Halt) → next x ≡ Stops (stop_of halt) → machine_readout after ≡ readout_of x.flat.state →
-        Halted detail way (machine_readout after) olds news a b x halt
-    halted halt turns reads = record { turns = turns; state = reads; heard = heard_steps; lines = told_lines }
+    pub steps_halt : (halt : Halt) → next x ≡ Stops (stop_of halt) → machine_readout after ≡ readout_of x.flat.state →
+        StepsHalt detail way (machine_readout after) olds news a b x halt
+    steps_halt halt turns reads = record { turns = turns; state = reads; heard = heard_steps; lines = told_lines }

@@ -5,7 +5,8 @@ use Rattle.f8_spec.specs.ChipState.{ChipState}
 use Rattle.f8_spec.specs.Instructions.{decoded}
 use Rattle.f8_spec.specs.declared.instructions.Op.{Op}
 use Rattle.console_spec.specs.BusTrace.{TracedStep, Course}
-use Rattle.console_spec.specs.Run.{Position, Stops, Reserved as ReservedStop, goes_unless, decided, next, opcode_at, instruction_fault, position_after, course_as, turn_course, reset_course}
+use Rattle.console_spec.specs.Run.{Position, Stops, Reserved as ReservedStop, goes_unless, decided, next, opcode_at}
+use Rattle.console_spec.specs.Run.{instruction_fault, position_after, course_as, turn_course, reset_course}
 use Rattle.console_spec.specs.Services.{Fault}
 use Rattle.console_spec.specs.Telling.{Told, Traced, told_course, told_steps, code_of}
 use Rattle.f8_machine.specs.Faults.{fault_of}
@@ -25,13 +26,16 @@ seen_again [] = refl
 seen_again (s ∷ steps) = ap (λ (told : List Told). Traced s ∷ told) (seen_again steps)
 
 -- all steps are served
-served_is : (detail : Detail) (course : Course) (steps : List Heard) → course ≡ record { steps = course.steps; fault = None } →
+served_is : (detail : Detail) (course : Course) (steps : List Heard) →
+    course ≡ record { steps = course.steps; fault = None } →
     steps ≡ map heard_of course.steps →
     served_told detail steps ≡ told_steps (is_traced detail) course
 served_is Nothing course steps whole same = refl
 served_is Writes course steps whole same = refl
 served_is Steps course steps whole same =
-    ap (map (λ (h : Heard). Traced (step_of h))) same ∙ seen_again course.steps ∙ sym (append-nil (map Traced course.steps))
+    ap (map (λ (h : Heard). Traced (step_of h))) same
+    ∙ seen_again course.steps
+    ∙ sym (append-nil (map Traced course.steps))
     ∙ sym (ap told_course whole)
 
 -- one isn't
@@ -47,7 +51,8 @@ cut_is Steps course steps fault long cut same =
     ∙ sym (ap told_course cut)
 
 -- a reserved opcode has no bus steps
-goes_or_faults : (fault : Option Fault) (y : Position) (at code : ℕ) → goes_unless fault y ≡ Stops (ReservedStop at code) → ⊥
+goes_or_faults : (fault : Option Fault) (y : Position) (at code : ℕ) →
+    goes_unless fault y ≡ Stops (ReservedStop at code) → ⊥
 goes_or_faults None y at code e = cc
 goes_or_faults (Some fault) y at code e = cc
 
@@ -58,7 +63,8 @@ reserved_as : (x : Position) (found : Option Op) (at code : ℕ) →
 reserved_as x None at code e = refl
 reserved_as x (Some op) at code e = absurd (goes_or_faults (instruction_fault op x) (position_after op x) at code e)
 
-reserved_course : (x : Position) (at code : ℕ) → next x ≡ Stops (ReservedStop at code) → turn_course x ≡ record { steps = []; fault = None }
+reserved_course : (x : Position) (at code : ℕ) → next x ≡ Stops (ReservedStop at code) →
+    turn_course x ≡ record { steps = []; fault = None }
 reserved_course x at code e = reserved_as x (decoded (opcode_at x)) at code e
 
 none_told : (detail : Detail) → told_steps (is_traced detail) (record { steps = []; fault = None }) ≡ []
@@ -68,10 +74,12 @@ none_told Steps = refl
 
 -- ---- instructions
 
-pub outcome_is : (detail : Detail) (outcome : Outcome) (before after : MachineState) (states : List ChipState) (x : Position) →
+pub outcome_is : (detail : Detail) (outcome : Outcome) (before after : MachineState) (states : List ChipState)
+    (x : Position) →
     Refines outcome before after states x →
     outcome_told detail outcome ≡ told_steps (is_traced detail) (turn_course x)
-outcome_is detail (Done wrote steps) before after states x is = served_is detail (turn_course x) steps is.trace is.recorded
+outcome_is detail (Done wrote steps) before after states x is =
+    served_is detail (turn_course x) steps is.trace is.recorded
 outcome_is detail (FaultOutcome fault long steps) before after states x is =
     cut_is detail (turn_course x) steps (fault_of fault) long is.trace is.recorded
 outcome_is detail (Reserved at code) before after states x is =
@@ -87,10 +95,12 @@ outcome_heard (Reserved at code) before after states x is =
 
 -- ---- reset
 
-pub reset_is : (detail : Detail) (outcome : Outcome) (before after : MachineState) (states : List ChipState) (x : Position) →
+pub reset_is : (detail : Detail) (outcome : Outcome) (before after : MachineState) (states : List ChipState)
+    (x : Position) →
     ResetRefines outcome before after states x →
     outcome_told detail outcome ≡ told_steps (is_traced detail) (reset_course x)
-reset_is detail (Done wrote steps) before after states x is = served_is detail (reset_course x) steps is.trace is.recorded
+reset_is detail (Done wrote steps) before after states x is =
+    served_is detail (reset_course x) steps is.trace is.recorded
 reset_is detail (FaultOutcome fault long steps) before after states x is =
     cut_is detail (reset_course x) steps (fault_of fault) long is.trace is.recorded
 reset_is detail (Reserved at code) before after states x is = absurd is

@@ -1,13 +1,16 @@
 -- A whole run on a rack: power-on, the events of frame 0, reset, and what reset leads to.
-use Rattle.std.proofs.Common.{◌≡◌, ◌≢◌, ℕ, List, [], ◌∷◌, ◌++◌, length, map, Option, Some, None, refl, sym, ap, ◌∙◌, subst}
+use Rattle.std.proofs.Common.{◌≡◌, ◌≢◌, ℕ, List, [], ◌∷◌, ◌++◌, length, map, Option, Some, None, refl, sym, ap, ◌∙◌}
+use Rattle.std.proofs.Common.{subst}
 use Rattle.std.specs.Prelude.{Result, Ok, Err, IfOk, OnErr}
 use Rattle.std.proofs.lemmas.List.{append-nil}
 use Rattle.f8_spec.specs.ChipState.{ChipState}
 use Rattle.console_spec.specs.Processor.{State}
-use Rattle.console_spec.specs.Run.{Position, Turn, Stop, Goes, Stops, goes_unless, reset_fault, reset_course, position_after_reset, power_position}
+use Rattle.console_spec.specs.Run.{Position, Turn, Stop, Goes, Stops, goes_unless, reset_fault, reset_course}
+use Rattle.console_spec.specs.Run.{position_after_reset, power_position}
 use Rattle.console_spec.specs.Scripts.{Script, events_at, most_instructions}
 use Rattle.console_spec.specs.Services.{Fault}
-use Rattle.console_spec.specs.Telling.{Told, Moment, Telling, begun, told_in, told_steps, power_moment, reset_moment, telling, telling_behind, played_by, on_rack}
+use Rattle.console_spec.specs.Telling.{Told, Moment, Telling, begun, told_in, told_steps, power_moment, reset_moment}
+use Rattle.console_spec.specs.Telling.{telling, telling_behind, played_by, on_rack}
 use Rattle.data_bus.specs.Racks.{views}
 use Rattle.f8_machine.specs.MachineState.{MachineState}
 use Rattle.f8_machine.specs.Refinement.{IsPowered}
@@ -43,13 +46,15 @@ keeps_new phi s writes count same = record {
 }
 
 -- reset leads to the position after it, or nowhere
-reset_leads : (fault : Option Fault) (x y : Position) → goes_unless fault (position_after_reset x) ≡ Goes y → position_after_reset x ≡ y
+reset_leads : (fault : Option Fault) (x y : Position) → goes_unless fault (position_after_reset x) ≡ Goes y →
+    position_after_reset x ≡ y
 reset_leads None x y e = cc
 reset_leads (Some fault) x y e = cc
 
 -- ---- a run that is cut short put a first part of its lines
 
-pub cut_part : (detail : Detail) (ms : List Moment) (olds news : List ChipState) (a b : Output) → CutShort detail ms olds news a b →
+pub cut_part : (detail : Detail) (ms : List Moment) (olds news : List ChipState) (a b : Output) →
+    CutShort detail ms olds news a b →
     AddsPart a b (text_in detail (told_in ms))
 cut_part detail ms olds news a b cut =
     let whole : text_in detail (told_in ms)
@@ -57,13 +62,15 @@ cut_part detail ms olds news a b cut =
     ap (λ (l : List Moment). text_in detail (told_in l)) cut.are
     ∙ ap (text_in detail) (told_in-append cut.before (cut.at ∷ cut.behind))
     ∙ text_in-append detail (told_in cut.before) (cut.at.told ++ told_in cut.behind)
-    ∙ ap (λ (text : List ℕ). text_in detail (told_in cut.before) ++ text) (text_in-append detail cut.at.told (told_in cut.behind)) in
+    ∙ ap (λ (text : List ℕ). text_in detail (told_in cut.before) ++ text)
+    (text_in-append detail cut.at.told (told_in cut.behind)) in
     rw whole
     (adds_part_behind a cut.between b (text_in detail (told_in cut.before))
     (text_in detail cut.at.told ++ text_in detail (told_in cut.behind)) cut.lines
     (adds_part_first cut.between b (text_in detail cut.at.told) (text_in detail (told_in cut.behind)) cut.part))
 
-module _ (detail : Detail) (script : Script) (chain : List ℕ) (olds powered : List ChipState) (powers : RackPowers script.power olds powered) where
+module _ (detail : Detail) (script : Script) (chain : List ℕ) (olds powered : List ChipState)
+    (powers : RackPowers script.power olds powered) where
   abbrev x : Position
   x = begun (views olds) chain script
 
@@ -77,9 +84,15 @@ module _ (detail : Detail) (script : Script) (chain : List ℕ) (olds powered : 
   reset = reset_moment (is_traced detail) x
 
   whole : (t : Turn) → turn ≡ t →
-      run_on detail script chain olds ≡ record { moments = power_moment script ∷ reset ∷ (later t).moments; ending = (later t).ending }
+      run_on detail script chain olds ≡ record {
+        moments = power_moment script ∷ reset ∷ (later t).moments;
+        ending = (later t).ending;
+      }
   unfolding played_by
-  whole t turns = ap (λ (u : Turn). record { moments = power_moment script ∷ reset ∷ (later u).moments; ending = (later u).ending }) turns
+  whole t turns =
+      ap
+      (λ (u : Turn). record { moments = power_moment script ∷ reset ∷ (later u).moments; ending = (later u).ending })
+      turns
 
   -- the position that the events of frame 0 leave
   pub quiet_writes : x.flat.state.writes ≡ []
@@ -89,14 +102,17 @@ module _ (detail : Detail) (script : Script) (chain : List ℕ) (olds powered : 
   quiet_count = (events_quiet (events_at 0 script.events) (power_position (views olds) chain script.power)).1
 
   pub after_writes : (y : Position) → turn ≡ Goes y → y.flat.state.writes ≡ []
-  after_writes y turns = sym (ap (λ (z : Position). z.flat.state.writes) (reset_leads (reset_fault x) x y turns)) ∙ quiet_writes
+  after_writes y turns =
+      sym (ap (λ (z : Position). z.flat.state.writes) (reset_leads (reset_fault x) x y turns)) ∙ quiet_writes
 
   pub after_count : (y : Position) → turn ≡ Goes y → y.flat.state.count ≡ 0
-  after_count y turns = sym (ap (λ (z : Position). z.flat.state.count) (reset_leads (reset_fault x) x y turns)) ∙ quiet_count
+  after_count y turns =
+      sym (ap (λ (z : Position). z.flat.state.count) (reset_leads (reset_fault x) x y turns)) ∙ quiet_count
 
   module _ (mids reset_states : List ChipState) (came : Come (events_at 0 script.events) powered mids) (hs : List Heard)
       (heard : hs ≡ map heard_of (reset_course x).steps)
-      (ran : RackRuns hs mids reset_states) (told : List Told) (is : told ≡ told_steps (is_traced detail) (reset_course x))
+      (ran : RackRuns hs mids reset_states) (told : List Told)
+      (is : told ≡ told_steps (is_traced detail) (reset_course x))
       (a b : Output) where
     first_lived : LivesMoment (power_moment script) powered mids
     first_lived = record { between = powered; heard = rack_runs_none 0 powered; came = came }
@@ -111,10 +127,12 @@ module _ (detail : Detail) (script : Script) (chain : List ℕ) (olds powered : 
     told_first : (ms : List Moment) →
         text_in detail (told_in (power_moment script ∷ reset ∷ ms)) ≡ text_in detail told ++ text_in detail (told_in ms)
     told_first ms =
-        text_in-append detail reset.told (told_in ms) ∙ ap (λ (l : List Told). text_in detail l ++ text_in detail (told_in ms)) (sym is)
+        text_in-append detail reset.told (told_in ms)
+        ∙ ap (λ (l : List Told). text_in detail l ++ text_in detail (told_in ms)) (sym is)
 
     -- the sink fails at a line of reset
-    pub plays_cut : text_in detail told ≢ [] → AddsPart a b (text_in detail told) → PlaysPart detail script chain olds reset_states a b
+    pub plays_cut : text_in detail told ≢ [] → AddsPart a b (text_in detail told) →
+        PlaysPart detail script chain olds reset_states a b
     plays_cut some part =
         let cut : CutShort detail (run_on detail script chain olds).moments powered reset_states a b = record {
           before = power_moment script ∷ [];
@@ -137,7 +155,8 @@ module _ (detail : Detail) (script : Script) (chain : List ℕ) (olds powered : 
         }
 
     -- reset isn't served
-    pub plays_not : (ending : Ending) (stop : Stop) → turn ≡ Stops stop → Tells ending x.flat.state stop → Adds a b (text_in detail told) →
+    pub plays_not : (ending : Ending) (stop : Stop) → turn ≡ Stops stop → Tells ending x.flat.state stop →
+        Adds a b (text_in detail told) →
         Plays detail script chain ending olds reset_states a b
     plays_not ending stop turns tells adds =
         let is_whole = whole (Stops stop) turns in
@@ -155,7 +174,9 @@ module _ (detail : Detail) (script : Script) (chain : List ℕ) (olds powered : 
     module _ (y : Position) (turns : turn ≡ Goes y) (adds : Adds a b (text_in detail told)) (news : List ChipState)
         (c : Output) where
       -- the run comes to its end
-      pub plays_on : (ending : Ending) → RunsOut detail (on_rack (is_traced detail)) script ending reset_states news b c y → Plays detail script chain ending olds news a c
+      pub plays_on : (ending : Ending) →
+          RunsOut detail (on_rack (is_traced detail)) script ending reset_states news b c y →
+          Plays detail script chain ending olds news a c
       plays_on ending out =
           let is_whole = whole (Goes y) turns in
           record {
@@ -171,7 +192,8 @@ module _ (detail : Detail) (script : Script) (chain : List ℕ) (olds powered : 
           }
 
       -- the sink fails at a line of an instruction
-      pub plays_short : RunsShort detail (on_rack (is_traced detail)) script reset_states news b c y → PlaysPart detail script chain olds news a c
+      pub plays_short : RunsShort detail (on_rack (is_traced detail)) script reset_states news b c y →
+          PlaysPart detail script chain olds news a c
       plays_short short =
           let cut : CutShort detail (run_on detail script chain olds).moments powered news a c = record {
             before = power_moment script ∷ reset ∷ short.before;
@@ -201,23 +223,31 @@ module _ (detail : Detail) (script : Script) (chain : List ℕ) (olds powered : 
 
 pub powered_reads : (m : MachineState) (states : List ChipState) (x : Position) → IsPowered m states x →
     machine_readout m ≡ readout_of x.flat.state
-powered_reads m states x p = rw (p.stands.flow, p.stands.registers, p.stands.phi) refl
+powered_reads m states x p = rw (p.stands.flow, p.stands.holds.registers, p.stands.phi) refl
 
-module _ {E : Type 0} (detail : Detail) (script : Script) (chain : List ℕ) (olds powered : List ChipState) (powers : RackPowers script.power olds powered)
+module _ {E : Type 0} (detail : Detail) (script : Script) (chain : List ℕ) (olds powered : List ChipState)
+    (powers : RackPowers script.power olds powered)
     (mids reset_states : List ChipState)
     (came : Come (events_at 0 script.events) powered mids) (hs : List Heard)
-    (heard : hs ≡ map heard_of (reset_course (x detail script chain olds powered powers)).steps) (ran : RackRuns hs mids reset_states)
-    (told : List Told) (is : told ≡ told_steps (is_traced detail) (reset_course (x detail script chain olds powered powers)))
+    (heard : hs ≡ map heard_of (reset_course (x detail script chain olds powered powers)).steps)
+    (ran : RackRuns hs mids reset_states)
+    (told : List Told)
+    (is : told ≡ told_steps (is_traced detail) (reset_course (x detail script chain olds powered powers)))
     (a b : Output) (adds : Adds a b (text_in detail told))
-    (y : Position) (turns : turn detail script chain olds powered powers ≡ Goes y) (news : List ChipState) (c : Output) where
-  pub plays_ok : (r : Result Ending E) → IfOk r (λ ending. RunsOut detail (on_rack (is_traced detail)) script ending reset_states news b c y) →
+    (y : Position) (turns : turn detail script chain olds powered powers ≡ Goes y) (news : List ChipState)
+    (c : Output) where
+  pub plays_ok : (r : Result Ending E) →
+      IfOk r (λ ending. RunsOut detail (on_rack (is_traced detail)) script ending reset_states news b c y) →
       IfOk r (λ ending. Plays detail script chain ending olds news a c)
   plays_ok (Ok ending) out =
-      plays_on detail script chain olds powered powers mids reset_states came hs heard ran told is a b y turns adds news c ending out
+      plays_on detail script chain olds powered powers mids reset_states came hs heard ran told is a b y turns adds
+      news c ending out
   plays_ok (Err e) out = tt
 
-  pub plays_err : (r : Result Ending E) → OnErr r (RunsShort detail (on_rack (is_traced detail)) script reset_states news b c y) →
+  pub plays_err : (r : Result Ending E) →
+      OnErr r (RunsShort detail (on_rack (is_traced detail)) script reset_states news b c y) →
       OnErr r (PlaysPart detail script chain olds news a c)
   plays_err (Ok ending) short = tt
   plays_err (Err e) short =
-      plays_short detail script chain olds powered powers mids reset_states came hs heard ran told is a b y turns adds news c short
+      plays_short detail script chain olds powered powers mids reset_states came hs heard ran told is a b y turns adds
+      news c short

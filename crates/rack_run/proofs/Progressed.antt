@@ -1,6 +1,7 @@
 -- What a run keeps beside its machine goes along with the state of the flat machine.
-use Rattle.std.proofs.Common.{◌≡◌, ℕ, zero, suc, ◌+◌, true, false, List, ◌∷◌, ◌++◌, length, add-one, arith, eq-eqb, refl, sym, ap, ◌∙◌}
-use Rattle.std.specs.Prelude.{Option, Some, None, option_map, nat_eq}
+use Rattle.std.proofs.Common.{◌≡◌, ℕ, zero, suc, ◌+◌, true, false, List, ◌∷◌, ◌++◌, length, add-one, arith, eq-eqb}
+use Rattle.std.proofs.Common.{refl, sym, ap, ◌∙◌}
+use Rattle.std.specs.Prelude.{Option, Some, None, nat_eq}
 use Rattle.std.proofs.Math.Dec.{eqb-suc-suc}
 use Rattle.std.proofs.lemmas.List.Sums.{sum_by-cons}
 use Rattle.console_spec.specs.declared.PortWrite.{PortWrite}
@@ -13,12 +14,14 @@ use Rattle.console_spec.specs.declared.End.TheVariants.{Frames, Steps}
 use Rattle.video.specs.ScreenState.{shown}
 use Rattle.video.proofs.ShownLaws.{after_write-shown}
 use Rattle.rack_run.specs.Endings.{bytes_written}
-use Rattle.rack_run.specs.Progressing.{ProgressState, Keeps, screen_with, writes_with, bytes_with, progress_with, frame_at, ends_at}
+use Rattle.rack_run.specs.Progressing.{ProgressState, Keeps, screen_with, writes_with, bytes_with, progress_with}
+use Rattle.rack_run.specs.Progressing.{frame_at, ends_at}
 use Rattle.rack_run.specs.Texts.{write_told, frame_told}
 
 -- ---- one more instruction
 
-screen_more : (wrote : Option PortWrite) (ws : List PortWrite) → screen_with wrote (shown ws) ≡ shown (with_write wrote ws)
+screen_more : (wrote : Option PortWrite) (ws : List PortWrite) →
+    screen_with wrote (shown ws) ≡ shown (with_write wrote ws)
 screen_more None ws = refl
 screen_more (Some w) ws = after_write-shown w ws
 
@@ -68,7 +71,8 @@ write_is : (wrote : Option PortWrite) (s t : State) → t.writes ≡ with_write 
 write_is None s t writes = rw (writes, same_number (length s.writes)) refl
 write_is (Some w) s t writes = rw (writes, not_one_more (length s.writes)) refl
 
-frame_is : (script : Script) (t : State) (frame : Option ℕ) → told_frame script t frame ≡ frame_told script.shows frame t.phi t.writes
+frame_is : (script : Script) (t : State) (frame : Option ℕ) →
+    told_frame script t frame ≡ frame_told script.shows frame t.phi t.writes
 frame_is script t None = refl
 frame_is script t (Some frame) = refl
 
@@ -77,7 +81,8 @@ pub told_is : (script : Script) (wrote : Option PortWrite) (x y : Position) →
     write_told wrote ++ frame_told script.shows (fallen x.flat.state y.flat.state) y.flat.state.phi y.flat.state.writes
     ≡ told_turn script x (Goes y)
 told_is script wrote x y writes =
-    ap (λ (told : List Told). told ++ frame_told script.shows (fallen x.flat.state y.flat.state) y.flat.state.phi y.flat.state.writes)
+    ap
+    (λ (told : List Told). told ++ frame_told script.shows (fallen x.flat.state y.flat.state) y.flat.state.phi y.flat.state.writes)
     (sym (write_is wrote x.flat.state y.flat.state writes))
     ∙ ap (λ (told : List Told). told_write x.flat.state y.flat.state ++ told)
     (sym (frame_is script y.flat.state (fallen x.flat.state y.flat.state)))

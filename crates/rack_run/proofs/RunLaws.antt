@@ -13,7 +13,8 @@ use Rattle.rack_run.specs.Endings.{Tells, TellsEnd, stop_of}
 use Rattle.rack_run.specs.Lives.{Lives}
 use Rattle.rack_run.specs.Progressing.{ProgressState, Keeps}
 use Rattle.rack_run.specs.Texts.{text_in}
-use Rattle.rack_run.specs.Turns.{reached, Readout, readout_of, GoesOn, StopsAt, FailsAt, RunsOut, RunsShort, rest_on}
+use Rattle.rack_run.specs.Turns.{position_behind, Readout, readout_of, GoesOn, StopsAt, FailsAt, RunsOut, RunsShort}
+use Rattle.rack_run.specs.Turns.{rest_on}
 use Rattle.rack_run.specs.declared.detail.Detail.{Detail}
 use Rattle.rack_run.specs.declared.ending.Ending.{Ending}
 use Rattle.rack_run.specs.declared.ending.Halt.{Halt}
@@ -30,7 +31,8 @@ module _ (detail : Detail) (way : Way) (script : Script) (start : Position) wher
 
   -- after so many instructions: a position from which the rest of them leads to the run's end, and the moments before it, which were
   -- lived through and told
-  pub record Reached (At : Position → Type 0) (i : ℕ) (p : ProgressState) (olds nows : List ChipState) (old now : Output) : Type 0 where
+  pub record Reached (At : Position → Type 0) (i : ℕ) (p : ProgressState) (olds nows : List ChipState)
+      (old now : Output) : Type 0 where
     pub here : Position
     pub at : At here
     pub keeps : Keeps p here.flat.state
@@ -60,23 +62,25 @@ module _ (detail : Detail) (way : Way) (script : Script) (start : Position) wher
       ap (text_in detail) (told_in-append before (m ∷ []) ∙ ap (λ told. told_in before ++ told) (told_in-one m))
       ∙ text_in-append detail (told_in before) m.told
 
-  moments_more : (before : List Moment) (m : Moment) (later : List Moment) → before ++ m ∷ later ≡ (before ++ m ∷ []) ++ later
+  moments_more : (before : List Moment) (m : Moment) (later : List Moment) →
+      before ++ m ∷ later ≡ (before ++ m ∷ []) ++ later
   moments_more before m later = sym (append_assoc before (m ∷ []) later)
 
-  pub reached_more : (At Now : Position → Type 0) (i : ℕ) (p q : ProgressState) (olds mids news : List ChipState) (a b c : Output) →
+  pub reached_more : (At Now : Position → Type 0) (i : ℕ) (p q : ProgressState) (olds mids news : List ChipState)
+      (a b c : Output) →
       i < most → (r : Reached At i p olds mids a b) → is_over script r.here ≡ false →
       GoesOn detail way script Now q mids news b c r.here → Reached Now (i + 1) q olds news a c
   reached_more At Now i p q olds mids news a b c more r on goes =
       let moment = moment_of way script r.here (way.step r.here) in
       let next = telling-goes way script most i r.here goes.there more on goes.turns in
       record {
-        here = reached script r.here goes.there;
+        here = position_behind script r.here goes.there;
         at = goes.at;
         keeps = goes.keeps;
         before = r.before ++ moment ∷ [];
         are =
             r.are ∙ ap (λ (t : Telling). r.before ++ t.moments) next
-            ∙ moments_more r.before moment (rest (i + 1) (reached script r.here goes.there)).moments;
+            ∙ moments_more r.before moment (rest (i + 1) (position_behind script r.here goes.there)).moments;
         ending = r.ending ∙ ap (λ (t : Telling). t.ending) next;
         lived = lives_then r.before moment olds mids news r.lived goes.lived;
         lines =
@@ -93,7 +97,8 @@ module _ (detail : Detail) (way : Way) (script : Script) (start : Position) wher
         let moments : (rest_on way script start).moments ≡ r.before =
         r.are ∙ ap (λ (t : Telling). r.before ++ t.moments) over ∙ append-nil r.before in
         record {
-          tells = subst (λ (e : FlatEnding). TellsEnd told e) (sym (r.ending ∙ ap (λ (t : Telling). t.ending) over)) tells;
+          tells =
+              subst (λ (e : FlatEnding). TellsEnd told e) (sym (r.ending ∙ ap (λ (t : Telling). t.ending) over)) tells;
           lived = subst (λ (ms : List Moment). Lives ms olds mids) (sym moments) r.lived;
           lines = subst (λ (ms : List Moment). Adds a b (text_in detail (told_in ms))) (sym moments) r.lines;
         }
@@ -105,10 +110,12 @@ module _ (detail : Detail) (way : Way) (script : Script) (start : Position) wher
           ends_here told (telling-over way script (most - i) r.here over) (tells r.here.flat.state reads r.keeps)
 
       pub ends_done : most ≤ i → RunsOut detail way script told olds mids a b start
-      ends_done past = ends_here told (telling-none way script most i r.here past) (tells r.here.flat.state reads r.keeps)
+      ends_done past =
+          ends_here told (telling-none way script most i r.here past) (tells r.here.flat.state reads r.keeps)
 
     -- an instruction stops the run
-    pub ends_stopped : (readout : Readout) (q : ProgressState) (news : List ChipState) (c : Output) (told : Ending) (halt : Halt) →
+    pub ends_stopped : (readout : Readout) (q : ProgressState) (news : List ChipState) (c : Output) (told : Ending)
+        (halt : Halt) →
         i < most → is_over script r.here ≡ false → StopsAt detail way script readout q mids news b c r.here halt →
         ((s : State) → readout ≡ readout_of s → Keeps q s → Tells told s (stop_of halt)) →
         RunsOut detail way script told olds news a c start
@@ -137,11 +144,15 @@ module _ (detail : Detail) (way : Way) (script : Script) (start : Position) wher
       by_turn : (turn : Turn) → way.step x ≡ turn →
           (later : List Moment) × ((rest i x).moments ≡ moment_of way script x (way.step x) ∷ later)
       by_turn (Goes y) turns =
-          ((rest (i + 1) (reached script x y)).moments, ap (λ (t : Telling). t.moments) (telling-goes way script most i x y more on turns))
-      by_turn (Stops stop) turns = ([], ap (λ (t : Telling). t.moments) (telling-stops way script most i x stop more on turns))
+          ((rest (i + 1) (position_behind script x y)).moments, ap (λ (t : Telling). t.moments) (telling-goes way script most i x y more on turns))
+      by_turn (Stops stop) turns =
+          ([], ap (λ (t : Telling). t.moments) (telling-stops way script most i x stop more on turns))
 
-  pub ends_cut : (At : Position → Type 0) (i : ℕ) (p : ProgressState) (olds mids news : List ChipState) (a b c : Output) → i < most →
-      (r : Reached At i p olds mids a b) → is_over script r.here ≡ false → FailsAt detail way script mids news b c r.here →
+  pub ends_cut : (At : Position → Type 0) (i : ℕ) (p : ProgressState) (olds mids news : List ChipState)
+      (a b c : Output) →
+      i < most →
+      (r : Reached At i p olds mids a b) → is_over script r.here ≡ false →
+      FailsAt detail way script mids news b c r.here →
       RunsShort detail way script olds news a c start
   ends_cut At i p olds mids news a b c more r on fails =
       let left = some_moments i r.here more on in

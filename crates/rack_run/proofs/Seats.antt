@@ -1,5 +1,6 @@
 -- The chips of a kind, and what sits in the sockets of a rack.
-use Rattle.std.proofs.Common.{◌≡◌, ℕ, zero, suc, ◌+◌, ◌<◌, inl, inr, arith, true, List, [], ◌∷◌, ◌++◌, map, length, get_or, take, drop, add-one, refl, sym, ap, ◌∙◌, subst}
+use Rattle.std.proofs.Common.{◌≡◌, ℕ, zero, suc, ◌+◌, ◌<◌, inl, inr, arith, true, List, [], ◌∷◌, ◌++◌, map, length}
+use Rattle.std.proofs.Common.{get_or, take, drop, add-one, refl, sym, ap, ◌∙◌, subst}
 use Rattle.std.specs.Prelude.{Option, Some, slice_get}
 use Rattle.std.proofs.Math.ListN.{set, length-set}
 use Rattle.std.proofs.Math.Seq.{drop-nil, map-set_same}
@@ -16,7 +17,8 @@ use Rattle.f8_spec.specs.ChipState.{ChipView, ChipState, IsWhole}
 use Rattle.f8_spec.specs.declared.chips.ChipKind.{ChipKind}
 use Rattle.f8_spec.specs.declared.chips.ChipKind.TheVariants.{Psu, Smi}
 use Rattle.f8_machine.specs.Refinement.{AreWhole}
-use Rattle.rack_run.specs.Seating.{LeavesOwn, is_kind, seat_at, seated_from, kinds_of, before_of, psus_after, smis_after, seated, kinds_of, fitted_as, fitted_views, FitsWhole, RackFitsInPart}
+use Rattle.rack_run.specs.Seating.{LeavesOwn, is_kind, seat_at, seated_from, kinds_of, before_of, psus_after}
+use Rattle.rack_run.specs.Seating.{smis_after, seated, kinds_of, fitted_as, fitted_views, FitsWhole, RackFitsInPart}
 
 pub kind_of_is : (kind other : ChipKind) → is_kind kind other ≡ true → other ≡ kind
 kind_of_is Psu Psu e = refl
@@ -27,7 +29,8 @@ kind_of_is Smi Smi e = refl
 -- what sits in the next socket, and in those behind it
 seated_more : (chips : List ChipSpec) (psus smis : ℕ) (kind : ChipKind) (kinds : List ChipKind) →
     seated_from chips psus smis (kind ∷ kinds)
-    ≡ seat_at chips kind (before_of kind psus smis) ∷ seated_from chips (psus_after kind psus) (smis_after kind smis) kinds
+    ≡ seat_at chips kind (before_of kind psus smis) ∷ seated_from chips (psus_after kind psus) (smis_after kind smis)
+    kinds
 seated_more chips psus smis Psu kinds = refl
 seated_more chips psus smis Smi kinds = refl
 
@@ -42,32 +45,40 @@ rest_of (z ∷ xs) ys zero x e = cc
 rest_of (z ∷ xs) ys (suc i) x e = rest_of xs ys i x e
 
 -- so far the sockets are counted by their kinds
-pub record Counted (chips : List ChipSpec) (specs : List ChipSpec) (kinds : List ChipKind) (i psus smis : ℕ) : Type 0 where
+pub record Counted (chips : List ChipSpec) (specs : List ChipSpec) (kinds : List ChipKind)
+    (i psus smis : ℕ) : Type 0 where
   pub left : seated_from chips psus smis (drop i kinds) ≡ drop i specs
 
-pub counted_here : (chips specs : List ChipSpec) (kinds : List ChipKind) (i psus smis : ℕ) (kind : ChipKind) (later : List ChipKind) →
+pub counted_here : (chips specs : List ChipSpec) (kinds : List ChipKind) (i psus smis : ℕ) (kind : ChipKind)
+    (later : List ChipKind) →
     drop i kinds ≡ kind ∷ later →
     Counted chips specs kinds i psus smis → slice_get specs i ≡ Some (seat_at chips kind (before_of kind psus smis))
 counted_here chips specs kinds i psus smis kind later e counted =
-    first_of specs _ i _ (sym counted.left ∙ ap (seated_from chips psus smis) e ∙ seated_more chips psus smis kind later)
+    first_of specs _ i _
+    (sym counted.left ∙ ap (seated_from chips psus smis) e ∙ seated_more chips psus smis kind later)
 
-pub counted_more : (chips specs : List ChipSpec) (kinds : List ChipKind) (i psus smis : ℕ) (kind : ChipKind) (later : List ChipKind) →
+pub counted_more : (chips specs : List ChipSpec) (kinds : List ChipKind) (i psus smis : ℕ) (kind : ChipKind)
+    (later : List ChipKind) →
     drop i kinds ≡ kind ∷ later →
-    Counted chips specs kinds i psus smis → Counted chips specs kinds (suc i) (psus_after kind psus) (smis_after kind smis)
+    Counted chips specs kinds i psus smis →
+    Counted chips specs kinds (suc i) (psus_after kind psus) (smis_after kind smis)
 counted_more chips specs kinds i psus smis kind later e counted = record {
   left = ap (seated_from chips (psus_after kind psus) (smis_after kind smis)) (rest_of kinds later i kind e)
-      ∙ sym (rest_of specs _ i _ (sym counted.left ∙ ap (seated_from chips psus smis) e ∙ seated_more chips psus smis kind later));
+      ∙ sym
+      (rest_of specs _ i _ (sym counted.left ∙ ap (seated_from chips psus smis) e ∙ seated_more chips psus smis kind later));
 }
 
 -- the kinds from a socket on
 pub kinds_from : (states : List ChipState) (i : ℕ) (s : ChipState) → slice_get states i ≡ Some s →
     drop i (kinds_of states) ≡ s.view.kind ∷ drop (suc i) (kinds_of states)
 kinds_from [] i s lies = cc
-kinds_from (t ∷ states) zero s lies = let same : t ≡ s = cc in ap (λ (u : ChipState). u.view.kind ∷ kinds_of states) same
+kinds_from (t ∷ states) zero s lies =
+    let same : t ≡ s = cc in ap (λ (u : ChipState). u.view.kind ∷ kinds_of states) same
 kinds_from (t ∷ states) (suc i) s lies = kinds_from states i s lies
 
 -- every chip of a rack that is fitted is whole
-whole_from : (specs : List ChipSpec) (n : ℕ) (olds news : List ChipState) → NumberedZip (FitsWhole specs) n olds news → AreWhole news
+whole_from : (specs : List ChipSpec) (n : ℕ) (olds news : List ChipState) → NumberedZip (FitsWhole specs) n olds news →
+    AreWhole news
 whole_from specs n [] [] all place s lies = cc
 whole_from specs n [] (y ∷ news) all place s lies = absurd all
 whole_from specs n (x ∷ olds) [] all place s lies = absurd all
@@ -75,11 +86,13 @@ whole_from specs n (x ∷ olds) (y ∷ news) all zero s lies =
     let same : y ≡ s = cc in subst (λ (u : ChipState). IsWhole u.view) same all.0.whole
 whole_from specs n (x ∷ olds) (y ∷ news) all (suc place) s lies = whole_from specs (n + 1) olds news all.1 place s lies
 
-pub all_whole : (specs : List ChipSpec) (olds news : List ChipState) → NumberedZip (FitsWhole specs) 0 olds news → AreWhole news
+pub all_whole : (specs : List ChipSpec) (olds news : List ChipState) → NumberedZip (FitsWhole specs) 0 olds news →
+    AreWhole news
 all_whole specs olds news all = whole_from specs 0 olds news all
 
 -- a chip that is fitted as what sits in the next socket
-pub fits_seated : (specs : List ChipSpec) (socket : ℕ) (seat : ChipSpec) (old new : ChipState) → slice_get specs socket ≡ Some seat →
+pub fits_seated : (specs : List ChipSpec) (socket : ℕ) (seat : ChipSpec) (old new : ChipState) →
+    slice_get specs socket ≡ Some seat →
     Fits seat old new → IsWhole new.view → LeavesOwn new.view →
     FitsWhole specs socket old new
 fits_seated specs socket seat old new is fits whole ports = record {
@@ -93,11 +106,13 @@ fits_seated specs socket seat old new is fits whole ports = record {
 -- a chip that is fitted leaves the processor its own ports
 fitted_leaves : (patch : Option (ℕ × ℕ)) (spec : ChipSpec) → IsSpec spec → LeavesOwn (fitted patch spec)
 fitted_leaves patch (Blank kind) is first e = cc
-fitted_leaves patch (PsuSpec base rom ports vector wired) is first e = let same : ports ≡ first = cc in omega (arith, is.above_cpu, same)
+fitted_leaves patch (PsuSpec base rom ports vector wired) is first e =
+    let same : ports ≡ first = cc in omega (arith, is.above_cpu, same)
 fitted_leaves patch (SmiSpec pages rom wired) is first e = let same : 12 ≡ first = cc in omega (arith, same)
 
 pub leaves_own : (spec : ChipSpec) (old new : ChipState) → IsSpec spec → Fits spec old new → LeavesOwn new.view
-leaves_own spec old new is fits first e = fitted_leaves old.patch spec is first (ap (λ (v : ChipView). v.ports) (sym fits.view) ∙ e)
+leaves_own spec old new is fits first e =
+    fitted_leaves old.patch spec is first (ap (λ (v : ChipView). v.ports) (sym fits.view) ∙ e)
 
 ports_from : (specs : List ChipSpec) (n : ℕ) (olds news : List ChipState) → NumberedZip (FitsWhole specs) n olds news →
     (place : ℕ) (s : ChipState) → slice_get news place ≡ Some s → LeavesOwn s.view
@@ -114,7 +129,8 @@ all_leave specs olds news all = leave_own_ports news (ports_from specs 0 olds ne
 
 -- ---- the views of a rack that is fitted
 
-seated_length : (chips : List ChipSpec) (psus smis : ℕ) (kinds : List ChipKind) → length (seated_from chips psus smis kinds) ≡ length kinds
+seated_length : (chips : List ChipSpec) (psus smis : ℕ) (kinds : List ChipKind) →
+    length (seated_from chips psus smis kinds) ≡ length kinds
 seated_length chips psus smis [] = refl
 seated_length chips psus smis (Psu ∷ kinds) = ap suc (seated_length chips (psus + 1) smis kinds)
 seated_length chips psus smis (Smi ∷ kinds) = ap suc (seated_length chips psus (smis + 1) kinds)
@@ -133,7 +149,8 @@ views_from specs n (spec ∷ rest) (x ∷ olds) (y ∷ news) lies long all =
     ap (λ (v : ChipView). v ∷ views news) here ∙ ap (λ (vs : List ChipView). fitted x.patch spec ∷ vs) later
 
 -- a rack that is fitted has the views that the description and the chips' own patches give
-pub views_fitted : (chips : List ChipSpec) (olds news : List ChipState) → NumberedZip (FitsWhole (seated chips olds)) 0 olds news →
+pub views_fitted : (chips : List ChipSpec) (olds news : List ChipState) →
+    NumberedZip (FitsWhole (seated chips olds)) 0 olds news →
     views news ≡ fitted_views chips olds
 views_fitted chips olds news all =
     views_from (seated chips olds) 0 (seated chips olds) olds news refl
@@ -146,9 +163,17 @@ pub stays_in_part : (specs : List ChipSpec) (states : List ChipState) → RackFi
 stays_in_part specs states = record { place = 0; there = inl refl; done = tt; left = refl }
 
 -- a rack that is written back, whose chips were fitted up to one that was left as it was
-pub partly_written : {X : Type 0} (V : X → ChipState) (specs : List ChipSpec) (xs ys : List X) (n i : ℕ) (x y : X) → length xs ≡ n → length ys ≡ length xs → i < length xs →
-    ChangedBelow (FitsWhole specs) i (map V xs) (map V ys) → V y ≡ V (get_or ys i x) → RackFitsInPart specs (map V xs) (map V (take n (set ys i y ++ drop (length (set ys i y)) xs)))
+pub partly_written : {X : Type 0} (V : X → ChipState) (specs : List ChipSpec) (xs ys : List X) (n i : ℕ) (x y : X) →
+    length xs ≡ n → length ys ≡ length xs → i < length xs →
+    ChangedBelow (FitsWhole specs) i (map V xs) (map V ys) → V y ≡ V (get_or ys i x) →
+    RackFitsInPart specs (map V xs) (map V (take n (set ys i y ++ drop (length (set ys i y)) xs)))
 partly_written V specs xs ys n i x y count long within changed same =
     let longer : length (set ys i y) ≡ length xs = length-set ys i y ∙ long in
     let there : i < length (map V xs) = omega (arith, length-map xs V, within) in
-    rw (whole_again n xs (set ys i y) count longer, map-set_same V ys i y x same) (record { place = i; there = inr there; done = changed.done; left = changed.left })
+    rw (whole_again n xs (set ys i y) count longer, map-set_same V ys i y x same)
+    (record {
+      place = i;
+      there = inr there;
+      done = changed.done;
+      left = changed.left;
+    })

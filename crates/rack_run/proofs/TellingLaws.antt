@@ -3,7 +3,7 @@ use Rattle.std.proofs.Common.{◌≡◌, ℕ, zero, suc, ◌+◌, ◌-◌, ◌<�
 use Rattle.console_spec.specs.Run.{Position, Turn, Stop, Goes, Stops, Done}
 use Rattle.console_spec.specs.Scripts.{Script}
 use Rattle.console_spec.specs.Telling.{Way, Telling, is_over, moment_of, telling, telling_on}
-use Rattle.rack_run.specs.Turns.{reached}
+use Rattle.rack_run.specs.Turns.{position_behind}
 
 -- a run that is over where it stands
 abbrev pub over_at : Position → Telling
@@ -11,36 +11,50 @@ over_at x = record { moments = []; ending = record { position = x; stop = Done }
 
 -- an instruction, and what comes behind it
 abbrev pub then_on : Way → Script → Position → Telling → Telling
-then_on way script x later = record { moments = moment_of way script x (way.step x) ∷ later.moments; ending = later.ending }
+then_on way script x later =
+    record { moments = moment_of way script x (way.step x) ∷ later.moments; ending = later.ending }
 
 left_over : (n i : ℕ) → i < n → n - i ≡ suc (n - (i + 1))
 left_over n i h = omega arith
 
-pub telling-over : (way : Way) (script : Script) (n : ℕ) (x : Position) → is_over script x ≡ true → telling way script n x ≡ over_at x
+pub telling-over : (way : Way) (script : Script) (n : ℕ) (x : Position) → is_over script x ≡ true →
+    telling way script n x ≡ over_at x
 unfolding telling
 telling-over way script zero x over = refl
 telling-over way script (suc n) x over = rw over refl
 
-pub telling-none : (way : Way) (script : Script) (n i : ℕ) (x : Position) → n ≤ i → telling way script (n - i) x ≡ over_at x
+pub telling-none : (way : Way) (script : Script) (n i : ℕ) (x : Position) → n ≤ i →
+    telling way script (n - i) x ≡ over_at x
 unfolding telling
 telling-none way script n i x past = let none : n - i ≡ 0 = omega arith in ap (λ k. telling way script k x) none
 
 telling-more : (way : Way) (script : Script) (n : ℕ) (x : Position) → is_over script x ≡ false →
-    telling way script (suc n) x ≡ telling_on script x (moment_of way script x (way.step x)) (λ z. telling way script n z) (way.step x)
+    telling way script (suc n) x ≡ telling_on script x (moment_of way script x (way.step x))
+    (λ z. telling way script n z) (way.step x)
 unfolding telling
 telling-more way script n x on = rw on refl
 
-pub telling-goes : (way : Way) (script : Script) (n i : ℕ) (x y : Position) → i < n → is_over script x ≡ false → way.step x ≡ Goes y →
-    telling way script (n - i) x ≡ then_on way script x (telling way script (n - (i + 1)) (reached script x y))
+pub telling-goes : (way : Way) (script : Script) (n i : ℕ) (x y : Position) → i < n → is_over script x ≡ false →
+    way.step x ≡ Goes y →
+    telling way script (n - i) x ≡ then_on way script x (telling way script (n - (i + 1)) (position_behind script x y))
 telling-goes way script n i x y more on goes =
     ap (λ k. telling way script k x) (left_over n i more)
     ∙ telling-more way script (n - (i + 1)) x on
-    ∙ ap (λ (turn : Turn). telling_on script x (moment_of way script x (way.step x)) (λ z. telling way script (n - (i + 1)) z) turn) goes
+    ∙ ap
+    (λ (turn : Turn). telling_on script x (moment_of way script x (way.step x)) (λ z. telling way script (n - (i + 1)) z) turn)
+    goes
 
-pub telling-stops : (way : Way) (script : Script) (n i : ℕ) (x : Position) (stop : Stop) → i < n → is_over script x ≡ false →
+pub telling-stops : (way : Way) (script : Script) (n i : ℕ) (x : Position) (stop : Stop) → i < n →
+    is_over script x ≡ false →
     way.step x ≡ Stops stop →
-    telling way script (n - i) x ≡ then_on way script x (record { moments = []; ending = record { position = x; stop = stop } })
+    telling way script (n - i) x ≡ then_on way script x
+    (record {
+      moments = [];
+      ending = record { position = x; stop = stop };
+    })
 telling-stops way script n i x stop more on stops =
     ap (λ k. telling way script k x) (left_over n i more)
     ∙ telling-more way script (n - (i + 1)) x on
-    ∙ ap (λ (turn : Turn). telling_on script x (moment_of way script x (way.step x)) (λ z. telling way script (n - (i + 1)) z) turn) stops
+    ∙ ap
+    (λ (turn : Turn). telling_on script x (moment_of way script x (way.step x)) (λ z. telling way script (n - (i + 1)) z) turn)
+    stops

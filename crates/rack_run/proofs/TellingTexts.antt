@@ -1,5 +1,6 @@
 -- The lines that are told on the way, one by one, and the calls that put them.
-use Rattle.std.proofs.Common.{◌≡◌, ◌≢◌, ℕ, ◌+◌, ◌<◌, ◌≤◌, Bool, true, false, List, [], ◌∷◌, ◌++◌, length, drop, get_or, map, refl, sym, ap, ◌∙◌, arith}
+use Rattle.std.proofs.Common.{◌≡◌, ◌≢◌, ℕ, ◌+◌, ◌<◌, ◌≤◌, Bool, true, false, List, [], ◌∷◌, ◌++◌, length, drop, get_or}
+use Rattle.std.proofs.Common.{map, refl, sym, ap, ◌∙◌, arith}
 use Rattle.std.specs.Prelude.{⊤, ◌==◌, Option, Some, Result, Ok, Err, OnOk, OnErr}
 use Rattle.std.specs.List.{list_any}
 use Rattle.std.proofs.lemmas.List.{append-nil, at_drop_more, at_drop_all}
@@ -8,7 +9,8 @@ use Rattle.outside.specs.SinkRules.{Output, Adds, AddsPart}
 use Rattle.console_spec.specs.declared.PortWrite.{PortWrite}
 use Rattle.console_spec.specs.Processor.{with_write}
 use Rattle.console_spec.specs.Run.{Position, Goes}
-use Rattle.console_spec.specs.RunText.{text_of, bus_line, bus_fault_line, out_line, frame_line, frame_lines, picture_row}
+use Rattle.console_spec.specs.RunText.{text_of, bus_line, bus_fault_line, out_line, frame_line, frame_lines}
+use Rattle.console_spec.specs.RunText.{picture_row}
 use Rattle.console_spec.specs.Display.{tone_of}
 use Rattle.console_spec.specs.Scripts.{Script}
 use Rattle.console_spec.specs.Telling.{Told, Traced, TracedFault, Wrote, Shown, fallen, told_turn}
@@ -38,19 +40,22 @@ write_text w = text_told-one (Wrote w) ∙ text_of-one (out_line w)
 -- ---- pieces that are put
 
 -- a piece that is a whole line
-pub puts_piece : {T : Type 0} {E : Type 0} (r : Result T E) (a b : Output) (piece text : List ℕ) → piece ≡ text → text ≢ [] →
+pub puts_piece : {T : Type 0} {E : Type 0} (r : Result T E) (a b : Output) (piece text : List ℕ) → piece ≡ text →
+    text ≢ [] →
     OnOk r (Adds a b piece) → OnErr r (AddsPart a b piece) → Puts r a b text
 puts_piece r a b piece text same some ok err = puts_line r a b text some (rw same at ok) (rw same at err)
 
 -- a piece that is put before another text
-pub puts_ahead : {T : Type 0} {E : Type 0} (r : Result T E) (a b c : Output) (piece x y : List ℕ) → piece ≡ x → Adds a b piece →
+pub puts_ahead : {T : Type 0} {E : Type 0} (r : Result T E) (a b c : Output) (piece x y : List ℕ) → piece ≡ x →
+    Adds a b piece →
     Puts r b c y → Puts r a c (x ++ y)
 puts_ahead {E = E} r a b c piece x y same adds later =
     let first : Puts {T = ⊤} {E = E} (Ok tt) a b x = record { ok = rw same at adds; err = tt; some = tt } in
     puts_then tt r a b c x y first later
 
 -- a piece that fails before another text
-pub puts_cut : {T : Type 0} {F : Type 0} (f : F) (a b : Output) (piece x y : List ℕ) → piece ≡ x → x ≢ [] → AddsPart a b piece →
+pub puts_cut : {T : Type 0} {F : Type 0} (f : F) (a b : Output) (piece x y : List ℕ) → piece ≡ x → x ≢ [] →
+    AddsPart a b piece →
     Puts {T = T} {E = F} (Err f) a b (x ++ y)
 puts_cut {T = T} {F = F} f a b piece x y same some part =
     let first : Puts {T = T} {E = F} (Err f) a b x = record { ok = tt; err = rw same at part; some = some } in
@@ -72,14 +77,18 @@ pub steps_more : (steps : List Heard) (i : ℕ) (h : Heard) → i < length steps
     ≡ bus_line (step_of h) ++ text_told (map (λ (k : Heard). Traced (step_of k)) (drop (i + 1) steps))
 steps_more steps i h within here =
     at_drop_more (λ (hs : List Heard). text_told (map (λ (k : Heard). Traced (step_of k)) hs)) steps i h within
-    ∙ ap (λ (first : Heard). text_told (Traced (step_of first) ∷ map (λ (k : Heard). Traced (step_of k)) (drop (i + 1) steps))) (sym here)
+    ∙ ap
+    (λ (first : Heard). text_told (Traced (step_of first) ∷ map (λ (k : Heard). Traced (step_of k)) (drop (i + 1) steps)))
+    (sym here)
     ∙ text_told-cons (Traced (step_of h)) (map (λ (k : Heard). Traced (step_of k)) (drop (i + 1) steps))
     ∙ ap (λ (first : List ℕ). first ++ text_told (map (λ (k : Heard). Traced (step_of k)) (drop (i + 1) steps)))
     (text_of-one (bus_line (step_of h)))
 
-pub steps_all : (steps : List Heard) (i : ℕ) → length steps ≤ i → text_told (map (λ (k : Heard). Traced (step_of k)) (drop i steps)) ≡ []
+pub steps_all : (steps : List Heard) (i : ℕ) → length steps ≤ i →
+    text_told (map (λ (k : Heard). Traced (step_of k)) (drop i steps)) ≡ []
 steps_all steps i past =
-    at_drop_all (λ (hs : List Heard). text_told (map (λ (k : Heard). Traced (step_of k)) hs)) steps i past ∙ text_told-nil
+    at_drop_all (λ (hs : List Heard). text_told (map (λ (k : Heard). Traced (step_of k)) hs)) steps i past
+    ∙ text_told-nil
 
 -- ---- the rows of a picture
 
@@ -117,17 +126,23 @@ pub end_screen : (screen : ShownScreen) (wrote : Option PortWrite) (p : Progress
     screen ≡ screen_with wrote p.screen → Keeps p x.flat.state →
     y.flat.state.writes ≡ with_write wrote x.flat.state.writes → screen ≡ shown y.flat.state.writes
 end_screen screen wrote p x y is keeps writes =
-    is ∙ (keeps_more wrote p x.flat.state (record y.flat.state { count = x.flat.state.count + 1 }) keeps writes refl).screen
+    is
+    ∙ (keeps_more wrote p x.flat.state (record y.flat.state { count = x.flat.state.count + 1 }) keeps writes refl).screen
 
-pub end_told : (detail : Detail) (script : Script) (shows : List ℕ) (wrote : Option PortWrite) (frame : Option ℕ) (phi : ℕ)
+pub end_told : (detail : Detail) (script : Script) (shows : List ℕ) (wrote : Option PortWrite) (frame : Option ℕ)
+    (phi : ℕ)
     (p : ProgressState)
     (x y : Position) → Keeps p x.flat.state → y.flat.state.phi ≡ phi →
     y.flat.state.writes ≡ with_write wrote x.flat.state.writes → frame ≡ frame_at p phi → shows ≡ script.shows →
-    text_in detail (write_told wrote ++ frame_told shows frame phi y.flat.state.writes) ≡ text_in detail (told_turn script x (Goes y))
+    text_in detail (write_told wrote ++ frame_told shows frame phi y.flat.state.writes) ≡ text_in detail
+    (told_turn script x (Goes y))
 end_told detail script shows wrote frame phi p x y keeps clocks writes falls same =
-    let fell : frame ≡ fallen x.flat.state y.flat.state = falls ∙ frame_falls p x.flat.state y.flat.state phi keeps (sym clocks) in
+    let fell : frame ≡ fallen x.flat.state y.flat.state =
+    falls ∙ frame_falls p x.flat.state y.flat.state phi keeps (sym clocks) in
     ap (λ (told : List Told). text_in detail told) (
     ap (λ (frames : List ℕ). write_told wrote ++ frame_told frames frame phi y.flat.state.writes) same
     ∙ ap (λ (f : Option ℕ). write_told wrote ++ frame_told script.shows f phi y.flat.state.writes) fell
-    ∙ ap (λ (n : ℕ). write_told wrote ++ frame_told script.shows (fallen x.flat.state y.flat.state) n y.flat.state.writes) (sym clocks)
+    ∙ ap
+    (λ (n : ℕ). write_told wrote ++ frame_told script.shows (fallen x.flat.state y.flat.state) n y.flat.state.writes)
+    (sym clocks)
     ∙ told_is script wrote x y writes)

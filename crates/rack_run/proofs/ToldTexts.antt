@@ -16,7 +16,8 @@ text_told-nil = refl
 
 pub text_told-append : (xs ys : List Told) → text_told (xs ++ ys) ≡ text_told xs ++ text_told ys
 unfolding text_told
-text_told-append xs ys = ap text_of (flat_map-append lines_of xs ys) ∙ text_of-append (flat_map lines_of xs) (flat_map lines_of ys)
+text_told-append xs ys =
+    ap text_of (flat_map-append lines_of xs ys) ∙ text_of-append (flat_map lines_of xs) (flat_map lines_of ys)
 
 -- one thing told, by its lines
 pub text_told-one : (x : Told) → text_told (x ∷ []) ≡ text_of (lines_of x)
@@ -43,7 +44,8 @@ text_if-append : (b : Bool) (xs ys : List Told) →
 text_if-append true xs ys = text_told-append xs ys
 text_if-append false xs ys = refl
 
-pub text_in-append : (detail : Detail) (xs ys : List Told) → text_in detail (xs ++ ys) ≡ text_in detail xs ++ text_in detail ys
+pub text_in-append : (detail : Detail) (xs ys : List Told) →
+    text_in detail (xs ++ ys) ≡ text_in detail xs ++ text_in detail ys
 text_in-append detail xs ys = text_if-append (is_told detail) xs ys
 
 -- steps are told where writes are

@@ -1,20 +1,28 @@
 -- What a trace tells agrees with how the run goes on.
-use Rattle.std.proofs.Common.{◌≡◌, ℕ, ◌+◌, Bool, true, false, List, [], ◌∷◌, ◌++◌, Option, Some, None, refl, ◌∙◌, ap, sym, subst}
+use Rattle.std.proofs.Common.{◌≡◌, ℕ, ◌+◌, Bool, true, false, List, [], ◌∷◌, ◌++◌, Option, Some, None, refl, ◌∙◌, ap}
+use Rattle.std.proofs.Common.{sym, subst}
 use Rattle.std.proofs.lemmas.List.Sums.{sum_by-cons}
 use Rattle.std.specs.Prelude.{if◌then◌else◌}
 use Rattle.f8_spec.specs.Instructions.{decoded, row_of}
-use Rattle.f8_spec.specs.MicroSteps.{Step, Operand, long_step, short_step, last_fetch, steps_of, reset_steps, step_clocks, clocks_along}
+use Rattle.f8_spec.specs.MicroSteps.{Step, Operand, long_step, short_step, last_fetch, steps_of, reset_steps}
+use Rattle.f8_spec.specs.MicroSteps.{step_clocks, clocks_along}
 use Rattle.f8_spec.specs.BusArbitration.{Verdict, Served, Conflict, Undriven, Astray, rule_of}
 use Rattle.f8_spec.specs.declared.instructions.Op.{Op}
 use Rattle.f8_spec.specs.declared.instructions.Row.{Row}
-use Rattle.f8_spec.specs.declared.instructions.Row.TheVariants.{StackToK, DataToPair, ReadData, StoreData, Immediate, PortIn, PortOut, Call, Jump, LoadData, Branch, BranchIsar, ShortIn, ShortOut, Idle, StackFromK, CallK, JumpQ, DataFromQ, DataFromH, Return, Exchange, AddData, Plain, PlainLong}
+use Rattle.f8_spec.specs.declared.instructions.Row.TheVariants.{StackToK, DataToPair, ReadData, StoreData, Immediate}
+use Rattle.f8_spec.specs.declared.instructions.Row.TheVariants.{PortIn, PortOut, Call, Jump, LoadData, Branch}
+use Rattle.f8_spec.specs.declared.instructions.Row.TheVariants.{BranchIsar, ShortIn, ShortOut, Idle, StackFromK, CallK}
+use Rattle.f8_spec.specs.declared.instructions.Row.TheVariants.{JumpQ, DataFromQ, DataFromH, Return, Exchange, AddData}
+use Rattle.f8_spec.specs.declared.instructions.Row.TheVariants.{Plain, PlainLong}
 use Rattle.f8_spec.proofs.Tables.{clocks_along-steps_of}
 use Rattle.console_spec.specs.Processor.{Flow, Inputs}
 use Rattle.console_spec.specs.FlatMachine.{gets, gets_all}
 use Rattle.console_spec.specs.CounterCopies.{Copy}
 use Rattle.console_spec.specs.BusAccesses.{Access, ahead, accesses_before_fetch, last_access, accesses_of}
 use Rattle.console_spec.specs.BusTrace.{Course, traced, with_step, course_by, course_of, is_access}
-use Rattle.console_spec.specs.Run.{Position, Turn, Goes, decided, goes_unless, instruction_fault, instruction_course, position_after, opcode_at, seats_of, course_as, reset_access, reset_gets, reset_course, reset_fault}
+use Rattle.console_spec.specs.Run.{Position, Turn, Goes, decided, goes_unless, instruction_fault, instruction_course}
+use Rattle.console_spec.specs.Run.{position_after, opcode_at, seats_of, course_as, reset_access, reset_gets}
+use Rattle.console_spec.specs.Run.{reset_course, reset_fault}
 use Rattle.console_spec.specs.Services.{Fault, access_verdict, fault_by, first_fault, or_later}
 use Rattle.console_spec.proofs.InputLaws.{accesses-with_opcode}
 use Rattle.rack_run.specs.TraceLaw.{TraceLaw, fault_in, fault_of_turn, clocks_heard}
@@ -22,8 +30,10 @@ use Rattle.rack_run.specs.TraceLaw.{TraceLaw, fault_in, fault_of_turn, clocks_he
 -- steps and accesses in one order: a step that chips serve has the next access with its code, and any other has none
 data Pairs : List Step → List Access → Type 0 where
   ended : Pairs [] []
-  idle : {s : Step} {later : List Step} {accesses : List Access} → is_access (rule_of s.romc) ≡ false → Pairs later accesses → Pairs (s ∷ later) accesses
-  accessed : {s : Step} {later : List Step} {a : Access} {behind : List Access} → is_access (rule_of s.romc) ≡ true → s.romc ≡ a.romc →
+  idle : {s : Step} {later : List Step} {accesses : List Access} → is_access (rule_of s.romc) ≡ false →
+      Pairs later accesses → Pairs (s ∷ later) accesses
+  accessed : {s : Step} {later : List Step} {a : Access} {behind : List Access} → is_access (rule_of s.romc) ≡ true →
+      s.romc ≡ a.romc →
       Pairs later behind → Pairs (s ∷ later) (a ∷ behind)
 
 -- ---- along the steps
@@ -33,24 +43,33 @@ record Agrees (course : Course) (fault : Option Fault) (steps : List Step) : Typ
   faults : fault_in course.fault ≡ fault
   clocks : fault ≡ None → clocks_heard course.steps ≡ clocks_along steps
 
-idle_course : (i : Inputs) (c : Flow) (copies : List Copy) (s : Step) (later : List Step) (accesses : List Access) → is_access (rule_of s.romc) ≡ false →
+idle_course : (i : Inputs) (c : Flow) (copies : List Copy) (s : Step) (later : List Step) (accesses : List Access) →
+    is_access (rule_of s.romc) ≡ false →
     course_of i c copies (s ∷ later) accesses ≡ with_step (traced i s None) (course_of i c copies later accesses)
 idle_course i c copies s later [] e = refl
 idle_course i c copies s later (a ∷ behind) e = rw e refl
 
-access_course : (i : Inputs) (c : Flow) (copies : List Copy) (s : Step) (later : List Step) (a : Access) (behind : List Access) → is_access (rule_of s.romc) ≡ true →
-    course_of i c copies (s ∷ later) (a ∷ behind) ≡ course_by i s (access_verdict c copies a) (course_of i c copies later behind)
+access_course : (i : Inputs) (c : Flow) (copies : List Copy) (s : Step) (later : List Step) (a : Access)
+    (behind : List Access) →
+    is_access (rule_of s.romc) ≡ true →
+    course_of i c copies (s ∷ later) (a ∷ behind) ≡ course_by i s (access_verdict c copies a)
+    (course_of i c copies later behind)
 access_course i c copies s later a behind e = rw e refl
 
-step_agrees : (i : Inputs) (s : Step) (socket : Option ℕ) (rest : Course) (fault : Option Fault) (later : List Step) → Agrees rest fault later →
+step_agrees : (i : Inputs) (s : Step) (socket : Option ℕ) (rest : Course) (fault : Option Fault) (later : List Step) →
+    Agrees rest fault later →
     Agrees (with_step (traced i s socket) rest) fault (s ∷ later)
 step_agrees i s socket rest fault later is = record {
   faults = is.faults;
-  clocks = λ none. sum_by-cons (λ t. step_clocks t.long) (traced i s socket) rest.steps ∙ ap (λ n. step_clocks s.long + n) (is.clocks none)
+  clocks =
+      λ none. sum_by-cons (λ t. step_clocks t.long) (traced i s socket) rest.steps
+      ∙ ap (λ n. step_clocks s.long + n) (is.clocks none)
       ∙ sym (sum_by-cons (λ t. step_clocks t.long) s later);
 }
 
-verdict_agrees : (i : Inputs) (s : Step) (romc : ℕ) (v : Verdict) (rest : Course) (fault : Option Fault) (later : List Step) → s.romc ≡ romc →
+verdict_agrees : (i : Inputs) (s : Step) (romc : ℕ) (v : Verdict) (rest : Course) (fault : Option Fault)
+    (later : List Step) →
+    s.romc ≡ romc →
     Agrees rest fault later → Agrees (course_by i s v rest) (or_later (fault_by romc v) fault) (s ∷ later)
 verdict_agrees i s romc (Served socket) rest fault later code is = step_agrees i s socket rest fault later is
 verdict_agrees i s romc (Conflict parties) rest fault later code is = record {
@@ -66,15 +85,18 @@ verdict_agrees i s romc (Astray socket at reference) rest fault later code is = 
   clocks = λ none. cc;
 }
 
-agrees : (i : Inputs) (c : Flow) (copies : List Copy) (steps : List Step) (accesses : List Access) → Pairs steps accesses →
+agrees : (i : Inputs) (c : Flow) (copies : List Copy) (steps : List Step) (accesses : List Access) →
+    Pairs steps accesses →
     Agrees (course_of i c copies steps accesses) (first_fault c copies accesses) steps
 agrees i c copies [] [] ended = record { faults = refl; clocks = λ none. refl }
 agrees i c copies [] (a ∷ behind) pairs = elim pairs [ ]
 agrees i c copies (s ∷ later) accesses (idle e pairs) =
-    subst (λ course. Agrees course (first_fault c copies accesses) (s ∷ later)) (sym (idle_course i c copies s later accesses e))
+    subst (λ course. Agrees course (first_fault c copies accesses) (s ∷ later))
+    (sym (idle_course i c copies s later accesses e))
     (step_agrees i s None (course_of i c copies later accesses) (first_fault c copies accesses) later (agrees i c copies later accesses pairs))
 agrees i c copies (s ∷ later) (a ∷ behind) (accessed e code pairs) =
-    subst (λ course. Agrees course (first_fault c copies (a ∷ behind)) (s ∷ later)) (sym (access_course i c copies s later a behind e))
+    subst (λ course. Agrees course (first_fault c copies (a ∷ behind)) (s ∷ later))
+    (sym (access_course i c copies s later a behind e))
     (verdict_agrees i s a.romc (access_verdict c copies a) (course_of i c copies later behind) (first_fault c copies behind) later code
     (agrees i c copies later behind pairs))
 
@@ -89,7 +111,8 @@ branch_pairs : (taken : Bool) (row : Row) (i : Inputs) →
 branch_pairs true row i = accessed refl refl (fetch_pairs row i)
 branch_pairs false row i = accessed refl refl (fetch_pairs row i)
 
-pairs_of : (row : Row) (i : Inputs) → Pairs (steps_of row i.taken) (accesses_before_fetch row i ++ last_access row i ∷ [])
+pairs_of : (row : Row) (i : Inputs) →
+    Pairs (steps_of row i.taken) (accesses_before_fetch row i ++ last_access row i ∷ [])
 pairs_of Idle i = idle refl (fetch_pairs Idle i)
 pairs_of StackToK i = accessed refl refl (accessed refl refl (fetch_pairs StackToK i))
 pairs_of StackFromK i = idle refl (idle refl (fetch_pairs StackFromK i))
@@ -106,7 +129,8 @@ pairs_of PortIn i = accessed refl refl (accessed refl refl (fetch_pairs PortIn i
 pairs_of PortOut i = accessed refl refl (accessed refl refl (fetch_pairs PortOut i))
 pairs_of Call i = accessed refl refl (idle refl (accessed refl refl (idle refl (fetch_pairs Call i))))
 pairs_of Jump i = accessed refl refl (accessed refl refl (idle refl (fetch_pairs Jump i)))
-pairs_of LoadData i = accessed refl refl (accessed refl refl (accessed refl refl (accessed refl refl (fetch_pairs LoadData i))))
+pairs_of LoadData i =
+    accessed refl refl (accessed refl refl (accessed refl refl (accessed refl refl (fetch_pairs LoadData i))))
 pairs_of Exchange i = idle refl (fetch_pairs Exchange i)
 pairs_of AddData i = idle refl (fetch_pairs AddData i)
 pairs_of Branch i = idle refl (branch_pairs i.taken Branch i)
@@ -118,10 +142,12 @@ pairs_of PlainLong i = fetch_pairs PlainLong i
 
 -- an instruction by its opcode
 instruction_agrees : (op : Op) (x : Position) →
-    Agrees (instruction_course op x) (instruction_fault op x) (steps_of (row_of op) (gets_all op (seats_of x.copies) x.flat).taken)
+    Agrees (instruction_course op x) (instruction_fault op x)
+    (steps_of (row_of op) (gets_all op (seats_of x.copies) x.flat).taken)
 instruction_agrees op x =
     let i = gets_all op (seats_of x.copies) x.flat in
-    subst (λ accesses. Agrees (instruction_course op x) (first_fault x.flat.state.flow x.copies accesses) (steps_of (row_of op) i.taken))
+    subst
+    (λ accesses. Agrees (instruction_course op x) (first_fault x.flat.state.flow x.copies accesses) (steps_of (row_of op) i.taken))
     (accesses-with_opcode (row_of op) i.opcode (gets op (seats_of x.copies) x.flat))
     (agrees i x.flat.state.flow x.copies (steps_of (row_of op) i.taken) (accesses_of op i) (pairs_of (row_of op) i))
 
@@ -133,7 +159,8 @@ fault_unless (Some fault) y = refl
 
 -- the turn of a decoded opcode
 abbrev turn_as : Position → Option Op → Turn
-turn_as x op = decided (λ op. goes_unless (instruction_fault op x) (position_after op x)) x.flat.state.flow.p (opcode_at x) op
+turn_as x op =
+    decided (λ op. goes_unless (instruction_fault op x) (position_after op x)) x.flat.state.flow.p (opcode_at x) op
 
 turn_faults : (x : Position) (op : Option Op) → fault_in (course_as x op).fault ≡ fault_of_turn (turn_as x op)
 turn_faults x None = refl
@@ -147,9 +174,11 @@ instruction_clocks : (op : Op) (x : Position) → instruction_fault op x ≡ Non
     (position_after op x).flat.state.phi ≡ x.flat.state.phi + clocks_heard (instruction_course op x).steps
 instruction_clocks op x none =
     let i = gets_all op (seats_of x.copies) x.flat in
-    ap (λ n. x.flat.state.phi + n) (sym ((instruction_agrees op x).clocks none ∙ clocks_along-steps_of (row_of op) i.taken))
+    ap (λ n. x.flat.state.phi + n)
+    (sym ((instruction_agrees op x).clocks none ∙ clocks_along-steps_of (row_of op) i.taken))
 
-turns_clocks : (x y : Position) (op : Option Op) → turn_as x op ≡ Goes y → y.flat.state.phi ≡ x.flat.state.phi + clocks_heard (course_as x op).steps
+turns_clocks : (x y : Position) (op : Option Op) → turn_as x op ≡ Goes y →
+    y.flat.state.phi ≡ x.flat.state.phi + clocks_heard (course_as x op).steps
 turns_clocks x y None goes = cc
 turns_clocks x y (Some op) goes =
     let at = goes_where (instruction_fault op x) (position_after op x) y goes in
@@ -158,7 +187,9 @@ turns_clocks x y (Some op) goes =
 -- ---- reset
 
 reset_agrees : (x : Position) → Agrees (reset_course x) (reset_fault x) reset_steps
-reset_agrees x = agrees (reset_gets x.flat.memory) x.flat.state.flow x.copies reset_steps (reset_access ∷ []) (idle refl (idle refl (accessed refl refl ended)))
+reset_agrees x =
+    agrees (reset_gets x.flat.memory) x.flat.state.flow x.copies reset_steps (reset_access ∷ [])
+    (idle refl (idle refl (accessed refl refl ended)))
 
 pub trace_law : TraceLaw
 trace_law = record {

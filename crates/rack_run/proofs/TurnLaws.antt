@@ -5,7 +5,8 @@ use Rattle.f8_spec.specs.ChipState.{ChipState}
 use Rattle.console_spec.specs.Processor.{with_write}
 use Rattle.console_spec.specs.Run.{Position, Turn, Goes, Stops}
 use Rattle.console_spec.specs.Scripts.{Script}
-use Rattle.console_spec.specs.Telling.{Way, Told, with_event, with_events, events_behind, told_turn, told_steps, moment_of}
+use Rattle.console_spec.specs.Telling.{Way, Told, with_event, with_events, events_behind, told_turn, told_steps}
+use Rattle.console_spec.specs.Telling.{moment_of}
 use Rattle.console_spec.specs.declared.Event.{Event}
 use Rattle.console_spec.specs.declared.Event.TheVariants.{Keys, Pulse}
 use Rattle.console_spec.specs.declared.PortWrite.{PortWrite}
@@ -17,7 +18,8 @@ use Rattle.rack_run.specs.Endings.{stop_of, bytes_written}
 use Rattle.rack_run.specs.Lives.{LivesMoment, Come}
 use Rattle.rack_run.specs.Progressing.{ProgressState, Keeps, progress_with}
 use Rattle.rack_run.specs.Texts.{text_in}
-use Rattle.rack_run.specs.Turns.{Readout, Advances, Halted, StepsFail, StopsShort, steps_text, HappenBehind, moment_text, GoesOn, StopsAt, FailsAt, CutsAt}
+use Rattle.rack_run.specs.Turns.{Readout, StepsDone, StepsHalt, StepsFail, StepsCut, steps_text, HappenBehind}
+use Rattle.rack_run.specs.Turns.{moment_text, GoesOn, StopsAt, FailsAt, CutsAt}
 use Rattle.rack_run.specs.declared.detail.Detail.{Detail}
 use Rattle.rack_run.specs.declared.ending.Cut.{Cut}
 use Rattle.rack_run.specs.declared.ending.Cut.TheVariants.{Halt as Halts, Sink}
@@ -27,13 +29,15 @@ use Rattle.rack_run.proofs.ToldTexts.{text_in-append, some_first, some_behind}
 
 -- events leave what is counted
 event_quiet : (e : Event) (x : Position) →
-    ((with_event e x).flat.state.writes ≡ x.flat.state.writes) × ((with_event e x).flat.state.count ≡ x.flat.state.count)
+    ((with_event e x).flat.state.writes ≡ x.flat.state.writes)
+    × ((with_event e x).flat.state.count ≡ x.flat.state.count)
     × ((with_event e x).flat.state.phi ≡ x.flat.state.phi)
 event_quiet (Keys port byte) x = (refl, refl, refl)
 event_quiet (Pulse chip) x = (refl, refl, refl)
 
 pub events_quiet : (es : List Event) (x : Position) →
-    ((with_events es x).flat.state.writes ≡ x.flat.state.writes) × ((with_events es x).flat.state.count ≡ x.flat.state.count)
+    ((with_events es x).flat.state.writes ≡ x.flat.state.writes)
+    × ((with_events es x).flat.state.count ≡ x.flat.state.count)
     × ((with_events es x).flat.state.phi ≡ x.flat.state.phi)
 events_quiet [] x = (refl, refl, refl)
 events_quiet (e ∷ es) x =
@@ -41,7 +45,8 @@ events_quiet (e ∷ es) x =
     let later = events_quiet es (with_event e x) in
     (later.0 ∙ first.0, later.1 ∙ first.1, later.2 ∙ first.2)
 
-pub keeps_events : (p : ProgressState) (es : List Event) (x : Position) → Keeps p x.flat.state → Keeps p (with_events es x).flat.state
+pub keeps_events : (p : ProgressState) (es : List Event) (x : Position) → Keeps p x.flat.state →
+    Keeps p (with_events es x).flat.state
 keeps_events p es x keeps =
     let quiet = events_quiet es x in
     record {
@@ -73,7 +78,8 @@ module _ (detail : Detail) (way : Way) (script : Script) (x : Position) where
       text_in-append detail steps (behind (way.step x))
       ∙ ap (λ (t : Turn). text_in detail steps ++ text_in detail (behind t)) turns
 
-  lives : (turn : Turn) (olds mids news : List ChipState) → way.step x ≡ turn → RackRuns (map heard_of (way.course x).steps) olds mids →
+  lives : (turn : Turn) (olds mids news : List ChipState) → way.step x ≡ turn →
+      RackRuns (map heard_of (way.course x).steps) olds mids →
       Come (events_behind script x turn) mids news → LivesMoment (moment_of way script x (way.step x)) olds news
   lives turn olds mids news turns heard came = record {
     between = mids;
@@ -82,7 +88,7 @@ module _ (detail : Detail) (way : Way) (script : Script) (x : Position) where
   }
 
   module _ (At : Position → Type 0) (wrote : Option PortWrite) (olds mids : List ChipState) (a b : Output)
-      (done : Advances detail way At wrote olds mids a b x) where
+      (done : StepsDone detail way At wrote olds mids a b x) where
     abbrev end_text : List ℕ
     end_text = text_in detail (told_turn script x (Goes done.there))
 
@@ -96,7 +102,9 @@ module _ (detail : Detail) (way : Way) (script : Script) (x : Position) where
       at = happens.at;
       keeps = keeps_events p (events_behind script x (Goes done.there)) done.there keeps;
       lived = lives (Goes done.there) olds mids news done.turns done.heard happens.came;
-      lines = rw (all_text (Goes done.there) done.turns) (adds_then a b c (steps_text detail way x) end_text done.lines ends);
+      lines =
+          rw (all_text (Goes done.there) done.turns)
+          (adds_then a b c (steps_text detail way x) end_text done.lines ends);
     }
 
     -- the sink fails at a line of its end
@@ -115,15 +123,17 @@ module _ (detail : Detail) (way : Way) (script : Script) (x : Position) where
   fails_first olds news a b fails = record {
     heard = fails.heard;
     some =
-        rw (all_text (way.step x) refl) (some_first (steps_text detail way x) (text_in detail (behind (way.step x))) fails.some);
+        rw (all_text (way.step x) refl)
+        (some_first (steps_text detail way x) (text_in detail (behind (way.step x))) fails.some);
     part =
         rw (all_text (way.step x) refl)
         (adds_part_first a b (steps_text detail way x) (text_in detail (behind (way.step x))) fails.part);
   }
 
   -- it stops the run
-  pub stops_at : (halt : Halt) (r : Readout) (p : ProgressState) (olds news : List ChipState) (a b : Output) → Keeps p x.flat.state →
-      Halted detail way r olds news a b x halt → StopsAt detail way script r p olds news a b x halt
+  pub stops_at : (halt : Halt) (r : Readout) (p : ProgressState) (olds news : List ChipState) (a b : Output) →
+      Keeps p x.flat.state →
+      StepsHalt detail way r olds news a b x halt → StopsAt detail way script r p olds news a b x halt
   stops_at halt r p olds news a b keeps stops = record {
     turns = stops.turns;
     state = stops.state;
@@ -131,11 +141,13 @@ module _ (detail : Detail) (way : Way) (script : Script) (x : Position) where
     lived = lives (Stops (stop_of halt)) olds news news stops.turns stops.heard refl;
     lines =
         subst (λ (text : List ℕ). Adds a b text)
-        (ap (text_in detail) (sym (append-nil steps) ∙ ap (λ (t : Turn). steps ++ behind t) (sym stops.turns))) stops.lines;
+        (ap (text_in detail) (sym (append-nil steps) ∙ ap (λ (t : Turn). steps ++ behind t) (sym stops.turns)))
+        stops.lines;
   }
 
   -- it is cut short before its end
-  pub cuts_first : (r : Readout) (p : ProgressState) (olds news : List ChipState) (a b : Output) → Keeps p x.flat.state → (cut : Cut) →
-      StopsShort detail way r olds news a b x cut → CutsAt detail way script r p olds news a b x cut
+  pub cuts_first : (r : Readout) (p : ProgressState) (olds news : List ChipState) (a b : Output) →
+      Keeps p x.flat.state → (cut : Cut) →
+      StepsCut detail way r olds news a b x cut → CutsAt detail way script r p olds news a b x cut
   cuts_first r p olds news a b keeps (Halts halt) stops = stops_at halt r p olds news a b keeps stops
   cuts_first r p olds news a b keeps Sink fails = fails_first olds news a b fails

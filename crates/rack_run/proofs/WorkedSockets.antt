@@ -45,7 +45,9 @@ one_chip = refl
 -- ---- a rack of one 3851 that has a byte of its own at an address
 
 abbrev patched : ℕ → ℕ → List ChipView
-patched at byte = fitted_views (described ∷ []) (record { view = blank_view kind.Psu; heard_steps = None; patch = Some (at, byte) } ∷ [])
+patched at byte =
+    fitted_views (described ∷ [])
+    (record { view = blank_view kind.Psu; heard_steps = None; patch = Some (at, byte) } ∷ [])
 
 -- INC in place of NOP
 abbrev with_inc : Ending
@@ -97,7 +99,8 @@ with_reserved_state = refl
 -- ---- the chain of a description
 
 -- a 3853 and two 3851s, on a rack whose sockets are of these kinds: each sits in the first socket of its kind that is left
-mixed_chain : chain_of (ram 0x28 ∷ described ∷ described ∷ []) (kind.Psu ∷ kind.Smi ∷ kind.Psu ∷ kind.Psu ∷ []) ≡ 1 ∷ 0 ∷ 2 ∷ []
+mixed_chain : chain_of (ram 0x28 ∷ described ∷ described ∷ [])
+    (kind.Psu ∷ kind.Smi ∷ kind.Psu ∷ kind.Psu ∷ []) ≡ 1 ∷ 0 ∷ 2 ∷ []
 mixed_chain = refl
 
 own_chain : chain_of (described ∷ ram 0x28 ∷ described ∷ ram 0x29 ∷ []) own_sockets ≡ 0 ∷ 12 ∷ 1 ∷ 13 ∷ []

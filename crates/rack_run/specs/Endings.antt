@@ -55,8 +55,8 @@ abbrev pub run_on : Detail → Script → List ℕ → List ChipState → Tellin
 run_on detail script chain states = played_by (views states) chain (is_traced detail) script
 
 -- the run to its end: every chip is powered and lives through the moments of the run, and the sink was given all that is told
-pub record Plays (detail : Detail) (script : Script) (chain : List ℕ) (told : Ending) (olds news : List ChipState) (old new : Output) :
-    Type 0 where
+pub record Plays (detail : Detail) (script : Script) (chain : List ℕ) (told : Ending) (olds news : List ChipState)
+    (old new : Output) : Type 0 where
   pub powered : List ChipState
   pub powers : RackPowers script.power olds powered
   pub lived : Lives (run_on detail script chain olds).moments powered news
@@ -79,7 +79,8 @@ pub record CutShort (detail : Detail) (ms : List Moment) (olds news : List ChipS
   pub part : AddsPart between new (text_in detail at.told)
 
 -- the run up to there
-pub record PlaysPart (detail : Detail) (script : Script) (chain : List ℕ) (olds news : List ChipState) (old new : Output) : Type 0 where
+pub record PlaysPart (detail : Detail) (script : Script) (chain : List ℕ) (olds news : List ChipState)
+    (old new : Output) : Type 0 where
   pub powered : List ChipState
   pub powers : RackPowers script.power olds powered
   pub cut : CutShort detail (run_on detail script chain olds).moments powered news old new

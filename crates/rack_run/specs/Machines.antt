@@ -18,10 +18,11 @@ pub machine_reads : (m : MachineState) (states : List ChipState) (x : Position) 
     machine_readout m ≡ readout_of x.flat.state
 machine_reads m states x r =
     let with_flow : Flow → Readout = λ flow. record { flow = flow; registers = m.cpu.registers; phi = m.phi } in
-    let with_registers : Registers → Readout = λ registers. record { flow = x.flat.state.flow; registers = registers; phi = m.phi } in
+    let with_registers : Registers → Readout =
+    λ registers. record { flow = x.flat.state.flow; registers = registers; phi = m.phi } in
     let with_phi : ℕ → Readout =
     λ phi. record { flow = x.flat.state.flow; registers = x.flat.state.registers; phi = phi } in
-    ap with_flow r.stands.flow ∙ ap with_registers r.stands.registers ∙ ap with_phi r.stands.phi
+    ap with_flow r.stands.flow ∙ ap with_registers r.stands.holds.registers ∙ ap with_phi r.stands.phi
 
 abbrev pub flat_readout : IsaState → Readout
 flat_readout isa = record { flow = isa.flow; registers = isa.registers; phi = isa.phi }

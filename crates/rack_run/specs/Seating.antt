@@ -1,6 +1,7 @@
 -- Which chip of a description sits in which socket of a rack, and what fitting makes of the rack. That the k-th chip of a kind goes to the
 -- k-th socket of that kind, and that all other sockets are blank, is this project's own.
-use Rattle.std.specs.Prelude.{◌≡◌, ℕ, ◌≤◌, ◌<◌, ◌+◌, ◌⊎◌, Bool, true, false, List, [], ◌∷◌, map, take, drop, slice_get, length, Option, Some, None}
+use Rattle.std.specs.Prelude.{◌≡◌, ℕ, ◌≤◌, ◌<◌, ◌+◌, ◌⊎◌, Bool, true, false, List, [], ◌∷◌, map, take, drop, slice_get}
+use Rattle.std.specs.Prelude.{length, Option, Some, None}
 use Rattle.std.specs.List.{filter}
 use Rattle.data_bus.specs.Racks.{NumberedZip}
 use Rattle.f8_spec.specs.ChipState.{ChipView, ChipState, IsWhole}

@@ -1,6 +1,7 @@
 -- The sockets that a description needs of a rack, and those that its chips take. That each of its chips needs a socket of its kind is this
 -- project's own.
-use Rattle.std.specs.Prelude.{ℕ, ◌+◌, ◌==◌, nat_lt, not, ◌&&◌, if◌then◌else◌, List, [], ◌∷◌, ◌++◌, count_by, Option, Some, None}
+use Rattle.std.specs.Prelude.{ℕ, ◌+◌, ◌==◌, nat_lt, not, ◌&&◌, if◌then◌else◌, List, [], ◌∷◌, ◌++◌, count_by, Option}
+use Rattle.std.specs.Prelude.{Some, None}
 use Rattle.std.specs.List.{list_any}
 use Rattle.f8_spec.specs.declared.chips.ChipKind.{ChipKind}
 use Rattle.f8_spec.specs.declared.chips.ChipKind.TheVariants.{Psu, Smi}
@@ -38,7 +39,8 @@ shortage_of chips kinds = or_else (shortage_in Psu chips kinds) (shortage_in Smi
 abbrev pub free_socket : ChipKind → List ℕ → ℕ → List ChipKind → Option ℕ
 free_socket kind chain socket [] = None
 free_socket kind chain socket (k ∷ kinds) =
-    if is_kind kind k && not (list_any (λ held. held == socket) chain) then Some socket else free_socket kind chain (socket + 1) kinds
+    if is_kind kind k && not (list_any (λ held. held == socket) chain) then Some socket else free_socket kind chain
+    (socket + 1) kinds
 
 abbrev pub with_socket : List ℕ → Option ℕ → List ℕ
 with_socket chain None = chain
@@ -47,7 +49,8 @@ with_socket chain (Some socket) = chain ++ socket ∷ []
 -- a chain with the sockets of more chips: each takes the first socket of its kind that no chip before it has
 abbrev pub chain_with : List ChipKind → List ℕ → List ChipSpec → List ℕ
 chain_with kinds chain [] = chain
-chain_with kinds chain (chip ∷ chips) = chain_with kinds (with_socket chain (free_socket (kind_of chip) chain 0 kinds)) chips
+chain_with kinds chain (chip ∷ chips) =
+    chain_with kinds (with_socket chain (free_socket (kind_of chip) chain 0 kinds)) chips
 
 -- The sockets of the chips described, in the order of the description, on a rack of chips of these kinds. So the k-th chip of a kind sits
 -- in the k-th socket of that kind, as it is seated.

@@ -1,5 +1,6 @@
 -- How much of a run is told on its way, as the bytes of its lines.
-use Rattle.std.specs.Prelude.{◌≢◌, ℕ, ◌==◌, Bool, true, false, if◌then◌else◌, List, [], ◌∷◌, ◌++◌, map, flat_map, Option, Some, None, Result, OnOk, OnErr}
+use Rattle.std.specs.Prelude.{◌≢◌, ℕ, ◌==◌, Bool, true, false, if◌then◌else◌, List, [], ◌∷◌, ◌++◌, map, flat_map}
+use Rattle.std.specs.Prelude.{Option, Some, None, Result, OnOk, OnErr}
 use Rattle.std.specs.List.{list_any, range_with_len}
 use Rattle.console_spec.specs.declared.PortWrite.{PortWrite}
 use Rattle.console_spec.specs.RunText.{lines_of, picture_row, text_of}
@@ -46,7 +47,8 @@ unserved_told detail romc long = if is_traced detail then TracedFault romc long 
 
 abbrev pub outcome_told : Detail → Outcome → List Told
 outcome_told detail (Done wrote steps) = served_told detail steps
-outcome_told detail (Fault fault long steps) = served_told detail steps ++ unserved_told detail (code_of (fault_of fault)) long
+outcome_told detail (Fault fault long steps) =
+    served_told detail steps ++ unserved_told detail (code_of (fault_of fault)) long
 outcome_told detail (Reserved at code) = []
 
 -- a write that was taken

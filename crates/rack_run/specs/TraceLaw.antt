@@ -3,7 +3,8 @@
 use Rattle.std.specs.Prelude.{◌≡◌, ℕ, ◌+◌, Bool, List, sum_by, Option, Some, None}
 use Rattle.f8_spec.specs.MicroSteps.{step_clocks}
 use Rattle.console_spec.specs.BusTrace.{TracedStep}
-use Rattle.console_spec.specs.Run.{Position, Turn, Goes, Stops, Done, Unserved, Reserved, next, turn_course, reset_course, reset_fault, position_after_reset}
+use Rattle.console_spec.specs.Run.{Position, Turn, Goes, Stops, Done, Unserved, Reserved, next, turn_course}
+use Rattle.console_spec.specs.Run.{reset_course, reset_fault, position_after_reset}
 use Rattle.console_spec.specs.Services.{Fault}
 
 -- why the step behind the served ones is not served
@@ -27,6 +28,7 @@ pub record TraceLaw : Type 0 where
   pub turn_stops : (x : Position) → fault_in (turn_course x).fault ≡ fault_of_turn (next x)
   pub reset_stops : (x : Position) → fault_in (reset_course x).fault ≡ reset_fault x
   -- the steps of an instruction that is done, and of reset, take as long as it
-  pub turn_clocks : (x y : Position) → next x ≡ Goes y → y.flat.state.phi ≡ x.flat.state.phi + clocks_heard (turn_course x).steps
+  pub turn_clocks : (x y : Position) → next x ≡ Goes y →
+      y.flat.state.phi ≡ x.flat.state.phi + clocks_heard (turn_course x).steps
   pub reset_clocks : (x : Position) → reset_fault x ≡ None →
       (position_after_reset x).flat.state.phi ≡ x.flat.state.phi + clocks_heard (reset_course x).steps

@@ -1,3 +1,4 @@
+// How much of a run is told.
 /// How much of a run is told on the way to its ending.
 #[derive(Clone, Copy, Debug, PartialEq, Eq)]
 pub enum Detail {

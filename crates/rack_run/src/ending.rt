@@ -1,3 +1,4 @@
+// How a run ends, and what stops it.
 use console_spec::Regs;
 use data_bus::BusFault;
 

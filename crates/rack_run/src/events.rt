@@ -19,10 +19,13 @@ use pad_script::Script;
 fn happen_if<P: Player>(player: &mut P, rack: &mut Rack, event: Event, due: bool)
     requires few { length rack.old.items ≤ P.most_chips }
     ensures begins { (x : Position) → P.begins player.old (map state rack.old.items) x
-        → P.begins player.new (map state rack.new.items) (with_events (if due then event ∷ [] else []) x) }
+        → P.begins player.new (map state rack.new.items)
+        (with_events (if due then event ∷ [] else []) x) }
     ensures at { (x : Position) → P.at player.old (map state rack.old.items) x
-        → P.at player.new (map state rack.new.items) (with_events (if due then event ∷ [] else []) x) }
-    ensures came { Come (if due then event ∷ [] else []) (map state rack.old.items) (map state rack.new.items) }
+        → P.at player.new (map state rack.new.items)
+        (with_events (if due then event ∷ [] else []) x) }
+    ensures came { Come (if due then event ∷ [] else [])
+        (map state rack.old.items) (map state rack.new.items) }
     ensures ready { P.ready player.old → P.ready player.new }
     ensures phi { (P.readout player.new).phi ≡ (P.readout player.old).phi }
     ensures chips { length rack.new.items ≡ length rack.old.items }
@@ -36,10 +39,12 @@ fn happen_if<P: Player>(player: &mut P, rack: &mut Rack, event: Event, due: bool
 pub(crate) fn happen_at<P: Player>(player: &mut P, rack: &mut Rack, events: &[At], frame: u32)
     requires few { length rack.old.items ≤ P.most_chips }
     ensures begins { (x : Position) → P.begins player.old (map state rack.old.items) x
-        → P.begins player.new (map state rack.new.items) (with_events (events_at frame events.now) x) }
+        → P.begins player.new (map state rack.new.items)
+        (with_events (events_at frame events.now) x) }
     ensures at { (x : Position) → P.at player.old (map state rack.old.items) x
         → P.at player.new (map state rack.new.items) (with_events (events_at frame events.now) x) }
-    ensures came { Come (events_at frame events.now) (map state rack.old.items) (map state rack.new.items) }
+    ensures came { Come (events_at frame events.now)
+        (map state rack.old.items) (map state rack.new.items) }
     ensures ready { P.ready player.old → P.ready player.new }
     ensures phi { (P.readout player.new).phi ≡ (P.readout player.old).phi }
     ensures chips { length rack.new.items ≡ length rack.old.items }
@@ -58,7 +63,8 @@ pub(crate) fn happen_behind<P: Player>(
     fallen: Option<u32>,
 )
     requires few { length rack.old.items ≤ P.most_chips }
-    ensures behind { (x y : Position) → P.at player.old (map state rack.old.items) y → Keeps progress.now y.flat.state
+    ensures behind { (x y : Position) → P.at player.old (map state rack.old.items) y
+        → Keeps progress.now y.flat.state
         → fallen ≡ fallen_at x.flat.state y.flat.state
         → HappenBehind (seen script.now) (P.at player.new (map state rack.new.items))
         (map state rack.old.items) (map state rack.new.items) x y }

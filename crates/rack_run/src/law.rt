@@ -1,3 +1,4 @@
+// Laws of the definitions of a run, as calls.
 ghost use Rattle.rack_run.specs.EndLaw.{EndLaw};
 ghost use Rattle.rack_run.specs.TraceLaw.{TraceLaw};
 

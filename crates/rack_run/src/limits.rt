@@ -1,3 +1,4 @@
+// The most instructions that a run can have.
 ghost use Rattle.std.specs.Prelude.{◌≡◌};
 ghost use Rattle.console_spec.specs.Scripts.{most_instructions as most_of};
 ghost use Rattle.pad_script.specs.Limits.{HasLimits};

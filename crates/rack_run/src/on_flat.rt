@@ -78,8 +78,8 @@ impl Player for Isa {
 
 /// The instruction set after power-on with a byte and reset.
 fn power_on(alloc: Global, chips: &ChipList, fill: u8) -> Result<Isa, Memory>
-    ensures stands { IfOk result (λ isa. StandsAt isa 0
-        (position_after_reset (power_position (views_of chips.now) (chain_in_order (views_of chips.now)) fill))) }
+    ensures stands { let vs = views_of chips.now in IfOk result (λ isa.
+        StandsAt isa 0 (position_after_reset (power_position vs (chain_in_order vs) fill))) }
     ensures phi { IfOk result (λ isa. isa.phi ≤ RESET_PHI) }
 {
     let map = Map::of(alloc, chips)?;
@@ -107,8 +107,10 @@ pub fn refer<K: Sink>(
     script: &Script,
 ) -> Result<Ending, ReferFault>
     requires limits { HasLimits script.now.end }
-    ensures refers { IfOk result (λ ending. Refers (seen script.now) ending chips.now (K.output sink.old) (K.output sink.new)) }
-    ensures failed { IfErr result (λ fault. ReferFails fault (seen script.now) chips.now (K.output sink.old) (K.output sink.new)) }
+    ensures refers { IfOk result (λ ending.
+        Refers (seen script.now) ending chips.now (K.output sink.old) (K.output sink.new)) }
+    ensures failed { IfErr result (λ fault.
+        ReferFails fault (seen script.now) chips.now (K.output sink.old) (K.output sink.new)) }
 {
     let Ok(mut isa) = power_on(alloc, chips, script.power) else {
         return Err(ReferFault::Memory);

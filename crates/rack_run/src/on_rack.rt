@@ -40,7 +40,8 @@ fn code_of(fault: &BusFault) -> Romc
 
 /// The bus steps of an outcome, where they are told.
 fn tell_outcome<K: Sink>(sink: &mut K, detail: Detail, outcome: &Outcome) -> Result<(), SinkFault>
-    ensures { Puts result (K.output sink.old) (K.output sink.new) (text_in detail (outcome_told detail outcome.now)) }
+    ensures { Puts result (K.output sink.old) (K.output sink.new)
+        (text_in detail (outcome_told detail outcome.now)) }
 {
     match outcome {
         Outcome::Done { steps, .. } => tell_steps(sink, detail, steps.as_slice()),
@@ -128,9 +129,11 @@ pub fn play<K: Sink>(
     requires ports { LeaveOwnPorts (map seat_of (views (map state rack.old.items))) }
     requires limits { HasLimits script.now.end }
     ensures plays { IfOk result (λ ending. Plays detail (seen script.now) chain ending
-        (map state rack.old.items) (map state rack.new.items) (K.output sink.old) (K.output sink.new)) }
+        (map state rack.old.items) (map state rack.new.items)
+        (K.output sink.old) (K.output sink.new)) }
     ensures failed { OnErr result (PlaysPart detail (seen script.now) chain
-        (map state rack.old.items) (map state rack.new.items) (K.output sink.old) (K.output sink.new)) }
+        (map state rack.old.items) (map state rack.new.items)
+        (K.output sink.old) (K.output sink.new)) }
     ensures chips { length rack.new.items ≡ length rack.old.items }
 {
     let mut machine = Machine::power(script.power, chain, rack);

@@ -4,7 +4,7 @@ ghost use Rattle.console_spec.specs.Run.{Position};
 ghost use Rattle.console_spec.specs.Telling.{Way, with_event};
 ghost use Rattle.f8_spec.specs.ChipState.{ChipState};
 ghost use Rattle.rack_run.specs.Lives.{ComesTo};
-ghost use Rattle.rack_run.specs.Turns.{Readout, readout_of, regs_of, Advances, StopsShort};
+ghost use Rattle.rack_run.specs.Turns.{Readout, readout_of, regs_of, StepsDone, StepsCut};
 ghost use Rattle.rack_run.specs.declared.detail.Detail.{Detail};
 
 use super::detail::Detail;
@@ -44,11 +44,14 @@ pub(crate) trait Player {
         requires ready { ready self.old }
         requires bounded { (readout self.old).phi < 2 ^ 62 }
         ensures goes { (x : Position) → at self.old (map state rack.old.items) x
-            → IfOk result (λ wrote. Advances detail (way detail) (at self.new (map state rack.new.items)) wrote
-            (map state rack.old.items) (map state rack.new.items) (K.output sink.old) (K.output sink.new) x) }
+            → IfOk result (λ wrote. StepsDone detail (way detail)
+            (at self.new (map state rack.new.items)) wrote
+            (map state rack.old.items) (map state rack.new.items)
+            (K.output sink.old) (K.output sink.new) x) }
         ensures cut { (x : Position) → at self.old (map state rack.old.items) x
-            → IfErr result (λ cut. StopsShort detail (way detail) (readout self.new)
-            (map state rack.old.items) (map state rack.new.items) (K.output sink.old) (K.output sink.new) x cut) }
+            → IfErr result (λ cut. StepsCut detail (way detail) (readout self.new)
+            (map state rack.old.items) (map state rack.new.items)
+            (K.output sink.old) (K.output sink.new) x cut) }
         ensures clocks { (readout self.new).phi ≤ (readout self.old).phi + MOST_PHI }
         ensures onward { (readout self.old).phi ≤ (readout self.new).phi }
         ensures ready { ready self.new }
@@ -75,5 +78,6 @@ pub(crate) trait Player {
     fn clocks(&self) -> u64
         ensures { result ≡ (readout self.now).phi };
 
-    ghost reads: { (p : Self) (states : List ChipState) (x : Position) → at p states x → readout p ≡ readout_of x.flat.state };
+    ghost reads: { (p : Self) (states : List ChipState) (x : Position) → at p states x
+        → readout p ≡ readout_of x.flat.state };
 }

@@ -1,3 +1,4 @@
+// What a run keeps beside its player: the screen and the counts.
 use console_board::{Board, PortWrite, Screen};
 use console_spec::End;
 use std::marker::Model;
@@ -27,9 +28,16 @@ impl Model for Progress {
 
     ghost Value = { ProgressState };
 
-    ghost view = { λ p. record { screen = p.board.screen; phi = p.board.phi; count = p.count; writes = p.writes; bytes = p.bytes } };
+    ghost view = { λ p. record {
+      screen = p.board.screen;
+      phi = p.board.phi;
+      count = p.count;
+      writes = p.writes;
+      bytes = p.bytes;
+    } };
 
-    ghost invariant = { λ p. (p.frames ≡ frames_by p.board.phi) × (p.writes ≤ p.count) × (p.bytes ≤ 255 * p.writes) };
+    ghost invariant = { λ p.
+        (p.frames ≡ frames_by p.board.phi) × (p.writes ≤ p.count) × (p.bytes ≤ 255 * p.writes) };
 }
 
 impl Progress {
@@ -41,7 +49,8 @@ impl Progress {
     /// After reset, with its clocks in Φ: nothing was written, and no instruction was done.
     pub(crate) fn new(phi: u64) -> Progress
         requires { phi < frame_clocks }
-        ensures { result ≡ record { screen = shown []; phi = phi; count = 0; writes = 0; bytes = 0 } }
+        ensures { result
+            ≡ record { screen = shown []; phi = phi; count = 0; writes = 0; bytes = 0 } }
     {
         let mut board = Board::new();
         board.frame_due(phi);

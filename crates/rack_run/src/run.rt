@@ -23,7 +23,8 @@ use pad_script::Script;
 
 /// How the run ends where this stops it.
 pub(crate) fn ending<P: Player>(player: &P, progress: &Progress, halt: Option<Halt>) -> Ending
-    ensures { (s : State) → P.readout player.now ≡ readout_of s → Keeps progress.now s → Tells result s (stop_at halt) }
+    ensures { (s : State) → P.readout player.now ≡ readout_of s → Keeps progress.now s
+        → Tells result s (stop_at halt) }
 {
     Ending {
         regs: player.registers(),
@@ -49,12 +50,18 @@ fn turn<P: Player, K: Sink>(
     requires bounded { (P.readout player.old).phi + MOST_PHI < 2 ^ 46 }
     requires phi { progress.old.phi ≡ (P.readout player.old).phi }
     requires count { progress.old.count + 1 < 2 ^ 32 }
-    ensures goes { (x : Position) → P.at player.old (map state rack.old.items) x → Keeps progress.old x.flat.state
-        → OnOk result (GoesOn detail (P.way detail) (seen script.now) (P.at player.new (map state rack.new.items)) progress.new
-        (map state rack.old.items) (map state rack.new.items) (K.output sink.old) (K.output sink.new) x) }
-    ensures cut { (x : Position) → P.at player.old (map state rack.old.items) x → Keeps progress.old x.flat.state
-        → IfErr result (λ cut. CutsAt detail (P.way detail) (seen script.now) (P.readout player.new) progress.new
-        (map state rack.old.items) (map state rack.new.items) (K.output sink.old) (K.output sink.new) x cut) }
+    ensures goes { (x : Position) → P.at player.old (map state rack.old.items) x
+        → Keeps progress.old x.flat.state
+        → OnOk result (GoesOn detail (P.way detail) (seen script.now)
+        (P.at player.new (map state rack.new.items)) progress.new
+        (map state rack.old.items) (map state rack.new.items)
+        (K.output sink.old) (K.output sink.new) x) }
+    ensures cut { (x : Position) → P.at player.old (map state rack.old.items) x
+        → Keeps progress.old x.flat.state
+        → IfErr result (λ cut. CutsAt detail (P.way detail) (seen script.now)
+        (P.readout player.new) progress.new
+        (map state rack.old.items) (map state rack.new.items)
+        (K.output sink.old) (K.output sink.new) x cut) }
     ensures clocks { (P.readout player.new).phi ≤ (P.readout player.old).phi + MOST_PHI }
     ensures phi { OnOk result (progress.new.phi ≡ (P.readout player.new).phi) }
     ensures count { OnOk result (progress.new.count ≡ progress.old.count + 1) }
@@ -84,12 +91,16 @@ pub(crate) fn run<P: Player, K: Sink>(
     requires phi { progress.old.phi ≡ (P.readout player.old).phi }
     requires count { progress.old.count ≡ 0 }
     requires limits { HasLimits script.now.end }
-    ensures out { (x : Position) → P.at player.old (map state rack.old.items) x → Keeps progress.old x.flat.state
+    ensures out { (x : Position) → P.at player.old (map state rack.old.items) x
+        → Keeps progress.old x.flat.state
         → IfOk result (λ ending. RunsOut detail (P.way detail) (seen script.now) ending
-        (map state rack.old.items) (map state rack.new.items) (K.output sink.old) (K.output sink.new) x) }
-    ensures short { (x : Position) → P.at player.old (map state rack.old.items) x → Keeps progress.old x.flat.state
+        (map state rack.old.items) (map state rack.new.items)
+        (K.output sink.old) (K.output sink.new) x) }
+    ensures short { (x : Position) → P.at player.old (map state rack.old.items) x
+        → Keeps progress.old x.flat.state
         → OnErr result (RunsShort detail (P.way detail) (seen script.now)
-        (map state rack.old.items) (map state rack.new.items) (K.output sink.old) (K.output sink.new) x) }
+        (map state rack.old.items) (map state rack.new.items)
+        (K.output sink.old) (K.output sink.new) x) }
     ensures chips { length rack.new.items ≡ length rack.old.items }
 {
     for _ in 0..most_instructions(script.end) {

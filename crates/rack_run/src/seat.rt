@@ -1,13 +1,16 @@
-ghost use Rattle.std.specs.Prelude.{◌≡◌, ◌≤◌, ◌<◌, ◌+◌, length, map, slice_get, IfSome, OnOk, OnErr, Some, None, All};
+// Fitting a rack for a description.
+ghost use Rattle.std.specs.Prelude.{◌≡◌, ◌≤◌, ◌<◌, ◌+◌, length, map, slice_get};
+ghost use Rattle.std.specs.Prelude.{IfSome, OnOk, OnErr, Some, None, All};
 ghost use Rattle.f8_spec.specs.BusArbitration.{seat_of};
 ghost use Rattle.f8_spec.specs.ChipState.{IsWhole};
 ghost use Rattle.cpu3850.specs.OwnWrites.{LeaveOwnPorts};
 ghost use Rattle.data_bus.specs.Racks.{views};
 ghost use Rattle.chip_face.specs.Fitting.{Fits, IsSpec, kind_of};
 ghost use Rattle.f8_machine.specs.Refinement.{AreWhole};
-ghost use Rattle.rack_run.specs.Seating.{LeavesOwn, is_kind, of_kind, seat_at, before_of, psus_after, smis_after, seated, fitted_views, RackFits, RackFitsInPart};
+ghost use Rattle.rack_run.specs.Seating.{LeavesOwn, is_kind, of_kind, seat_at, before_of, psus_after};
+ghost use Rattle.rack_run.specs.Seating.{smis_after, seated, fitted_views, RackFits, RackFitsInPart};
 
-use chip_face::{Chip, ChipKind, ChipList, ChipSpec, FitFault, Memory};
+use chip_face::{Chip, ChipKind, ChipList, ChipSpec, FitFault, MOST_CHIPS, Memory};
 use data_bus::Rack;
 use std::alloc::Global;
 
@@ -42,7 +45,8 @@ pub(crate) fn is_for(spec: &ChipSpec, kind: ChipKind) -> bool
 #[tactic(auto, using(crate::proofs::Seats::kind_of_is))]
 fn nth_of_kind(chips: &[ChipSpec], kind: ChipKind, before: usize) -> Option<&ChipSpec>
     requires specified { All IsSpec chips.now }
-    ensures some { IfSome result (λ spec. slice_get (of_kind kind chips.now) before ≡ Some spec.now) }
+    ensures some { IfSome result (λ spec.
+        slice_get (of_kind kind chips.now) before ≡ Some spec.now) }
     ensures kind { IfSome result (λ spec. kind_of spec.now ≡ kind) }
     ensures specified { IfSome result (λ spec. IsSpec spec.now) }
     ensures none { result ≡ None → slice_get (of_kind kind chips.now) before ≡ None }
@@ -70,7 +74,8 @@ fn fit_socket(
 ) -> Result<(), Memory>
     requires specified { All IsSpec chips.now }
     requires kind { kind ≡ (state chip.old).view.kind }
-    ensures fits { OnOk result (Fits (seat_at chips.now kind before) (state chip.old) (state chip.new)) }
+    ensures fits { OnOk result
+        (Fits (seat_at chips.now kind before) (state chip.old) (state chip.new)) }
     ensures whole { OnOk result (IsWhole (state chip.new).view) }
     ensures ports { OnOk result (LeavesOwn (state chip.new).view) }
     ensures same { OnErr result (state chip.new ≡ state chip.old) }
@@ -96,9 +101,11 @@ fn fit_next(
     chip: &mut Box<dyn Chip>,
 ) -> Result<(), Memory>
     requires specified { All IsSpec chips.now }
-    requires psus { sockets.old.psus < 16 }
-    requires smis { sockets.old.smis < 16 }
-    ensures fits { OnOk result (Fits (seat_at chips.now (state chip.old).view.kind (before_of (state chip.old).view.kind sockets.old.psus sockets.old.smis)) (state chip.old) (state chip.new)) }
+    requires psus { sockets.old.psus < MOST_CHIPS }
+    requires smis { sockets.old.smis < MOST_CHIPS }
+    ensures fits { let kind = (state chip.old).view.kind in OnOk result
+        (Fits (seat_at chips.now kind (before_of kind sockets.old.psus sockets.old.smis))
+        (state chip.old) (state chip.new)) }
     ensures whole { OnOk result (IsWhole (state chip.new).view) }
     ensures ports { OnOk result (LeavesOwn (state chip.new).view) }
     ensures same { OnErr result (state chip.new ≡ state chip.old) }
@@ -124,12 +131,15 @@ fn fit_next(
 /// Fits a rack of at most 16 chips for a description: the k-th chip of a kind goes to the k-th socket of that kind, and all other sockets
 /// are blank. Where memory is wanting, so many chips are fitted, not all of them, and those behind are as they were.
 pub fn fit_all(alloc: Global, chips: &ChipList, rack: &mut Rack) -> Result<(), Memory>
-    requires few { length rack.old.items ≤ 16 }
-    ensures fitted { OnOk result (RackFits (seated chips.now (map state rack.old.items)) (map state rack.old.items) (map state rack.new.items)) }
-    ensures partly { OnErr result (RackFitsInPart (seated chips.now (map state rack.old.items)) (map state rack.old.items) (map state rack.new.items)) }
+    requires few { length rack.old.items ≤ MOST_CHIPS }
+    ensures fitted { OnOk result (RackFits (seated chips.now (map state rack.old.items))
+        (map state rack.old.items) (map state rack.new.items)) }
+    ensures partly { OnErr result (RackFitsInPart (seated chips.now (map state rack.old.items))
+        (map state rack.old.items) (map state rack.new.items)) }
     ensures whole { OnOk result (AreWhole (map state rack.new.items)) }
     ensures ports { OnOk result (LeaveOwnPorts (map seat_of (views (map state rack.new.items)))) }
-    ensures views { OnOk result (views (map state rack.new.items) ≡ fitted_views chips.now (map state rack.old.items)) }
+    ensures views { OnOk result
+        (views (map state rack.new.items) ≡ fitted_views chips.now (map state rack.old.items)) }
     ensures chips { length rack.new.items ≡ length rack.old.items }
 {
     let chips = chips.as_slice();

@@ -2,7 +2,8 @@
 ghost use Rattle.std.specs.Prelude.{◌≡◌, ◌≤◌, ◌<◌, ◌==◌, false, length, map, IfSome};
 ghost use Rattle.std.specs.List.{list_any};
 ghost use Rattle.rack_run.specs.Seating.{is_kind, kinds_of};
-ghost use Rattle.rack_run.specs.Sockets.{needed_of, sockets_of, shortage_of, shortage_in, free_socket, chain_of};
+ghost use Rattle.rack_run.specs.Sockets.{needed_of, sockets_of, shortage_of, shortage_in};
+ghost use Rattle.rack_run.specs.Sockets.{free_socket, chain_of};
 
 use super::seat::is_for;
 use chip_face::{Chip, ChipKind, ChipList, ChipSpec, MOST_CHIPS};
@@ -23,7 +24,7 @@ pub struct Shortage {
 }
 
 /// The chips of a kind in a description.
-fn needed(chips: &[ChipSpec], kind: ChipKind) -> u8
+fn sockets_needed(chips: &[ChipSpec], kind: ChipKind) -> u8
     requires few { length chips.now ≤ MOST_CHIPS }
     ensures { result ≡ needed_of kind chips.now }
 {
@@ -66,7 +67,7 @@ fn shortage_in_kind(chips: &[ChipSpec], rack: &Rack, kind: ChipKind) -> Option<S
     requires chips { length chips.now ≤ MOST_CHIPS }
     ensures { result ≡ shortage_in kind chips.now (kinds_of (map state rack.now.items)) }
 {
-    let need = needed(chips, kind);
+    let need = sockets_needed(chips, kind);
     let have = sockets(rack, kind);
     (have < need).then(|| Shortage { kind, need, have })
 }

@@ -9,7 +9,8 @@ ghost use Rattle.video.specs.ScreenState.{shown};
 ghost use Rattle.f8_machine.specs.HeardSteps.{step_of};
 ghost use Rattle.pad_script.specs.Reading.{seen};
 ghost use Rattle.rack_run.specs.Progressing.{Keeps, frame_at, progress_with};
-ghost use Rattle.rack_run.specs.Texts.{Puts, rows_told, text_told, text_in, served_told, unserved_told, write_told, frame_told};
+ghost use Rattle.rack_run.specs.Texts.{Puts, text_told, text_in};
+ghost use Rattle.rack_run.specs.Texts.{rows_told, served_told, unserved_told, write_told, frame_told};
 
 use super::detail::Detail;
 use super::progress::Progress;
@@ -25,7 +26,8 @@ use romc_table::Romc;
 const ROWS: u8 = 64;
 
 fn put_steps<K: Sink>(sink: &mut K, steps: &[Heard]) -> Result<(), SinkFault>
-    ensures { Puts result (K.output sink.old) (K.output sink.new) (text_told (map (λ h. Traced (step_of h)) steps.now)) }
+    ensures { Puts result (K.output sink.old) (K.output sink.new)
+        (text_told (map (λ h. Traced (step_of h)) steps.now)) }
 {
     for step in steps {
         sink.put(bus_line(step).as_bytes())?;
@@ -39,7 +41,8 @@ pub(crate) fn tell_steps<K: Sink>(
     detail: Detail,
     steps: &[Heard],
 ) -> Result<(), SinkFault>
-    ensures { Puts result (K.output sink.old) (K.output sink.new) (text_in detail (served_told detail steps.now)) }
+    ensures { Puts result (K.output sink.old) (K.output sink.new)
+        (text_in detail (served_told detail steps.now)) }
 {
     if !detail.is_traced() {
         return Ok(());
@@ -54,7 +57,8 @@ pub(crate) fn tell_fault<K: Sink>(
     romc: Romc,
     long: bool,
 ) -> Result<(), SinkFault>
-    ensures { Puts result (K.output sink.old) (K.output sink.new) (text_in detail (unserved_told detail romc long)) }
+    ensures { Puts result (K.output sink.old) (K.output sink.new)
+        (text_in detail (unserved_told detail romc long)) }
 {
     if !detail.is_traced() {
         return Ok(());
@@ -68,7 +72,8 @@ fn tell_write<K: Sink>(
     detail: Detail,
     wrote: Option<PortWrite>,
 ) -> Result<(), SinkFault>
-    ensures { Puts result (K.output sink.old) (K.output sink.new) (text_in detail (write_told wrote)) }
+    ensures { Puts result (K.output sink.old) (K.output sink.new)
+        (text_in detail (write_told wrote)) }
 {
     let Some(write) = wrote else {
         return Ok(());
@@ -81,7 +86,8 @@ fn tell_write<K: Sink>(
 
 fn put_rows<K: Sink>(sink: &mut K, screen: &Screen) -> Result<(), SinkFault>
     ensures { (ws : List PortWrite) → screen.now ≡ shown ws
-        → Puts result (K.output sink.old) (K.output sink.new) (text_of (rows_told ws)) }
+        → Puts result (K.output sink.old) (K.output sink.new)
+        (text_of (rows_told ws)) }
 {
     for y in 0..ROWS {
         sink.put(row_line(screen, y).as_bytes())?;
@@ -92,7 +98,8 @@ fn put_rows<K: Sink>(sink: &mut K, screen: &Screen) -> Result<(), SinkFault>
 /// A frame, with the clocks at its end.
 fn put_frame<K: Sink>(sink: &mut K, screen: &Screen, frame: u32, phi: u64) -> Result<(), SinkFault>
     ensures { (ws : List PortWrite) → screen.now ≡ shown ws
-        → Puts result (K.output sink.old) (K.output sink.new) (text_of (frame_lines frame phi ws)) }
+        → Puts result (K.output sink.old) (K.output sink.new)
+        (text_of (frame_lines frame phi ws)) }
 {
     sink.put(frame_line(frame, phi, screen.tone()).as_bytes())?;
     put_rows(sink, screen)
@@ -108,7 +115,8 @@ fn tell_frame<K: Sink>(
     phi: u64,
 ) -> Result<(), SinkFault>
     ensures { (ws : List PortWrite) → screen.now ≡ shown ws
-        → Puts result (K.output sink.old) (K.output sink.new) (text_in detail (frame_told shows.now fallen phi ws)) }
+        → Puts result (K.output sink.old) (K.output sink.new)
+        (text_in detail (frame_told shows.now fallen phi ws)) }
 {
     let Some(frame) = fallen else {
         return Ok(());
@@ -133,7 +141,8 @@ fn tell_turn<K: Sink>(
     phi: u64,
 ) -> Result<(), SinkFault>
     ensures { (ws : List PortWrite) → screen.now ≡ shown ws
-        → Puts result (K.output sink.old) (K.output sink.new) (text_in detail (write_told wrote ++ frame_told shows.now fallen phi ws)) }
+        → Puts result (K.output sink.old) (K.output sink.new)
+        (text_in detail (write_told wrote ++ frame_told shows.now fallen phi ws)) }
 {
     tell_write(sink, detail, wrote)?;
     tell_frame(sink, detail, shows, screen, fallen, phi)
@@ -154,7 +163,8 @@ pub(crate) fn tell_end<K: Sink>(
     requires few { progress.old.count + 1 < 2 ^ 32 }
     ensures puts { (x y : Position) → Keeps progress.old x.flat.state → y.flat.state.phi ≡ phi
         → y.flat.state.writes ≡ with_write wrote x.flat.state.writes
-        → Puts result (K.output sink.old) (K.output sink.new) (text_in detail (told_turn (seen script.now) x (Goes y))) }
+        → Puts result (K.output sink.old) (K.output sink.new)
+        (text_in detail (told_turn (seen script.now) x (Goes y))) }
     ensures fallen { IfOk result (λ frame. frame ≡ frame_at progress.old phi) }
     ensures after { progress.new ≡ progress_with wrote phi progress.old }
 {

@@ -14,9 +14,14 @@ returns-in_err-put_bytes-clause-err g c =
 pub returns-clause-ok : goal.returns-clause-ok
 unfolding image_lines
 returns-clause-ok g c =
-    rw text_of-append (on_ok_weaker c.put_symbols.result (λ second. adds_then _ _ _ _ _ (rw c.bytes.ensures at c.in_ok-put_bytes.ensures.ok) second) c.put_symbols.ensures.ok)
+    rw text_of-append
+    (on_ok_weaker c.put_symbols.result
+    (λ second. adds_then _ _ _ _ _ (rw c.bytes.ensures at c.in_ok-put_bytes.ensures.ok) second) c.put_symbols.ensures.ok)
 
 pub returns-clause-err : goal.returns-clause-err
 unfolding image_lines
 returns-clause-err g c =
-    rw text_of-append (on_err_weaker c.put_symbols.result (λ second. adds_part_behind _ _ _ _ _ (rw c.bytes.ensures at c.in_ok-put_bytes.ensures.ok) second) c.put_symbols.ensures.err)
+    rw text_of-append
+    (on_err_weaker c.put_symbols.result
+    (λ second. adds_part_behind _ _ _ _ _ (rw c.bytes.ensures at c.in_ok-put_bytes.ensures.ok) second)
+    c.put_symbols.ensures.err)

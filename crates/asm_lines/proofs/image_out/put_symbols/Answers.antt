@@ -3,7 +3,7 @@ use Rattle.std.proofs.Common.{◌≤◌, ◌<◌, ◌∙◌, sym, arith, rules, 
 use mir.Val.{SFits}
 use Rattle.std.proofs.lemmas.Result.{err_from_is_err_and}
 use Rattle.std.proofs.lemmas.Int.{to_z-of_z}
-use Rattle.outside.proofs.SinkLaws.{taken_more, taken_all, taken_part}
+use Rattle.outside.proofs.SinkLaws.{put_so_far_more, put_so_far_all, put_so_far_part}
 use Rattle.asm_lines.proofs.SymbolLaws.{text_symbol, text_no_symbol, symbol_within}
 use Rattle.asm_lines.proofs.image_out.put_symbols.Goals as goal
 use Rattle.asm_lines.proofs.image_out.put_symbols.Goals.{in-Some+in_ok-put, in_default}
@@ -11,13 +11,13 @@ use Rattle.asm_lines.proofs.image_out.put_symbols.Goals.{in-Some+in_ok-put, in_d
 pub loop-k-preserved : goal.loop-k-preserved
 loop-k-preserved g c = elim c.match-symbol.branch [
   | in-Some+in_ok-put w ↦
-      let begins = text_symbol c.args.image.now.symbols c.loop-k.k (w.in-Some.name.now, w.in-Some.value) (sym w.in-Some.ensures.entry) in
+      let begins =
+      text_symbol c.args.image.now.symbols c.loop-k.k (w.in-Some.name.now, w.in-Some.value)
+      (sym w.in-Some.ensures.entry) in
       let fits : SFits w64 w.in-Some.value = search rules in
       let value = to_z-of_z w64 w.in-Some.value fits in
-      rw w.sink-is (record {
-        taken = taken_more _ _ _ _ _ _ (rw begins at c.loop-k.invariant.taken) (rw (w.as_bytes.ensures.value, w.symbol_line.ensures, value) at w.in_ok-put.ensures.ok);
-        faults = w.in_ok-put.ensures.cause.done ∙ c.loop-k.invariant.faults;
-      })
+      rw w.sink-is
+      (put_so_far_more _ _ _ _ _ _ (rw begins at c.loop-k.invariant) (rw (w.as_bytes.ensures.value, w.symbol_line.ensures, value) at w.in_ok-put.ensures.ok))
   | in_default w ↦
       let within : c.loop-k.k < length c.args.image.now.symbols = omega (arith, c.symbol_count-k-end.ensures) in
       absurd (symbol_within c.args.image.now.symbols c.loop-k.k within w.in_default.ensures.entry)
@@ -26,12 +26,15 @@ loop-k-preserved g c = elim c.match-symbol.branch [
 pub returns-clause-ok : goal.returns-clause-ok
 returns-clause-ok g c =
     let past : length c.args.image.now.symbols ≤ c.loop-k.k = omega (arith, c.symbol_count-k-end.ensures) in
-    taken_all _ _ _ (rw (text_no_symbol _ _ past) at c.loop-k.invariant.taken)
+    put_so_far_all _ _ _ (rw (text_no_symbol _ _ past) at c.loop-k.invariant)
 
 pub returns-in_err-put-clause-err : goal.returns-in_err-put-clause-err
 returns-in_err-put-clause-err g c =
     let p = err_from_is_err_and c.from_residual.result c.from_residual.ensures.1 in
-    let begins = text_symbol c.args.image.now.symbols c.loop-k.k (c.in-Some.name.now, c.in-Some.value) (sym c.in-Some.ensures.entry) in
+    let begins =
+    text_symbol c.args.image.now.symbols c.loop-k.k (c.in-Some.name.now, c.in-Some.value)
+    (sym c.in-Some.ensures.entry) in
     let fits : SFits w64 c.in-Some.value = search rules in
     let value = to_z-of_z w64 c.in-Some.value fits in
-    rw p.1 (taken_part _ _ _ _ _ _ (rw begins at c.loop-k.invariant.taken) (rw (c.as_bytes.ensures.value, c.symbol_line.ensures, value) at c.in_err-put.ensures.err))
+    rw p.1
+    (put_so_far_part _ _ _ _ _ _ (rw begins at c.loop-k.invariant) (rw (c.as_bytes.ensures.value, c.symbol_line.ensures, value) at c.in_err-put.ensures.err))

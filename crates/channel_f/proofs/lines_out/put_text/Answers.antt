@@ -1,8 +1,9 @@
+-- The text is one line.
 use Rattle.channel_f.proofs.Games.{reports_text, reports_text_part}
 use Rattle.channel_f.proofs.lines_out.put_text.Goals as goal
 
 pub returns-in-Ok : goal.returns-in-Ok
-returns-in-Ok g c = reports_text _ _ _ _ 0 c.args.text.now (λ e. cc) c.in-Ok.ensures.ok c.in-Ok.ensures.cause.done
+returns-in-Ok g c = reports_text _ _ 0 c.args.text.now (λ e. cc) c.in-Ok.ensures.ok
 
 pub returns-in-Err : goal.returns-in-Err
-returns-in-Err g c = reports_text_part _ _ _ _ 0 c.args.text.now c.in-Err.ensures.err c.in-Err.ensures.cause.failed
+returns-in-Err g c = reports_text_part _ _ 0 c.args.text.now c.in-Err.ensures.err

@@ -6,7 +6,8 @@ pub returns-in-Err-Failed-clause-works : goal.returns-in-Err-Failed-clause-works
 returns-in-Err-Failed-clause-works g c =
     let is = c.in-Err-Failed.is ∙ ap Err c.in-Err-Failed.field-0-is in
     let fetched = c.fetch.ensures.fetched in
-    ask_failed _ _ c.args.purpose c.args.name.now c.args.limit c.fetch.result fetched (failed_rose _ _ _ is fetched.cause)
+    ask_failed _ _ c.args.purpose c.args.name.now c.args.limit c.fetch.result fetched
+    (failed_rose _ _ _ is fetched.cause)
 
 pub returns-in-Err-TooLong-clause-works : goal.returns-in-Err-TooLong-clause-works
 returns-in-Err-TooLong-clause-works g c =

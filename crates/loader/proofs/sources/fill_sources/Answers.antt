@@ -35,4 +35,5 @@ returns-clause-filled g c =
     let few = c.requires in
     let last = c.loop-chip-test.false in
     let end = c.loop-chip.auto.chip-end in
-    none_wants_all c.loop-chip.chip c.loop-chip.plan.chips (omega (arith, size, few, last, end)) c.loop-chip.invariant.none
+    none_wants_all c.loop-chip.chip c.loop-chip.plan.chips (omega (arith, size, few, last, end))
+    c.loop-chip.invariant.none

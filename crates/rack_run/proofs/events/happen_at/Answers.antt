@@ -8,13 +8,16 @@ loop-at-preserved g c =
     let nows = map (λ b. (goal.Chip-dyn g (b.vtable, b.value)).state b.value) c.happen_if.new.rack.items in
     record {
       begins =
-          λ x b. at_next (λ y. g.P.Player.begins c.happen_if.new.player nows y) c.args.frame c.args.events.now c.loop-at.at-index _ x
+          λ x b. at_next (λ y. g.P.Player.begins c.happen_if.new.player nows y) c.args.frame c.args.events.now
+          c.loop-at.at-index _ x
           c.loop-at-test.true (c.happen_if.ensures.begins _ (c.loop-at.invariant.begins x b));
       at =
-          λ x a. at_next (λ y. g.P.Player.at c.happen_if.new.player nows y) c.args.frame c.args.events.now c.loop-at.at-index _ x
+          λ x a. at_next (λ y. g.P.Player.at c.happen_if.new.player nows y) c.args.frame c.args.events.now
+          c.loop-at.at-index _ x
           c.loop-at-test.true (c.happen_if.ensures.at _ (c.loop-at.invariant.at x a));
       came =
-          come_next c.args.frame c.args.events.now c.loop-at.at-index _ _ _ _ c.loop-at-test.true c.loop-at.invariant.came
+          come_next c.args.frame c.args.events.now c.loop-at.at-index _ _ _ _ c.loop-at-test.true
+          c.loop-at.invariant.came
           c.happen_if.ensures.came;
       ready = λ was. c.happen_if.ensures.ready (c.loop-at.invariant.ready was);
       phi = c.happen_if.ensures.phi ∙ c.loop-at.invariant.phi;

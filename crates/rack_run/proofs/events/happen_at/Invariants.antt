@@ -12,7 +12,8 @@ invariant-loop-at g l =
     let nows = map (λ b. (goal.Chip-dyn g (b.vtable, b.value)).state b.value) l.rack.items in
     let events = events_at l.frame (take l.at-index l.events) in
     record {
-      begins : (x : Position) → g.P.Player.begins l.fn.player olds x → g.P.Player.begins l.player nows (with_events events x);
+      begins : (x : Position) → g.P.Player.begins l.fn.player olds x →
+          g.P.Player.begins l.player nows (with_events events x);
       at : (x : Position) → g.P.Player.at l.fn.player olds x → g.P.Player.at l.player nows (with_events events x);
       came : Come events olds nows;
       ready : g.P.Player.ready l.fn.player → g.P.Player.ready l.player;

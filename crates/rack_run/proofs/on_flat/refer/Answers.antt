@@ -2,7 +2,7 @@
 use Rattle.console_spec.specs.Run.{power_position, chain_in_order}
 use Rattle.memory_map.specs.MapOf.{views_of}
 use Rattle.pad_script.specs.Reading.{seen}
-use Rattle.rack_run.proofs.FlatTurns.{start_of, started, keeps_started, tells_whole, lines_whole, lines_cut}
+use Rattle.rack_run.proofs.FlatTurns.{start_of, stands_at_start, keeps_at_start, tells_whole, lines_whole, lines_cut}
 use Rattle.rack_run.proofs.on_flat.refer.Goals as goal
 
 pub returns-in-Ok-run-clause-refers : goal.returns-in-Ok-run-clause-refers
@@ -11,8 +11,8 @@ returns-in-Ok-run-clause-refers g c =
     let vs = views_of c.args.chips.now in
     let begun = rw c.as_slice.ensures.events at
     (c.happen_at.ensures.begins (power_position vs (chain_in_order vs) script.power) c.in-Ok.ensures.stands) in
-    let keeps = keeps_started c.happen_at.new.player vs script c.phi.result begun c.phi.ensures in
-    let out = c.in-Ok-run.ensures.out (start_of vs script) (started c.happen_at.new.player vs script begun)
+    let keeps = keeps_at_start c.happen_at.new.player vs script c.phi.result begun c.phi.ensures in
+    let out = c.in-Ok-run.ensures.out (start_of vs script) (stands_at_start c.happen_at.new.player vs script begun)
     (rw c.new-progress.ensures keeps) in
     record {
       tells = tells_whole vs script _ _ _ _ c.in-Ok-run.ending out;
@@ -25,6 +25,6 @@ returns-clause-failed g c =
     let vs = views_of c.args.chips.now in
     let begun = rw c.as_slice.ensures.events at
     (c.happen_at.ensures.begins (power_position vs (chain_in_order vs) script.power) c.in-Ok.ensures.stands) in
-    let keeps = keeps_started c.happen_at.new.player vs script c.phi.result begun c.phi.ensures in
+    let keeps = keeps_at_start c.happen_at.new.player vs script c.phi.result begun c.phi.ensures in
     lines_cut vs script _ _ _ _
-    (c.in-Err.ensures.short (start_of vs script) (started c.happen_at.new.player vs script begun) (rw c.new-progress.ensures keeps))
+    (c.in-Err.ensures.short (start_of vs script) (stands_at_start c.happen_at.new.player vs script begun) (rw c.new-progress.ensures keeps))

@@ -3,7 +3,8 @@ use Rattle.std.proofs.Common.{◌∙◌, ap}
 use Rattle.std.proofs.lemmas.Result.{err_from_is_err_and}
 use Rattle.pad_script.specs.Reading.{seen}
 use Rattle.rack_run.proofs.Outcomes.{reset_is, reset_heard}
-use Rattle.rack_run.proofs.PlayLaws.{plays_cut, plays_not, plays_ok, plays_err, keeps_new, after_writes, after_count, quiet_writes, quiet_count, powered_reads}
+use Rattle.rack_run.proofs.PlayLaws.{plays_cut, plays_not, plays_ok, plays_err, keeps_new, after_writes, after_count}
+use Rattle.rack_run.proofs.PlayLaws.{quiet_writes, quiet_count, powered_reads}
 use Rattle.rack_run.proofs.MachineTurns.{reads_kept}
 use Rattle.rack_run.proofs.on_rack.play.Goals as goal
 
@@ -19,7 +20,7 @@ returns-in_err-tell_outcome-clause-failed g c =
     rw p.1
     (plays_cut c.args.detail (seen c.args.script.now) c.args.chain _ _ c.power-machine.ensures.powered _ _
     (rw c.as_slice.ensures.events at c.happen_at.ensures.came) _
-    (reset_heard c.reset-outcome.result _ _ _ _ refines) c.reset-outcome.ensures.ran _
+    (reset_heard c.reset-outcome.result _ _ _ _ refines) c.reset-outcome.ensures.follows.ran _
     (reset_is c.args.detail c.reset-outcome.result _ _ _ _ refines) _ _
     c.in_err-tell_outcome.ensures.some c.in_err-tell_outcome.ensures.err)
 
@@ -34,10 +35,12 @@ returns-in-Done-clause-plays g c =
     (after_writes c.args.detail script c.args.chain _ _ c.power-machine.ensures.powered done.after done.turns)
     (after_count c.args.detail script c.args.chain _ _ c.power-machine.ensures.powered done.after done.turns)
     (c.phi.ensures ∙ done.represents.stands.phi) in
-    plays_ok c.args.detail script c.args.chain _ _ c.power-machine.ensures.powered _ _ (rw c.as_slice.ensures.events at c.happen_at.ensures.came) _
-    (reset_heard c.reset-outcome.result _ _ _ _ refines) c.reset-outcome.ensures.ran _
+    plays_ok c.args.detail script c.args.chain _ _ c.power-machine.ensures.powered _ _
+    (rw c.as_slice.ensures.events at c.happen_at.ensures.came) _
+    (reset_heard c.reset-outcome.result _ _ _ _ refines) c.reset-outcome.ensures.follows.ran _
     (reset_is c.args.detail c.reset-outcome.result _ _ _ _ refines) _ _ c.in_ok-tell_outcome.ensures.ok
-    done.after done.turns _ _ c.run.result (c.run.ensures.out done.after done.represents (rw c.new-progress.ensures keeps))
+    done.after done.turns _ _ c.run.result
+    (c.run.ensures.out done.after done.represents (rw c.new-progress.ensures keeps))
 
 pub returns-in-Done-clause-failed : goal.returns-in-Done-clause-failed
 returns-in-Done-clause-failed g c =
@@ -50,31 +53,39 @@ returns-in-Done-clause-failed g c =
     (after_writes c.args.detail script c.args.chain _ _ c.power-machine.ensures.powered done.after done.turns)
     (after_count c.args.detail script c.args.chain _ _ c.power-machine.ensures.powered done.after done.turns)
     (c.phi.ensures ∙ done.represents.stands.phi) in
-    plays_err c.args.detail script c.args.chain _ _ c.power-machine.ensures.powered _ _ (rw c.as_slice.ensures.events at c.happen_at.ensures.came) _
-    (reset_heard c.reset-outcome.result _ _ _ _ refines) c.reset-outcome.ensures.ran _
+    plays_err c.args.detail script c.args.chain _ _ c.power-machine.ensures.powered _ _
+    (rw c.as_slice.ensures.events at c.happen_at.ensures.came) _
+    (reset_heard c.reset-outcome.result _ _ _ _ refines) c.reset-outcome.ensures.follows.ran _
     (reset_is c.args.detail c.reset-outcome.result _ _ _ _ refines) _ _ c.in_ok-tell_outcome.ensures.ok
-    done.after done.turns _ _ c.run.result (c.run.ensures.short done.after done.represents (rw c.new-progress.ensures keeps))
+    done.after done.turns _ _ c.run.result
+    (c.run.ensures.short done.after done.represents (rw c.new-progress.ensures keeps))
 
 pub returns-in-Fault-clause-plays : goal.returns-in-Fault-clause-plays
 returns-in-Fault-clause-plays g c =
     let powered =
-    rw c.as_slice.ensures.events at (c.happen_at.ensures.begins _ (c.power-machine.ensures.pair c.requires.whole c.requires.ports)) in
+    rw c.as_slice.ensures.events
+    at (c.happen_at.ensures.begins _ (c.power-machine.ensures.pair c.requires.whole c.requires.ports)) in
     let refines = c.reset-outcome.ensures.refines _ powered in
     let faulted = rw c.in-Fault.is at refines in
     let script = seen c.args.script.now in
     let reads =
-    reads_kept c.happen_at.new.player c.reset-outcome.new.self (ap (λ m. m.flow) faulted.kept) (ap (λ m. m.cpu) faulted.kept)
+    reads_kept c.happen_at.new.player c.reset-outcome.new.self (ap (λ m. m.flow) faulted.kept)
+    (ap (λ m. m.cpu) faulted.kept)
     (ap (λ m. m.phi) faulted.kept) ∙ powered_reads c.happen_at.new.player _ _ powered in
     let keeps =
     keeps_new c.phi.result _ (quiet_writes c.args.detail script c.args.chain _ _ c.power-machine.ensures.powered)
-    (quiet_count c.args.detail script c.args.chain _ _ c.power-machine.ensures.powered) (c.phi.ensures ∙ ap (λ r. r.phi) reads) in
-    plays_not c.args.detail script c.args.chain _ _ c.power-machine.ensures.powered _ _ (rw c.as_slice.ensures.events at c.happen_at.ensures.came) _
-    (reset_heard c.reset-outcome.result _ _ _ _ refines) c.reset-outcome.ensures.ran _
+    (quiet_count c.args.detail script c.args.chain _ _ c.power-machine.ensures.powered)
+    (c.phi.ensures ∙ ap (λ r. r.phi) reads) in
+    plays_not c.args.detail script c.args.chain _ _ c.power-machine.ensures.powered _ _
+    (rw c.as_slice.ensures.events at c.happen_at.ensures.came) _
+    (reset_heard c.reset-outcome.result _ _ _ _ refines) c.reset-outcome.ensures.follows.ran _
     (reset_is c.args.detail c.reset-outcome.result _ _ _ _ refines) _ _
-    c.ending.result _ faulted.turns (c.ending.ensures _ reads (rw c.new-progress.ensures keeps)) c.in_ok-tell_outcome.ensures.ok
+    c.ending.result _ faulted.turns (c.ending.ensures _ reads (rw c.new-progress.ensures keeps))
+    c.in_ok-tell_outcome.ensures.ok
 
 pub returns-in-Reserved-clause-plays : goal.returns-in-Reserved-clause-plays
 returns-in-Reserved-clause-plays g c =
     let powered =
-    rw c.as_slice.ensures.events at (c.happen_at.ensures.begins _ (c.power-machine.ensures.pair c.requires.whole c.requires.ports)) in
+    rw c.as_slice.ensures.events
+    at (c.happen_at.ensures.begins _ (c.power-machine.ensures.pair c.requires.whole c.requires.ports)) in
     absurd (rw c.in-Reserved.is at (c.reset-outcome.ensures.refines _ powered))

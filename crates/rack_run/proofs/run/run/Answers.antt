@@ -1,7 +1,6 @@
 -- Each turn leads on or ends the run.
-use Rattle.std.proofs.Common.{◌≡◌, ◌∙◌, ◌+◌, ◌<◌, refl, sym, ap, map, false, arith}
+use Rattle.std.proofs.Common.{◌∙◌, ◌+◌, ◌<◌, refl, sym, ap, map, arith}
 use Rattle.console_spec.specs.Scripts.{most_instructions}
-use Rattle.console_spec.specs.Telling.{is_over}
 use Rattle.pad_script.specs.Reading.{seen}
 use Rattle.rack_run.proofs.Progressed.{over_is}
 use Rattle.rack_run.proofs.RunLaws.{reached_first, reached_more, ends_over, ends_done, ends_stopped, ends_cut}
@@ -13,7 +12,8 @@ loop-init g c =
     record {
       reached =
           λ x at keeps. reached_first c.args.detail (g.P.Player.way c.args.detail) (seen c.args.script.now) x
-          (g.P.Player.at c.args.player.now states) c.args.progress.now states (g.K.Sink.output c.args.sink.now) at keeps;
+          (g.P.Player.at c.args.player.now states) c.args.progress.now states (g.K.Sink.output c.args.sink.now)
+          at keeps;
       ready = c.requires.ready;
       chips = refl;
       count = c.requires.count;
@@ -24,28 +24,39 @@ loop-init g c =
 pub returns-then-is_over-clause-out : goal.returns-then-is_over-clause-out
 returns-then-is_over-clause-out g c = λ x at keeps.
     let here = c.loop.invariant.reached x at keeps in
-    ends_over c.args.detail (g.P.Player.way c.args.detail) (seen c.args.script.now) x _ c.loop.counter c.loop.progress _ _ _ _ here
-    (g.P.Player.readout c.loop.player) (g.met.P.Player.reads c.loop.player _ here.here here.at) c.ending.result c.ending.ensures
+    ends_over c.args.detail (g.P.Player.way c.args.detail) (seen c.args.script.now) x _ c.loop.counter c.loop.progress
+    _ _ _ _ here
+    (g.P.Player.readout c.loop.player) (g.met.P.Player.reads c.loop.player _ here.here here.at) c.ending.result
+    c.ending.ensures
     (sym (over_is c.args.script.now.end c.loop.progress here.here.flat.state here.keeps) ∙ sym c.is_over.ensures ∙ c.if-is_over.true)
 
 pub returns-in-Err-Halt-clause-out : goal.returns-in-Err-Halt-clause-out
 returns-in-Err-Halt-clause-out g c = λ x at keeps.
     let here = c.loop.invariant.reached x at keeps in
     let on =
-    sym (over_is c.args.script.now.end c.loop.progress here.here.flat.state here.keeps) ∙ sym c.is_over.ensures ∙ c.if-is_over.false in
-    let more : c.loop.counter < most_instructions c.args.script.now.end = rw c.most_instructions-end.ensures at c.loop-test.true in
+    sym (over_is c.args.script.now.end c.loop.progress here.here.flat.state here.keeps)
+    ∙ sym c.is_over.ensures
+    ∙ c.if-is_over.false in
+    let more : c.loop.counter < most_instructions c.args.script.now.end =
+    rw c.most_instructions-end.ensures at c.loop-test.true in
     let cut = rw c.in-Err-Halt.field-0-is at (c.in-Err-Halt.ensures.cut here.here here.at here.keeps) in
-    ends_stopped c.args.detail (g.P.Player.way c.args.detail) (seen c.args.script.now) x _ c.loop.counter c.loop.progress _ _ _ _ here
-    (g.P.Player.readout c.turn.new.player) c.turn.new.progress _ _ c.ending-in-Err-Halt.result c.in-Err-Halt.halt more on cut
+    ends_stopped c.args.detail (g.P.Player.way c.args.detail) (seen c.args.script.now) x _ c.loop.counter
+    c.loop.progress _ _ _ _ here
+    (g.P.Player.readout c.turn.new.player) c.turn.new.progress _ _ c.ending-in-Err-Halt.result c.in-Err-Halt.halt more
+    on cut
     (rw c.in-Err-Halt.field-0-is at c.ending-in-Err-Halt.ensures)
 
 pub returns-in-Err-Sink-clause-short : goal.returns-in-Err-Sink-clause-short
 returns-in-Err-Sink-clause-short g c = λ x at keeps.
     let here = c.loop.invariant.reached x at keeps in
     let on =
-    sym (over_is c.args.script.now.end c.loop.progress here.here.flat.state here.keeps) ∙ sym c.is_over.ensures ∙ c.if-is_over.false in
-    let more : c.loop.counter < most_instructions c.args.script.now.end = rw c.most_instructions-end.ensures at c.loop-test.true in
-    ends_cut c.args.detail (g.P.Player.way c.args.detail) (seen c.args.script.now) x _ c.loop.counter c.loop.progress _ _ _ _ _ _ more
+    sym (over_is c.args.script.now.end c.loop.progress here.here.flat.state here.keeps)
+    ∙ sym c.is_over.ensures
+    ∙ c.if-is_over.false in
+    let more : c.loop.counter < most_instructions c.args.script.now.end =
+    rw c.most_instructions-end.ensures at c.loop-test.true in
+    ends_cut c.args.detail (g.P.Player.way c.args.detail) (seen c.args.script.now) x _ c.loop.counter c.loop.progress _
+    _ _ _ _ _ more
     here on (rw c.in-Err-Sink.field-0-is at (c.in-Err-Sink.ensures.cut here.here here.at here.keeps))
 
 pub loop-preserved : goal.loop-preserved
@@ -55,10 +66,14 @@ loop-preserved g c =
       reached = λ x at keeps.
           let here = c.loop.invariant.reached x at keeps in
           let on =
-          sym (over_is c.args.script.now.end c.loop.progress here.here.flat.state here.keeps) ∙ sym c.is_over.ensures ∙ c.if-is_over.false in
-          let more : c.loop.counter < most_instructions c.args.script.now.end = rw c.most_instructions-end.ensures at c.loop-test.true in
+          sym (over_is c.args.script.now.end c.loop.progress here.here.flat.state here.keeps)
+          ∙ sym c.is_over.ensures
+          ∙ c.if-is_over.false in
+          let more : c.loop.counter < most_instructions c.args.script.now.end =
+          rw c.most_instructions-end.ensures at c.loop-test.true in
           reached_more c.args.detail (g.P.Player.way c.args.detail) (seen c.args.script.now) x _
-          (g.P.Player.at c.turn.new.player nows) c.loop.counter c.loop.progress c.turn.new.progress _ _ _ _ _ _ more here on
+          (g.P.Player.at c.turn.new.player nows) c.loop.counter c.loop.progress c.turn.new.progress _ _ _ _ _ _ more
+          here on
           (c.in-Ok.ensures.goes here.here here.at here.keeps);
       ready = c.turn.ensures.ready;
       chips = c.turn.ensures.chips ∙ c.loop.invariant.chips;
@@ -70,6 +85,8 @@ loop-preserved g c =
 pub returns-clause-out : goal.returns-clause-out
 returns-clause-out g c = λ x at keeps.
     let here = c.loop.invariant.reached x at keeps in
-    ends_done c.args.detail (g.P.Player.way c.args.detail) (seen c.args.script.now) x _ c.loop.counter c.loop.progress _ _ _ _ here
-    (g.P.Player.readout c.loop.player) (g.met.P.Player.reads c.loop.player _ here.here here.at) c.ending-2.result c.ending-2.ensures
+    ends_done c.args.detail (g.P.Player.way c.args.detail) (seen c.args.script.now) x _ c.loop.counter c.loop.progress
+    _ _ _ _ here
+    (g.P.Player.readout c.loop.player) (g.met.P.Player.reads c.loop.player _ here.here here.at) c.ending-2.result
+    c.ending-2.ensures
     (rw c.most_instructions-end.ensures at c.loop-test.false)

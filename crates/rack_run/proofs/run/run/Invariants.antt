@@ -13,7 +13,8 @@ invariant-loop g l =
     let nows = map (λ b. (goal.Chip-dyn g (b.vtable, b.value)).state b.value) l.rack.items in
     record {
       reached : (x : Position) → g.P.Player.at l.fn.player olds x → Keeps l.fn.progress x.flat.state →
-          Reached l.detail (g.P.Player.way l.detail) (seen l.script) x (g.P.Player.at l.player nows) l.counter l.progress olds nows
+          Reached l.detail (g.P.Player.way l.detail) (seen l.script) x (g.P.Player.at l.player nows) l.counter
+          l.progress olds nows
           (g.K.Sink.output l.fn.sink) (g.K.Sink.output l.sink);
       ready : g.P.Player.ready l.player;
       chips : length l.rack.items ≡ length l.fn.rack.items;

@@ -18,16 +18,20 @@ returns-in_default-clause-cut g c = λ x at keeps.
     let done = c.in_ok-wrote.ensures.goes x at in
     let phi = c.clocks.ensures ∙ ap (λ r. r.phi) (g.met.P.Player.reads c.advance.new.self _ done.there done.at) in
     let puts = c.in_default.ensures.puts x done.there keeps (sym phi) done.writes in
-    fails_behind c.args.detail (g.P.Player.way c.args.detail) (seen c.args.script.now) x _ _ _ _ _ _ done _ puts.some puts.err
+    fails_behind c.args.detail (g.P.Player.way c.args.detail) (seen c.args.script.now) x _ _ _ _ _ _ done _ puts.some
+    puts.err
 
 pub returns-clause-goes : goal.returns-clause-goes
 returns-clause-goes g c = λ x at keeps.
     let done = c.in_ok-wrote.ensures.goes x at in
     let phi = c.clocks.ensures ∙ ap (λ r. r.phi) (g.met.P.Player.reads c.advance.new.self _ done.there done.at) in
     let puts = c.in-Ok.ensures.puts x done.there keeps (sym phi) done.writes in
-    let kept = keeps_turn c.in_ok-wrote.wrote c.args.progress.now c.tell_end.new.progress x done.there c.clocks.result keeps done.counts
+    let kept =
+    keeps_turn c.in_ok-wrote.wrote c.args.progress.now c.tell_end.new.progress x done.there c.clocks.result keeps
+    done.counts
     done.writes phi c.in-Ok.ensures.after in
     let falls = c.in-Ok.ensures.fallen
     ∙ frame_falls c.args.progress.now x.flat.state done.there.flat.state c.clocks.result keeps phi in
-    goes_on c.args.detail (g.P.Player.way c.args.detail) (seen c.args.script.now) x _ _ _ _ _ _ done _ _ _ _ puts.ok kept
+    goes_on c.args.detail (g.P.Player.way c.args.detail) (seen c.args.script.now) x _ _ _ _ _ _ done _ _ _ _ puts.ok
+    kept
     (c.happen_behind.ensures.behind x done.there done.at kept falls)

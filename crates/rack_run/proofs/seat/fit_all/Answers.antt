@@ -1,7 +1,8 @@
 -- Each chip is fitted by its socket, and the chips behind it are as they were.
 use Rattle.std.proofs.Common.{◌≡◌, ◌∙◌, ◌+◌, ◌<◌, ◌≤◌, length, refl, ap, vec_len, arith, add-one}
 use Rattle.data_bus.proofs.Racks.{changed-none, changed-more, changed-written, unchanged_at}
-use Rattle.rack_run.proofs.Seats.{counted_here, counted_more, kinds_from, all_whole, all_leave, fits_seated, views_fitted, partly_written}
+use Rattle.rack_run.proofs.Seats.{counted_here, counted_more, kinds_from, all_whole, all_leave, fits_seated}
+use Rattle.rack_run.proofs.Seats.{views_fitted, partly_written}
 use Rattle.std.proofs.lemmas.Result.{err_from_is_err_and}
 use Rattle.rack_run.proofs.seat.fit_all.Goals as goal
 
@@ -10,12 +11,14 @@ loop-chip-init g c = record { few = refl; counted = record { left = refl }; chan
 
 pub fit_next-requires-clause-psus : goal.fit_next-requires-clause-psus
 fit_next-requires-clause-psus g c =
-    let within : c.loop-chip.chip-index < length c.args.rack.now.items = rw c.deref_mut-chip-items.ensures.value at c.loop-chip-test.true in
+    let within : c.loop-chip.chip-index < length c.args.rack.now.items =
+    rw c.deref_mut-chip-items.ensures.value at c.loop-chip-test.true in
     omega (arith, within, c.requires.few, c.loop-chip.invariant.few)
 
 pub fit_next-requires-clause-smis : goal.fit_next-requires-clause-smis
 fit_next-requires-clause-smis g c =
-    let within : c.loop-chip.chip-index < length c.args.rack.now.items = rw c.deref_mut-chip-items.ensures.value at c.loop-chip-test.true in
+    let within : c.loop-chip.chip-index < length c.args.rack.now.items =
+    rw c.deref_mut-chip-items.ensures.value at c.loop-chip-test.true in
     omega (arith, within, c.requires.few, c.loop-chip.invariant.few)
 
 pub loop-chip-preserved : goal.loop-chip-preserved
@@ -26,7 +29,8 @@ loop-chip-preserved g c =
     c.loop-chip-test.true c.loop-chip.auto.chip-items c.loop-chip.invariant.changed in
     let kinds = kinds_from _ c.loop-chip.chip-index _ here in
     let seat =
-    counted_here c.as_slice-chips.result.now _ _ c.loop-chip.chip-index c.loop-chip.sockets.psus c.loop-chip.sockets.smis _ _ kinds
+    counted_here c.as_slice-chips.result.now _ _ c.loop-chip.chip-index c.loop-chip.sockets.psus
+    c.loop-chip.sockets.smis _ _ kinds
     c.loop-chip.invariant.counted in
     record {
       few = c.fit_next.ensures.more ∙ ap (λ n. n + 1) c.loop-chip.invariant.few;
@@ -47,9 +51,11 @@ returns-clause-fitted g c =
     rw c.deref_mut-chip-items.ensures.value at c.loop-chip.auto.chip-items in
     let count : length c.args.rack.now.items ≡ vec_len c.args.rack.now =
     rw c.deref_mut-chip-items.ensures.value at c.deref_mut-chip-items.ensures.len in
-    let past : length c.args.rack.now.items ≤ c.loop-chip.chip-index = rw c.deref_mut-chip-items.ensures.value at c.loop-chip-test.false in
+    let past : length c.args.rack.now.items ≤ c.loop-chip.chip-index =
+    rw c.deref_mut-chip-items.ensures.value at c.loop-chip-test.false in
     let fitted =
-    changed-written (λ b. (goal.Chip-dyn g (b.vtable, b.value)).state b.value) _ c.args.rack.now.items c.loop-chip.chip-items _
+    changed-written (λ b. (goal.Chip-dyn g (b.vtable, b.value)).state b.value) _ c.args.rack.now.items
+    c.loop-chip.chip-items _
     c.loop-chip.chip-index count long past
     (rw c.deref_mut-chip-items.ensures.value at c.loop-chip.invariant.changed) in
     rw c.as_slice-chips.ensures.chips at fitted
@@ -60,9 +66,11 @@ returns-clause-whole g c =
     rw c.deref_mut-chip-items.ensures.value at c.loop-chip.auto.chip-items in
     let count : length c.args.rack.now.items ≡ vec_len c.args.rack.now =
     rw c.deref_mut-chip-items.ensures.value at c.deref_mut-chip-items.ensures.len in
-    let past : length c.args.rack.now.items ≤ c.loop-chip.chip-index = rw c.deref_mut-chip-items.ensures.value at c.loop-chip-test.false in
+    let past : length c.args.rack.now.items ≤ c.loop-chip.chip-index =
+    rw c.deref_mut-chip-items.ensures.value at c.loop-chip-test.false in
     let fitted =
-    changed-written (λ b. (goal.Chip-dyn g (b.vtable, b.value)).state b.value) _ c.args.rack.now.items c.loop-chip.chip-items _
+    changed-written (λ b. (goal.Chip-dyn g (b.vtable, b.value)).state b.value) _ c.args.rack.now.items
+    c.loop-chip.chip-items _
     c.loop-chip.chip-index count long past
     (rw c.deref_mut-chip-items.ensures.value at c.loop-chip.invariant.changed) in
     all_whole _ _ _ fitted
@@ -73,9 +81,11 @@ returns-clause-ports g c =
     rw c.deref_mut-chip-items.ensures.value at c.loop-chip.auto.chip-items in
     let count : length c.args.rack.now.items ≡ vec_len c.args.rack.now =
     rw c.deref_mut-chip-items.ensures.value at c.deref_mut-chip-items.ensures.len in
-    let past : length c.args.rack.now.items ≤ c.loop-chip.chip-index = rw c.deref_mut-chip-items.ensures.value at c.loop-chip-test.false in
+    let past : length c.args.rack.now.items ≤ c.loop-chip.chip-index =
+    rw c.deref_mut-chip-items.ensures.value at c.loop-chip-test.false in
     let fitted =
-    changed-written (λ b. (goal.Chip-dyn g (b.vtable, b.value)).state b.value) _ c.args.rack.now.items c.loop-chip.chip-items _
+    changed-written (λ b. (goal.Chip-dyn g (b.vtable, b.value)).state b.value) _ c.args.rack.now.items
+    c.loop-chip.chip-items _
     c.loop-chip.chip-index count long past
     (rw c.deref_mut-chip-items.ensures.value at c.loop-chip.invariant.changed) in
     all_leave _ _ _ fitted
@@ -86,9 +96,11 @@ returns-clause-views g c =
     rw c.deref_mut-chip-items.ensures.value at c.loop-chip.auto.chip-items in
     let count : length c.args.rack.now.items ≡ vec_len c.args.rack.now =
     rw c.deref_mut-chip-items.ensures.value at c.deref_mut-chip-items.ensures.len in
-    let past : length c.args.rack.now.items ≤ c.loop-chip.chip-index = rw c.deref_mut-chip-items.ensures.value at c.loop-chip-test.false in
+    let past : length c.args.rack.now.items ≤ c.loop-chip.chip-index =
+    rw c.deref_mut-chip-items.ensures.value at c.loop-chip-test.false in
     let fitted =
-    changed-written (λ b. (goal.Chip-dyn g (b.vtable, b.value)).state b.value) _ c.args.rack.now.items c.loop-chip.chip-items _
+    changed-written (λ b. (goal.Chip-dyn g (b.vtable, b.value)).state b.value) _ c.args.rack.now.items
+    c.loop-chip.chip-items _
     c.loop-chip.chip-index count long past
     (rw c.deref_mut-chip-items.ensures.value at c.loop-chip.invariant.changed) in
     views_fitted c.args.chips.now _ _ (rw c.as_slice-chips.ensures.chips at fitted)
@@ -100,7 +112,11 @@ returns-in_err-fit_next-clause-partly g c =
     rw c.deref_mut-chip-items.ensures.value at c.deref_mut-chip-items.ensures.len in
     let long : length c.loop-chip.chip-items ≡ length c.args.rack.now.items =
     rw c.deref_mut-chip-items.ensures.value at c.loop-chip.auto.chip-items in
-    let within : c.loop-chip.chip-index < length c.args.rack.now.items = rw c.deref_mut-chip-items.ensures.value at c.loop-chip-test.true in
-    let so_far = rw (c.deref_mut-chip-items.ensures.value, c.as_slice-chips.ensures.chips) at c.loop-chip.invariant.changed in
-    rw p.1 (partly_written (λ b. (goal.Chip-dyn g (b.vtable, b.value)).state b.value) _ c.args.rack.now.items c.loop-chip.chip-items _ c.loop-chip.chip-index c.chip-item.result c.fit_next.new.chip count long within so_far
+    let within : c.loop-chip.chip-index < length c.args.rack.now.items =
+    rw c.deref_mut-chip-items.ensures.value at c.loop-chip-test.true in
+    let so_far =
+    rw (c.deref_mut-chip-items.ensures.value, c.as_slice-chips.ensures.chips) at c.loop-chip.invariant.changed in
+    rw p.1
+    (partly_written (λ b. (goal.Chip-dyn g (b.vtable, b.value)).state b.value) _ c.args.rack.now.items
+    c.loop-chip.chip-items _ c.loop-chip.chip-index c.chip-item.result c.fit_next.new.chip count long within so_far
     c.in_err-fit_next.ensures.same)

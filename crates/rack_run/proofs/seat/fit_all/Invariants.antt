@@ -9,9 +9,11 @@ abbrev pub invariant-loop-chip : goal.invariant-loop-chip
 invariant-loop-chip g l = record {
   few : l.sockets.psus + l.sockets.smis ≡ l.chip-index;
   counted : Counted l.chips (seated l.chips (map (λ b. (goal.Chip-dyn g (b.vtable, b.value)).state b.value) l.initial.chip-items))
-      (kinds_of (map (λ b. (goal.Chip-dyn g (b.vtable, b.value)).state b.value) l.initial.chip-items)) l.chip-index l.sockets.psus l.sockets.smis;
+      (kinds_of (map (λ b. (goal.Chip-dyn g (b.vtable, b.value)).state b.value) l.initial.chip-items)) l.chip-index
+      l.sockets.psus l.sockets.smis;
   changed : ChangedBelow
-      (FitsWhole (seated l.chips (map (λ b. (goal.Chip-dyn g (b.vtable, b.value)).state b.value) l.initial.chip-items))) l.chip-index
+      (FitsWhole (seated l.chips (map (λ b. (goal.Chip-dyn g (b.vtable, b.value)).state b.value) l.initial.chip-items)))
+      l.chip-index
       (map (λ b. (goal.Chip-dyn g (b.vtable, b.value)).state b.value) l.initial.chip-items)
       (map (λ b. (goal.Chip-dyn g (b.vtable, b.value)).state b.value) l.chip-items);
 }

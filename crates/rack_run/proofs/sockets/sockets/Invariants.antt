@@ -7,6 +7,7 @@ use Rattle.rack_run.proofs.sockets.sockets.Given as goal
 abbrev pub invariant-loop-chip : goal.invariant-loop-chip
 invariant-loop-chip g l = record {
   count : l.count
-      ≡ sockets_of l.kind (take l.chip-index (kinds_of (map (λ b. (goal.Chip-dyn g (b.vtable, b.value)).state b.value) l.chip-items)));
+      ≡ sockets_of l.kind
+      (take l.chip-index (kinds_of (map (λ b. (goal.Chip-dyn g (b.vtable, b.value)).state b.value) l.chip-items)));
   few : l.count ≤ l.chip-index;
 }

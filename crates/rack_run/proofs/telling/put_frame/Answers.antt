@@ -1,5 +1,5 @@
 -- The line of a frame, and its rows behind it.
-use Rattle.std.proofs.Common.{◌≡◌, ◌∙◌, sym, ap, ℕ}
+use Rattle.std.proofs.Common.{◌≡◌, ◌∙◌, ap, ℕ}
 use Rattle.std.proofs.lemmas.Result.{err_from_is_err_and}
 use Rattle.console_spec.specs.Display.{tone_of}
 use Rattle.console_spec.specs.RunText.{frame_line}

@@ -9,5 +9,6 @@ use Rattle.rack_run.proofs.telling.put_steps.Given as goal
 abbrev pub invariant-loop-step : goal.invariant-loop-step
 invariant-loop-step g l = record {
   so_far : PutSoFar (g.K.Sink.output l.fn.sink) (g.K.Sink.output l.sink)
-      (text_told (map (λ h. Traced (step_of h)) l.steps)) (text_told (map (λ h. Traced (step_of h)) (drop l.step-index l.steps)));
+      (text_told (map (λ h. Traced (step_of h)) l.steps))
+      (text_told (map (λ h. Traced (step_of h)) (drop l.step-index l.steps)));
 }

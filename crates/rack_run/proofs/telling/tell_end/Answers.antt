@@ -14,7 +14,8 @@ returns-in_err-tell_turn-clause-puts g c = λ x y keeps clocks writes.
     (c.screen.ensures ∙ ap (λ (p : ProgressState). p.screen) c.step-fallen.ensures.after) keeps writes in
     let told =
     end_told c.args.detail
-    (seen c.args.script.now) c.as_slice.result.now c.args.wrote c.step-fallen.result c.args.phi c.args.progress.now x y keeps clocks writes
+    (seen c.args.script.now) c.as_slice.result.now c.args.wrote c.step-fallen.result c.args.phi c.args.progress.now x y
+    keeps clocks writes
     c.step-fallen.ensures.frame c.as_slice.ensures.frames in
     rw p.1 (puts_same _ _ _ _ _ told (puts_failed _ _ _ _ _ (c.in_err-tell_turn.ensures y.flat.state.writes screen)))
 
@@ -24,6 +25,7 @@ returns-clause-puts g c = λ x y keeps clocks writes.
     (c.screen.ensures ∙ ap (λ (p : ProgressState). p.screen) c.step-fallen.ensures.after) keeps writes in
     let told =
     end_told c.args.detail
-    (seen c.args.script.now) c.as_slice.result.now c.args.wrote c.step-fallen.result c.args.phi c.args.progress.now x y keeps clocks writes
+    (seen c.args.script.now) c.as_slice.result.now c.args.wrote c.step-fallen.result c.args.phi c.args.progress.now x y
+    keeps clocks writes
     c.step-fallen.ensures.frame c.as_slice.ensures.frames in
     puts_same _ _ _ _ _ told (puts_as _ _ _ _ _ (c.in_ok-tell_turn.ensures y.flat.state.writes screen))

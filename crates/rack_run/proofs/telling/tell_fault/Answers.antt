@@ -7,12 +7,14 @@ use Rattle.rack_run.proofs.telling.tell_fault.Goals as goal
 
 pub returns-then-not-is_traced : goal.returns-then-not-is_traced
 returns-then-not-is_traced g c =
-    puts_untraced _ _ c.args.detail (TracedFault c.args.romc c.args.long ∷ []) (sym c.is_traced.ensures ∙ c.if-not-is_traced.true)
+    puts_untraced _ _ c.args.detail (TracedFault c.args.romc c.args.long ∷ [])
+    (sym c.is_traced.ensures ∙ c.if-not-is_traced.true)
 
 pub returns : goal.returns
 returns g c =
     let puts =
     puts_piece _ _ _ _ _ (c.as_bytes.ensures.value ∙ c.bus_fault_line.ensures)
     (bus_fault_some _ _) c.put.ensures.ok c.put.ensures.err in
-    puts_traced _ _ _ c.args.detail (TracedFault c.args.romc c.args.long ∷ []) (sym c.is_traced.ensures ∙ c.if-not-is_traced.false)
+    puts_traced _ _ _ c.args.detail (TracedFault c.args.romc c.args.long ∷ [])
+    (sym c.is_traced.ensures ∙ c.if-not-is_traced.false)
     (puts_same _ _ _ _ _ (sym (fault_text c.args.romc c.args.long)) puts)

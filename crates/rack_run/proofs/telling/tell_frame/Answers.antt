@@ -9,12 +9,16 @@ returns-in_default g c = λ ws screen. rw c.in_default.is (puts_nothing _ _ c.ar
 
 pub returns-then-not-contains : goal.returns-then-not-contains
 returns-then-not-contains g c = λ ws screen.
-    let unshown = frame_unshown c.args.shows.now c.in-Some.frame c.args.phi ws (sym c.contains.ensures.value ∙ c.if-not-contains.true) in
+    let unshown =
+    frame_unshown c.args.shows.now c.in-Some.frame c.args.phi ws
+    (sym c.contains.ensures.value ∙ c.if-not-contains.true) in
     rw (c.in-Some.is, unshown) (puts_nothing _ _ c.args.detail)
 
 pub returns : goal.returns
 returns g c = λ ws screen.
-    let shown = frame_shown c.args.shows.now c.in-Some.frame c.args.phi ws (sym c.contains.ensures.value ∙ c.if-not-contains.false) in
+    let shown =
+    frame_shown c.args.shows.now c.in-Some.frame c.args.phi ws
+    (sym c.contains.ensures.value ∙ c.if-not-contains.false) in
     rw c.in-Some.is
     (puts_told _ _ _ c.args.detail _ (sym c.is_told.ensures ∙ c.if-not-is_told.false)
     (puts_same _ _ _ _ _ shown (c.put_frame.ensures ws screen)))

@@ -7,7 +7,8 @@ use Rattle.rack_run.proofs.telling.tell_steps.Goals as goal
 
 pub returns-then-not-is_traced : goal.returns-then-not-is_traced
 returns-then-not-is_traced g c =
-    puts_untraced _ _ c.args.detail (map (λ h. Traced (step_of h)) c.args.steps.now) (sym c.is_traced.ensures ∙ c.if-not-is_traced.true)
+    puts_untraced _ _ c.args.detail (map (λ h. Traced (step_of h)) c.args.steps.now)
+    (sym c.is_traced.ensures ∙ c.if-not-is_traced.true)
 
 pub returns : goal.returns
 returns g c =

@@ -1,7 +1,7 @@
 -- The chips of the kind so far are counted.
 use Rattle.std.proofs.Common.{◌≡◌, ◌≤◌, take}
 use Rattle.rack_run.specs.Sockets.{needed_of}
-use Rattle.rack_run.proofs.sockets.needed.Given as goal
+use Rattle.rack_run.proofs.sockets.sockets_needed.Given as goal
 
 abbrev pub invariant-loop-chip : goal.invariant-loop-chip
 invariant-loop-chip l = record {
