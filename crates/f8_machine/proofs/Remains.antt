@@ -1,6 +1,6 @@
 -- A turn of the loop over the bus steps of an instruction: what is left of it, with the processor.
-use Rattle.std.proofs.Common.{◌≡◌, ℕ, ◌+◌, ◌<◌, Bool, true, false, List, [], ◌∷◌, ◌++◌, map, length, drop, get_or}
-use Rattle.std.proofs.Common.{Option, Some, None, refl, sym, ap, ◌∙◌, subst}
+use Rattle.std.proofs.Common.{◌≡◌, ℕ, ◌+◌, ◌<◌, Bool, List, [], ◌∷◌, ◌++◌, map, length, drop, get_or}
+use Rattle.std.proofs.Common.{Option, Some, None, sym, ap, ◌∙◌, subst}
 use Rattle.std.proofs.lemmas.List.{drop_more, map-append}
 use Rattle.f8_spec.specs.BusCodes.{driver_of}
 use Rattle.f8_spec.specs.ChipState.{ChipView, ChipState}
@@ -21,7 +21,7 @@ use Rattle.f8_machine.specs.Faults.{fault_of}
 use Rattle.f8_machine.specs.Rounds.{heard_of}
 use Rattle.f8_machine.specs.declared.heard.Heard.{Heard}
 use Rattle.f8_machine.proofs.Along.{Aim, Along}
-use Rattle.f8_machine.proofs.Rows.{usual_steps}
+use Rattle.f8_machine.proofs.Rows.{plain_steps}
 use Rattle.f8_machine.proofs.Slots.{views_settled}
 use Rattle.f8_machine.proofs.StepTests.{ArePlain, plain_by}
 use Rattle.f8_machine.proofs.Turns.{chips_after_step, along-stops, along-byte, along-more}
@@ -30,7 +30,7 @@ use Rattle.f8_machine.proofs.Turns.{chips_after_step, along-stops, along-byte, a
 
 planned_plain_as : (found : Option Op) (m : Registers) → ArePlain (planned_as found m)
 planned_plain_as None m = tt
-planned_plain_as (Some op) m = plain_by (steps_of (row_of op) (is_taken op m)) (usual_steps (row_of op) (is_taken op m))
+planned_plain_as (Some op) m = plain_by (steps_of (row_of op) (is_taken op m)) (plain_steps (row_of op) (is_taken op m))
 
 -- no instruction acknowledges an interrupt
 pub planned_plain : (cpu : CpuState) → ArePlain (planned cpu)

@@ -1,5 +1,5 @@
 -- Facts by row of the instruction table. A new row of it has its facts in `row_facts`.
-use Rattle.std.proofs.Common.{◌≡◌, ℕ, ◌<◌, Bool, true, false, List, [], ◌∷◌, ◌++◌, map, Option, None, refl, ap, ◌∙◌}
+use Rattle.std.proofs.Common.{◌≡◌, ℕ, Bool, true, false, List, [], ◌∷◌, ◌++◌, map, Option, None, refl, ap, ◌∙◌}
 use Rattle.std.proofs.Common.{sym, arith}
 use Rattle.std.specs.Prelude.{sum_by}
 use Rattle.std.specs.List.{list_all}
@@ -29,20 +29,20 @@ use Rattle.f8_machine.specs.Refinement.{AreAddresses}
 use Rattle.f8_machine.specs.Rounds.{heard_of}
 use Rattle.f8_machine.proofs.Bounds.{GetsBytes, AreAt, branch_small, displaced_small, word_small}
 use Rattle.f8_machine.proofs.PortValues.{FromPort, PortValues, bus_port, no_port_values, writes_along, writes_stay}
-use Rattle.f8_machine.proofs.StepTests.{by_taken, is_portless, is_usual}
+use Rattle.f8_machine.proofs.StepTests.{by_taken, is_portless, is_plain}
 use Rattle.f8_machine.proofs.Values.{FromFlat, Values, Values-append, memory_along, memory_along-append}
-use Rattle.f8_machine.proofs.Written.{FirstBy, FirstServed, PutsNothing, ends, first_by, first_idle, puts_nothing}
+use Rattle.f8_machine.proofs.Written.{FirstBy, FirstServed, ends, first_by, first_idle, puts_nothing}
 use Rattle.f8_machine.proofs.Written.{row_none, written_by}
 
 -- ---- what computes for each row
 
 -- no step acknowledges an interrupt
-pub usual_steps : (row : Row) (taken : Bool) → list_all is_usual (steps_of row taken) ≡ true
-usual_steps Branch true = refl
-usual_steps Branch false = refl
-usual_steps BranchIsar true = refl
-usual_steps BranchIsar false = refl
-usual_steps row taken = refl
+pub plain_steps : (row : Row) (taken : Bool) → list_all is_plain (steps_of row taken) ≡ true
+plain_steps Branch true = refl
+plain_steps Branch false = refl
+plain_steps BranchIsar true = refl
+plain_steps BranchIsar false = refl
+plain_steps row taken = refl
 
 pub clocks_listed : (row : Row) (taken : Bool) →
     sum_by (λ (step : Step). step_clocks step.long) (map bus_step (steps_of row taken)) ≡ row_clocks row taken

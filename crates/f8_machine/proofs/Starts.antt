@@ -1,5 +1,5 @@
 -- How an instruction and reset begin and end on the bus.
-use Rattle.std.proofs.Common.{◌≡◌, Bool, true, false, List, [], ◌∷◌, ◌++◌, append-nil, length, map, refl, ap, ◌∙◌, sym}
+use Rattle.std.proofs.Common.{◌≡◌, Bool, true, List, [], ◌∷◌, ◌++◌, append-nil, length, map, refl, ap, ◌∙◌, sym}
 use Rattle.std.proofs.Common.{subst, arith}
 use Rattle.std.specs.Prelude.{None}
 use Rattle.f8_spec.specs.BusCodes.{Count}
@@ -26,7 +26,7 @@ use Rattle.f8_machine.proofs.Values.{Values, memory_along, memory_after-with_opc
 use Rattle.f8_machine.specs.Refinement.{AreAddresses, RackStands}
 use Rattle.f8_machine.proofs.Bounds.{GetsBytes}
 use Rattle.f8_machine.proofs.Along.{Aim, Along}
-use Rattle.f8_machine.proofs.Rows.{row_facts, usual_steps, memory_goes, values_of, places_small}
+use Rattle.f8_machine.proofs.Rows.{row_facts, memory_goes, values_of, places_small}
 
 -- ---- an instruction
 

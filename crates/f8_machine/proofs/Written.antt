@@ -1,23 +1,22 @@
 -- The port write that a machine finds in the record of an instruction's bus steps is that which one chip took.
 use Rattle.std.proofs.Common.{◌≡◌, ℕ, ◌+◌, Bool, true, false, List, [], ◌∷◌, ◌++◌, map, length, Option, Some, None}
 use Rattle.std.proofs.Common.{refl, sym, ap, ◌∙◌, subst}
-use Rattle.std.specs.Prelude.{◌==◌, nat_lt, if◌then◌else◌, option_map, slice_index}
+use Rattle.std.specs.Prelude.{◌==◌, if◌then◌else◌, option_map}
 use Rattle.std.specs.List.{enumerate_from, list_all}
 use Rattle.f8_spec.specs.BusArbitration.{Seat, Verdict, Served, Conflict, Undriven, Astray, seat_has_port, parties}
 use Rattle.f8_spec.specs.BusArbitration.{port_write_verdict, rule_of}
 use Rattle.f8_spec.specs.declared.bus.BusRule.TheVariants.{PortWrite as WriteRule}
 use Rattle.f8_spec.specs.declared.bus.Party.{Party}
-use Rattle.f8_spec.specs.MicroSteps.{Operand, Accumulator, PortNumber, Step, long_step, last_fetch, steps_of}
+use Rattle.f8_spec.specs.MicroSteps.{Accumulator, Step, long_step, steps_of}
 use Rattle.f8_spec.specs.declared.instructions.Row.{Row}
-use Rattle.console_spec.specs.Processor.{Flow, Inputs, byte_of, if_taken, write_at, write_of, port_field}
+use Rattle.console_spec.specs.Processor.{Flow, Inputs, byte_of, if_taken, write_at}
 use Rattle.console_spec.specs.CounterCopies.{Copy}
-use Rattle.console_spec.specs.BusAccesses.{Access, ahead, at_port, accesses_before_fetch, last_access}
+use Rattle.console_spec.specs.BusAccesses.{Access, at_port, accesses_before_fetch, last_access}
 use Rattle.console_spec.specs.Services.{placed_copy, access_verdict}
 use Rattle.console_spec.specs.BusTrace.{TracedStep, Course, traced, with_step, course_by, course_of, is_access}
 use Rattle.console_spec.specs.Run.{seats_of}
 use Rattle.console_spec.specs.Writes.{takers}
-use Rattle.console_spec.specs.declared.PortWrite.{PortWrite}
-use Rattle.f8_machine.specs.PortWrites.{chip_write, done_write}
+use Rattle.f8_machine.specs.PortWrites.{chip_write}
 use Rattle.f8_machine.specs.Rounds.{heard_of}
 use Rattle.f8_machine.proofs.PortReads.{count_more}
 use Rattle.f8_machine.proofs.StepTests.{both_true, is_portless, writes_no_port}

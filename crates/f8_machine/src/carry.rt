@@ -50,7 +50,8 @@ pub(crate) fn carry_out(
     requires none { steps.old ≡ [] }
     ensures done { (op : Op) (x : Position) →
         HoldsInstruction cpu.old probe.old (map state rack.old.items) op x →
-        OnOk result (IsCarriedOut cpu.old cpu.new probe.new (map state rack.new.items) steps.new op x) }
+        OnOk result (IsCarriedOut cpu.old cpu.new probe.new
+        (map state rack.new.items) steps.new op x) }
     ensures cut { (op : Op) (x : Position) →
         HoldsInstruction cpu.old probe.old (map state rack.old.items) op x →
         IfErr result (λ unserved. IsCutShort steps.new unserved.fault unserved.long op x) }

@@ -21,4 +21,4 @@ pub use data_bus::{BusFault, Rack};
 pub use heard::Heard;
 pub use machine::Machine;
 pub use outcome::Outcome;
-pub use record::Record;
+pub use record::{MOST_STEPS, Record};

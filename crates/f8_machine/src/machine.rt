@@ -55,7 +55,7 @@ impl Machine {
     ghost use Rattle.f8_spec.specs.Instructions.{decoded};
     ghost use Rattle.f8_spec.specs.BusArbitration.{seat_of};
     ghost use Rattle.cpu3850.specs.OwnWrites.{LeaveOwnPorts};
-    ghost use Rattle.console_spec.specs.Processor.{shown};
+    ghost use Rattle.console_spec.specs.Processor.{told_regs};
     ghost use Rattle.console_spec.specs.Run.{Position, power_position};
     ghost use Rattle.cpu3850.specs.CpuSteps.{planned};
     ghost use Rattle.probe.specs.ProbeState.{probe_counters};
@@ -233,7 +233,7 @@ impl Machine {
     /// The registers, after the last instruction that was done: the address of the one that comes next, the stack register, the data
     /// counters, the accumulator, ISAR, the status word and the scratchpad.
     pub fn regs(&self) -> Regs
-        ensures regs { result ≡ shown (record {
+        ensures regs { result ≡ told_regs (record {
           flow = self.now.flow;
           registers = self.now.cpu.registers;
           keys = [];

@@ -29,7 +29,12 @@ impl Model for MemSink {
     ghost Value = { KeptBytes };
 
     ghost view = { λ s. record {
-        bytes = s.bytes.items; room = s.room; failing = s.failing; calls = s.calls; faults = s.faults } };
+      bytes = s.bytes.items;
+      room = s.room;
+      failing = s.failing;
+      calls = s.calls;
+      faults = s.faults;
+    } };
 
     ghost invariant = { λ s. (vec_len s.bytes ≤ s.room) × (s.room ≤ vec_capacity s.bytes) };
 }
