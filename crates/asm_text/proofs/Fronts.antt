@@ -141,8 +141,8 @@ number_front P base before bytes bad wide fits =
     let v = value base (take n bytes) in
     choose P (n == 0) Bad (sized_number (narrow v) (before + n)) (λ _. bad)
     (λ some. choose (λ o. P (sized_number o (before + n))) (nat_lt v (2 ^ 32)) (Some v) None
-        (λ below. fits (grind (arith, nat_tests)) (grind (arith, nat_tests)))
-        (λ above. wide (grind (arith, nat_tests)) (grind (arith, nat_tests))))
+    (λ below. fits (grind (arith, nat_tests)) (grind (arith, nat_tests)))
+    (λ above. wide (grind (arith, nat_tests)) (grind (arith, nat_tests))))
 
 -- what is found where a name should stand
 name_front : (b : ℕ) (bs : List ℕ) → is_letter b ≡ true → StandsAt b bs (name_lexeme (b ∷ bs))
@@ -151,8 +151,11 @@ name_front b bs letter =
     let n = prefix_len is_name_byte (b ∷ bs) in
     let some : 0 < n = grind (arith, common_steps, nat_tests) in
     choose (StandsAt b bs) (nat_le n 32) (Lexed (kind.Name (take n (b ∷ bs))) n) Bad
-    (λ short. (spells_name (name_run (b ∷ bs) letter (grind (arith, nat_tests))) (run_ends is_name_byte (b ∷ bs)), some,
-        prefix_len-le-length is_name_byte (b ∷ bs)))
+    (λ short. (
+      spells_name (name_run (b ∷ bs) letter (grind (arith, nat_tests))) (run_ends is_name_byte (b ∷ bs)),
+      some,
+      prefix_len-le-length is_name_byte (b ∷ bs),
+    ))
     (λ long. tt)
 
 -- what is found where a quoted character should stand
@@ -200,11 +203,11 @@ front_stands b bs =
     choose P (is_blank b) Blank _ (λ blank. blank) (λ _.
     choose P (b == 59) End _ (λ comment. eqb-true b 59 comment) (λ _.
     choose P (b == 36) (number_lexeme 16 1 bs) _
-        (λ dollar. subst (λ c. StandsAt c bs (number_lexeme 16 1 bs)) (sym (eqb-true b 36 dollar))
-        (hexadecimal_front bs)) (λ _.
+    (λ dollar. subst (λ c. StandsAt c bs (number_lexeme 16 1 bs)) (sym (eqb-true b 36 dollar))
+    (hexadecimal_front bs)) (λ _.
     choose P (b == 37) (number_lexeme 2 1 bs) _
-        (λ percent. subst (λ c. StandsAt c bs (number_lexeme 2 1 bs)) (sym (eqb-true b 37 percent)) (binary_front bs))
-        (λ _.
+    (λ percent. subst (λ c. StandsAt c bs (number_lexeme 2 1 bs)) (sym (eqb-true b 37 percent)) (binary_front bs))
+    (λ _.
     choose P (b == 39) (quoted_lexeme bs) _ (λ quote. subst (λ c. StandsAt c bs (quoted_lexeme bs)) (sym (eqb-true b 39 quote)) (quoted_front bs)) (λ _.
     choose P (is_digit b 10) (number_lexeme 10 0 (b ∷ bs)) _ (λ _. decimal_stands b bs) (λ _.
     choose P (is_letter b) (name_lexeme (b ∷ bs)) _ (λ letter. name_front b bs letter) (λ _.

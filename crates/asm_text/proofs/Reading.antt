@@ -33,8 +33,8 @@ token_read : {kind : TokenKind} {text rest : List ℕ} {found : Result (List Tok
     (behind (record { column = column; end = column + len; kind = kind }) found)
 token_read {kind} {text} {rest} {found} column len bytes spells split size others =
     let whole : Reads column (text ++ rest) (behind
-        (record { column = column; end = column + length text; kind = kind }) found) =
-        reads_token spells (rw size others) in
+    (record { column = column; end = column + length text; kind = kind }) found) =
+    reads_token spells (rw size others) in
     rw (← split, ← size) whole
 
 -- the rules read what stands at the front, and then the rest
@@ -49,7 +49,7 @@ front_read (Lexed kind (suc k)) column b bs is stands rest =
     let less : suc k - 1 ≡ k = omega arith in
     let next : column + 1 + k ≡ column + suc k = omega arith in
     rw less (token_read column (suc k) (b ∷ bs) stands.0 (take-append-drop (suc k) (b ∷ bs))
-        (length-take-le (suc k) (b ∷ bs) stands.2) (rw next at (rest k (column + 1))))
+    (length-take-le (suc k) (b ∷ bs) stands.2) (rw next at (rest k (column + 1))))
 
 -- the rules read bytes if they read those behind the first
 reads_here : (column b : ℕ) (bs : List ℕ) → ((k c : ℕ) → Reads (c + k) (drop k bs) (tokens_at k c bs)) → Reads column (b ∷ bs) (tokens_at 0 column (b ∷ bs))
@@ -89,8 +89,8 @@ only_reading (reads_comment {column} {bs}) = at_end column (59 ∷ bs) (sym (com
 only_reading (reads_blank {column} {b} {bs} {found} blank others) = at_blank column (b ∷ bs) (sym (blank_found b bs blank)) (omega arith) ∙ only_reading others
 only_reading (reads_token {column} {kind} {text} {rest} {found} spells others) =
     at_token column (text ++ rest) kind (length text) (sym (token_found spells)) (spelled_some spells)
-        ∙ ap (behind (record { column = column; end = column + length text; kind = kind }))
-        (ap (tokens_at 0 (column + length text)) (drop-append_seam text rest) ∙ only_reading others)
+    ∙ ap (behind (record { column = column; end = column + length text; kind = kind }))
+    (ap (tokens_at 0 (column + length text)) (drop-append_seam text rest) ∙ only_reading others)
 only_reading (reads_wide {column} {bytes} wide) = at_wide column bytes (sym (wide_found wide))
 only_reading (reads_bad {column} {b} {bs} none) = at_bad column (b ∷ bs) (nothing_found (lexeme (b ∷ bs)) b bs refl (front_stands b bs) none)
 

@@ -59,7 +59,7 @@ unfolding value
 value_front base digits i positive =
     let f : ℕ → ℕ → ℕ = λ sum digit. sum * base + digit_value digit in
     let whole : fold f 0 digits ≡ fold f (fold f 0 (take i digits)) (drop i digits) =
-        ap (fold f 0) (sym (take-append-drop i digits)) ∙ fold-append f 0 (take i digits) (drop i digits) in
+    ap (fold f 0) (sym (take-append-drop i digits)) ∙ fold-append f 0 (take i digits) (drop i digits) in
     omega (arith, grows base positive (fold f 0 (take i digits)) (drop i digits))
 
 -- what 32 bits hold

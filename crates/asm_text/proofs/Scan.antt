@@ -83,8 +83,8 @@ at_token column (b ∷ bs) kind (suc k) is some =
     let next : column + 1 + k ≡ column + suc k = omega arith in
     let token : Token = record { column = column; end = column + suc k; kind = kind } in
     at_front (Lexed kind (suc k)) column b bs is
-        ∙ ap (behind token) (ap (λ n. tokens_at n (column + 1) bs) less ∙ skipped k (column + 1) bs
-        ∙ ap (λ c. tokens_at 0 c (drop k bs)) next)
+    ∙ ap (behind token) (ap (λ n. tokens_at n (column + 1) bs) less ∙ skipped k (column + 1) bs
+    ∙ ap (λ c. tokens_at 0 c (drop k bs)) next)
 
 -- one token more, before what is found behind it
 after_more : (found : List Token) (t : Token) (r : Result (List Token) TokenFault) → after (found ++ t ∷ []) r ≡ after found (behind t r)
@@ -112,5 +112,7 @@ module _ {found : List Token} {column : ℕ} {rest : List ℕ} {whole : Result (
   pub on_token : (kind : TokenKind) (len : ℕ) → Lexed kind len ≡ lexeme rest → 0 < len →
       SoFar (found ++ (record { column = column; end = column + len; kind = kind }) ∷ []) (column + len)
       (drop len rest) whole
-  on_token kind len is some = record { is = after_more found _ (tokens_at 0 (column + len) (drop len rest))
-      ∙ ap (after found) (sym (at_token column rest kind len is some)) ∙ so_far.is }
+  on_token kind len is some = record {
+    is = after_more found _ (tokens_at 0 (column + len) (drop len rest))
+        ∙ ap (after found) (sym (at_token column rest kind len is some)) ∙ so_far.is;
+  }

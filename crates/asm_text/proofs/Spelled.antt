@@ -81,7 +81,7 @@ unfolding name_lexeme
 name_read name rest named stop =
     let run = run_stops is_name_byte name rest (name_bytes name named) stop in
     ap (name_of (name ++ rest)) run ∙ name_of_bytes (name ++ rest) (length name) (name_short name named)
-        ∙ ap (λ s. Lexed (kind.Name s) (length name)) (take-append_seam name rest)
+    ∙ ap (λ s. Lexed (kind.Name s) (length name)) (take-append_seam name rest)
 
 -- a hex digit is a digit of base 16, and has its value
 digit_again : (d : ℕ) → d < 16 → digit_value (hex_digit d) ≡ d
@@ -96,8 +96,13 @@ hex2_value b small = omega (arith, digit_again (b / 16) (omega arith), digit_aga
 pub hex4_value : (w : ℕ) → w < 65536 → value 16 (hex4 w) ≡ w
 unfolding value hex2 hex4
 hex4_value w small =
-    omega (arith, digit_again (w / 256 / 16) (omega arith), digit_again (w / 256 % 16) (omega arith),
-        digit_again (w % 256 / 16) (omega arith), digit_again (w % 256 % 16) (omega arith))
+    omega (
+      arith,
+      digit_again (w / 256 / 16) (omega arith),
+      digit_again (w / 256 % 16) (omega arith),
+      digit_again (w % 256 / 16) (omega arith),
+      digit_again (w % 256 % 16) (omega arith),
+    )
 
 -- hex digits are digits of base 16
 hex_digit_is : (d : ℕ) → d < 16 → is_digit (hex_digit d) 16 ≡ true
@@ -115,6 +120,10 @@ pub hex4_read : (w : ℕ) (rest : List ℕ) → w < 65536 → stops (λ c. is_di
 unfolding hex2 hex4
 hex4_read w rest small stop =
     let all : list_all (λ c. is_digit c 16) (hex4 w) ≡ true =
-        rw (hex_digit_is (w / 256 / 16) (omega arith), hex_digit_is (w / 256 % 16) (omega arith),
-        hex_digit_is (w % 256 / 16) (omega arith), hex_digit_is (w % 256 % 16) (omega arith)) refl in
+    rw (
+      hex_digit_is (w / 256 / 16) (omega arith),
+      hex_digit_is (w / 256 % 16) (omega arith),
+      hex_digit_is (w % 256 / 16) (omega arith),
+      hex_digit_is (w % 256 % 16) (omega arith),
+    ) refl in
     number_read 16 1 w (hex4 w) rest (lit< tt) all (hex4_value w small) (omega arith) stop

@@ -66,6 +66,7 @@ chips_all all i xs at held =
 -- a table that isn't read to its end ends the description
 pub chips_stop : {A : Type 0} (seen : A → List DescribedChip) (all : List Members) (i : ℕ) (t : Members) (s : TableStop)
     (xs : List DescribedChip) → i < length all
-    → get_or all i t ≡ t → SaysOfTable seen_chip (Err s) (chip_of t) → HasChips all i xs → SaysOfDescription seen (Err (answer_at (Some i) s)) (chips_from 0 all)
+    → get_or all i t ≡ t → SaysOfTable seen_chip (Err s) (chip_of t) → HasChips all i xs →
+    SaysOfDescription seen (Err (answer_at (Some i) s)) (chips_from 0 all)
 chips_stop seen all i t (stop.Fault f) xs within at is held = chips_bad all i t f xs within at is held
 chips_stop seen all i t stop.Memory xs within at is held = tt

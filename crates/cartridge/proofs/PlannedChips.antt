@@ -135,10 +135,12 @@ filled-plan_without_images bytes chip is = record { specified = is.specified; no
         let size = length-bytes_with s.source.room.first bytes s.bytes in
         record { rom = size ∙ has.rom; room = ap (λ (n : ℕ). s.source.room.first + n) size ∙ has.room }
 
-changed-all : (bytes : List (ℕ × ℕ)) (i : ℕ) (chips : List PlannedChip) → All IsPlannedChip chips → All IsPlannedChip (with_change_at (filled_chip bytes) i chips)
+changed-all : (bytes : List (ℕ × ℕ)) (i : ℕ) (chips : List PlannedChip) → All IsPlannedChip chips →
+    All IsPlannedChip (with_change_at (filled_chip bytes) i chips)
 changed-all bytes i [] all = all
 changed-all bytes zero (c ∷ chips) all =
-    All-cons IsPlannedChip (filled_chip bytes c) chips (filled-plan_without_images bytes c (All-head IsPlannedChip c chips all)) (All-tail IsPlannedChip c chips all)
+    All-cons IsPlannedChip (filled_chip bytes c) chips
+    (filled-plan_without_images bytes c (All-head IsPlannedChip c chips all)) (All-tail IsPlannedChip c chips all)
 changed-all bytes (suc i) (c ∷ chips) all =
     All-cons IsPlannedChip c (with_change_at (filled_chip bytes) i chips) (All-head IsPlannedChip c chips all)
     (changed-all bytes i chips (All-tail IsPlannedChip c chips all))
@@ -213,7 +215,8 @@ are-fit (c ∷ chips) all =
     let rest = are-fit chips (All-tail IsPlannedChip c chips all) in record {
       size = ap suc rest.size;
       specified = All-cons IsSpec (specification_of c) (map specification_of chips) (from-spec c.source c.spec one.has_rom one.specified) rest.specified;
-      none_blank = All-cons (λ s. is_blank s ≡ false) (specification_of c) (map specification_of chips) (from-blank c.source c.spec ∙ one.no_blank) rest.none_blank;
+      none_blank = All-cons (λ s. is_blank s ≡ false) (specification_of c) (map specification_of chips)
+          (from-blank c.source c.spec ∙ one.no_blank) rest.none_blank;
     }
 
 pub finished_fit : (chips : List PlannedChip) → IsPlan chips → IsChipList (map specification_of chips)

@@ -130,7 +130,8 @@ another_key : description_in (with_chip (base 0 (member (codes "colour") (number
 unfolding description_in top_of chips_from chip_of
 another_key = refl
 
-pages_past_the_end : description_in (with_chip (kind (codes "3853") (member (codes "ram_page") (number 0xFA) (member (codes "ram_pages") (number 10) no_members))))
+pages_past_the_end : description_in (with_chip
+    (kind (codes "3853") (member (codes "ram_page") (number 0xFA) (member (codes "ram_pages") (number 10) no_members))))
     ≡ at_chip key.RamPages Boundary
 unfolding description_in top_of chips_from chip_of smi_of
 pages_past_the_end = refl

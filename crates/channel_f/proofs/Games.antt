@@ -4,7 +4,7 @@ use Rattle.std.proofs.Common.{subst}
 use Rattle.std.specs.Prelude.{◌⊎◌, Option, Some, None, flat_map}
 use Rattle.std.proofs.lemmas.List.{append_assoc, append-nil}
 use Rattle.f8_spec.specs.ChipState.{ChipView, ChipState}
-use Rattle.console_spec.specs.Processor.{shown}
+use Rattle.console_spec.specs.Processor.{told_regs}
 use Rattle.console_spec.specs.Run.{Stop, Done, Unserved, Reserved, Ending as FlatEnding}
 use Rattle.console_spec.specs.RunText.{verdict_line, told_lines, ending_lines, flat_telling_lines, lines_of, text_of}
 use Rattle.console_spec.specs.Telling.{Telling, told_in}
@@ -41,8 +41,8 @@ told_ending told e tells =
     let state = e.position.flat.state in
     ap (λ (stop : Stop). told_lines stop told.regs told.count told.phi) tells.halt
     ∙ ap (λ (regs : Regs). told_lines e.stop regs told.count told.phi) tells.regs
-    ∙ ap (λ (n : ℕ). told_lines e.stop (shown state) n told.phi) tells.count
-    ∙ ap (λ (n : ℕ). told_lines e.stop (shown state) state.count n) tells.phi
+    ∙ ap (λ (n : ℕ). told_lines e.stop (told_regs state) n told.phi) tells.count
+    ∙ ap (λ (n : ℕ). told_lines e.stop (told_regs state) state.count n) tells.phi
 
 told_sums : (told : Ending) (e : FlatEnding) → Tells told e.position.flat.state e.stop →
     summary_told told ≡ summary_lines e
@@ -50,10 +50,10 @@ told_sums told e tells =
     let state = e.position.flat.state in
     ap (λ (stop : Stop). told_summary stop told.regs told.count told.phi told.writes told.bytes) tells.halt
     ∙ ap (λ (regs : Regs). told_summary e.stop regs told.count told.phi told.writes told.bytes) tells.regs
-    ∙ ap (λ (n : ℕ). told_summary e.stop (shown state) n told.phi told.writes told.bytes) tells.count
-    ∙ ap (λ (n : ℕ). told_summary e.stop (shown state) state.count n told.writes told.bytes) tells.phi
-    ∙ ap (λ (n : ℕ). told_summary e.stop (shown state) state.count state.phi n told.bytes) tells.writes
-    ∙ ap (λ (n : ℕ). told_summary e.stop (shown state) state.count state.phi (length state.writes) n) tells.bytes
+    ∙ ap (λ (n : ℕ). told_summary e.stop (told_regs state) n told.phi told.writes told.bytes) tells.count
+    ∙ ap (λ (n : ℕ). told_summary e.stop (told_regs state) state.count n told.writes told.bytes) tells.phi
+    ∙ ap (λ (n : ℕ). told_summary e.stop (told_regs state) state.count state.phi n told.bytes) tells.writes
+    ∙ ap (λ (n : ℕ). told_summary e.stop (told_regs state) state.count state.phi (length state.writes) n) tells.bytes
 
 closing_is : (manner : Manner) (told : Ending) (e : FlatEnding) → Tells told e.position.flat.state e.stop →
     closing_told manner told ≡ closing_lines manner e

@@ -1,7 +1,7 @@
 -- How a run on a rack is told: whole, as `play` does, with every bus step or without, or by a summary, as `gen` does.
 use Rattle.std.specs.Prelude.{ℕ, true, false, sum, List, [], ◌∷◌, length}
 use Rattle.f8_spec.specs.ChipState.{ChipView, ChipState}
-use Rattle.console_spec.specs.Processor.{shown}
+use Rattle.console_spec.specs.Processor.{told_regs}
 use Rattle.console_spec.specs.Run.{Stop, Ending}
 use Rattle.console_spec.specs.RunText.{verdict_line, stop_line, total_line, told_lines, ending_lines, telling_lines}
 use Rattle.console_spec.specs.Scripts.{Script}
@@ -46,7 +46,7 @@ told_summary stop regs count phi writes bytes =
 abbrev pub summary_lines : Ending → List (List ℕ)
 summary_lines e =
     let state = e.position.flat.state in
-    told_summary e.stop (shown state) state.count state.phi (length state.writes) (bytes_written state.writes)
+    told_summary e.stop (told_regs state) state.count state.phi (length state.writes) (bytes_written state.writes)
 
 -- behind it
 abbrev pub closing_lines : Manner → Ending → List (List ℕ)

@@ -1,6 +1,7 @@
 -- What a specification says of a chip, and the chip that `fit` makes of it (Mostek 3851 and 3853 data sheets for the boundaries). The
 -- pages of a 3853 and what a chip holds before power-on are this project's own.
-use Rattle.std.specs.Prelude.{ℕ, ◌+◌, ◌*◌, ◌/◌, ◌%◌, ◌≡◌, ◌≤◌, Bool, true, false, All, List, [], ◌∷◌, ◌++◌, length, map, take, drop, replicate, count_by, Option, Some}
+use Rattle.std.specs.Prelude.{ℕ, ◌+◌, ◌*◌, ◌/◌, ◌%◌, ◌≡◌, ◌≤◌, Bool, true, false, All, List, [], ◌∷◌, ◌++◌, length, map}
+use Rattle.std.specs.Prelude.{take, drop, replicate, count_by, Option, Some}
 use Rattle.std.specs.List.Sorted.{IsStrictlyIncreasing}
 use Rattle.f8_spec.specs.ChipState.{ChipView, ChipState, blank_view, is_rom, patched_bytes}
 use Rattle.f8_spec.specs.declared.chips.ChipKind.{ChipKind}

@@ -26,7 +26,8 @@ pub trait Chip: Drop {
         requires { IsSpec spec.now }
         ensures ok { OnOk result (Fits spec.now (state self.old) (state self.new)) }
         ensures whole { OnOk result (IsWhole (state self.new).view) }
-        ensures wrong_kind { IsErrOf result FitFault.WrongKind ↔ (kind_of spec.now ≢ (state self.old).view.kind) }
+        ensures wrong_kind { IsErrOf result FitFault.WrongKind
+            ↔ (kind_of spec.now ≢ (state self.old).view.kind) }
         ensures err { OnErr result (state self.new ≡ state self.old) };
 
     /// Power-on: every counter at `start`, every RAM byte `fill`.
@@ -43,7 +44,8 @@ pub trait Chip: Drop {
     fn settle(&mut self, romc: Romc, byte: u8, phi: u8, first: bool)
         requires step_length { IsStepLength phi }
         requires may_hear { MayHear romc first (state self.old).view }
-        ensures { Settles 0 (record { romc = romc; byte = byte; clocks = phi; first = first }) (state self.old) (state self.new) };
+        ensures { Settles 0 (record { romc = romc; byte = byte; clocks = phi; first = first })
+            (state self.old) (state self.new) };
 
     /// The chip can interrupt, and a request is latched.
     fn asks(&self) -> bool

@@ -35,12 +35,12 @@ impl Board {
     ghost use Rattle.std.specs.Prelude.{ℕ, ◌≡◌, ◌↔◌, ◌==◌, ◌+◌, ◌*◌, ◌^◌, ◌<◌, ◌≤◌, if◌then◌else◌, List, [], ◌∷◌};
     ghost use Rattle.console_spec.specs.Scripts.{frame_clocks, frames_by};
     ghost use Rattle.console_spec.specs.declared.PortWrite.{PortWrite};
-    ghost use Rattle.video.specs.ScreenState.{shown, after_write};
+    ghost use Rattle.video.specs.ScreenState.{screen_after, after_write};
     ghost use Rattle.console_board.specs.BoardState.{BoardState};
 
     /// The board at power-on: nothing was written, and no clocks have gone by.
     pub fn new() -> Board
-        ensures { result ≡ record { screen = shown []; phi = 0 } }
+        ensures { result ≡ record { screen = screen_after []; phi = 0 } }
     {
         Board {
             screen: Screen::dark(),
@@ -52,10 +52,12 @@ impl Board {
 
     /// Takes a write to a port, which may draw a pixel. When it came doesn't matter.
     pub fn write(&mut self, write: PortWrite)
-        ensures next { self.new ≡ record self.old { screen = after_write write.port write.byte
-            self.old.screen } }
-        ensures display { (ws : List PortWrite) → self.old.screen ≡ shown ws
-            → self.new.screen ≡ shown (write ∷ ws) }
+        ensures next { self.new ≡ record self.old {
+          screen = after_write write.port write.byte
+              self.old.screen;
+        } }
+        ensures display { (ws : List PortWrite) → self.old.screen ≡ screen_after ws
+            → self.new.screen ≡ screen_after (write ∷ ws) }
     {
         self.screen.port(write.port, write.byte);
     }

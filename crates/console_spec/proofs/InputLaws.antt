@@ -22,7 +22,8 @@ result_of-with_opcode LrQDc code i m = refl
 result_of-with_opcode LrHDc code i m = refl
 result_of-with_opcode op code i m = ap (λ (byte : ℕ). effect op byte m) (used_byte-with_opcode (row_of op) code i)
 
-pub flow_after-with_opcode : (row : Row) (code : ℕ) (i : Inputs) (second : Bool) (c : Flow) → flow_after row (with_opcode code i) second c ≡ flow_after row i second c
+pub flow_after-with_opcode : (row : Row) (code : ℕ) (i : Inputs) (second : Bool) (c : Flow) →
+    flow_after row (with_opcode code i) second c ≡ flow_after row i second c
 flow_after-with_opcode StoreData code i second c = refl
 flow_after-with_opcode row code i second c = refl
 

@@ -4,7 +4,9 @@ use Rattle.f8_spec.specs.Words.{word, with_high, with_low, places_on}
 use Rattle.f8_spec.specs.BusCodes.{Count, moved_by}
 use Rattle.f8_spec.specs.MicroSteps.{Step, steps_before_fetch, last_fetch, steps_of}
 use Rattle.f8_spec.specs.declared.instructions.Row.{Row}
-use Rattle.f8_spec.specs.declared.instructions.Row.TheVariants.{StackFromK, CallK, JumpQ, DataFromQ, DataFromH, Immediate, PortIn, PortOut, Call, Jump, LoadData, Exchange, Branch, BranchIsar}
+use Rattle.f8_spec.specs.declared.instructions.Row.TheVariants.{StackFromK, CallK, JumpQ, DataFromQ, DataFromH}
+use Rattle.f8_spec.specs.declared.instructions.Row.TheVariants.{Immediate, PortIn, PortOut, Call, Jump, LoadData}
+use Rattle.f8_spec.specs.declared.instructions.Row.TheVariants.{Exchange, Branch, BranchIsar}
 use Rattle.console_spec.specs.CounterCopies.{fetched, resting}
 use Rattle.console_spec.specs.Processor.{Flow, Inputs, byte_of, flow_after}
 

@@ -13,7 +13,9 @@ use Rattle.console_spec.specs.CounterCopies.{fetched, reset_flow}
 use Rattle.console_spec.specs.Run.{Reserved}
 use Rattle.console_spec.specs.declared.PortWrite.{PortWrite}
 use Rattle.console_spec.specs.Telling.{telling, told_in, played_by, referred_by}
-use Rattle.console_spec.specs.RunText.{telling_lines, flat_telling_lines, ending_lines, text_of, lines_of, verdict_line, fault_line, stop_line, regs_line, scratch_line, total_line, out_line, frame_line, picture_row}
+use Rattle.console_spec.specs.RunText.{telling_lines, flat_telling_lines, ending_lines, text_of, lines_of, verdict_line}
+use Rattle.console_spec.specs.RunText.{fault_line, stop_line, regs_line, scratch_line, total_line, out_line, frame_line}
+use Rattle.console_spec.specs.RunText.{picture_row}
 use Rattle.console_spec.specs.declared.Event.TheVariants.{Keys}
 use Rattle.console_spec.specs.declared.End.TheVariants.{Steps}
 use Rattle.console_spec.proofs.Played.{steps_alone, played, played_in_order, printing, running}
@@ -46,7 +48,8 @@ pop_text = refl
 
 -- the data counters part where a 3851 has one alone
 copies_part_text : text_of (ending_lines (played exchange_alone 0 9)) ≡
-    codes "stop astray romc 02 socket 0 at 0005 reference 0000\nregs P=0004 P1=0000 D0=0000 D1=0005 A=00 IS=00 W=00\n" ++ no_scratch ++ codes "total 2 instructions 46 phi\n"
+    codes "stop astray romc 02 socket 0 at 0005 reference 0000\nregs P=0004 P1=0000 D0=0000 D1=0005 A=00 IS=00 W=00\n"
+    ++ no_scratch ++ codes "total 2 instructions 46 phi\n"
 unfolding running printing
 copies_part_text = refl
 

@@ -96,7 +96,8 @@ frame_key : (telling (on_rack false) two_frames 2 (shortly_before 29826 (0x2B �
 unfolding running
 frame_key = refl
 
-no_key_at_end : slice_index (telling (on_rack false) (record two_frames { end = Frames 1 }) 9 (shortly_before 29826 (0x2B ∷ 0x2B ∷ []))).ending.position.flat.state.keys 4 ≡ 0
+no_key_at_end : slice_index (telling (on_rack false) (record two_frames { end = Frames 1 }) 9
+    (shortly_before 29826 (0x2B ∷ 0x2B ∷ []))).ending.position.flat.state.keys 4 ≡ 0
 unfolding running
 no_key_at_end = refl
 

@@ -4,7 +4,9 @@ use Rattle.f8_spec.specs.Words.{places_on}
 use Rattle.f8_spec.specs.Instructions.{row_of}
 use Rattle.f8_spec.specs.declared.instructions.Op.{Op}
 use Rattle.f8_spec.specs.declared.instructions.Row.{Row}
-use Rattle.f8_spec.specs.declared.instructions.Row.TheVariants.{StackToK, DataToPair, ReadData, StoreData, Immediate, PortIn, PortOut, Call, Jump, LoadData, Branch, BranchIsar, ShortIn, ShortOut}
+use Rattle.f8_spec.specs.declared.instructions.Row.TheVariants.{StackToK, DataToPair, ReadData, StoreData, Immediate}
+use Rattle.f8_spec.specs.declared.instructions.Row.TheVariants.{PortIn, PortOut, Call, Jump, LoadData, Branch}
+use Rattle.f8_spec.specs.declared.instructions.Row.TheVariants.{BranchIsar, ShortIn, ShortOut}
 use Rattle.console_spec.specs.Processor.{Flow, Inputs, flow_after}
 
 -- An access: the code of its step, and its place, which is read on a set of counters. The flag says that the set has a second data

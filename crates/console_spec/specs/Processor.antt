@@ -1,14 +1,26 @@
 -- The F8 as one flat machine (Fairchild F8 User's Guide): one program counter, one stack register and two data counters, with no
 -- counters of chips and no bus codes. Of the chips it knows alone how many have a port.
-use Rattle.std.specs.Prelude.{ℕ, ◌+◌, ◌-◌, ◌*◌, ◌/◌, ◌%◌, Bool, true, false, not, ◌&&◌, ◌||◌, ◌==◌, nat_lt, if◌then◌else◌, bit_and, bit_or, bit_xor, List, [], ◌∷◌, replicate, slice_index, slice_set, Option, Some, None}
+use Rattle.std.specs.Prelude.{ℕ, ◌+◌, ◌-◌, ◌*◌, ◌/◌, ◌%◌, Bool, true, false, not, ◌&&◌, ◌||◌, ◌==◌, nat_lt}
+use Rattle.std.specs.Prelude.{if◌then◌else◌, bit_and, bit_or, bit_xor, List, [], ◌∷◌, replicate, slice_index, slice_set}
+use Rattle.std.specs.Prelude.{Option, Some, None}
 use Rattle.f8_spec.specs.Words.{word, places_on, displaced, sum_value, decimal_value}
 use Rattle.f8_spec.specs.Flags.{Status, clear_status, status_byte, status_of, after_result, after_sum}
 use Rattle.f8_spec.specs.Instructions.{row_of, row_length, clocks_of}
-use Rattle.f8_spec.specs.MicroSteps.{Source, Opcode, Operand, SecondOperand, KeptOperand, DataByte, DataHigh, DataLow, StackHigh, StackLow, KHigh, KLow, QHigh, QLow, HHigh, HLow, Accumulator, PortNumber, PortByte, VectorHigh, VectorLow, NoByte, clocks_along, reset_steps}
+use Rattle.f8_spec.specs.MicroSteps.{Source, Opcode, Operand, SecondOperand, KeptOperand, DataByte, DataHigh, DataLow}
+use Rattle.f8_spec.specs.MicroSteps.{StackHigh, StackLow, KHigh, KLow, QHigh, QLow, HHigh, HLow, Accumulator}
+use Rattle.f8_spec.specs.MicroSteps.{PortNumber, PortByte, VectorHigh, VectorLow, NoByte, clocks_along, reset_steps}
 use Rattle.f8_spec.specs.declared.instructions.Op.{Op}
-use Rattle.f8_spec.specs.declared.instructions.Op.TheVariants.{Out, LrAKu, LrAKl, LrAQu, LrAQl, LrKuA, LrKlA, LrQuA, LrQlA, LrKP, LrAIs, LrIsA, LrQDc, LrHDc, Sr1, Sl1, Sr4, Sl4, Lm, Com, Lnk, Di, Ei, LrWJ, LrJW, Inc, Li, Ni, Oi, Xi, Ai, Ci, In, Pi, Jmp, Ds, LrAR, LrRA, Lisu, Lisl, Lis, Bt, Am, Amd, Nm, Om, Xm, Cm, Br7, Bf, Ins, Outs, As, Asd, Xs, Ns}
+use Rattle.f8_spec.specs.declared.instructions.Op.TheVariants.{Out, LrAKu, LrAKl, LrAQu, LrAQl, LrKuA, LrKlA, LrQuA}
+use Rattle.f8_spec.specs.declared.instructions.Op.TheVariants.{LrQlA, LrKP, LrAIs, LrIsA, LrQDc, LrHDc, Sr1, Sl1, Sr4}
+use Rattle.f8_spec.specs.declared.instructions.Op.TheVariants.{Sl4, Lm, Com, Lnk, Di, Ei, LrWJ, LrJW, Inc, Li, Ni, Oi}
+use Rattle.f8_spec.specs.declared.instructions.Op.TheVariants.{Xi, Ai, Ci, In, Pi, Jmp, Ds, LrAR, LrRA, Lisu, Lisl, Lis}
+use Rattle.f8_spec.specs.declared.instructions.Op.TheVariants.{Bt, Am, Amd, Nm, Om, Xm, Cm, Br7, Bf, Ins, Outs, As, Asd}
+use Rattle.f8_spec.specs.declared.instructions.Op.TheVariants.{Xs, Ns}
 use Rattle.f8_spec.specs.declared.instructions.Row.{Row}
-use Rattle.f8_spec.specs.declared.instructions.Row.TheVariants.{StackFromK, CallK, JumpQ, DataFromQ, DataFromH, ReadData, StoreData, Return, Immediate, PortIn, Call, Jump, LoadData, Exchange, AddData, Branch, BranchIsar, ShortIn, Idle}
+use Rattle.f8_spec.specs.declared.instructions.Row.TheVariants.{StackFromK, CallK, JumpQ, DataFromQ, DataFromH}
+use Rattle.f8_spec.specs.declared.instructions.Row.TheVariants.{ReadData, StoreData, Return, Immediate, PortIn, Call}
+use Rattle.f8_spec.specs.declared.instructions.Row.TheVariants.{Jump, LoadData, Exchange, AddData, Branch, BranchIsar}
+use Rattle.f8_spec.specs.declared.instructions.Row.TheVariants.{ShortIn, Idle}
 use Rattle.f8_spec.specs.BusArbitration.{Seat}
 use Rattle.console_spec.specs.AddressSpace.{byte_at}
 use Rattle.console_spec.specs.Writes.{chip_port_byte, port_value, takers}
@@ -362,8 +374,8 @@ abbrev pub with_key : ℕ → ℕ → State → State
 with_key port byte s = record s { keys = slice_set s.keys port byte }
 
 -- the registers as a run tells them
-abbrev pub shown : State → Regs
-shown s = record {
+abbrev pub told_regs : State → Regs
+told_regs s = record {
   p = s.flow.p;
   p1 = s.flow.p1;
   d0 = s.flow.d0;

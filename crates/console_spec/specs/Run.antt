@@ -45,7 +45,8 @@ instruction_course op x =
 
 -- ---- power-on and reset
 
--- Power-on, on a rack of chips that are fitted and a chain of those described. The copies are those that reset will leave: the stack register and the data counters of a
+-- Power-on, on a rack of chips that are fitted and a chain of those described. The copies are those that reset will
+-- leave: the stack register and the data counters of a
 -- chip stand where power-on left its counters.
 abbrev pub power_position : List ChipView → List ℕ → ℕ → Position
 power_position vs chain fill = record {

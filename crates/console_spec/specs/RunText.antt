@@ -3,7 +3,7 @@ use Rattle.std.specs.Prelude.{ℕ, ◌+◌, ◌*◌, Bool, true, false, List, []
 use Rattle.std.specs.List.{range_with_len}
 use Rattle.f8_spec.specs.Spelling.{hex2, hex4, octal2}
 use Rattle.f8_spec.specs.declared.bus.Party.{Party}
-use Rattle.console_spec.specs.Processor.{shown}
+use Rattle.console_spec.specs.Processor.{told_regs}
 use Rattle.console_spec.specs.Services.{Fault, Conflict, Undriven, Astray}
 use Rattle.console_spec.specs.Run.{Stop, Done, Unserved, Reserved, Ending}
 use Rattle.console_spec.specs.declared.PortWrite.{PortWrite}
@@ -34,7 +34,8 @@ unfoldable pub fault_line : Fault → List ℕ
 fault_line (Conflict romc parties) = codes "stop conflict romc " ++ hex2 romc ++ flat_map party_text parties ++ codes "\n"
 fault_line (Undriven romc at) = codes "stop undriven romc " ++ hex2 romc ++ codes " at " ++ hex4 at ++ codes "\n"
 fault_line (Astray romc socket at reference) =
-    codes "stop astray romc " ++ hex2 romc ++ codes " socket " ++ decimal socket ++ codes " at " ++ hex4 at ++ codes " reference " ++ hex4 reference ++ codes "\n"
+    codes "stop astray romc " ++ hex2 romc ++ codes " socket " ++ decimal socket ++ codes " at " ++ hex4 at
+    ++ codes " reference " ++ hex4 reference ++ codes "\n"
 
 unfoldable pub stop_line : Stop → List ℕ
 stop_line Done = codes "stop done\n"
@@ -73,7 +74,7 @@ told_lines stop regs count phi =
 abbrev pub ending_lines : Ending → List (List ℕ)
 ending_lines e =
     let state = e.position.flat.state in
-    told_lines e.stop (shown state) state.count state.phi
+    told_lines e.stop (told_regs state) state.count state.phi
 
 -- lines one after another
 unfoldable pub text_of : List (List ℕ) → List ℕ

@@ -3,7 +3,8 @@
 use Rattle.std.specs.Prelude.{ℕ, true, List, [], ◌∷◌, map, Option, Some, None}
 use Rattle.std.specs.List.{enumerate_from}
 use Rattle.f8_spec.specs.ChipState.{has_second_counter}
-use Rattle.f8_spec.specs.BusArbitration.{PlacedSeat, Verdict, Served, Conflict as ConflictVerdict, Undriven as UndrivenVerdict, Astray as AstrayVerdict, verdict}
+use Rattle.f8_spec.specs.BusArbitration.{PlacedSeat, Verdict, Served, Conflict as ConflictVerdict}
+use Rattle.f8_spec.specs.BusArbitration.{Undriven as UndrivenVerdict, Astray as AstrayVerdict, verdict}
 use Rattle.f8_spec.specs.declared.bus.Party.{Party}
 use Rattle.console_spec.specs.Processor.{Flow}
 use Rattle.console_spec.specs.CounterCopies.{Copy}

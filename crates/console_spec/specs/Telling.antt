@@ -7,7 +7,9 @@ use Rattle.console_spec.specs.declared.PortWrite.{PortWrite}
 use Rattle.console_spec.specs.Processor.{State, with_key}
 use Rattle.console_spec.specs.Services.{Fault, Conflict, Undriven, Astray}
 use Rattle.console_spec.specs.BusTrace.{TracedStep, Course}
-use Rattle.console_spec.specs.Run.{Position, Turn, Goes, Stops, Done, Ending, power_position, chain_in_order, position_after_reset, reset_fault, reset_course, goes_unless, next, flat_next, turn_course}
+use Rattle.console_spec.specs.Run.{Position, Turn, Goes, Stops, Done, Ending, power_position, chain_in_order}
+use Rattle.console_spec.specs.Run.{position_after_reset, reset_fault, reset_course, goes_unless, next, flat_next}
+use Rattle.console_spec.specs.Run.{turn_course}
 use Rattle.console_spec.specs.Scripts.{Script, frames_by, events_at, most_instructions}
 use Rattle.console_spec.specs.declared.Event.{Event}
 use Rattle.console_spec.specs.declared.Event.TheVariants.{Keys, Pulse}

@@ -33,7 +33,7 @@ impl Model for Cpu {
 impl Cpu {
     ghost use Rattle.std.specs.Prelude.{◌≡◌, ◌↔◌, ◌<◌, false, [], length, IsErr, IsOk, IfOk, IfErr, IsSome};
     ghost use Rattle.f8_spec.specs.Instructions.{IsReserved, decoded};
-    ghost use Rattle.console_spec.specs.Processor.{shown};
+    ghost use Rattle.console_spec.specs.Processor.{told_regs};
     ghost use Rattle.cpu3850.specs.CpuPorts.{with_own_key};
     ghost use Rattle.cpu3850.specs.CpuSteps.{AreInRange, powered, planned, driven, taken};
     ghost use Rattle.cpu3850.specs.Keeping.{kept_of, restored};
@@ -166,7 +166,7 @@ impl Cpu {
 
     /// The registers of the CPU beside these counters, which it doesn't have itself.
     pub fn regs(&self, p: u16, p1: u16, d0: u16, d1: u16) -> Regs
-        ensures regs { result ≡ shown (record {
+        ensures regs { result ≡ told_regs (record {
           flow = record { p = p; p1 = p1; d0 = d0; d1 = d1 };
           registers = self.now.registers;
           keys = [];

@@ -37,7 +37,7 @@ impl RegisterFile {
     ghost use Rattle.f8_spec.specs.Flags.{after_sum};
     ghost use Rattle.cpu3850.specs.CpuSteps.{AreInRange, driven_in};
     ghost use Rattle.cpu3850.specs.Keeping.{kept_with, restored_registers};
-    ghost use Rattle.console_spec.specs.Processor.{at_power, scratch_byte, with_scratch, register_of, field_byte, with_isar_stepped, with_result, with_sum, with_decimal_sum, compared, decremented, effect, any_chosen, is_taken, shown};
+    ghost use Rattle.console_spec.specs.Processor.{at_power, scratch_byte, with_scratch, register_of, field_byte, with_isar_stepped, with_result, with_sum, with_decimal_sum, compared, decremented, effect, any_chosen, is_taken, told_regs};
 
     pub(crate) fn power(fill: u8) -> RegisterFile
         ensures { result ≡ (at_power fill).registers }
@@ -267,7 +267,7 @@ impl RegisterFile {
     }
 
     pub(crate) fn regs(&self, p: u16, p1: u16, d0: u16, d1: u16) -> Regs
-        ensures regs { result ≡ shown (record {
+        ensures regs { result ≡ told_regs (record {
           flow = record { p = p; p1 = p1; d0 = d0; d1 = d1 };
           registers = self.now;
           keys = [];

@@ -133,7 +133,11 @@ impl Steps {
 
     fn long(self, romc: Romc) -> Steps
         requires { length self < 5 }
-        ensures { result ≡ self ++ (record { romc = romc; long = true; driver = driver_by_table romc }) ∷ [] }
+        ensures { result ≡ self ++ (record {
+          romc = romc;
+          long = true;
+          driver = driver_by_table romc;
+        }) ∷ [] }
     {
         self.then(Step {
             romc,
@@ -144,7 +148,11 @@ impl Steps {
 
     fn short(self, romc: Romc) -> Steps
         requires { length self < 5 }
-        ensures { result ≡ self ++ (record { romc = romc; long = false; driver = driver_by_table romc }) ∷ [] }
+        ensures { result ≡ self ++ (record {
+          romc = romc;
+          long = false;
+          driver = driver_by_table romc;
+        }) ∷ [] }
     {
         self.then(Step {
             romc,
@@ -156,7 +164,8 @@ impl Steps {
     /// The CPU works by itself, and nobody drives.
     fn idle(self) -> Steps
         requires { length self < 5 }
-        ensures { result ≡ self ++ (record { romc = 0x1C; long = false; driver = Driver.Nobody }) ∷ [] }
+        ensures { result ≡ self ++ (record { romc = 0x1C; long = false; driver = Driver.Nobody }) ∷
+            [] }
     {
         self.then(Step {
             romc: Romc::IDLE,

@@ -21,6 +21,15 @@ use Rattle.f8_asm.specs.Words.{two_letter_op_a_to_b, two_letter_op_c_to_l, two_l
 use Rattle.f8_asm.specs.Words.{three_letter_op_a_to_c, three_letter_op_d_to_x, three_letter_op, two_letter_shape}
 use Rattle.f8_asm.specs.Words.{longer_shape, op_of, shape_of, is_reserved}
 
+-- what the proofs below compute with
+assembling : Unit {0}
+unfolding tokens_at lexeme name_lexeme name_of number_lexeme number_of quoted_lexeme value narrow line_bytes statement
+    label_of operands items chain level parenthesis_expression mark_operand operand_of operand expression same_word
+    one_letter_register two_letter_register register_of pair_op two_letter_op_a_to_b two_letter_op_c_to_l
+    two_letter_op_n_to_x two_letter_op three_letter_op_a_to_c three_letter_op_d_to_x three_letter_op two_letter_shape
+    longer_shape op_of shape_of is_reserved list_bytes
+assembling = tt
+
 -- the bytes of a line at address 0000, without names
 abbrev bytes : List ℕ → Result (List ℕ) LineFault
 bytes line =
@@ -31,164 +40,92 @@ bytes line =
 
 -- 512 less 1 is 511, no displacement
 branch_too_far : bytes (codes " BT 1,$200") ≡ Err (fault_at 7 BranchRange)
-unfolding tokens_at lexeme name_lexeme name_of number_lexeme number_of quoted_lexeme value narrow line_bytes statement
-    label_of operands items chain level parenthesis_expression mark_operand operand_of operand expression same_word one_letter_register
-    two_letter_register register_of pair_op two_letter_op_a_to_b two_letter_op_c_to_l two_letter_op_n_to_x two_letter_op
-    three_letter_op_a_to_c three_letter_op_d_to_x three_letter_op two_letter_shape longer_shape op_of shape_of
-    is_reserved list_bytes
+unfolding assembling
 branch_too_far = refl
 
 -- 0 less 1 is -1
 branch_to_itself : bytes (codes " BR 0") ≡ Ok (0x90 ∷ 0xFF ∷ [])
-unfolding tokens_at lexeme name_lexeme name_of number_lexeme number_of quoted_lexeme value narrow line_bytes statement
-    label_of operands items chain level parenthesis_expression mark_operand operand_of operand expression same_word one_letter_register
-    two_letter_register register_of pair_op two_letter_op_a_to_b two_letter_op_c_to_l two_letter_op_n_to_x two_letter_op
-    three_letter_op_a_to_c three_letter_op_d_to_x three_letter_op two_letter_shape longer_shape op_of shape_of
-    is_reserved list_bytes
+unfolding assembling
 branch_to_itself = refl
 
 -- 256 is no byte
 byte_too_large : bytes (codes " LI 256") ≡ Err (fault_at 5 Range)
-unfolding tokens_at lexeme name_lexeme name_of number_lexeme number_of quoted_lexeme value narrow line_bytes statement
-    label_of operands items chain level parenthesis_expression mark_operand operand_of operand expression same_word one_letter_register
-    two_letter_register register_of pair_op two_letter_op_a_to_b two_letter_op_c_to_l two_letter_op_n_to_x two_letter_op
-    three_letter_op_a_to_c three_letter_op_d_to_x three_letter_op two_letter_shape longer_shape op_of shape_of
-    is_reserved list_bytes
+unfolding assembling
 byte_too_large = refl
 
 -- -128 is one
 least_byte : bytes (codes " li -128") ≡ Ok (0x20 ∷ 0x80 ∷ [])
-unfolding tokens_at lexeme name_lexeme name_of number_lexeme number_of quoted_lexeme value narrow line_bytes statement
-    label_of operands items chain level parenthesis_expression mark_operand operand_of operand expression same_word one_letter_register
-    two_letter_register register_of pair_op two_letter_op_a_to_b two_letter_op_c_to_l two_letter_op_n_to_x two_letter_op
-    three_letter_op_a_to_c three_letter_op_d_to_x three_letter_op two_letter_shape longer_shape op_of shape_of
-    is_reserved list_bytes
+unfolding assembling
 least_byte = refl
 
 -- an operand with an undefined name is not judged further
 undefined_goes_first : bytes (codes " LI 1/0+X") ≡ Err (fault_at 9 Undefined)
-unfolding tokens_at lexeme name_lexeme name_of number_lexeme number_of quoted_lexeme value narrow line_bytes statement
-    label_of operands items chain level parenthesis_expression mark_operand operand_of operand expression same_word one_letter_register
-    two_letter_register register_of pair_op two_letter_op_a_to_b two_letter_op_c_to_l two_letter_op_n_to_x two_letter_op
-    three_letter_op_a_to_c three_letter_op_d_to_x three_letter_op two_letter_shape longer_shape op_of shape_of
-    is_reserved list_bytes
+unfolding assembling
 undefined_goes_first = refl
 
 -- between operands the lower column goes first
 lower_column_first : bytes (codes " DB 1/0,X") ≡ Err (fault_at 5 Range)
-unfolding tokens_at lexeme name_lexeme name_of number_lexeme number_of quoted_lexeme value narrow line_bytes statement
-    label_of operands items chain level parenthesis_expression mark_operand operand_of operand expression same_word one_letter_register
-    two_letter_register register_of pair_op two_letter_op_a_to_b two_letter_op_c_to_l two_letter_op_n_to_x two_letter_op
-    three_letter_op_a_to_c three_letter_op_d_to_x three_letter_op two_letter_shape longer_shape op_of shape_of
-    is_reserved list_bytes
+unfolding assembling
 lower_column_first = refl
 
 -- a character, and a negative byte
 characters_and_negatives : bytes (codes " DB -1,'A'") ≡ Ok (0xFF ∷ 0x41 ∷ [])
-unfolding tokens_at lexeme name_lexeme name_of number_lexeme number_of quoted_lexeme value narrow line_bytes statement
-    label_of operands items chain level parenthesis_expression mark_operand operand_of operand expression same_word one_letter_register
-    two_letter_register register_of pair_op two_letter_op_a_to_b two_letter_op_c_to_l two_letter_op_n_to_x two_letter_op
-    three_letter_op_a_to_c three_letter_op_d_to_x three_letter_op two_letter_shape longer_shape op_of shape_of
-    is_reserved list_bytes
+unfolding assembling
 characters_and_negatives = refl
 
 -- `*` before `+`, `+` before `&`, `&` before `|`
 strengths : bytes (codes " LI 1|6&2+2*3") ≡ Ok (0x20 ∷ 0x01 ∷ [])
-unfolding tokens_at lexeme name_lexeme name_of number_lexeme number_of quoted_lexeme value narrow line_bytes statement
-    label_of operands items chain level parenthesis_expression mark_operand operand_of operand expression same_word one_letter_register
-    two_letter_register register_of pair_op two_letter_op_a_to_b two_letter_op_c_to_l two_letter_op_n_to_x two_letter_op
-    three_letter_op_a_to_c three_letter_op_d_to_x three_letter_op two_letter_shape longer_shape op_of shape_of
-    is_reserved list_bytes
+unfolding assembling
 strengths = refl
 
 -- the low byte of a word
 low_byte : bytes (codes " LI <$1234") ≡ Ok (0x20 ∷ 0x34 ∷ [])
-unfolding tokens_at lexeme name_lexeme name_of number_lexeme number_of quoted_lexeme value narrow line_bytes statement
-    label_of operands items chain level parenthesis_expression mark_operand operand_of operand expression same_word one_letter_register
-    two_letter_register register_of pair_op two_letter_op_a_to_b two_letter_op_c_to_l two_letter_op_n_to_x two_letter_op
-    three_letter_op_a_to_c three_letter_op_d_to_x three_letter_op two_letter_shape longer_shape op_of shape_of
-    is_reserved list_bytes
+unfolding assembling
 low_byte = refl
 
 -- `<` of a negative value
 negative_has_no_low_byte : bytes (codes " LI <-1") ≡ Err (fault_at 5 Range)
-unfolding tokens_at lexeme name_lexeme name_of number_lexeme number_of quoted_lexeme value narrow line_bytes statement
-    label_of operands items chain level parenthesis_expression mark_operand operand_of operand expression same_word one_letter_register
-    two_letter_register register_of pair_op two_letter_op_a_to_b two_letter_op_c_to_l two_letter_op_n_to_x two_letter_op
-    three_letter_op_a_to_c three_letter_op_d_to_x three_letter_op two_letter_shape longer_shape op_of shape_of
-    is_reserved list_bytes
+unfolding assembling
 negative_has_no_low_byte = refl
 
 -- `LR A,A` is no instruction
 second_accumulator : bytes (codes " LR A,A") ≡ Err (form (Some 7))
-unfolding tokens_at lexeme name_lexeme name_of number_lexeme number_of quoted_lexeme value narrow line_bytes statement
-    label_of operands items chain level parenthesis_expression mark_operand operand_of operand expression same_word one_letter_register
-    two_letter_register register_of pair_op two_letter_op_a_to_b two_letter_op_c_to_l two_letter_op_n_to_x two_letter_op
-    three_letter_op_a_to_c three_letter_op_d_to_x three_letter_op two_letter_shape longer_shape op_of shape_of
-    is_reserved list_bytes
+unfolding assembling
 second_accumulator = refl
 
 -- neither is `LR HU,W`
 no_such_pair : bytes (codes " LR HU,W") ≡ Err (form (Some 8))
-unfolding tokens_at lexeme name_lexeme name_of number_lexeme number_of quoted_lexeme value narrow line_bytes statement
-    label_of operands items chain level parenthesis_expression mark_operand operand_of operand expression same_word one_letter_register
-    two_letter_register register_of pair_op two_letter_op_a_to_b two_letter_op_c_to_l two_letter_op_n_to_x two_letter_op
-    three_letter_op_a_to_c three_letter_op_d_to_x three_letter_op two_letter_shape longer_shape op_of shape_of
-    is_reserved list_bytes
+unfolding assembling
 no_such_pair = refl
 
 -- J is register 9
 register_nine : bytes (codes " LR J,A") ≡ Ok (0x59 ∷ [])
-unfolding tokens_at lexeme name_lexeme name_of number_lexeme number_of quoted_lexeme value narrow line_bytes statement
-    label_of operands items chain level parenthesis_expression mark_operand operand_of operand expression same_word one_letter_register
-    two_letter_register register_of pair_op two_letter_op_a_to_b two_letter_op_c_to_l two_letter_op_n_to_x two_letter_op
-    three_letter_op_a_to_c three_letter_op_d_to_x three_letter_op two_letter_shape longer_shape op_of shape_of
-    is_reserved list_bytes
+unfolding assembling
 register_nine = refl
 
 -- only S, I and D name 12 to 14
 words_alone : bytes (codes " LR 12,A") ≡ Err (fault_at 5 Range)
-unfolding tokens_at lexeme name_lexeme name_of number_lexeme number_of quoted_lexeme value narrow line_bytes statement
-    label_of operands items chain level parenthesis_expression mark_operand operand_of operand expression same_word one_letter_register
-    two_letter_register register_of pair_op two_letter_op_a_to_b two_letter_op_c_to_l two_letter_op_n_to_x two_letter_op
-    three_letter_op_a_to_c three_letter_op_d_to_x three_letter_op two_letter_shape longer_shape op_of shape_of
-    is_reserved list_bytes
+unfolding assembling
 words_alone = refl
 
 -- port 2 has no instruction
 port_two : bytes (codes " INS 2") ≡ Err (fault_at 6 Range)
-unfolding tokens_at lexeme name_lexeme name_of number_lexeme number_of quoted_lexeme value narrow line_bytes statement
-    label_of operands items chain level parenthesis_expression mark_operand operand_of operand expression same_word one_letter_register
-    two_letter_register register_of pair_op two_letter_op_a_to_b two_letter_op_c_to_l two_letter_op_n_to_x two_letter_op
-    three_letter_op_a_to_c three_letter_op_d_to_x three_letter_op two_letter_shape longer_shape op_of shape_of
-    is_reserved list_bytes
+unfolding assembling
 port_two = refl
 
 -- a name in a mnemonic's place
 unknown : bytes (codes "X: Y: NOP") ≡ Err (record { column = Some 4; cause = Unknown })
-unfolding tokens_at lexeme name_lexeme name_of number_lexeme number_of quoted_lexeme value narrow line_bytes statement
-    label_of operands items chain level parenthesis_expression mark_operand operand_of operand expression same_word one_letter_register
-    two_letter_register register_of pair_op two_letter_op_a_to_b two_letter_op_c_to_l two_letter_op_n_to_x two_letter_op
-    three_letter_op_a_to_c three_letter_op_d_to_x three_letter_op two_letter_shape longer_shape op_of shape_of
-    is_reserved list_bytes
+unfolding assembling
 unknown = refl
 
 -- a mnemonic is no label
 reserved_label : bytes (codes "NOP: NOP") ≡ Err (form (Some 4))
-unfolding tokens_at lexeme name_lexeme name_of number_lexeme number_of quoted_lexeme value narrow line_bytes statement
-    label_of operands items chain level parenthesis_expression mark_operand operand_of operand expression same_word one_letter_register
-    two_letter_register register_of pair_op two_letter_op_a_to_b two_letter_op_c_to_l two_letter_op_n_to_x two_letter_op
-    three_letter_op_a_to_c three_letter_op_d_to_x three_letter_op two_letter_shape longer_shape op_of shape_of
-    is_reserved list_bytes
+unfolding assembling
 reserved_label = refl
 
 -- nothing stands behind the comma's place
 past_the_end : bytes (codes " BT 1") ≡ Err (form None)
-unfolding tokens_at lexeme name_lexeme name_of number_lexeme number_of quoted_lexeme value narrow line_bytes statement
-    label_of operands items chain level parenthesis_expression mark_operand operand_of operand expression same_word one_letter_register
-    two_letter_register register_of pair_op two_letter_op_a_to_b two_letter_op_c_to_l two_letter_op_n_to_x two_letter_op
-    three_letter_op_a_to_c three_letter_op_d_to_x three_letter_op two_letter_shape longer_shape op_of shape_of
-    is_reserved list_bytes
+unfolding assembling
 past_the_end = refl
 
 -- an LF ends a line, and a CR right before it is dropped

@@ -10,7 +10,8 @@ use Rattle.f8_asm.specs.declared.values.Operator.{Operator}
 use Rattle.f8_asm.specs.declared.values.Prefix.{Prefix}
 use Rattle.f8_asm.specs.declared.values.Prefix.TheVariants.{Negative, LowByte, HighByte}
 use Rattle.f8_asm.specs.ExpressionForms.{prefix_mark, Forms, BeginsWithExpression}
-use Rattle.f8_asm.specs.Grammar.{Actions, Read, operator_at, chain, level, parenthesis_end, parenthesis_expression, behind_prefix, mark_operand, operand_of, operand, expression}
+use Rattle.f8_asm.specs.Grammar.{Actions, Read, operator_at, chain, level, parenthesis_end, parenthesis_expression}
+use Rattle.f8_asm.specs.Grammar.{behind_prefix, mark_operand, operand_of, operand, expression}
 use Rattle.f8_asm.specs.Words.{is_reserved}
 use Rattle.f8_asm.proofs.Alike.{read-ok}
 use Rattle.f8_asm.proofs.Chain.{turn, at_token}

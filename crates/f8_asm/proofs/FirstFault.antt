@@ -61,7 +61,8 @@ read_line-line number s l fault fault_in_line =
     (λ ts. at_line number ts (check s.names ts) _ fault (λ names. no_fault _ fault number)) fault_in_line
 
 place-line : (room : Room) (s : Layout) (l : Line) (fault : AsmFault) → place room s l ≡ Err fault → fault.line ≡ l.number
-place-line room s l fault fault_in_line = unfold place in at_line l.number l.tokens (settle room s l.tokens) _ fault (λ t. no_fault _ fault l.number) fault_in_line
+place-line room s l fault fault_in_line = unfold place in
+    at_line l.number l.tokens (settle room s l.tokens) _ fault (λ t. no_fault _ fault l.number) fault_in_line
 
 emit-line : (names : List (List ℕ × ℤ)) (table : List (Option ℕ)) (p : PlacedLine) (fault : AsmFault) →
     emit names table p ≡ Err fault → fault.line ≡ p.line.number
@@ -81,7 +82,9 @@ record FirstUnread (number : ℕ) (s : Reading) (ls : List (List ℕ)) (fault : 
 
 first_unread : (number : ℕ) (s : Reading) (ls : List (List ℕ)) (fault : AsmFault) → read_lines number s ls ≡ Err fault → FirstUnread number s ls fault
 first_unread number s [] fault fault_in_line = unfold read_lines in cc
-first_unread number s (l ∷ ls) fault fault_in_line = by (λ t fault_in_line. first_unread (number + 1) t ls fault fault_in_line) (read_line number s l) refl (unfold read_lines in fault_in_line)
+first_unread number s (l ∷ ls) fault fault_in_line =
+    by (λ t fault_in_line. first_unread (number + 1) t ls fault fault_in_line) (read_line number s l) refl
+    (unfold read_lines in fault_in_line)
   where
     by : ((t : Reading) → read_lines (number + 1) t ls ≡ Err fault → FirstUnread (number + 1) t ls fault) →
         (r : Result Reading AsmFault) → read_line number s l ≡ r →
@@ -119,7 +122,9 @@ record FirstUnplaced (room : Room) (s : Layout) (ls : List Line) (fault : AsmFau
 
 first_unplaced : (room : Room) (s : Layout) (ls : List Line) (fault : AsmFault) → place_lines room s ls ≡ Err fault → FirstUnplaced room s ls fault
 first_unplaced room s [] fault fault_in_line = unfold place_lines in cc
-first_unplaced room s (l ∷ ls) fault fault_in_line = by (λ t fault_in_line. first_unplaced room t ls fault fault_in_line) (place room s l) refl (unfold place_lines in fault_in_line)
+first_unplaced room s (l ∷ ls) fault fault_in_line =
+    by (λ t fault_in_line. first_unplaced room t ls fault fault_in_line) (place room s l) refl (unfold place_lines in
+    fault_in_line)
   where
     by : ((t : Layout) → place_lines room t ls ≡ Err fault → FirstUnplaced room t ls fault) → (r : Result Layout AsmFault) → place room s l ≡ r →
         (r >>= λ t. place_lines room t ls) ≡ Err fault → FirstUnplaced room s (l ∷ ls) fault
@@ -134,7 +139,15 @@ first_unplaced room s (l ∷ ls) fault fault_in_line = by (λ t fault_in_line. f
           in_order = unfold place_lines in rw is first.in_order;
           at_fault = first.at_fault;
         }
-    by later (Err own) is fault_in_line = record { before = []; l = l; behind = ls; laid = s; parts = refl; in_order = unfold place_lines in refl; at_fault = is ∙ fault_in_line }
+    by later (Err own) is fault_in_line = record {
+      before = [];
+      l = l;
+      behind = ls;
+      laid = s;
+      parts = refl;
+      in_order = unfold place_lines in refl;
+      at_fault = is ∙ fault_in_line;
+    }
 
 record FirstUnwritten (names : List (List ℕ × ℤ)) (table : List (Option ℕ)) (ps : List PlacedLine) (fault : AsmFault) : Type 0 where
   before : List PlacedLine
@@ -148,7 +161,9 @@ record FirstUnwritten (names : List (List ℕ × ℤ)) (table : List (Option ℕ
 first_unwritten : (names : List (List ℕ × ℤ)) (table : List (Option ℕ)) (ps : List PlacedLine) (fault : AsmFault) → emit_lines names table ps ≡ Err fault →
     FirstUnwritten names table ps fault
 first_unwritten names table [] fault fault_in_line = unfold emit_lines in cc
-first_unwritten names table (p ∷ ps) fault fault_in_line = by (λ t fault_in_line. first_unwritten names t ps fault fault_in_line) (emit names table p) refl (unfold emit_lines in fault_in_line)
+first_unwritten names table (p ∷ ps) fault fault_in_line =
+    by (λ t fault_in_line. first_unwritten names t ps fault fault_in_line) (emit names table p) refl
+    (unfold emit_lines in fault_in_line)
   where
     by : ((t : List (Option ℕ)) → emit_lines names t ps ≡ Err fault → FirstUnwritten names t ps fault) →
         (r : Result (List (Option ℕ)) AsmFault) → emit names table p ≡ r →
@@ -310,14 +325,16 @@ fault_answer text room (Err answer.Memory) says = tt
 
 -- ---- where a call stops
 
-pub stops_reading : (text : List ℕ) (room : Room) (fault_in_line : AsmAnswer) → SaysOfText {A = Reading} (Err fault_in_line) (read_lines 1 no_reading (lines text)) →
+pub stops_reading : (text : List ℕ) (room : Room) (fault_in_line : AsmAnswer) →
+    SaysOfText {A = Reading} (Err fault_in_line) (read_lines 1 no_reading (lines text)) →
     SaysOfText {A = Picture} (Err fault_in_line) (image_of text room)
 unfolding image_of image_in
 stops_reading text room (answer.Fault fault) says = rw says refl
 stops_reading text room answer.Memory says = tt
 
 pub stops_placing : (text : List ℕ) (room : Room) (fault_in_line : AsmAnswer) (read : Reading) → AreStatements (lines text) read →
-    SaysOfText {A = Layout} (Err fault_in_line) (place_lines room (no_layout 65536) read.lines) → SaysOfText {A = Picture} (Err fault_in_line) (image_of text room)
+    SaysOfText {A = Layout} (Err fault_in_line) (place_lines room (no_layout 65536) read.lines) →
+    SaysOfText {A = Picture} (Err fault_in_line) (image_of text room)
 unfolding image_of image_in
 stops_placing text room (answer.Fault fault) read is says = rw (is, says) refl
 stops_placing text room answer.Memory read is says = tt

@@ -14,7 +14,7 @@ use Rattle.f8_spec.specs.Instructions.{decoded, mnemonic_of}
 use Rattle.f8_spec.specs.declared.instructions.Op.{Op}
 use Rattle.f8_spec.specs.declared.instructions.Op.TheVariants.{Nop}
 use Rattle.asm_text.proofs.Spelled.{hex2_read, hex4_read}
-use Rattle.f8_ops.proofs.ValuesBelow.{values_below, same_below}
+use Rattle.f8_spec.proofs.ValuesBelow.{values_below, same_below}
 use Rattle.f8_asm.specs.declared.operands.Effect.TheVariants.{Fills}
 use Rattle.f8_asm.specs.declared.operands.Statement.{Statement}
 use Rattle.f8_asm.specs.declared.operands.Statement.TheVariants.{Nothing}
@@ -73,7 +73,8 @@ says_below {line} {ts} {front} {n} {at} all k below =
       gives = record {
         st = statement_in (ts k);
         behind_label = same_below (λ k. label_of (ts k)) (λ k. None) n k all.behind_label below;
-        statement_at = λ address. same_below (λ k. statement (values [] address) false (ts k)) (λ k. Ok (statement_in (ts k))) n k (all.statement_at address) below;
+        statement_at = λ address. same_below (λ k. statement (values [] address) false (ts k))
+            (λ k. Ok (statement_in (ts k))) n k (all.statement_at address) below;
         fills = same_below (λ k. effect_of (statement_in (ts k))) (λ k. Fills (length (front k))) n k all.fills below;
         instruction_of = same_below (λ k. bytes_of at (statement_in (ts k))) (λ k. Ok (front k)) n k all.instruction_of below;
       };
@@ -85,7 +86,15 @@ alone b = line_of (op_piece 0 b [] (decoded b)).entry
 
 alone_computes : (at : ℕ) → Computes alone (λ b. tokens_in (alone b)) (λ b. b ∷ []) 256 at
 unfolding numbers_open hex2
-alone_computes at = record { printable = refl; short = refl; read = refl; behind_label = refl; statement_at = λ address. refl; fills = refl; instruction_of = refl }
+alone_computes at = record {
+  printable = refl;
+  short = refl;
+  read = refl;
+  behind_label = refl;
+  statement_at = λ address. refl;
+  fills = refl;
+  instruction_of = refl;
+}
 
 pub says_alone : (b at : ℕ) → b < 256 → Says at (alone b) (b ∷ [])
 says_alone b at is_byte = says_below (alone_computes at) b is_byte
@@ -96,7 +105,15 @@ data_line b = line_of (entry.Data b)
 
 data_computes : (at : ℕ) → Computes data_line (λ b. tokens_in (data_line b)) (λ b. b ∷ []) 256 at
 unfolding numbers_open hex2
-data_computes at = record { printable = refl; short = refl; read = refl; behind_label = refl; statement_at = λ address. refl; fills = refl; instruction_of = refl }
+data_computes at = record {
+  printable = refl;
+  short = refl;
+  read = refl;
+  behind_label = refl;
+  statement_at = λ address. refl;
+  fills = refl;
+  instruction_of = refl;
+}
 
 pub says_data : (b at : ℕ) → b < 256 → Says at (line_of (entry.Data b)) (b ∷ [])
 says_data b at is_byte = says_below (data_computes at) b is_byte

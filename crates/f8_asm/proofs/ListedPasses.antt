@@ -46,7 +46,12 @@ numbered n ts = record { number = n; tokens = ts }
 one_read : {at : ℕ} {line front : List ℕ} (says : Says at line front) (n : ℕ) (done : List Line) →
     read_line n (reading done) line ≡ Ok (reading (done ++ numbered n says.ts ∷ []))
 unfolding read_line
-one_read says n done = rw (some_utf8 n _ (IsUtf8-from_ascii _ (printable_ascii _ says.printable)), says.read, says.gives.behind_label, says.gives.statement_at 0) refl
+one_read says n done = rw (
+  some_utf8 n _ (IsUtf8-from_ascii _ (printable_ascii _ says.printable)),
+  says.read,
+  says.gives.behind_label,
+  says.gives.statement_at 0,
+) refl
 
 -- the first pass reads lines that give these bytes
 pub record ReadAs (n : ℕ) (done : List Line) (lines : List (List ℕ)) (at : ℕ) (bytes : List ℕ) : Type 0 where

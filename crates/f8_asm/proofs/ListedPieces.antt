@@ -6,7 +6,7 @@ use Rattle.std.proofs.lemmas.Int.{ints}
 use Rattle.std.proofs.lemmas.Bool.Decides.{nat_tests}
 use Rattle.f8_spec.specs.Instructions.{decoded, row_of}
 use Rattle.f8_spec.specs.declared.instructions.Op.{Op}
-use Rattle.f8_ops.proofs.ValuesBelow.{values_below, same_below}
+use Rattle.f8_spec.proofs.ValuesBelow.{values_below, same_below}
 use Rattle.f8_asm.specs.declared.pieces.Piece.{Piece}
 use Rattle.f8_asm.specs.declared.pieces.Tail.{Tail}
 use Rattle.f8_asm.specs.declared.pieces.Tail.TheVariants as tail

@@ -52,7 +52,7 @@ impl Isa {
     ghost use Rattle.f8_spec.specs.Words.{word, places_on, displaced};
     ghost use Rattle.f8_spec.specs.declared.instructions.Op.{Op};
     ghost use Rattle.console_spec.specs.AddressSpace.{byte_at};
-    ghost use Rattle.console_spec.specs.Processor.{used_byte, result_of, is_taken, flow_after, shown};
+    ghost use Rattle.console_spec.specs.Processor.{used_byte, result_of, is_taken, flow_after, told_regs};
     ghost use Rattle.console_spec.specs.Run.{Reserved as StopReserved, power_position, chain_in_order, position_after_reset};
     ghost use Rattle.memory_map.specs.MapOf.{IsMapOf, views_of};
     ghost use Rattle.f8_isa.specs.Counters.{flow_of};
@@ -352,7 +352,7 @@ impl Isa {
     /// The registers between two instructions.
     #[inline]
     pub fn regs(&self) -> Regs
-        ensures regs { result ≡ shown (state_of self.now 0 []) }
+        ensures regs { result ≡ told_regs (state_of self.now 0 []) }
         ensures isar { result.isar < 64 }
     {
         Regs {

@@ -75,7 +75,7 @@ remaining_first cpu probe states op x plan is holds =
       planned_are = ap (λ (found : Option Op). planned_as found cpu.registers) (sym holds.instruction) ∙ sym is;
       bus = record {
         so_far = [];
-        told_so_far = refl;
+        recorded = refl;
         along = subst (λ (branched : Bool). Along i x (instruction_aim op x) (steps_of (row_of op) branched) probe
             (views states) []) same_taken start;
       };
@@ -110,7 +110,7 @@ ends_by start cpu probe states steps op x index [] none bus reaches free =
       };
       served = ended.fault;
       so_far = bus.so_far;
-      recorded = bus.told_so_far;
+      recorded = bus.recorded;
       trace = ended.course;
     }
 ends_by start cpu probe states steps op x index (s ∷ rest) none bus reaches free = cc

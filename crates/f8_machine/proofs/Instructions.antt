@@ -1,15 +1,15 @@
 -- An instruction of a machine, from the position that it stands for to the next one.
-use Rattle.std.proofs.Common.{◌≡◌, ℕ, ◌+◌, ◌%◌, ◌<◌, Bool, true, false, List, [], ◌∷◌, map, length, Option, Some, None}
+use Rattle.std.proofs.Common.{◌≡◌, ℕ, ◌+◌, ◌%◌, ◌<◌, Bool, true, List, [], ◌∷◌, map, length, Option, Some, None}
 use Rattle.std.proofs.Common.{refl, sym, ap, ◌∙◌, subst, arith}
-use Rattle.std.specs.Prelude.{IsSome, sum_by, option_map, if◌then◌else◌, slice_index, slice_set}
+use Rattle.std.specs.Prelude.{IsSome, sum_by, if◌then◌else◌, slice_index, slice_set}
 use Rattle.f8_spec.specs.BusArbitration.{Seat}
 use Rattle.f8_spec.specs.ChipState.{ChipState}
 use Rattle.f8_spec.specs.Instructions.{decoded, row_of, row_clocks}
-use Rattle.f8_spec.specs.MicroSteps.{step_clocks, steps_of}
+use Rattle.f8_spec.specs.MicroSteps.{step_clocks}
 use Rattle.f8_spec.specs.declared.instructions.Op.{Op}
 use Rattle.f8_spec.specs.declared.instructions.Op.TheVariants.{Outs}
 use Rattle.f8_spec.specs.declared.instructions.Row.{Row}
-use Rattle.f8_spec.specs.declared.instructions.Row.TheVariants.{StoreData, Branch, BranchIsar}
+use Rattle.f8_spec.specs.declared.instructions.Row.TheVariants.{StoreData}
 use Rattle.console_spec.specs.Processor.{Flow, Registers, Inputs, is_taken, result_of, own_inputs, with_write, write_of}
 use Rattle.cpu3850.specs.CpuPorts.{PortBytes, put_by, with_latch}
 use Rattle.cpu3850.proofs.PortLaws.{own_ports-after_instruction}
@@ -28,7 +28,7 @@ use Rattle.console_spec.specs.Run.{Position, goes_unless, decided, next, opcode_
 use Rattle.console_spec.specs.Run.{position_after, course_as, turn_course}
 use Rattle.console_spec.proofs.InputLaws.{result_of-with_opcode, flow_after-with_opcode}
 use Rattle.cpu3850.specs.declared.steps.Step.{Step}
-use Rattle.cpu3850.specs.CpuSteps.{CpuState, AreInRange, bus_step, planned_as, planned}
+use Rattle.cpu3850.specs.CpuSteps.{CpuState, AreInRange, planned_as, planned}
 use Rattle.cpu3850.specs.Keeping.{KeptRegisters, kept_of, restored, IsRestorable}
 use Rattle.probe.specs.ProbeState.{ProbeState}
 use Rattle.data_bus.specs.declared.fault.BusFault.{BusFault}
@@ -125,11 +125,11 @@ own_latch (Outs n) accumulator p latches are two = λ own.
 own_latch op accumulator p latches are two = tt
 
 -- the write that is told, by the processor and the record of the machine
-pub told_of : (told : Option PortWrite) (found : Option Op) (op : Op) (phi : ℕ) (latches own : List ℕ)
+pub write_as_told : (told : Option PortWrite) (found : Option Op) (op : Op) (phi : ℕ) (latches own : List ℕ)
     (steps steps_told : List Heard) →
     told ≡ done_write found phi latches steps → found ≡ Some op → latches ≡ own → steps ≡ steps_told →
     told ≡ done_write (Some op) phi own steps_told
-told_of told found op phi latches own steps steps_told e held same same_steps =
+write_as_told told found op phi latches own steps steps_told e held same same_steps =
     e ∙ ap (λ (o : Option Op). done_write o phi latches steps) held
     ∙ ap (λ (l : List ℕ). done_write (Some op) phi l steps) same ∙ ap (done_write (Some op) phi own) same_steps
 

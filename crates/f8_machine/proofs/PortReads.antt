@@ -21,20 +21,20 @@ use Rattle.f8_machine.proofs.ServedSteps.{OneAnswers, named_seats, one_answers}
 
 -- ---- how many take part
 
-pub counted : (takes has : Bool) → takes ≡ has → (n at : ℕ) (ps : List Party) (s : Seat) (ss : List Seat) →
+pub count_more : (takes has : Bool) → takes ≡ has → (n at : ℕ) (ps : List Party) (s : Seat) (ss : List Seat) →
     length ps ≡ length ss →
     length (cons_option (party_if takes n at) ps) ≡ length (cond has (s ∷ ss) ss)
-counted true true same n at ps s ss rest = ap suc rest
-counted true false same n at ps s ss rest = cc
-counted false true same n at ps s ss rest = cc
-counted false false same n at ps s ss rest = rest
+count_more true true same n at ps s ss rest = ap suc rest
+count_more true false same n at ps s ss rest = cc
+count_more false true same n at ps s ss rest = cc
+count_more false false same n at ps s ss rest = rest
 
 pub parties_count : (rule : BusRule) (romc : ℕ) (has : Seat → Bool) (n : ℕ) (vs : List ChipView) →
     ((k : ℕ) (v : ChipView) → slice_get vs k ≡ Some v → answers rule (placed romc v) ≡ has (seat_of v)) →
     length (parties rule (map (named_placed romc) (enumerate_from n vs))) ≡ length (filter has (map seat_of vs))
 parties_count rule romc has n [] same = refl
 parties_count rule romc has n (v ∷ vs) same =
-    counted (answers rule (placed romc v)) (has (seat_of v)) (same 0 v refl) n (placed romc v).at _ (seat_of v) _
+    count_more (answers rule (placed romc v)) (has (seat_of v)) (same 0 v refl) n (placed romc v).at _ (seat_of v) _
     (parties_count rule romc has (n + 1) vs (λ k w lies. same (suc k) w lies))
 
 -- ---- a read

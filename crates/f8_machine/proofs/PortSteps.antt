@@ -218,7 +218,7 @@ latch_of-other : (phi byte last port : ℕ) (taken : Bool) (writes : List PortWr
 latch_of-other phi byte last port true writes other = rw other refl
 latch_of-other phi byte last port false writes other = refl
 
--- a chip that has the port is counted
+-- a chip that has the port is count_more
 pub counts_one : (has : Seat → Bool) (vs : List ChipView) (k : ℕ) (v : ChipView) → slice_get vs k ≡ Some v →
     has (seat_of v) ≡ true → 1 ≤ length (filter has (map seat_of vs))
 counts_one has [] k v lies is = cc

@@ -1,6 +1,6 @@
 -- A turn of the loop over the bus steps of an instruction: what is left of it, with the processor.
-use Rattle.std.proofs.Common.{◌≡◌, ℕ, ◌+◌, ◌<◌, Bool, true, false, List, [], ◌∷◌, ◌++◌, map, length, drop, get_or}
-use Rattle.std.proofs.Common.{Option, Some, None, refl, sym, ap, ◌∙◌, subst}
+use Rattle.std.proofs.Common.{◌≡◌, ℕ, ◌+◌, ◌<◌, Bool, List, [], ◌∷◌, ◌++◌, map, length, drop, get_or}
+use Rattle.std.proofs.Common.{Option, Some, None, sym, ap, ◌∙◌, subst}
 use Rattle.std.proofs.lemmas.List.{drop_more, map-append}
 use Rattle.f8_spec.specs.BusCodes.{driver_of}
 use Rattle.f8_spec.specs.ChipState.{ChipView, ChipState}
@@ -21,16 +21,16 @@ use Rattle.f8_machine.specs.Faults.{fault_of}
 use Rattle.f8_machine.specs.Rounds.{heard_of}
 use Rattle.f8_machine.specs.declared.heard.Heard.{Heard}
 use Rattle.f8_machine.proofs.Along.{Aim, Along}
-use Rattle.f8_machine.proofs.Rows.{usual_steps}
+use Rattle.f8_machine.proofs.Rows.{plain_steps}
 use Rattle.f8_machine.proofs.Slots.{views_settled}
 use Rattle.f8_machine.proofs.StepTests.{ArePlain, plain_by}
-use Rattle.f8_machine.proofs.Turns.{stepped, along-stops, along-byte, along-more}
+use Rattle.f8_machine.proofs.Turns.{chips_after_step, along-stops, along-byte, along-more}
 
 -- ---- codes of the plan
 
 planned_plain_as : (found : Option Op) (m : Registers) → ArePlain (planned_as found m)
 planned_plain_as None m = tt
-planned_plain_as (Some op) m = plain_by (steps_of (row_of op) (is_taken op m)) (usual_steps (row_of op) (is_taken op m))
+planned_plain_as (Some op) m = plain_by (steps_of (row_of op) (is_taken op m)) (plain_steps (row_of op) (is_taken op m))
 
 -- no instruction acknowledges an interrupt
 pub planned_plain : (cpu : CpuState) → ArePlain (planned cpu)
@@ -47,7 +47,7 @@ split_plan plan index step within here = drop_more plan index step within
 pub record OnBus (i : Inputs) (x : Position) (aim : Aim) (rest : List MicroStep) (probe : ProbeState)
     (states : List ChipState) (steps : List Heard) : Type 0 where
   pub so_far : List TracedStep
-  pub told_so_far : steps ≡ map heard_of so_far
+  pub recorded : steps ≡ map heard_of so_far
   pub along : Along i x aim rest probe (views states) so_far
 
 module _ (i : Inputs) (x : Position) (aim : Aim) (s : MicroStep) (rest : List MicroStep) (probe : ProbeState)
@@ -69,15 +69,15 @@ module _ (i : Inputs) (x : Position) (aim : Aim) (s : MicroStep) (rest : List Mi
       let vs = views states in
       let moved = along-more i x aim s rest probe vs left.so_far left.along
       (step_clocks s.long) served.socket served.verdict in
-      let now_views : views states_now ≡ stepped s (byte_of i s.source) (step_clocks s.long) vs =
+      let now_views : views states_now ≡ chips_after_step s (byte_of i s.source) (step_clocks s.long) vs =
       views_settled s.romc s.long byte states states_now served.settled
-      ∙ ap (λ (b : ℕ). stepped s b (step_clocks s.long) vs) same in
+      ∙ ap (λ (b : ℕ). chips_after_step s b (step_clocks s.long) vs) same in
       let now_probe : probe_now ≡ probe_after s.romc (byte_of i s.source) probe =
       served.heard ∙ ap (λ (b : ℕ). probe_after s.romc b probe) same in
       record {
         so_far = left.so_far ++ traced i s served.socket ∷ [];
-        told_so_far = served.recorded
-            ∙ ap (λ (l : List Heard). l ++ heard_served (bus_step s) byte served.socket ∷ []) left.told_so_far
+        recorded = served.recorded
+            ∙ ap (λ (l : List Heard). l ++ heard_served (bus_step s) byte served.socket ∷ []) left.recorded
             ∙ ap (λ (b : ℕ). map heard_of left.so_far ++ heard_served (bus_step s) b served.socket ∷ []) same
             ∙ sym (map-append heard_of left.so_far (traced i s served.socket ∷ []));
         along = subst (λ (p : ProbeState). Along i x aim rest p (views states_now)
@@ -99,7 +99,7 @@ module _ (i : Inputs) (x : Position) (aim : Aim) (s : MicroStep) (rest : List Mi
   -- a step that is not
   pub record Refused (fault : BusFault) (steps_now : List Heard) : Type 0 where
     pub so_far : List TracedStep
-    pub told_so_far : steps_now ≡ map heard_of so_far
+    pub recorded : steps_now ≡ map heard_of so_far
     pub fault_is : aim.fault ≡ Some (fault_of fault)
     pub course_is : aim.course ≡ record { steps = so_far; fault = Some (fault_of fault, s.long) }
 
@@ -111,7 +111,7 @@ module _ (i : Inputs) (x : Position) (aim : Aim) (s : MicroStep) (rest : List Mi
       (fault_of fault) refused.verdict in
       record {
         so_far = left.so_far;
-        told_so_far = refused.recorded ∙ left.told_so_far;
+        recorded = refused.recorded ∙ left.recorded;
         fault_is = stops.fault_is;
         course_is = stops.course_is;
       }
@@ -186,7 +186,7 @@ module _ (op : Op) (x : Position) (i : Inputs) (aim : Aim) (end : CpuState) (pla
   -- a step that is not served
   pub record StoppedAt (fault : BusFault) (long : Bool) (steps_now : List Heard) : Type 0 where
     pub so_far : List TracedStep
-    pub told_so_far : steps_now ≡ map heard_of so_far
+    pub recorded : steps_now ≡ map heard_of so_far
     pub fault_is : aim.fault ≡ Some (fault_of fault)
     pub course_is : aim.course ≡ record { steps = so_far; fault = Some (fault_of fault, long) }
 
@@ -204,7 +204,7 @@ module _ (op : Op) (x : Position) (i : Inputs) (aim : Aim) (end : CpuState) (pla
       refused_there in
       record {
         so_far = stops.so_far;
-        told_so_far = stops.told_so_far;
+        recorded = stops.recorded;
         fault_is = stops.fault_is;
         course_is = stops.course_is ∙ ap (λ (t : Step). record {
           steps = stops.so_far;

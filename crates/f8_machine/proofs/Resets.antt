@@ -34,7 +34,7 @@ module _ (x : Position) where
       Left reset_steps probe states []
   reset_first probe states at = record {
     so_far = [];
-    told_so_far = refl;
+    recorded = refl;
     along = reset-starts x probe states at.rack at.whole;
   }
 
@@ -72,7 +72,7 @@ module _ (x : Position) where
         };
         served = ended.fault;
         so_far = bus.so_far;
-        recorded = bus.told_so_far;
+        recorded = bus.recorded;
         trace = ended.course;
       }
 
@@ -87,7 +87,7 @@ module _ (x : Position) where
       record {
         unserved = stops.fault_is;
         so_far = stops.so_far;
-        recorded = stops.told_so_far;
+        recorded = stops.recorded;
         trace = stops.course_is ∙ ap (λ (b : Bool). record { steps = stops.so_far; fault = Some (fault_of fault, b) })
             (sym is);
       }

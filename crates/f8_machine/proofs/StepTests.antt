@@ -1,6 +1,6 @@
 -- What is asked of each bus step of an instruction, as tests that compute: no step acknowledges an interrupt.
-use Rattle.std.proofs.Common.{◌≡◌, ℕ, Bool, true, false, List, [], ◌∷◌, map, Option, refl}
-use Rattle.std.specs.Prelude.{◌==◌, ◌&&◌, ◌||◌, not, if◌then◌else◌}
+use Rattle.std.proofs.Common.{◌≡◌, Bool, true, false, List, [], ◌∷◌, map, refl}
+use Rattle.std.specs.Prelude.{◌==◌, ◌&&◌, ◌||◌, not}
 use Rattle.std.specs.List.{list_all}
 use Rattle.f8_spec.specs.BusCodes.{driver_of}
 use Rattle.f8_spec.specs.MicroSteps.{Step as MicroStep}
@@ -23,20 +23,20 @@ pub not_true : (b : Bool) → not b ≡ true → b ≡ false
 not_true true is = cc
 not_true false is = refl
 
--- ---- the trace
+-- ---- acknowledgements
 
--- the step acknowledges no interrupt
-abbrev pub is_usual : MicroStep → Bool
-is_usual s = not (s.romc == 0x0F || s.romc == 0x13)
+-- a code of no acknowledgement
+abbrev pub is_plain : MicroStep → Bool
+is_plain s = not (s.romc == 0x0F || s.romc == 0x13)
 
 abbrev pub ArePlain : List Step → Type 0
 ArePlain [] = Unit {0}
 ArePlain (s ∷ later) = IsPlain s.romc × ArePlain later
 
-pub plain_by : (steps : List MicroStep) → list_all is_usual steps ≡ true → ArePlain (map bus_step steps)
+pub plain_by : (steps : List MicroStep) → list_all is_plain steps ≡ true → ArePlain (map bus_step steps)
 plain_by [] all = tt
 plain_by (s ∷ later) all =
-    let both = both_true (is_usual s) (list_all is_usual later) all in
+    let both = both_true (is_plain s) (list_all is_plain later) all in
     (not_true (s.romc == 0x0F || s.romc == 0x13) both.0, plain_by later both.1)
 
 -- ---- the ports

@@ -33,8 +33,8 @@ abbrev pub step_verdict : Step → ProbeState → List ChipView → Verdict
 step_verdict s probe vs = view_verdict s.romc None (place_in s.romc probe.count probe.last) (enumerate_from 0 vs)
 
 -- the chips after a step with its byte
-abbrev pub stepped : Step → ℕ → ℕ → List ChipView → List ChipView
-stepped s byte clocks vs = map (after_step 0 (plain_step s.romc byte clocks)) vs
+abbrev pub chips_after_step : Step → ℕ → ℕ → List ChipView → List ChipView
+chips_after_step s byte clocks vs = map (after_step 0 (plain_step s.romc byte clocks)) vs
 
 module _ (i : Inputs) (x : Position) (aim : Aim) (s : Step) (later : List Step) (probe : ProbeState)
     (vs : List ChipView) (so_far : List TracedStep) where
@@ -195,7 +195,7 @@ module _ (i : Inputs) (x : Position) (aim : Aim) (s : Step) (later : List Step) 
 
   pub along-more : Along i x aim (s ∷ later) probe vs so_far → (clocks : ℕ) (socket : Option ℕ) →
       step_verdict s probe vs ≡ Served socket →
-      Along i x aim later (probe_after s.romc (byte_of i s.source) probe) (stepped s (byte_of i s.source) clocks vs)
+      Along i x aim later (probe_after s.romc (byte_of i s.source) probe) (chips_after_step s (byte_of i s.source) clocks vs)
       (so_far ++ traced i s socket ∷ [])
   along-more left clocks socket served =
       let behind = behind_by (is_access (rule_of s.romc)) refl left socket served in

@@ -1,5 +1,5 @@
 -- Along the bus steps of an instruction every byte that a chip drives is the flat machine's, and the memory becomes the flat machine's.
-use Rattle.std.proofs.Common.{◌≡◌, ℕ, ◌/◌, ◌%◌, Bool, true, false, List, [], ◌∷◌, ◌++◌, refl, ap, ◌∙◌, sym}
+use Rattle.std.proofs.Common.{◌≡◌, ℕ, ◌/◌, ◌%◌, true, List, [], ◌∷◌, ◌++◌, refl, ap, ◌∙◌, sym}
 use Rattle.std.specs.Prelude.{◌==◌, if◌then◌else◌}
 use Rattle.f8_spec.specs.Words.{places_on}
 use Rattle.f8_spec.specs.BusCodes.{Count, driver_of, moved_by}
@@ -17,7 +17,6 @@ use Rattle.console_spec.specs.FlatMemory.{stored_at}
 use Rattle.console_spec.specs.FlatMachine.{FlatState, memory_after, gets, gets_all}
 use Rattle.console_spec.specs.Processor.{Flow, Inputs, byte_of, flow_after, own_inputs}
 use Rattle.console_spec.proofs.InputLaws.{with_opcode, flow_after-with_opcode}
-use Rattle.console_spec.specs.CounterCopies.{fetched}
 use Rattle.console_spec.proofs.Walks.{moved_along}
 use Rattle.f8_machine.proofs.Places.{last_along}
 

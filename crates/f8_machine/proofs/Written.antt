@@ -1,25 +1,24 @@
 -- The port write that a machine finds in the record of an instruction's bus steps is that which one chip took.
 use Rattle.std.proofs.Common.{◌≡◌, ℕ, ◌+◌, Bool, true, false, List, [], ◌∷◌, ◌++◌, map, length, Option, Some, None}
 use Rattle.std.proofs.Common.{refl, sym, ap, ◌∙◌, subst}
-use Rattle.std.specs.Prelude.{◌==◌, nat_lt, if◌then◌else◌, option_map, slice_index}
+use Rattle.std.specs.Prelude.{◌==◌, if◌then◌else◌, option_map}
 use Rattle.std.specs.List.{enumerate_from, list_all}
 use Rattle.f8_spec.specs.BusArbitration.{Seat, Verdict, Served, Conflict, Undriven, Astray, seat_has_port, parties}
 use Rattle.f8_spec.specs.BusArbitration.{port_write_verdict, rule_of}
 use Rattle.f8_spec.specs.declared.bus.BusRule.TheVariants.{PortWrite as WriteRule}
 use Rattle.f8_spec.specs.declared.bus.Party.{Party}
-use Rattle.f8_spec.specs.MicroSteps.{Operand, Accumulator, PortNumber, Step, long_step, last_fetch, steps_of}
+use Rattle.f8_spec.specs.MicroSteps.{Accumulator, Step, long_step, steps_of}
 use Rattle.f8_spec.specs.declared.instructions.Row.{Row}
-use Rattle.console_spec.specs.Processor.{Flow, Inputs, byte_of, if_taken, write_at, write_of, port_field}
+use Rattle.console_spec.specs.Processor.{Flow, Inputs, byte_of, if_taken, write_at}
 use Rattle.console_spec.specs.CounterCopies.{Copy}
-use Rattle.console_spec.specs.BusAccesses.{Access, ahead, at_port, accesses_before_fetch, last_access}
+use Rattle.console_spec.specs.BusAccesses.{Access, at_port, accesses_before_fetch, last_access}
 use Rattle.console_spec.specs.Services.{placed_copy, access_verdict}
 use Rattle.console_spec.specs.BusTrace.{TracedStep, Course, traced, with_step, course_by, course_of, is_access}
 use Rattle.console_spec.specs.Run.{seats_of}
 use Rattle.console_spec.specs.Writes.{takers}
-use Rattle.console_spec.specs.declared.PortWrite.{PortWrite}
-use Rattle.f8_machine.specs.PortWrites.{chip_write, done_write}
+use Rattle.f8_machine.specs.PortWrites.{chip_write}
 use Rattle.f8_machine.specs.Rounds.{heard_of}
-use Rattle.f8_machine.proofs.PortReads.{counted}
+use Rattle.f8_machine.proofs.PortReads.{count_more}
 use Rattle.f8_machine.proofs.StepTests.{both_true, is_portless, writes_no_port}
 
 -- ---- a course in which every step is served
@@ -59,44 +58,44 @@ first_by i s (Astray socket at reference) rest so_far e = let none = ap (λ (c :
 
 -- ---- no port write
 
--- each step is told
-abbrev Told : Inputs → List Step → List TracedStep → Type 0
-Told i [] [] = Unit {0}
-Told i [] (t ∷ ts) = ⊥
-Told i (s ∷ ss) [] = ⊥
-Told i (s ∷ ss) (t ∷ ts) = ((socket : Option ℕ) × (t ≡ traced i s socket)) × Told i ss ts
+-- each step is in the trace
+abbrev AreTraced : Inputs → List Step → List TracedStep → Type 0
+AreTraced i [] [] = Unit {0}
+AreTraced i [] (t ∷ ts) = ⊥
+AreTraced i (s ∷ ss) [] = ⊥
+AreTraced i (s ∷ ss) (t ∷ ts) = ((socket : Option ℕ) × (t ≡ traced i s socket)) × AreTraced i ss ts
 
-told_more : (i : Inputs) (s : Step) (ss : List Step) (socket : Option ℕ) (rest so_far : List TracedStep) →
-    so_far ≡ traced i s socket ∷ rest → Told i ss rest → Told i (s ∷ ss) so_far
-told_more i s ss socket rest [] e told = cc
-told_more i s ss socket rest (t ∷ ts) e told =
+traced_more : (i : Inputs) (s : Step) (ss : List Step) (socket : Option ℕ) (rest so_far : List TracedStep) →
+    so_far ≡ traced i s socket ∷ rest → AreTraced i ss rest → AreTraced i (s ∷ ss) so_far
+traced_more i s ss socket rest [] e traced_are = cc
+traced_more i s ss socket rest (t ∷ ts) e traced_are =
     let first : t ≡ traced i s socket = cc in
     let later : ts ≡ rest = cc in
-    ((socket, first), subst (λ (l : List TracedStep). Told i ss l) (sym later) told)
+    ((socket, first), subst (λ (l : List TracedStep). AreTraced i ss l) (sym later) traced_are)
 
-course_told : (i : Inputs) (c : Flow) (copies : List Copy) (steps : List Step) (accesses : List Access)
-    (so_far : List TracedStep) → course_of i c copies steps accesses ≡ ends so_far → Told i steps so_far
-course_told i c copies [] accesses [] e = tt
-course_told i c copies [] accesses (t ∷ ts) e = let none = ap (λ (k : Course). k.steps) e in cc
-course_told i c copies (s ∷ later) [] so_far e =
+course_traced : (i : Inputs) (c : Flow) (copies : List Copy) (steps : List Step) (accesses : List Access)
+    (so_far : List TracedStep) → course_of i c copies steps accesses ≡ ends so_far → AreTraced i steps so_far
+course_traced i c copies [] accesses [] e = tt
+course_traced i c copies [] accesses (t ∷ ts) e = let none = ap (λ (k : Course). k.steps) e in cc
+course_traced i c copies (s ∷ later) [] so_far e =
     let first = first_idle i s None (course_of i c copies later []) so_far e in
-    told_more i s later first.socket _ so_far first.are (course_told i c copies later [] _ first.rest_ends)
-course_told i c copies (s ∷ later) (a ∷ accesses) so_far e = by (is_access (rule_of s.romc)) e
-    (λ ts there. course_told i c copies later accesses ts there)
-    (λ ts there. course_told i c copies later (a ∷ accesses) ts there)
+    traced_more i s later first.socket _ so_far first.are (course_traced i c copies later [] _ first.rest_ends)
+course_traced i c copies (s ∷ later) (a ∷ accesses) so_far e = by (is_access (rule_of s.romc)) e
+    (λ ts there. course_traced i c copies later accesses ts there)
+    (λ ts there. course_traced i c copies later (a ∷ accesses) ts there)
   where
     by : (b : Bool) → (if b then course_by i s (access_verdict c copies a)
         (course_of i c copies later accesses) else with_step (traced i s None)
         (course_of i c copies later (a ∷ accesses))) ≡ ends so_far →
-        ((ts : List TracedStep) → course_of i c copies later accesses ≡ ends ts → Told i later ts) →
-        ((ts : List TracedStep) → course_of i c copies later (a ∷ accesses) ≡ ends ts → Told i later ts) →
-        Told i (s ∷ later) so_far
+        ((ts : List TracedStep) → course_of i c copies later accesses ≡ ends ts → AreTraced i later ts) →
+        ((ts : List TracedStep) → course_of i c copies later (a ∷ accesses) ≡ ends ts → AreTraced i later ts) →
+        AreTraced i (s ∷ later) so_far
     by true e access idle =
         let first = first_by i s (access_verdict c copies a) (course_of i c copies later accesses) so_far e in
-        told_more i s later first.socket _ so_far first.are (access _ first.rest_ends)
+        traced_more i s later first.socket _ so_far first.are (access _ first.rest_ends)
     by false e access idle =
         let first = first_idle i s None (course_of i c copies later (a ∷ accesses)) so_far e in
-        told_more i s later first.socket _ so_far first.are (idle _ first.rest_ends)
+        traced_more i s later first.socket _ so_far first.are (idle _ first.rest_ends)
 
 -- the second step is no port write
 abbrev pub PutsNothing : List Step → Type 0
@@ -104,16 +103,16 @@ PutsNothing [] = Unit {0}
 PutsNothing (s ∷ []) = Unit {0}
 PutsNothing (s ∷ (t ∷ later)) = (t.romc == 0x1A) ≡ false
 
-no_write : (i : Inputs) (steps : List Step) (so_far : List TracedStep) (phi : ℕ) → Told i steps so_far →
+no_write : (i : Inputs) (steps : List Step) (so_far : List TracedStep) (phi : ℕ) → AreTraced i steps so_far →
     PutsNothing steps → chip_write phi (map heard_of so_far) ≡ None
-no_write i [] [] phi told puts = refl
-no_write i [] (t ∷ ts) phi told puts = absurd told
-no_write i (s ∷ ss) [] phi told puts = absurd told
-no_write i (s ∷ []) (t ∷ []) phi told puts = refl
-no_write i (s ∷ []) (t ∷ (u ∷ ts)) phi told puts = absurd told.1
-no_write i (s ∷ (r ∷ ss)) (t ∷ []) phi told puts = absurd told.1
-no_write i (s ∷ (r ∷ ss)) (t ∷ (u ∷ ts)) phi told puts =
-    let romc : (u.romc == 0x1A) ≡ false = ap (λ (w : TracedStep). w.romc == 0x1A) told.1.0.1 ∙ puts in
+no_write i [] [] phi traced_are puts = refl
+no_write i [] (t ∷ ts) phi traced_are puts = absurd traced_are
+no_write i (s ∷ ss) [] phi traced_are puts = absurd traced_are
+no_write i (s ∷ []) (t ∷ []) phi traced_are puts = refl
+no_write i (s ∷ []) (t ∷ (u ∷ ts)) phi traced_are puts = absurd traced_are.1
+no_write i (s ∷ (r ∷ ss)) (t ∷ []) phi traced_are puts = absurd traced_are.1
+no_write i (s ∷ (r ∷ ss)) (t ∷ (u ∷ ts)) phi traced_are puts =
+    let romc : (u.romc == 0x1A) ≡ false = ap (λ (w : TracedStep). w.romc == 0x1A) traced_are.1.0.1 ∙ puts in
     rw romc refl
 
 pub puts_nothing : (steps : List Step) → list_all is_portless steps ≡ true → PutsNothing steps
@@ -129,7 +128,7 @@ puts_nothing (s ∷ (t ∷ later)) all =
 copies_count : (port n : ℕ) (cs : List Copy) →
     length (parties WriteRule (enumerate_from n (map (placed_copy (at_port 0x1A port)) cs))) ≡ takers port (seats_of cs)
 copies_count port n [] = refl
-copies_count port n (c ∷ cs) = counted (seat_has_port c.seat port) (seat_has_port c.seat port) refl n port _ c.seat _
+copies_count port n (c ∷ cs) = count_more (seat_has_port c.seat port) (seat_has_port c.seat port) refl n port _ c.seat _
     (copies_count port (n + 1) cs)
 
 taken_by_one : (phi port byte : ℕ) (ps : List Party) (socket : Option ℕ) (seats : List Seat) →
@@ -172,5 +171,5 @@ pub row_none : (row : Row) (i : Inputs) (c : Flow) (copies : List Copy) (phi : �
     PutsNothing (steps_of row i.taken) → chip_write phi (map heard_of so_far) ≡ None
 row_none row i c copies phi so_far e puts =
     no_write i (steps_of row i.taken) so_far phi
-    (course_told i c copies (steps_of row i.taken) (accesses_before_fetch row i ++ last_access row i ∷ []) so_far e)
+    (course_traced i c copies (steps_of row i.taken) (accesses_before_fetch row i ++ last_access row i ∷ []) so_far e)
     puts

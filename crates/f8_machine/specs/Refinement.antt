@@ -1,5 +1,5 @@
 -- A machine with its rack stands for the flat machine with copies of its counters, one in each chip. Nothing says that the copies agree.
-use Rattle.std.specs.Prelude.{◌≡◌, ℕ, ◌<◌, Bool, List, [], ◌∷◌, length, map, slice_get, Option, Some, None, option_map}
+use Rattle.std.specs.Prelude.{◌≡◌, ℕ, ◌<◌, Bool, List, [], ◌∷◌, length, map, slice_get, Option, Some, None}
 use Rattle.f8_spec.specs.BusCodes.{Count}
 use Rattle.f8_spec.specs.ChipState.{ChipState, IsWhole}
 use Rattle.console_spec.specs.AddressSpace.{byte_at}

@@ -3,7 +3,7 @@ ghost use Rattle.std.specs.Prelude.{◌≡◌, ◌<◌, ◌≤◌, length, map, 
 ghost use Rattle.f8_machine.specs.BusSteps.{IsPlain, IsServed, IsRefused};
 
 use super::heard::{Heard, taker, who_drove};
-use super::record::Record;
+use super::record::{MOST_STEPS, Record};
 use chip_face::{Chip, MOST_CHIPS};
 use cpu3850::Step;
 use data_bus::{BusFault, Cycle, Rack, step as bus};
@@ -20,7 +20,7 @@ pub(crate) fn bus_step(
     steps: &mut Record,
 ) -> Result<u8, BusFault>
     requires few { length rack.old.items ≤ MOST_CHIPS }
-    requires room { length steps.old < 9 }
+    requires room { length steps.old < MOST_STEPS }
     requires plain { IsPlain step.romc }
     ensures served { IfOk result (λ byte. IsServed step placed probe.old probe.new
         (map state rack.old.items) (map state rack.new.items) steps.old steps.new byte) }

@@ -48,9 +48,12 @@ pub(crate) fn carry_out(
     requires plan { plan.now ≡ planned cpu.old }
     requires short { length plan.now ≤ 5 }
     requires none { steps.old ≡ [] }
-    ensures done { (op : Op) (x : Position) → HoldsInstruction cpu.old probe.old (map state rack.old.items) op x →
-        OnOk result (IsCarriedOut cpu.old cpu.new probe.new (map state rack.new.items) steps.new op x) }
-    ensures cut { (op : Op) (x : Position) → HoldsInstruction cpu.old probe.old (map state rack.old.items) op x →
+    ensures done { (op : Op) (x : Position) →
+        HoldsInstruction cpu.old probe.old (map state rack.old.items) op x →
+        OnOk result (IsCarriedOut cpu.old cpu.new probe.new
+        (map state rack.new.items) steps.new op x) }
+    ensures cut { (op : Op) (x : Position) →
+        HoldsInstruction cpu.old probe.old (map state rack.old.items) op x →
         IfErr result (λ unserved. IsCutShort steps.new unserved.fault unserved.long op x) }
     ensures restorable { OnErr result (IsRestorable cpu.old cpu.new) }
     ensures ran { RackRuns steps.new (map state rack.old.items) (map state rack.new.items) }

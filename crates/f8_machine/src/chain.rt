@@ -22,7 +22,8 @@ impl Model for Chain {
 
     ghost view = { λ c. take c.len c.sockets };
 
-    ghost invariant = { λ c. (c.len ≤ MOST_CHIPS) × (length c.sockets ≡ MOST_CHIPS) × AreDistinct (take c.len c.sockets) };
+    ghost invariant = { λ c.
+        (c.len ≤ MOST_CHIPS) × (length c.sockets ≡ MOST_CHIPS) × AreDistinct (take c.len c.sockets) };
 }
 
 impl Chain {

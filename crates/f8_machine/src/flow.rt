@@ -31,7 +31,8 @@ impl Flow {
 
     /// The probe's counters, whose program counter is one past the next instruction.
     pub(crate) fn of(counters: Counters) -> Flow
-        ensures { (p : ProbeState) → counters ≡ probe_counters p → flow_of result ≡ flow_before_fetch p.count }
+        ensures { (p : ProbeState) → counters ≡ probe_counters p →
+            flow_of result ≡ flow_before_fetch p.count }
     {
         Flow {
             p: counters.pc0.wrapping_sub(1),

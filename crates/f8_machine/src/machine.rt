@@ -40,7 +40,14 @@ impl Model for Machine {
 
     ghost Value = { MachineState };
 
-    ghost view = { λ m. record { probe = m.probe; cpu = m.cpu; flow = flow_of m.flow; phi = m.phi; chain = m.chain; mode = m.mode } };
+    ghost view = { λ m. record {
+      probe = m.probe;
+      cpu = m.cpu;
+      flow = flow_of m.flow;
+      phi = m.phi;
+      chain = m.chain;
+      mode = m.mode;
+    } };
 }
 
 impl Machine {
@@ -48,7 +55,7 @@ impl Machine {
     ghost use Rattle.f8_spec.specs.Instructions.{decoded};
     ghost use Rattle.f8_spec.specs.BusArbitration.{seat_of};
     ghost use Rattle.cpu3850.specs.OwnWrites.{LeaveOwnPorts};
-    ghost use Rattle.console_spec.specs.Processor.{shown};
+    ghost use Rattle.console_spec.specs.Processor.{told_regs};
     ghost use Rattle.console_spec.specs.Run.{Position, power_position};
     ghost use Rattle.cpu3850.specs.CpuSteps.{planned};
     ghost use Rattle.probe.specs.ProbeState.{probe_counters};
@@ -71,7 +78,8 @@ impl Machine {
         ensures powered { RackPowers fill (map state rack.old.items) (map state rack.new.items) }
         ensures pair { AreWhole (map state rack.old.items) →
             LeaveOwnPorts (map seat_of (views (map state rack.old.items))) →
-            IsPowered result (map state rack.new.items) (power_position (views (map state rack.old.items)) chain fill) }
+            IsPowered result (map state rack.new.items)
+            (power_position (views (map state rack.old.items)) chain fill) }
         ensures chips { length rack.new.items ≡ length rack.old.items }
     {
         power_all(rack, fill);
@@ -92,7 +100,8 @@ impl Machine {
         requires phi { self.old.phi < 2 ^ 62 }
         ensures refines { (x : Position) → IsPowered self.old (map state rack.old.items) x →
             ResetRefines result self.old self.new (map state rack.new.items) x }
-        ensures follows { Follows result self.old self.new (map state rack.old.items) (map state rack.new.items) }
+        ensures follows { Follows result self.old self.new
+            (map state rack.old.items) (map state rack.new.items) }
         ensures clocks { self.new.phi ≤ self.old.phi + RESET_PHI }
         ensures chips { length rack.new.items ≡ length rack.old.items }
     {
@@ -122,10 +131,13 @@ impl Machine {
         requires few { length rack.old.items ≤ MOST_CHIPS }
         requires mode { IsReset self.old.mode }
         requires phi { self.old.phi < 2 ^ 62 }
-        ensures advances { Advances result self.old self.new (map state rack.old.items) (map state rack.new.items) }
-        ensures follows { Follows result self.old self.new (map state rack.old.items) (map state rack.new.items) }
+        ensures advances { Advances result self.old self.new
+            (map state rack.old.items) (map state rack.new.items) }
+        ensures follows { Follows result self.old self.new
+            (map state rack.old.items) (map state rack.new.items) }
         ensures stopped { (why : StoppedBy) → self.old.mode ≡ Mode.Stopped why →
-            StaysStopped why result self.old self.new (map state rack.old.items) (map state rack.new.items) }
+            StaysStopped why result self.old self.new
+            (map state rack.old.items) (map state rack.new.items) }
         ensures chips { length rack.new.items ≡ length rack.old.items }
     {
         match &self.mode {
@@ -139,8 +151,10 @@ impl Machine {
         requires few { length rack.old.items ≤ MOST_CHIPS }
         requires mode { IsReset self.old.mode }
         requires phi { self.old.phi < 2 ^ 62 }
-        ensures advances { Advances result self.old self.new (map state rack.old.items) (map state rack.new.items) }
-        ensures follows { Follows result self.old self.new (map state rack.old.items) (map state rack.new.items) }
+        ensures advances { Advances result self.old self.new
+            (map state rack.old.items) (map state rack.new.items) }
+        ensures follows { Follows result self.old self.new
+            (map state rack.old.items) (map state rack.new.items) }
         ensures chips { length rack.new.items ≡ length rack.old.items }
     {
         match self.cpu.plan() {
@@ -165,8 +179,10 @@ impl Machine {
         requires instruction { IsSome (decoded self.old.cpu.opcode) }
         requires mode { IsReset self.old.mode }
         requires phi { self.old.phi < 2 ^ 62 }
-        ensures advances { Advances result self.old self.new (map state rack.old.items) (map state rack.new.items) }
-        ensures follows { Follows result self.old self.new (map state rack.old.items) (map state rack.new.items) }
+        ensures advances { Advances result self.old self.new
+            (map state rack.old.items) (map state rack.new.items) }
+        ensures follows { Follows result self.old self.new
+            (map state rack.old.items) (map state rack.new.items) }
         ensures chips { length rack.new.items ≡ length rack.old.items }
     {
         let code = self.cpu.opcode();
@@ -217,7 +233,7 @@ impl Machine {
     /// The registers, after the last instruction that was done: the address of the one that comes next, the stack register, the data
     /// counters, the accumulator, ISAR, the status word and the scratchpad.
     pub fn regs(&self) -> Regs
-        ensures regs { result ≡ shown (record {
+        ensures regs { result ≡ told_regs (record {
           flow = self.now.flow;
           registers = self.now.cpu.registers;
           keys = [];

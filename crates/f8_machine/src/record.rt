@@ -6,8 +6,8 @@ use console_spec::Who;
 use romc_table::Romc;
 use std::marker::Model;
 
-/// The most bus steps of an instruction: four, and the five of an interrupt.
-const MOST_STEPS: usize = 9;
+/// The most bus steps of an instruction: four, and the five of an interrupt (this project's own, after the Fairchild F8 User's Guide).
+pub const MOST_STEPS: usize = 9;
 
 /// The served bus steps of an instruction or of reset, at most nine, in order. Contracts see the list.
 #[derive(Debug, Drop)]
@@ -19,12 +19,13 @@ pub struct Record {
 impl Model for Record {
     ghost use Rattle.std.specs.Prelude.{List, ◌≤◌, ◌≡◌, length, take};
     ghost use Rattle.f8_machine.specs.declared.heard.Heard.{Heard};
+    ghost use Rattle.f8_machine.specs.declared.record.TheConstants.{MOST_STEPS};
 
     ghost Value = { List Heard };
 
     ghost view = { λ r. take r.len r.items };
 
-    ghost invariant = { λ r. (r.len ≤ 9) × (length r.items ≡ 9) };
+    ghost invariant = { λ r. (r.len ≤ MOST_STEPS) × (length r.items ≡ MOST_STEPS) };
 }
 
 impl Record {
@@ -46,7 +47,7 @@ impl Record {
 
     /// Adds a step behind the others.
     pub fn push(&mut self, step: Heard)
-        requires { length self.old < 9 }
+        requires { length self.old < MOST_STEPS }
         ensures { self.new ≡ self.old ++ step ∷ [] }
     {
         let len = self.len;
@@ -57,7 +58,7 @@ impl Record {
     /// All of them.
     pub fn as_slice(&self) -> &[Heard]
         ensures value { result.now ≡ self.now }
-        ensures few { length result.now ≤ 9 }
+        ensures few { length result.now ≤ MOST_STEPS }
     {
         let len = self.len;
         &self.items[..len]
@@ -66,7 +67,7 @@ impl Record {
     /// How many there are.
     pub fn len(&self) -> usize
         ensures value { result ≡ length self.now }
-        ensures few { result ≤ 9 }
+        ensures few { result ≤ MOST_STEPS }
     {
         self.len
     }

@@ -5,7 +5,7 @@ use Rattle.std.specs.Prelude.{Option, Some, None, MatchOption, nat_lt, nat_le}
 use Rattle.f8_spec.specs.Instructions.{InRange, IsReserved, encoded, decoded}
 use Rattle.f8_spec.specs.declared.instructions.Op.{Op}
 use Rattle.f8_spec.specs.declared.instructions.Op.TheVariants.{Ds, LrAR, LrRA, Lisu, Lisl, Lis, Bt, Bf, Ins, Outs, As, Asd, Xs, Ns}
-use Rattle.f8_ops.proofs.ValuesBelow.{values_below, same_below}
+use Rattle.f8_spec.proofs.ValuesBelow.{values_below, same_below}
 
 -- the opcode is reserved, as a test
 abbrev is_reserved : ℕ → Bool

@@ -1,3 +1,2 @@
-pub mod ValuesBelow
 pub mod OpcodeTable
 pub mod CodeTable

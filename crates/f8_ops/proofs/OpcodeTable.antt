@@ -4,7 +4,7 @@ use Rattle.std.specs.Prelude.{Some, None}
 use Rattle.f8_spec.specs.Instructions.{InRange, IsReserved, encoded, decoded}
 use Rattle.f8_spec.specs.declared.instructions.Op.{Op}
 use Rattle.f8_spec.specs.declared.instructions.Op.TheVariants.{Ds, LrAR, LrRA, Lisu, Lisl, Lis, Bt, Bf, Ins, Outs, As, Asd, Xs, Ns}
-use Rattle.f8_ops.proofs.ValuesBelow.{values_below, same_below}
+use Rattle.f8_spec.proofs.ValuesBelow.{values_below, same_below}
 
 -- a port from 4 on, by its distance from 4
 from_four : (form : ℕ → Op) (code n : ℕ) → ((k : ℕ) → k < 12 → decoded (code + (4 + k)) ≡ Some (form (4 + k))) → 4 ≤ n →

@@ -1,4 +1,8 @@
 pub mod Tables
+pub mod ValuesBelow
+pub mod TimerCycle
+pub mod TimerPeriod
+pub mod TimerExpiry
 pub mod WorkedValues
 pub mod WorkedArbitration
 pub mod Permutations

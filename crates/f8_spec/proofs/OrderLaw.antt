@@ -4,7 +4,10 @@ use Rattle.std.specs.Prelude.{if◌then◌else◌, Option, Some, None, option_ma
 use Rattle.std.proofs.lemmas.List.Sorted.{IsPermutation-map, length_permutation}
 use Rattle.f8_spec.specs.BusCodes.{driver_of}
 use Rattle.f8_spec.specs.ChipState.{ChipView, offered}
-use Rattle.f8_spec.specs.BusArbitration.{PlacedSeat, Verdict, Conflict, Astray, rule_of, answers, would_answer, party_if, party_of, bystander_of, lowest, unless_bystander, one_party, read_verdict, store_verdict, port_read_verdict, port_write_verdict, judged, is_first, offer_of, offers, only_byte, byte_by, named_placed}
+use Rattle.f8_spec.specs.BusArbitration.{PlacedSeat, Verdict, Conflict, Astray, rule_of, answers, would_answer}
+use Rattle.f8_spec.specs.BusArbitration.{party_if, party_of, bystander_of, lowest, unless_bystander, one_party}
+use Rattle.f8_spec.specs.BusArbitration.{read_verdict, store_verdict, port_read_verdict, port_write_verdict, judged}
+use Rattle.f8_spec.specs.BusArbitration.{is_first, offer_of, offers, only_byte, byte_by, named_placed}
 use Rattle.f8_spec.specs.OrderLaw.{renamed, renamed_party, Agree, OrderLaw}
 use Rattle.f8_spec.specs.declared.bus.BusRule.{BusRule}
 use Rattle.f8_spec.specs.declared.bus.BusRule.TheVariants.{Read, Store, PortRead, PortWrite, Vector, NoChip}
@@ -27,7 +30,8 @@ module _ (name : ℕ → ℕ) where
       let moved : IsPermutation (map (named_placed romc) (map (renamed name) xs)) (map (named_placed romc) ys) = IsPermutation-map (named_placed romc) _ _ p in
       let kept : IsPermutation (filter_map h (map (named_placed romc) (map (renamed name) xs))) (filter_map h (map (named_placed romc) ys)) =
       filter_map-IsPermutation h _ _ moved in
-      subst (λ (l : List Y). IsPermutation l (filter_map h (map (named_placed romc) ys))) (filter_map-follows h (named_placed romc) (renamed name) k follows xs) kept
+      subst (λ (l : List Y). IsPermutation l (filter_map h (map (named_placed romc) ys)))
+      (filter_map-follows h (named_placed romc) (renamed name) k follows xs) kept
 
   -- the first of those that stand by
   unless-renamed : (reference : ℕ) (socket : Option ℕ) (bs cs : List Party) → IsPermutation (map (renamed_party name) bs) cs →
@@ -50,7 +54,8 @@ module _ (name : ℕ → ℕ) where
 
   -- several chips that drive or take
   conflict-renamed : (judge : List Party → Verdict) → ((c d : Party) (rest : List Party) → judge (c ∷ (d ∷ rest)) ≡ Conflict (c ∷ (d ∷ rest))) →
-      (x y : Party) (ps qs bs cs : List Party) → IsPermutation (map (renamed_party name) (x ∷ (y ∷ ps))) qs → Agree name bs cs (Conflict (x ∷ (y ∷ ps))) (judge qs)
+      (x y : Party) (ps qs bs cs : List Party) → IsPermutation (map (renamed_party name) (x ∷ (y ∷ ps))) qs →
+      Agree name bs cs (Conflict (x ∷ (y ∷ ps))) (judge qs)
   conflict-renamed judge is x y ps [] bs cs p = absurd (let e = length_permutation _ _ p in omega arith)
   conflict-renamed judge is x y ps (c ∷ []) bs cs p = absurd (let e = length_permutation _ _ p in omega arith)
   conflict-renamed judge is x y ps (c ∷ (d ∷ qs)) bs cs p = rw (is c d qs) p
@@ -61,10 +66,12 @@ module _ (name : ℕ → ℕ) where
       Agree name bs cs (judged rule first reference ps (lowest bs)) (judged rule (option_map name first) reference qs (lowest cs))
   judged-renamed Read first reference [] qs bs cs p b = rw (none_left qs p) refl
   judged-renamed Read first reference (x ∷ []) qs bs cs p b = rw (one_left (renamed_party name x) qs p) (one-renamed reference x bs cs b)
-  judged-renamed Read first reference (x ∷ (y ∷ ps)) qs bs cs p b = conflict-renamed (λ l. read_verdict reference l (lowest cs)) (λ c d rest. refl) x y ps qs bs cs p
+  judged-renamed Read first reference (x ∷ (y ∷ ps)) qs bs cs p b =
+      conflict-renamed (λ l. read_verdict reference l (lowest cs)) (λ c d rest. refl) x y ps qs bs cs p
   judged-renamed Store first reference [] qs bs cs p b = rw (none_left qs p) (unless-renamed reference None bs cs b)
   judged-renamed Store first reference (x ∷ []) qs bs cs p b = rw (one_left (renamed_party name x) qs p) (one-renamed reference x bs cs b)
-  judged-renamed Store first reference (x ∷ (y ∷ ps)) qs bs cs p b = conflict-renamed (λ l. store_verdict reference l (lowest cs)) (λ c d rest. refl) x y ps qs bs cs p
+  judged-renamed Store first reference (x ∷ (y ∷ ps)) qs bs cs p b =
+      conflict-renamed (λ l. store_verdict reference l (lowest cs)) (λ c d rest. refl) x y ps qs bs cs p
   judged-renamed PortRead first reference [] qs bs cs p b = rw (none_left qs p) refl
   judged-renamed PortRead first reference (x ∷ []) qs bs cs p b = rw (one_left (renamed_party name x) qs p) refl
   judged-renamed PortRead first reference (x ∷ (y ∷ ps)) qs bs cs p b = conflict-renamed (port_read_verdict reference) (λ c d rest. refl) x y ps qs bs cs p
@@ -75,7 +82,8 @@ module _ (name : ℕ → ℕ) where
   judged-renamed NoChip first reference ps qs bs cs p b = refl
 
   -- the acknowledged chip stays the acknowledged one
-  is_first-renamed : ((a b : ℕ) → name a ≡ name b → a ≡ b) → (first : Option ℕ) (socket : ℕ) → is_first (option_map name first) (name socket) ≡ is_first first socket
+  is_first-renamed : ((a b : ℕ) → name a ≡ name b → a ≡ b) → (first : Option ℕ) (socket : ℕ) →
+      is_first (option_map name first) (name socket) ≡ is_first first socket
   is_first-renamed distinct None socket = refl
   is_first-renamed distinct (Some chosen) socket = by_test (name chosen == name socket) refl (chosen == socket) refl
     where
@@ -111,7 +119,10 @@ order_law name distinct xs ys p romc first reference byte =
     record {
       bytes = ap (byte_by (driver_of romc) byte) (only_byte-permuted _ _ (offers-permuted name distinct romc first xs ys p));
       verdicts = judged-renamed name rule first reference _ _ _ _
-          (given name (party_of rule) (renamed_party name) romc (λ x. party_if-renamed name (answers rule (named_placed romc x).1) x.0 (named_placed romc x).1.at) xs ys p)
+          (given name (party_of rule) (renamed_party name) romc
+          (λ x. party_if-renamed name (answers rule (named_placed romc x).1) x.0 (named_placed romc x).1.at) xs ys
+          p)
           (given name (bystander_of rule reference) (renamed_party name) romc
-          (λ x. party_if-renamed name (not (answers rule (named_placed romc x).1) && would_answer rule (named_placed romc x).1.seat reference) x.0 (named_placed romc x).1.at) xs ys p);
+          (λ x. party_if-renamed name (not (answers rule (named_placed romc x).1) && would_answer rule
+          (named_placed romc x).1.seat reference) x.0 (named_placed romc x).1.at) xs ys p);
     }

@@ -5,7 +5,9 @@ use Rattle.std.specs.List.{cons_option}
 use Rattle.std.proofs.Math.ListN.{set}
 use Rattle.std.proofs.lemmas.List.Edits.{swap_is}
 use Rattle.std.proofs.lemmas.List.Elements.{All-cons, All-nil}
-use Rattle.std.proofs.lemmas.List.Sorted.{IsPermutation-refl, IsPermutation-trans, IsPermutation-cons, IsPermutation-middle, IsPermutation-keeps, length_permutation, All-permutation}
+use Rattle.std.proofs.lemmas.List.Sorted.{IsPermutation-refl, IsPermutation-trans, IsPermutation-cons}
+use Rattle.std.proofs.lemmas.List.Sorted.{IsPermutation-middle, IsPermutation-keeps, length_permutation}
+use Rattle.std.proofs.lemmas.List.Sorted.{All-permutation}
 
 module _ {Y : Type 0} where
   -- one more at the front of both
@@ -32,7 +34,8 @@ module _ {X Y : Type 0} (h : X → Option Y) where
       (IsPermutation-trans _ _ _ deeper (cons_option-flip (h z) (h (get_or zs k d)) (filter_map h (set zs k x))))
 
   -- two elements change places
-  exchange : (zs : List X) (i j : ℕ) (d : X) → i < length zs → j < length zs → IsPermutation (filter_map h zs) (filter_map h (set (set zs i (get_or zs j d)) j (get_or zs i d)))
+  exchange : (zs : List X) (i j : ℕ) (d : X) → i < length zs → j < length zs →
+      IsPermutation (filter_map h zs) (filter_map h (set (set zs i (get_or zs j d)) j (get_or zs i d)))
   exchange [] i j d b c = absurd (omega arith)
   exchange (z ∷ zs) zero zero d b c = IsPermutation-refl (filter_map h (z ∷ zs))
   exchange (z ∷ zs) zero (suc j) d b c = exchange_first z zs j d (omega arith)
@@ -78,5 +81,7 @@ none_left (y ∷ ys) p = absurd (let e = length_permutation [] (y ∷ ys) p in o
 -- a rearranged list of one is that list
 pub one_left : {X : Type 0} (x : X) (ys : List X) → IsPermutation (x ∷ []) ys → ys ≡ x ∷ []
 one_left x [] p = absurd (let e = length_permutation (x ∷ []) [] p in omega arith)
-one_left {X} x (y ∷ []) p = ap (λ z. z ∷ []) (All-permutation (λ z. z ≡ x) (x ∷ []) (y ∷ []) p (All-cons (λ z. z ≡ x) x [] refl (All-nil (λ z. z ≡ x))) 0 y (omega arith))
+one_left {X} x (y ∷ []) p = ap (λ z. z ∷ [])
+    (All-permutation (λ z. z ≡ x) (x ∷ []) (y ∷ []) p (All-cons (λ z. z ≡ x) x [] refl (All-nil (λ z. z ≡ x))) 0 y
+    (omega arith))
 one_left x (y ∷ (z ∷ zs)) p = absurd (let e = length_permutation (x ∷ []) (y ∷ (z ∷ zs)) p in omega arith)

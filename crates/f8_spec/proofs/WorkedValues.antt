@@ -1,10 +1,11 @@
 -- Values worked out by hand, computed from the definitions.
-use Rattle.std.proofs.Common.{◌≡◌, true, false, refl, pos, negsuc}
+use Rattle.std.proofs.Common.{◌≡◌, ◌*◌, true, false, refl, pos, negsuc}
 use Rattle.std.specs.Prelude.{None, Some}
 use Rattle.f8_spec.specs.Words.{decimal_value, wrapped, displaced, with_high, with_low}
 use Rattle.f8_spec.specs.Flags.{clear_status, status_byte, after_sum}
 use Rattle.f8_spec.specs.Instructions.{decoded, clocks_of}
-use Rattle.f8_spec.specs.ShiftTimer.{shifted_timer}
+use Rattle.f8_spec.specs.ShiftTimer.{shifted_timer, steps_to_expiry, idle_timer, timer_loaded, timer_after}
+use Rattle.f8_spec.specs.ShiftTimer.{expires_within, clocks_to_expiry, next_expiry, expires_between}
 use Rattle.f8_spec.specs.declared.instructions.Op.TheVariants.{Lis, Bf, Ds, Ins, Pi}
 
 -- a branch at 0001 by -3 leads below 0, and wraps
@@ -69,6 +70,69 @@ timer_7F = refl
 
 timer_FF : shifted_timer 0xFF ≡ 0xFF
 timer_FF = refl
+
+-- 7F expires at its first step, FE at its 255th
+steps_of_7F : steps_to_expiry 0x7F ≡ 1
+unfolding steps_to_expiry
+steps_of_7F = refl
+
+steps_of_FE : steps_to_expiry 0xFE ≡ 255
+unfolding steps_to_expiry
+steps_of_FE = refl
+
+-- loaded with 7F at 0 a timer expires at its first step, and again at its 256th
+first_expiry_of_7F : next_expiry 0x7F 0 0 ≡ 31
+unfolding steps_to_expiry
+first_expiry_of_7F = refl
+
+second_expiry_of_7F : next_expiry 0x7F 0 31 ≡ 256 * 31
+unfolding steps_to_expiry
+second_expiry_of_7F = refl
+
+-- loaded with 7F at 56 it expires at 87, and then at 7992
+not_at_86 : expires_between 0x7F 56 56 86 ≡ false
+unfolding steps_to_expiry
+not_at_86 = refl
+
+at_87 : expires_between 0x7F 56 56 87 ≡ true
+unfolding steps_to_expiry
+at_87 = refl
+
+not_at_7991 : expires_between 0x7F 56 87 7991 ≡ false
+unfolding steps_to_expiry
+not_at_7991 = refl
+
+at_7992 : expires_between 0x7F 56 87 7992 ≡ true
+unfolding steps_to_expiry
+at_7992 = refl
+
+-- loaded with FE a timer expires after 255 steps, with FF never
+first_expiry_of_FE : next_expiry 0xFE 0 0 ≡ 7905
+unfolding steps_to_expiry
+first_expiry_of_FE = refl
+
+no_expiry_of_FF : expires_between 0xFF 0 0 1000000 ≡ false
+unfolding steps_to_expiry
+no_expiry_of_FF = refl
+
+-- a timer that runs: 28 Φ after its last step and 6 Φ later, over the expiry
+step_over_expiry : timer_after 6 (record { state = 0x7F; phase = 28 }) ≡ record { state = 0xFE; phase = 3 }
+step_over_expiry = refl
+
+expiry_in_step : expires_within 6 (record { state = 0x7F; phase = 28 }) ≡ true
+expiry_in_step = refl
+
+-- the clocks up to the next expiry: right after a load of 7F, 31 Φ later, and at power-on
+clocks_of_7F : clocks_to_expiry (timer_loaded 0x7F) ≡ Some 31
+unfolding steps_to_expiry
+clocks_of_7F = refl
+
+clocks_after_7F : clocks_to_expiry (record { state = 0xFE; phase = 0 }) ≡ Some 7905
+unfolding steps_to_expiry
+clocks_after_7F = refl
+
+clocks_of_idle : clocks_to_expiry idle_timer ≡ None
+clocks_of_idle = refl
 
 -- the first and the last code of each range of opcodes that is cut
 decode_ranges : decoded 0x7F ≡ Some (Lis 15)

@@ -4,7 +4,8 @@
 --
 -- The rule is over a list of named chips, each with its socket, and reads of a chip what it holds and its own place in the step. It
 -- tells who; the byte stands apart.
-use Rattle.std.specs.Prelude.{ℕ, ◌/◌, Bool, false, not, ◌&&◌, ◌==◌, if◌then◌else◌, List, [], ◌∷◌, map, filter_map, Option, Some, None, is_some, option_map, option_and_then}
+use Rattle.std.specs.Prelude.{ℕ, ◌/◌, Bool, false, not, ◌&&◌, ◌==◌, if◌then◌else◌, List, [], ◌∷◌, map, filter_map}
+use Rattle.std.specs.Prelude.{Option, Some, None, is_some, option_map, option_and_then}
 use Rattle.f8_spec.specs.BusCodes.{Count, driver_of, counter_of}
 use Rattle.f8_spec.specs.ChipState.{ChipView, PortRole, is_ram, is_sort_at, place_of, role_at, offset_from, latch_place, offered}
 use Rattle.f8_spec.specs.declared.bus.Driver.{Driver}

@@ -1,6 +1,9 @@
 -- A storage chip as contracts see it, and what each call does to it (Mostek 3851 and 3853 data sheets for the roles). That a 3851
 -- has no second data counter, the rules of requests, and what power-on leaves are this project's own.
-use Rattle.std.specs.Prelude.{ℕ, zero, suc, ◌+◌, ◌-◌, ◌*◌, ◌/◌, ◌%◌, ◌≡◌, ◌<◌, Bool, true, false, ◌&&◌, ◌||◌, nat_lt, nat_le, ◌==◌, if◌then◌else◌, List, [], ◌∷◌, ◌++◌, length, take, drop, replicate, slice_get, slice_set, slice_index, bit_or, Option, Some, None, option_map, option_and_then, is_some}
+use Rattle.std.specs.Prelude.{ℕ, zero, suc, ◌+◌, ◌-◌, ◌*◌, ◌/◌, ◌%◌, ◌≡◌, ◌<◌, Bool, true, false, ◌&&◌, ◌||◌, nat_lt}
+use Rattle.std.specs.Prelude.{nat_le, ◌==◌, if◌then◌else◌, List, [], ◌∷◌, ◌++◌, length, take, drop, replicate}
+use Rattle.std.specs.Prelude.{slice_get, slice_set, slice_index, bit_or, Option, Some, None, option_map}
+use Rattle.std.specs.Prelude.{option_and_then, is_some}
 use Rattle.f8_spec.specs.Words.{with_high, with_low}
 use Rattle.f8_spec.specs.BusCodes.{Count, count_at, told_count, driver_of, counter_of, counter_value, moved_by}
 use Rattle.f8_spec.specs.ShiftTimer.{shifted_timer, expires_next}

@@ -2,9 +2,19 @@
 -- steps, which are this project's own choice after the manual, and so do the shielding instructions and the reserved opcodes.
 use Rattle.std.specs.Prelude.{◌≡◌, ℕ, ◌+◌, ◌-◌, ◌<◌, ◌≤◌, ◌⊎◌, Bool, true, false, ◌&&◌, nat_lt, nat_le, ◌==◌, if◌then◌else◌, List, codes, Option, Some, None}
 use Rattle.f8_spec.specs.declared.instructions.Op.{Op}
-use Rattle.f8_spec.specs.declared.instructions.Op.TheVariants.{LrAKu, LrAKl, LrAQu, LrAQl, LrKuA, LrKlA, LrQuA, LrQlA, LrKP, LrPK, LrAIs, LrIsA, Pk, LrP0Q, LrQDc, LrDcQ, LrDcH, LrHDc, Sr1, Sl1, Sr4, Sl4, Lm, St, Com, Lnk, Di, Ei, Pop, LrWJ, LrJW, Inc, Li, Ni, Oi, Xi, Ai, Ci, In, Out, Pi, Jmp, Dci, Nop, Xdc, Ds, LrAR, LrRA, Lisu, Lisl, Lis, Bt, Am, Amd, Nm, Om, Xm, Cm, Adc, Br7, Bf, Ins, Outs, As, Asd, Xs, Ns}
+use Rattle.f8_spec.specs.declared.instructions.Op.TheVariants.{LrAKu, LrAKl, LrAQu, LrAQl, LrKuA, LrKlA, LrQuA, LrQlA}
+use Rattle.f8_spec.specs.declared.instructions.Op.TheVariants.{LrKP, LrPK, LrAIs, LrIsA, Pk, LrP0Q, LrQDc, LrDcQ, LrDcH}
+use Rattle.f8_spec.specs.declared.instructions.Op.TheVariants.{LrHDc, Sr1, Sl1, Sr4, Sl4, Lm, St, Com, Lnk, Di, Ei, Pop}
+use Rattle.f8_spec.specs.declared.instructions.Op.TheVariants.{LrWJ, LrJW, Inc, Li, Ni, Oi, Xi, Ai, Ci, In, Out, Pi}
+use Rattle.f8_spec.specs.declared.instructions.Op.TheVariants.{Jmp, Dci, Nop, Xdc, Ds, LrAR, LrRA, Lisu, Lisl, Lis, Bt}
+use Rattle.f8_spec.specs.declared.instructions.Op.TheVariants.{Am, Amd, Nm, Om, Xm, Cm, Adc, Br7, Bf, Ins, Outs, As}
+use Rattle.f8_spec.specs.declared.instructions.Op.TheVariants.{Asd, Xs, Ns}
 use Rattle.f8_spec.specs.declared.instructions.Row.{Row}
-use Rattle.f8_spec.specs.declared.instructions.Row.TheVariants.{Plain, PlainLong, Idle, StackToK, StackFromK, CallK, JumpQ, DataToPair, DataFromQ, DataFromH, ReadData, StoreData, Return, Immediate, PortIn, PortOut, Call, Jump, LoadData, Exchange, AddData, Branch, BranchIsar, ShortIn, ShortOut}
+use Rattle.f8_spec.specs.declared.instructions.Row.TheVariants.{Plain, PlainLong, Idle, StackToK, StackFromK, CallK}
+use Rattle.f8_spec.specs.declared.instructions.Row.TheVariants.{JumpQ, DataToPair, DataFromQ, DataFromH, ReadData}
+use Rattle.f8_spec.specs.declared.instructions.Row.TheVariants.{StoreData, Return, Immediate, PortIn, PortOut, Call}
+use Rattle.f8_spec.specs.declared.instructions.Row.TheVariants.{Jump, LoadData, Exchange, AddData, Branch, BranchIsar}
+use Rattle.f8_spec.specs.declared.instructions.Row.TheVariants.{ShortIn, ShortOut}
 
 -- ---- opcodes
 

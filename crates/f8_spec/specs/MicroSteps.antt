@@ -3,7 +3,11 @@
 use Rattle.std.specs.Prelude.{ℕ, Bool, true, false, if◌then◌else◌, List, [], ◌∷◌, ◌++◌, sum_by}
 use Rattle.f8_spec.specs.Instructions.{has_long_fetch}
 use Rattle.f8_spec.specs.declared.instructions.Row.{Row}
-use Rattle.f8_spec.specs.declared.instructions.Row.TheVariants.{Plain, PlainLong, Idle, StackToK, StackFromK, CallK, JumpQ, DataToPair, DataFromQ, DataFromH, ReadData, StoreData, Return, Immediate, PortIn, PortOut, Call, Jump, LoadData, Exchange, AddData, Branch, BranchIsar, ShortIn, ShortOut}
+use Rattle.f8_spec.specs.declared.instructions.Row.TheVariants.{Plain, PlainLong, Idle, StackToK, StackFromK, CallK}
+use Rattle.f8_spec.specs.declared.instructions.Row.TheVariants.{JumpQ, DataToPair, DataFromQ, DataFromH, ReadData}
+use Rattle.f8_spec.specs.declared.instructions.Row.TheVariants.{StoreData, Return, Immediate, PortIn, PortOut, Call}
+use Rattle.f8_spec.specs.declared.instructions.Row.TheVariants.{Jump, LoadData, Exchange, AddData, Branch, BranchIsar}
+use Rattle.f8_spec.specs.declared.instructions.Row.TheVariants.{ShortIn, ShortOut}
 
 -- what the byte of a step is
 pub data Source : Type 0 where

@@ -8,7 +8,8 @@ use std::io::Read;
 
 /// What the system gave. Any error of it is a failed fetch, and none is want of memory.
 pub fn or_failed<T>(outcome: io::Result<T>) -> Result<T, FetchFault>
-    ensures { MatchResult outcome (λ given. result ≡ Ok given) (λ _. result ≡ Err FetchFault.Failed) }
+    ensures { MatchResult outcome (λ given. result ≡ Ok given)
+        (λ _. result ≡ Err FetchFault.Failed) }
 {
     match outcome {
         Ok(given) => Ok(given),
@@ -36,9 +37,11 @@ impl<R: Read + Drop> CountedReader<R> {
 
     /// Reads into the room, and says how many bytes: none at the end only, or without room. A failed read gives none, and is the reader's.
     pub fn read(&mut self, room: &mut [u8]) -> Result<usize, FetchFault>
-        ensures bytes { ReadConsumes (R.remaining self.old.reader) (R.remaining self.new.reader) result room.new }
+        ensures bytes { ReadConsumes (R.remaining self.old.reader)
+            (R.remaining self.new.reader) result room.new }
         ensures within { IfOk result (λ count. count ≤ length room.new) }
-        ensures cause { MatchResult result (λ _. self.new.failures ≡ self.old.failures) (λ fault. (fault ≡ FetchFault.Failed) × Rose self.old.failures self.new.failures) }
+        ensures cause { MatchResult result (λ _. self.new.failures ≡ self.old.failures)
+            (λ fault. (fault ≡ FetchFault.Failed) × Rose self.old.failures self.new.failures) }
     {
         let outcome = or_failed(self.reader.read(room));
         if outcome.is_err() {

@@ -19,11 +19,13 @@ fn read_piece<F: Read + Drop>(
     most: usize,
 ) -> Result<usize, FetchFault>
     requires { 0 < most }
-    ensures read { IfOk result (λ count. PieceRead (F.remaining file.old.reader) (F.remaining file.new.reader) bytes.old.items bytes.new.items count) }
+    ensures read { IfOk result (λ count. PieceRead (F.remaining file.old.reader)
+        (F.remaining file.new.reader) bytes.old.items bytes.new.items count) }
     ensures within { IfOk result (λ count. count ≤ most) }
     ensures cause { CountsFault file.old.failures file.new.failures result }
     ensures long { WhereLong result ⊥ }
-    ensures wanting { WhereWanting result (ReadWithoutRoom (F.remaining file.old.reader) (F.remaining file.new.reader)) }
+    ensures wanting { WhereWanting result
+        (ReadWithoutRoom (F.remaining file.old.reader) (F.remaining file.new.reader)) }
 {
     let mut piece = [0; PIECE];
     let room = &mut piece[..most.min(PIECE)];
@@ -48,10 +50,13 @@ fn read_whole<F: Read + Drop>(
     limit: u32,
 ) -> Result<Vec<u8>, FetchFault>
     ensures within { IfOk result (λ bytes. length bytes.items ≤ limit) }
-    ensures all { IfOk result (λ bytes. AllRead (F.remaining file.old.reader) (F.remaining file.new.reader) bytes.items) }
+    ensures all { IfOk result (λ bytes. AllRead (F.remaining file.old.reader)
+        (F.remaining file.new.reader) bytes.items) }
     ensures cause { CountsFault file.old.failures file.new.failures result }
-    ensures long { WhereLong result (ReadPast (F.remaining file.old.reader) (F.remaining file.new.reader) limit) }
-    ensures wanting { WhereWanting result (ReadWithoutRoom (F.remaining file.old.reader) (F.remaining file.new.reader)) }
+    ensures long { WhereLong result (ReadPast (F.remaining file.old.reader)
+        (F.remaining file.new.reader) limit) }
+    ensures wanting { WhereWanting result
+        (ReadWithoutRoom (F.remaining file.old.reader) (F.remaining file.new.reader)) }
 {
     let limit = limit as usize;
     let mut bytes = Vec::new(alloc);

@@ -74,9 +74,11 @@ impl Store for MemStore {
     fn fetch(&mut self, alloc: Global, name: &str, limit: u32) -> Result<Vec<u8>, FetchFault>
         ensures fetched { Fetches (kept_input self.old) (kept_input self.new) name.now result }
         ensures within { IfOk result (λ bytes. length bytes.items ≤ limit) }
-        ensures file { IfOk result (λ bytes. IsFile (kept_input self.new).files name.now bytes.items) }
+        ensures file { IfOk result (λ bytes. IsFile
+            (kept_input self.new).files name.now bytes.items) }
         ensures long { WhereLong result (IsLong (kept_input self.new).files name.now limit) }
-        ensures given { IfOk result (λ bytes. kept_answer self.old name.now limit ≡ Gives bytes.items) }
+        ensures given { IfOk result (λ bytes. kept_answer self.old name.now limit
+            ≡ Gives bytes.items) }
         ensures refused { IsRefused (kept_answer self.old name.now limit) result }
         ensures after { self.new ≡ after_fetch self.old name.now limit }
     {
@@ -128,9 +130,11 @@ impl Store for SureStore {
     fn fetch(&mut self, alloc: Global, name: &str, limit: u32) -> Result<Vec<u8>, FetchFault>
         ensures fetched { Fetches (sure_input self.old) (sure_input self.new) name.now result }
         ensures within { IfOk result (λ bytes. length bytes.items ≤ limit) }
-        ensures file { IfOk result (λ bytes. IsFile (sure_input self.new).files name.now bytes.items) }
+        ensures file { IfOk result (λ bytes. IsFile
+            (sure_input self.new).files name.now bytes.items) }
         ensures long { WhereLong result (IsLong (sure_input self.new).files name.now limit) }
-        ensures given { IfOk result (λ bytes. sure_answer self.old name.now limit ≡ Gives bytes.items) }
+        ensures given { IfOk result (λ bytes. sure_answer self.old name.now limit
+            ≡ Gives bytes.items) }
         ensures refused { IsRefused (sure_answer self.old name.now limit) result }
         ensures after { self.new ≡ after_sure_fetch self.old name.now }
     {

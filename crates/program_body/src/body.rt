@@ -1,4 +1,5 @@
-// `main`'s body as a macro: no function may make a boxed chip and hand it out, and two programs have it.
+// `main`'s body as a macro: no function may make a boxed chip and hand it out, and two programs have it. So this crate stands on no other,
+// and is none that a build waits for. A program that calls it names psu3851, smi3853, f8_machine, outside and channel_f beside it.
 
 /// Puts so many chips into a rack, or ends `main` where memory is wanting.
 #[macro_export]
@@ -6,10 +7,10 @@ macro_rules! seat {
     ($rt:ident, $rack:ident, $count:expr, $chip:expr) => {
         for _ in 0..$count {
             let Ok(chip) = Box::new($rt.alloc(), $chip) else {
-                return std::process::ExitCode::from($crate::Status::Memory.code());
+                return $crate::exit_code(channel_f::Status::Memory.code());
             };
             if $rack.push(chip).is_err() {
-                return std::process::ExitCode::from($crate::Status::Memory.code());
+                return $crate::exit_code(channel_f::Status::Memory.code());
             }
         }
     };
@@ -20,16 +21,21 @@ macro_rules! seat {
 #[macro_export]
 macro_rules! program_body {
     ($rt:ident) => {{
-        let words = match $crate::words_given($rt.alloc(), std::env::args(&$rt)) {
+        let words = match $crate::words_given(
+            $rt.alloc(),
+            std::env::args(&$rt),
+            channel_f::Status::NoWords,
+            channel_f::Status::Memory,
+        ) {
             Ok(words) => words,
-            Err(status) => return std::process::ExitCode::from(status.code()),
+            Err(status) => return $crate::exit_code(status.code()),
         };
-        let mut rack: $crate::Rack = Vec::new($rt.alloc());
-        $crate::seat!($rt, rack, 12, $crate::Psu::blank());
-        $crate::seat!($rt, rack, 4, $crate::Smi::blank());
-        let mut sink = $crate::OutSink::new(std::io::writer(&$rt));
-        let mut store = $crate::FileStore::new(&$rt);
-        $crate::exit_code($crate::console(
+        let mut rack: f8_machine::Rack = Vec::new($rt.alloc());
+        $crate::seat!($rt, rack, 12, psu3851::Psu::blank());
+        $crate::seat!($rt, rack, 4, smi3853::Smi::blank());
+        let mut sink = outside::OutSink::new(std::io::writer(&$rt));
+        let mut store = outside::FileStore::new(&$rt);
+        $crate::exit_code(channel_f::console(
             $rt.alloc(),
             words.as_slice(),
             &mut store,

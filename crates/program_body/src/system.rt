@@ -1,23 +1,28 @@
 ghost use Rattle.std.specs.Prelude.{◌≡◌, OnOk, OnErr, IfErr, Err};
 ghost use Rattle.std.specs.Process.{exit_status};
 
-use channel_f::Status;
 use std::alloc::Global;
 use std::env::Args;
 use std::io;
 use std::process::ExitCode;
 
-/// The words behind the program's name.
-pub fn words_given(alloc: Global, args: io::Result<Args>) -> Result<Vec<String>, Status>
-    ensures wanting { OnOk args (IfErr result (λ status. status ≡ Status.Memory)) }
-    ensures none { OnErr args (result ≡ Err Status.NoWords) }
+/// The words behind the program's name. `none` is the answer where the system gives no words, and `wanting` where there is no memory for
+/// them.
+pub fn words_given<S: Copy>(
+    alloc: Global,
+    args: io::Result<Args>,
+    none: S,
+    wanting: S,
+) -> Result<Vec<String>, S>
+    ensures wanting { OnOk args (IfErr result (λ status. status ≡ wanting)) }
+    ensures none { OnErr args (result ≡ Err none) }
 {
     let Ok(args) = args else {
-        return Err(Status::NoWords);
+        return Err(none);
     };
     match args.skip(1).collect(alloc) {
         Ok(words) => Ok(words),
-        Err(_) => Err(Status::Memory),
+        Err(_) => Err(wanting),
     }
 }
 

@@ -29,16 +29,16 @@ use Rattle.rack_run.specs.declared.detail.Detail.{Detail}
 use Rattle.rack_run.specs.declared.ending.Ending.{Ending}
 use Rattle.rack_run.proofs.TurnLaws.{events_quiet}
 use Rattle.rack_run.proofs.ToldTexts.{text_in-nil, text_in-append, told_in-append}
-use Rattle.video.specs.ScreenState.{shown}
+use Rattle.video.specs.ScreenState.{screen_after}
 
 -- ---- nothing is counted before the first instruction
 
 abbrev pub new_progress : ℕ → ProgressState
-new_progress phi = record { screen = shown []; phi = phi; count = 0; writes = 0; bytes = 0 }
+new_progress phi = record { screen = screen_after []; phi = phi; count = 0; writes = 0; bytes = 0 }
 
 pub keeps_new : (phi : ℕ) (s : State) → s.writes ≡ [] → s.count ≡ 0 → phi ≡ s.phi → Keeps (new_progress phi) s
 keeps_new phi s writes count same = record {
-  screen = ap shown (sym writes);
+  screen = ap screen_after (sym writes);
   phi = same;
   count = sym count;
   writes = ap length (sym writes);

@@ -11,8 +11,8 @@ use Rattle.console_spec.specs.Scripts.{Script}
 use Rattle.console_spec.specs.Telling.{Told, fallen, is_over_at, told_write, told_frame, told_turn}
 use Rattle.console_spec.specs.declared.End.{End}
 use Rattle.console_spec.specs.declared.End.TheVariants.{Frames, Steps}
-use Rattle.video.specs.ScreenState.{shown}
-use Rattle.video.proofs.ShownLaws.{after_write-shown}
+use Rattle.video.specs.ScreenState.{screen_after}
+use Rattle.video.proofs.ShownLaws.{after_write-screen_after}
 use Rattle.rack_run.specs.Endings.{bytes_written}
 use Rattle.rack_run.specs.Progressing.{ProgressState, Keeps, screen_with, writes_with, bytes_with, progress_with}
 use Rattle.rack_run.specs.Progressing.{frame_at, ends_at}
@@ -21,9 +21,9 @@ use Rattle.rack_run.specs.Texts.{write_told, frame_told}
 -- ---- one more instruction
 
 screen_more : (wrote : Option PortWrite) (ws : List PortWrite) →
-    screen_with wrote (shown ws) ≡ shown (with_write wrote ws)
+    screen_with wrote (screen_after ws) ≡ screen_after (with_write wrote ws)
 screen_more None ws = refl
-screen_more (Some w) ws = after_write-shown w ws
+screen_more (Some w) ws = after_write-screen_after w ws
 
 writes_more : (wrote : Option PortWrite) (ws : List PortWrite) →
     writes_with wrote (length ws) ≡ length (with_write wrote ws)
@@ -41,7 +41,7 @@ pub keeps_more : (wrote : Option PortWrite) (p : ProgressState) (s t : State) �
     t.writes ≡ with_write wrote s.writes → t.count ≡ s.count + 1 →
     Keeps (progress_with wrote t.phi p) t
 keeps_more wrote p s t keeps writes count = record {
-  screen = ap (screen_with wrote) keeps.screen ∙ screen_more wrote s.writes ∙ ap shown (sym writes);
+  screen = ap (screen_with wrote) keeps.screen ∙ screen_more wrote s.writes ∙ ap screen_after (sym writes);
   phi = refl;
   count = ap (λ (n : ℕ). n + 1) keeps.count ∙ sym count;
   writes = ap (writes_with wrote) keeps.writes ∙ writes_more wrote s.writes ∙ ap length (sym writes);

@@ -16,7 +16,7 @@ use Rattle.console_spec.specs.Scripts.{Script}
 use Rattle.console_spec.specs.Telling.{Told, Traced, TracedFault, Wrote, Shown, fallen, told_turn}
 use Rattle.f8_machine.specs.declared.heard.Heard.{Heard}
 use Rattle.report.proofs.TextLaws.{text_of-cons, text_of-drop, text_of-drop_all}
-use Rattle.video.specs.ScreenState.{Shown as ShownScreen, shown}
+use Rattle.video.specs.ScreenState.{Shown as ShownScreen, screen_after}
 use Rattle.rack_run.specs.Progressing.{ProgressState, Keeps, screen_with, frame_at}
 use Rattle.f8_machine.specs.HeardSteps.{step_of}
 use Rattle.rack_run.specs.Texts.{Puts, text_told, text_in, rows_told, write_told, frame_told}
@@ -124,7 +124,7 @@ frame_shown shows frame phi ws on = rw on (sym (text_told-one (Shown frame phi w
 
 pub end_screen : (screen : ShownScreen) (wrote : Option PortWrite) (p : ProgressState) (x y : Position) →
     screen ≡ screen_with wrote p.screen → Keeps p x.flat.state →
-    y.flat.state.writes ≡ with_write wrote x.flat.state.writes → screen ≡ shown y.flat.state.writes
+    y.flat.state.writes ≡ with_write wrote x.flat.state.writes → screen ≡ screen_after y.flat.state.writes
 end_screen screen wrote p x y is keeps writes =
     is
     ∙ (keeps_more wrote p x.flat.state (record y.flat.state { count = x.flat.state.count + 1 }) keeps writes refl).screen

@@ -10,7 +10,7 @@ use Rattle.console_spec.specs.Telling.{moment_of}
 use Rattle.console_spec.specs.declared.Event.{Event}
 use Rattle.console_spec.specs.declared.Event.TheVariants.{Keys, Pulse}
 use Rattle.console_spec.specs.declared.PortWrite.{PortWrite}
-use Rattle.video.specs.ScreenState.{shown}
+use Rattle.video.specs.ScreenState.{screen_after}
 use Rattle.f8_machine.specs.Rounds.{RackRuns, heard_of}
 use Rattle.outside.specs.SinkRules.{Output, Adds, AddsPart}
 use Rattle.outside.proofs.SinkLaws.{adds_then, adds_part_behind, adds_part_first}
@@ -50,7 +50,7 @@ pub keeps_events : (p : ProgressState) (es : List Event) (x : Position) → Keep
 keeps_events p es x keeps =
     let quiet = events_quiet es x in
     record {
-      screen = keeps.screen ∙ sym (ap shown quiet.0);
+      screen = keeps.screen ∙ sym (ap screen_after quiet.0);
       phi = keeps.phi ∙ sym quiet.2;
       count = keeps.count ∙ sym quiet.1;
       writes = keeps.writes ∙ sym (ap length quiet.0);

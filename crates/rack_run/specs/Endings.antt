@@ -3,7 +3,7 @@ use Rattle.std.specs.Prelude.{◌≡◌, ◌≢◌, ℕ, ◌<◌, List, [], ◌�
 use Rattle.std.specs.List.{sum_by}
 use Rattle.f8_spec.specs.ChipState.{ChipState}
 use Rattle.console_spec.specs.declared.PortWrite.{PortWrite}
-use Rattle.console_spec.specs.Processor.{State, shown}
+use Rattle.console_spec.specs.Processor.{State, told_regs}
 use Rattle.console_spec.specs.Run.{Stop, Done, Unserved, Reserved as ReservedStop, Ending as FlatEnding}
 use Rattle.console_spec.specs.Scripts.{Script}
 use Rattle.console_spec.specs.Telling.{Moment, Telling, played_by, referred_by, told_in}
@@ -37,7 +37,7 @@ bytes_written writes = sum_by (λ w. w.byte) writes
 
 -- a state and a stop are told with registers, instructions, clocks and writes
 pub record Tells (told : Ending) (state : State) (stop : Stop) : Type 0 where
-  pub regs : told.regs ≡ shown state
+  pub regs : told.regs ≡ told_regs state
   pub isar : told.regs.isar < 64
   pub halt : stop_at told.halt ≡ stop
   pub count : told.count ≡ state.count

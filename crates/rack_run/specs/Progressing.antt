@@ -5,7 +5,7 @@ use Rattle.console_spec.specs.Processor.{State}
 use Rattle.console_spec.specs.Scripts.{frames_by}
 use Rattle.console_spec.specs.declared.End.{End}
 use Rattle.console_spec.specs.declared.End.TheVariants.{Frames, Steps}
-use Rattle.video.specs.ScreenState.{Shown, shown, after_write}
+use Rattle.video.specs.ScreenState.{Shown, screen_after, after_write}
 use Rattle.rack_run.specs.Endings.{bytes_written}
 
 -- the screen, the clocks so far in Φ, the instructions done, the writes that ports took, and the sum of their bytes
@@ -18,7 +18,7 @@ pub record ProgressState : Type 0 where
 
 -- it is that of a run which has come to a state
 pub record Keeps (p : ProgressState) (s : State) : Type 0 where
-  pub screen : p.screen ≡ shown s.writes
+  pub screen : p.screen ≡ screen_after s.writes
   pub phi : p.phi ≡ s.phi
   pub count : p.count ≡ s.count
   pub writes : p.writes ≡ length s.writes

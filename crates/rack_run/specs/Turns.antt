@@ -4,7 +4,7 @@ use Rattle.std.specs.Prelude.{◌≡◌, ◌≢◌, ℕ, ◌+◌, List, [], map,
 use Rattle.f8_spec.specs.ChipState.{ChipState}
 use Rattle.console_spec.specs.declared.PortWrite.{PortWrite}
 use Rattle.console_spec.specs.declared.Regs.{Regs}
-use Rattle.console_spec.specs.Processor.{Flow, Registers, State, shown, with_write}
+use Rattle.console_spec.specs.Processor.{Flow, Registers, State, told_regs, with_write}
 use Rattle.console_spec.specs.Run.{Position, Goes, Stops}
 use Rattle.console_spec.specs.Scripts.{Script, most_instructions}
 use Rattle.console_spec.specs.Telling.{Way, with_events, events_behind, told_steps, moment_of, Telling, telling}
@@ -35,7 +35,7 @@ readout_of s = record { flow = s.flow; registers = s.registers; phi = s.phi }
 
 -- the registers as a run tells them
 abbrev pub regs_of : Readout → Regs
-regs_of r = shown (record { flow = r.flow; registers = r.registers; keys = []; writes = []; count = 0; phi = 0 })
+regs_of r = told_regs (record { flow = r.flow; registers = r.registers; keys = []; writes = []; count = 0; phi = 0 })
 
 -- ---- an instruction, up to its bus steps
 

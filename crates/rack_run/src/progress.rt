@@ -43,14 +43,14 @@ impl Model for Progress {
 impl Progress {
     ghost use Rattle.std.specs.Prelude.{◌≡◌, ◌≤◌, ◌<◌, ◌+◌, ◌^◌, []};
     ghost use Rattle.console_spec.specs.Scripts.{frame_clocks};
-    ghost use Rattle.video.specs.ScreenState.{shown};
+    ghost use Rattle.video.specs.ScreenState.{screen_after};
     ghost use Rattle.rack_run.specs.Progressing.{ProgressState, progress_with, frame_at, ends_at};
 
     /// After reset, with its clocks in Φ: nothing was written, and no instruction was done.
     pub(crate) fn new(phi: u64) -> Progress
         requires { phi < frame_clocks }
         ensures { result
-            ≡ record { screen = shown []; phi = phi; count = 0; writes = 0; bytes = 0 } }
+            ≡ record { screen = screen_after []; phi = phi; count = 0; writes = 0; bytes = 0 } }
     {
         let mut board = Board::new();
         board.frame_due(phi);

@@ -5,7 +5,7 @@ ghost use Rattle.console_spec.specs.Run.{Position, Goes};
 ghost use Rattle.console_spec.specs.RunText.{frame_lines, text_of};
 ghost use Rattle.console_spec.specs.Telling.{Traced, told_turn};
 ghost use Rattle.console_spec.specs.declared.PortWrite.{PortWrite};
-ghost use Rattle.video.specs.ScreenState.{shown};
+ghost use Rattle.video.specs.ScreenState.{screen_after};
 ghost use Rattle.f8_machine.specs.HeardSteps.{step_of};
 ghost use Rattle.pad_script.specs.Reading.{seen};
 ghost use Rattle.rack_run.specs.Progressing.{Keeps, frame_at, progress_with};
@@ -85,7 +85,7 @@ fn tell_write<K: Sink>(
 }
 
 fn put_rows<K: Sink>(sink: &mut K, screen: &Screen) -> Result<(), SinkFault>
-    ensures { (ws : List PortWrite) → screen.now ≡ shown ws
+    ensures { (ws : List PortWrite) → screen.now ≡ screen_after ws
         → Puts result (K.output sink.old) (K.output sink.new)
         (text_of (rows_told ws)) }
 {
@@ -97,7 +97,7 @@ fn put_rows<K: Sink>(sink: &mut K, screen: &Screen) -> Result<(), SinkFault>
 
 /// A frame, with the clocks at its end.
 fn put_frame<K: Sink>(sink: &mut K, screen: &Screen, frame: u32, phi: u64) -> Result<(), SinkFault>
-    ensures { (ws : List PortWrite) → screen.now ≡ shown ws
+    ensures { (ws : List PortWrite) → screen.now ≡ screen_after ws
         → Puts result (K.output sink.old) (K.output sink.new)
         (text_of (frame_lines frame phi ws)) }
 {
@@ -114,7 +114,7 @@ fn tell_frame<K: Sink>(
     fallen: Option<u32>,
     phi: u64,
 ) -> Result<(), SinkFault>
-    ensures { (ws : List PortWrite) → screen.now ≡ shown ws
+    ensures { (ws : List PortWrite) → screen.now ≡ screen_after ws
         → Puts result (K.output sink.old) (K.output sink.new)
         (text_in detail (frame_told shows.now fallen phi ws)) }
 {
@@ -140,7 +140,7 @@ fn tell_turn<K: Sink>(
     fallen: Option<u32>,
     phi: u64,
 ) -> Result<(), SinkFault>
-    ensures { (ws : List PortWrite) → screen.now ≡ shown ws
+    ensures { (ws : List PortWrite) → screen.now ≡ screen_after ws
         → Puts result (K.output sink.old) (K.output sink.new)
         (text_in detail (write_told wrote ++ frame_told shows.now fallen phi ws)) }
 {

@@ -3,7 +3,7 @@ ghost use Rattle.std.specs.Prelude.{◌≡◌, ◌≤◌, ◌<◌, ◌+◌, ◌+
 ghost use Rattle.console_spec.specs.RunText.{length_text as spelled_length, who_text as spelled_who, bus_line as spelled_bus, bus_fault_line as spelled_bus_fault, out_line as spelled_out, frame_line as spelled_frame, picture_row};
 ghost use Rattle.console_spec.specs.declared.PortWrite.{PortWrite};
 ghost use Rattle.f8_machine.specs.HeardSteps.{step_of};
-ghost use Rattle.video.specs.ScreenState.{pixel_in, digits_in, shown};
+ghost use Rattle.video.specs.ScreenState.{pixel_in, digits_in, screen_after};
 
 use super::line_buffer::Line;
 use console_board::{PortWrite, Screen};
@@ -101,7 +101,8 @@ pub fn frame_line(frame: u32, phi: u64, tone: u8) -> Line
 pub fn row_line(screen: &Screen, y: u8) -> Line
     requires { y < 64 }
     ensures value { result ≡ digits_in (pixel_in screen.now.rows) y ++ codes "\n" }
-    ensures display { (ws : List PortWrite) → screen.now ≡ shown ws → result ≡ picture_row y ws }
+    ensures display { (ws : List PortWrite) → screen.now ≡ screen_after ws →
+        result ≡ picture_row y ws }
 {
     let mut line = Line::new();
     line.text(&screen.row_text(y));

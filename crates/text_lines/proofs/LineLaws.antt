@@ -51,7 +51,7 @@ pub split_at_feed : (text : List ℕ) (at : ℕ) → NoFeed at text → at < len
     lines text ≡ without_return (take at text) ∷ lines (drop (at + 1) text)
 split_at_feed text at none within feed =
     let parts : text ≡ take at text ++ 10 ∷ drop (at + 1) text =
-        sym (take-append-drop at text) ∙ ap (λ r. take at text ++ r) (rw (add-one, ← feed, drop-cons text at 0) refl) in
+    sym (take-append-drop at text) ∙ ap (λ r. take at text ++ r) (rw (add-one, ← feed, drop-cons text at 0) refl) in
     ap lines parts ∙ lines_at_feed (take at text) (drop (at + 1) text) none.is
 
 -- no LF at all

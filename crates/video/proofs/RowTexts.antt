@@ -12,7 +12,7 @@ headed (u ∷ []) n a b f long first second rest = absurd (omega arith)
 headed (u ∷ v ∷ text) n a b f long first second rest =
     let tail_long : length text ≡ n = omega arith in
     let each : (k : ℕ) → k < n → get_or text k 0 ≡ f k = λ k h. let two : k + 2 ≡ suc (suc k) = omega arith in
-        ap (λ i. get_or (u ∷ v ∷ text) i 0) (sym two) ∙ rest k h in
+    ap (λ i. get_or (u ∷ v ∷ text) i 0) (sym two) ∙ rest k h in
     let tail : text ≡ map f (range_with_len 0 n) = fill_by_all f text n 0 tail_long each in
     cc
 

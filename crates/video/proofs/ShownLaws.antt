@@ -12,7 +12,8 @@ use Rattle.console_spec.specs.Writes.{latch_of}
 use Rattle.console_spec.specs.declared.PortWrite.{PortWrite}
 use Rattle.console_spec.specs.Display.{is_raised, is_rise, pixel_of, palette_of}
 use Rattle.console_spec.specs.RunText.{picture_row}
-use Rattle.video.specs.ScreenState.{Latches, Shown, rows_of, latches_of, shown, row_in, pixel_in, digits_in, colour_drawn, x_drawn, y_drawn, drawn, after_write}
+use Rattle.video.specs.ScreenState.{Latches, Shown, rows_of, latches_of, screen_after, row_in, pixel_in, digits_in}
+use Rattle.video.specs.ScreenState.{colour_drawn, x_drawn, y_drawn, drawn, after_write}
 use Rattle.video.proofs.DisplayLaws.{pixel_of-next}
 
 -- ---- rows made of colours
@@ -100,21 +101,22 @@ strobe-next w ws =
     ]
 
 -- what is shown after one more write is by what was shown before
-pub after_write-shown : (w : PortWrite) (ws : List PortWrite) → after_write w.port w.byte (shown ws) ≡ shown (w ∷ ws)
+pub after_write-screen_after : (w : PortWrite) (ws : List PortWrite) → after_write w.port w.byte (screen_after ws) ≡ screen_after (w ∷ ws)
 unfolding after_write
-after_write-shown w ws =
+after_write-screen_after w ws =
     let strobe : (if w.port == 0 then is_raised w.byte else is_raised (latch_of 0 ws)) ≡ is_raised (latch_of 0 (w ∷ ws)) = strobe-next w ws in
     let rows : (if is_rise w ws then drawn (latches_of ws) (rows_of (pixels_of ws)) else rows_of (pixels_of ws))
-        ≡ rows_of (pixels_of (w ∷ ws)) = rows-next w ws in
-    ap (λ b. record { latches = latches_of (w ∷ ws); strobe = b; rows = (after_write w.port w.byte (shown ws)).rows }) strobe
+    ≡ rows_of (pixels_of (w ∷ ws)) = rows-next w ws in
+    ap (λ b. record { latches = latches_of (w ∷ ws); strobe = b; rows = (after_write w.port w.byte (screen_after ws)).rows }) strobe
     ∙ ap (λ r. record { latches = latches_of (w ∷ ws); strobe = is_raised (latch_of 0 (w ∷ ws)); rows = r }) rows
 
-pub goes_on : (now after : Shown) (w : PortWrite) (ws : List PortWrite) → after ≡ after_write w.port w.byte now → now ≡ shown ws → after ≡ shown (w ∷ ws)
-goes_on now after w ws next before = next ∙ ap (after_write w.port w.byte) before ∙ after_write-shown w ws
+pub goes_on : (now after : Shown) (w : PortWrite) (ws : List PortWrite) → after ≡ after_write w.port w.byte now →
+    now ≡ screen_after ws → after ≡ screen_after (w ∷ ws)
+goes_on now after w ws next before = next ∙ ap (after_write w.port w.byte) before ∙ after_write-screen_after w ws
 
 -- ---- what is told of it
 
-pub shown_pixel : (s : Shown) (ws : List PortWrite) (x y : ℕ) → s ≡ shown ws → x < 128 → y < 64 → pixel_in s.rows x y ≡ pixel_of x y ws
+pub shown_pixel : (s : Shown) (ws : List PortWrite) (x y : ℕ) → s ≡ screen_after ws → x < 128 → y < 64 → pixel_in s.rows x y ≡ pixel_of x y ws
 shown_pixel s ws x y e inside below = ap (λ t. pixel_in t.rows x y) e ∙ pixel_in-rows_of (pixels_of ws) x y inside below
 
 digits_in-row : (ws : List PortWrite) (y : ℕ) → digits_in (pixels_of ws) y ++ codes "\n" ≡ picture_row y ws
@@ -133,6 +135,6 @@ digits_in-same p q y same =
 
 -- a row's text with a line feed is its line
 pub shown_digits : (s : Shown) (ws : List PortWrite) (y : ℕ) (text : List ℕ) →
-    s ≡ shown ws → y < 64 → text ≡ digits_in (pixel_in s.rows) y → text ++ codes "\n" ≡ picture_row y ws
+    s ≡ screen_after ws → y < 64 → text ≡ digits_in (pixel_in s.rows) y → text ++ codes "\n" ≡ picture_row y ws
 shown_digits s ws y text e below told =
     ap (λ t. t ++ codes "\n") (told ∙ digits_in-same (pixel_in s.rows) (pixels_of ws) y (λ x h. shown_pixel s ws x y e h below)) ∙ digits_in-row ws y

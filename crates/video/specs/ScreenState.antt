@@ -26,8 +26,8 @@ abbrev pub latches_of : List PortWrite → Latches
 latches_of ws = record { colour = latch_of 1 ws; column = latch_of 4 ws; row = latch_of 5 ws }
 
 -- what is shown after some writes
-abbrev pub shown : List PortWrite → Shown
-shown ws = record { latches = latches_of ws; strobe = is_raised (latch_of 0 ws); rows = rows_of (λ x y. pixel_of x y ws) }
+abbrev pub screen_after : List PortWrite → Shown
+screen_after ws = record { latches = latches_of ws; strobe = is_raised (latch_of 0 ws); rows = rows_of (λ x y. pixel_of x y ws) }
 
 -- a row, and the colour at x and y, in rows of pixels
 abbrev pub row_in : List (List ℕ) → ℕ → List ℕ

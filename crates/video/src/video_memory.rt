@@ -41,11 +41,11 @@ impl Screen {
     ghost use Rattle.console_spec.specs.declared.PortWrite.{PortWrite};
     ghost use Rattle.console_spec.specs.Display.{pixel_of, palette_of, tone_of};
     ghost use Rattle.console_spec.specs.RunText.{picture_row};
-    ghost use Rattle.video.specs.ScreenState.{pixel_in, palette_in, digits_in, shown, drawn, after_write};
+    ghost use Rattle.video.specs.ScreenState.{pixel_in, palette_in, digits_in, screen_after, drawn, after_write};
 
     /// A screen at power-on: every pixel and every latch is 0.
     pub fn dark() -> Screen
-        ensures { result ≡ shown [] }
+        ensures { result ≡ screen_after [] }
     {
         Screen {
             colour: 0,
@@ -59,8 +59,8 @@ impl Screen {
     /// Takes a write to a port. Ports 1, 4 and 5 are latched, a rise of bit 5 of port 0 draws a pixel, and other ports change nothing.
     pub fn port(&mut self, port: u8, byte: u8)
         ensures next { self.new ≡ after_write port byte self.old }
-        ensures display { (phi : ℕ) (ws : List PortWrite) → self.old ≡ shown ws →
-            self.new ≡ shown (record { phi = phi; port = port; byte = byte } ∷ ws) }
+        ensures display { (phi : ℕ) (ws : List PortWrite) → self.old ≡ screen_after ws →
+            self.new ≡ screen_after (record { phi = phi; port = port; byte = byte } ∷ ws) }
     {
         match port {
             0 => self.take_strobe(byte),
@@ -98,7 +98,8 @@ impl Screen {
         requires row { y < 64 }
         ensures value { result ≡ pixel_in self.now.rows x y }
         ensures colour { result < 4 }
-        ensures display { (ws : List PortWrite) → self.now ≡ shown ws → result ≡ pixel_of x y ws }
+        ensures display { (ws : List PortWrite) → self.now ≡ screen_after ws →
+            result ≡ pixel_of x y ws }
     {
         self.pixels[usize::from(y)][usize::from(x)]
     }
@@ -108,7 +109,8 @@ impl Screen {
         requires { y < 64 }
         ensures value { result ≡ palette_in (pixel_in self.now.rows) y }
         ensures number { result < 4 }
-        ensures display { (ws : List PortWrite) → self.now ≡ shown ws → result ≡ palette_of y ws }
+        ensures display { (ws : List PortWrite) → self.now ≡ screen_after ws →
+            result ≡ palette_of y ws }
     {
         self.pixel(125, y) / 2 + 2 * (self.pixel(126, y) / 2)
     }
@@ -117,7 +119,7 @@ impl Screen {
     pub fn row_text(&self, y: u8) -> [u8; 130]
         requires { y < 64 }
         ensures value { result ≡ digits_in (pixel_in self.now.rows) y }
-        ensures display { (ws : List PortWrite) → self.now ≡ shown ws →
+        ensures display { (ws : List PortWrite) → self.now ≡ screen_after ws →
             result ++ codes "\n" ≡ picture_row y ws }
     {
         let mut text = [b' '; 130];
@@ -132,7 +134,7 @@ impl Screen {
     pub fn tone(&self) -> u8
         ensures value { result ≡ self.now.latches.row / 64 }
         ensures number { result < 4 }
-        ensures display { (ws : List PortWrite) → self.now ≡ shown ws → result ≡ tone_of ws }
+        ensures display { (ws : List PortWrite) → self.now ≡ screen_after ws → result ≡ tone_of ws }
     {
         self.row / 64
     }

@@ -58,7 +58,7 @@ returns-in-Err-clause-cut g c = λ op x holds.
     record {
       unserved = stopped.fault_is;
       so_far = stopped.so_far;
-      recorded = stopped.told_so_far;
+      recorded = stopped.recorded;
       trace = stopped.course_is;
     }
 

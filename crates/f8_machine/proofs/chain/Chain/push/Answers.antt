@@ -1,5 +1,5 @@
 -- A socket that isn't among the others keeps them different.
-use Rattle.std.proofs.Common.{◌+◌, ◌<◌, ◌≤◌, ◌≡◌, length, ◌∙◌, sym, arith, rules, length-set}
+use Rattle.std.proofs.Common.{◌<◌, ◌≡◌, length, ◌∙◌, arith, rules, length-set}
 use Rattle.chip_face.specs.declared.sizes.TheConstants.{MOST_CHIPS}
 use Rattle.f8_machine.proofs.Chains.{distinct_with}
 use Rattle.f8_machine.proofs.chain.Chain.push.Goals as goal

@@ -4,7 +4,7 @@ use Rattle.std.specs.Prelude.{sum_by}
 use Rattle.f8_spec.specs.Instructions.{decoded}
 use Rattle.f8_spec.specs.MicroSteps.{step_clocks}
 use Rattle.cpu3850.specs.declared.steps.Step.{Step}
-use Rattle.f8_machine.proofs.Instructions.{some_of, clocks_planned, told_of, done_from, faulted_from}
+use Rattle.f8_machine.proofs.Instructions.{some_of, clocks_planned, write_as_told, done_from, faulted_from}
 use Rattle.f8_machine.proofs.machine.Machine.carry_plan.Goals as goal
 
 pub returns-in-Ok-clause-advances : goal.returns-in-Ok-clause-advances
@@ -20,7 +20,7 @@ returns-in-Ok-clause-advances g c = record {
       c.carry_out-carried.new.steps
       c.kept-kept.ensures.ranges (λ holds. c.in-Ok.ensures.done found.0 x holds)
       (c.of-self-inside.ensures c.carry_out-carried.new.probe c.counters.ensures) clocks
-      (told_of _ _ found.0 _ _ _ _ _ c.done_write-wrote.ensures (ap decoded c.opcode-code.ensures ∙ found.1)
+      (write_as_told _ _ found.0 _ _ _ _ _ c.done_write-wrote.ensures (ap decoded c.opcode-code.ensures ∙ found.1)
       c.ports.ensures c.as_slice-in-Ok.ensures.value);
   clocks = search rules;
   onward = search rules;

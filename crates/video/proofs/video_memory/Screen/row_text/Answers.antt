@@ -14,7 +14,7 @@ loop-x-preserved c =
     let inside : place < length text = omega arith in
     let here : get_or written (c.loop-x.x + 2) 0 ≡ 48 + pixel_in c.args.self.now.rows c.loop-x.x c.args.y =
     ap (λ k. get_or written (k + 2) 0) (sym c.from.ensures) ∙ get_or-set_same text place (48 + c.pixel.result) 0 inside
-        ∙ ap (λ p. 48 + p) c.pixel.ensures.value in (
+    ∙ ap (λ p. 48 + p) c.pixel.ensures.value in (
       length-set text place (48 + c.pixel.result) ∙ c.loop-x.invariant.0,
       get_or-set_other text place 0 (48 + c.pixel.result) 0 (omega arith) ∙ c.loop-x.invariant.1,
       get_or-set_other text place 1 (48 + c.pixel.result) 0 (omega arith) ∙ c.loop-x.invariant.2,
