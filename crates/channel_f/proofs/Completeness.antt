@@ -19,9 +19,9 @@ use Rattle.loader.specs.Works.{HasFiles, Misses, order_of, file_of, Works, outco
 use Rattle.loader.proofs.WorkLaws.{works_gives, works_done, works_stop}
 use Rattle.channel_f.specs.Answers.{Answer, refusal, status_of, run_answer, game_run, unless_refused, game_answer}
 use Rattle.channel_f.specs.Answers.{generated_game, gen_answer, play_answer, ref_answer, asm_answer, dis_answer}
-use Rattle.channel_f.specs.Answers.{words_answer, answer_of, refused}
+use Rattle.channel_f.specs.Answers.{words_answer, answer_of, refusal_answer}
 use Rattle.channel_f.specs.Commands.{Around, Ends, Says}
-use Rattle.channel_f.specs.Completeness.{due, Answered, RefusesBehind, RefusesRack, IsComplete}
+use Rattle.channel_f.specs.Completeness.{due_answer, Answered, RefusesBehind, RefusesRack, IsComplete}
 use Rattle.channel_f.specs.Reports.{Answers, Stops}
 use Rattle.channel_f.specs.declared.manner.Manner.{Manner}
 use Rattle.channel_f.specs.declared.manner.Manner.TheVariants.{Whole, Summary}
@@ -34,34 +34,34 @@ record IsPlain (status : ℕ) : Type 0 where
 
 -- ---- what is due
 
-due_has : (end : End Answer) (answer : Answer) → due end ≡ Some answer → HasFiles end
+due_has : (end : End Answer) (answer : Answer) → due_answer end ≡ Some answer → HasFiles end
 due_has (Gives a) answer e = tt
 due_has (Refuses r) answer e = tt
 due_has Lacks answer e = cc e
 
-due_given : (end : End Answer) (a answer : Answer) → end ≡ Gives a → due end ≡ Some answer → a ≡ answer
-due_given end a answer is e = let here : due (Gives a) ≡ Some answer = rw is at e in some_same here
+due_given : (end : End Answer) (a answer : Answer) → end ≡ Gives a → due_answer end ≡ Some answer → a ≡ answer
+due_given end a answer is e = let here : due_answer (Gives a) ≡ Some answer = rw is at e in some_same here
   where
     some_same : Some a ≡ Some answer → a ≡ answer
     some_same e = cc e
 
-due_refused : (end : End Answer) (r : Refusal) (answer : Answer) → end ≡ Refuses r → due end ≡ Some answer →
-    refused r ≡ answer
-due_refused end r answer is e = let here : due (Refuses r) ≡ Some answer = rw is at e in some_same here
+due_refused : (end : End Answer) (r : Refusal) (answer : Answer) → end ≡ Refuses r → due_answer end ≡ Some answer →
+    refusal_answer r ≡ answer
+due_refused end r answer is e = let here : due_answer (Refuses r) ≡ Some answer = rw is at e in some_same here
   where
-    some_same : Some (refused r) ≡ Some answer → refused r ≡ answer
+    some_same : Some (refusal_answer r) ≡ Some answer → refusal_answer r ≡ answer
     some_same e = cc e
 
-given_due : (end : End Answer) (a : Answer) → end ≡ Gives a → due end ≡ None → ⊥
-given_due end a is e = let here : due (Gives a) ≡ None = rw is at e in never here
+given_due : (end : End Answer) (a : Answer) → end ≡ Gives a → due_answer end ≡ None → ⊥
+given_due end a is e = let here : due_answer (Gives a) ≡ None = rw is at e in never here
   where
     never : Some a ≡ None → ⊥
     never e = cc e
 
-refused_due : (end : End Answer) (r : Refusal) → end ≡ Refuses r → due end ≡ None → ⊥
-refused_due end r is e = let here : due (Refuses r) ≡ None = rw is at e in never here
+refused_due : (end : End Answer) (r : Refusal) → end ≡ Refuses r → due_answer end ≡ None → ⊥
+refused_due end r is e = let here : due_answer (Refuses r) ≡ None = rw is at e in never here
   where
-    never : Some (refused r) ≡ None → ⊥
+    never : Some (refusal_answer r) ≡ None → ⊥
     never e = cc e
 
 -- the store tells its files after the call
@@ -162,7 +162,7 @@ module _ (old new : Around) (said : ℕ) (work : Work Answer) where
   }
     where
       answered : (Rose old.output.faults new.output.faults → ⊥) → (said ≡ 2) ⊎ (said ≡ 5) →
-          Answered old new said (refused r)
+          Answered old new said (refusal_answer r)
       answered no_sink (inl is) =
           record { status = is; lines = ends.whole (λ five. no_sink (ends.part five).rose) }
       answered no_sink (inr five) = absurd (no_sink (ends.part five).rose)
@@ -170,7 +170,7 @@ module _ (old new : Around) (said : ℕ) (work : Work Answer) where
       not_five : said ≡ 2 → said ≡ 5 → ⊥
       not_five two five = cc
 
-      behind : (files : List NamedBytes) → due (work files).end ≡ None → said ≡ 2 →
+      behind : (files : List NamedBytes) → due_answer (work files).end ≡ None → said ≡ 2 →
           ((work files).end ≡ Refuses r) ⊎ Misses files (work files).asks (order_of (file_of r)) →
           RefusesBehind old new files (work files).asks
       behind files none two (inl is) = absurd (refused_due (work files).end r is none)

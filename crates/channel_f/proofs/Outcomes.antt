@@ -6,7 +6,7 @@ use Rattle.f8_spec.specs.ChipState.{ChipState}
 use Rattle.outside.specs.SinkRules.{Output}
 use Rattle.outside.specs.StoreRules.{Input}
 use Rattle.outside.proofs.SinkLaws.{adds_none}
-use Rattle.command_line.specs.CommandLine.{Command, Play, Ref, Asm, Dis, Gen, command_of, has_command, played}
+use Rattle.command_line.specs.CommandLine.{Command, Play, Ref, Asm, Dis, Gen, command_of, has_command, play_of}
 use Rattle.command_line.specs.CommandLine.{one_of, two_of, run_of, seed_of}
 use Rattle.loader.specs.declared.refusals.Stop.{Stop}
 use Rattle.loader.specs.declared.refusals.Stop.TheVariants.{Memory}
@@ -124,7 +124,7 @@ pub command_named : (words : List (List ℕ)) (command : Command) → Some comma
 command_named [] command is = cc is
 command_named (name ∷ rest) command is =
     named_by (bytes_eq name (codes "play")) (bytes_eq name (codes "ref")) (bytes_eq name (codes "asm"))
-    (bytes_eq name (codes "dis")) (bytes_eq name (codes "gen")) (option_map played (run_of rest))
+    (bytes_eq name (codes "dis")) (bytes_eq name (codes "gen")) (option_map play_of (run_of rest))
     (option_map (λ files. Ref files.0 files.1) (two_of rest)) (option_map Asm (one_of rest))
     (option_map Dis (one_of rest))
     (option_map Gen (option_and_then seed_of (one_of rest))) command is

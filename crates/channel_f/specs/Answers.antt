@@ -113,8 +113,8 @@ answer_of rack (Some (Dis file)) = bytes_by file >>= λ bytes. gives (dis_answer
 answer_of rack (Some (Gen seed)) = gives (gen_answer rack seed)
 
 -- a file that is refused, and one that the store did not give
-abbrev pub refused : Refusal → Answer
-refused r = record { status = 2; lines = refusal_line r ∷ [] }
+abbrev pub refusal_answer : Refusal → Answer
+refusal_answer r = record { status = 2; lines = refusal_line r ∷ [] }
 
-abbrev pub not_had : Purpose → Answer
-not_had purpose = record { status = 4; lines = missing_line purpose ∷ [] }
+abbrev pub missing_answer : Purpose → Answer
+missing_answer purpose = record { status = 4; lines = missing_line purpose ∷ [] }

@@ -8,14 +8,14 @@ use Rattle.loader.specs.declared.refusals.Refusal.{Refusal}
 use Rattle.loader.specs.Games.{Game}
 use Rattle.loader.specs.Work.{Ask, End, Gives, Refuses, Lacks, Work}
 use Rattle.loader.specs.Works.{AsksFew, HasFiles, Misses, order_of, file_of}
-use Rattle.channel_f.specs.Answers.{Answer, refusal, refused}
+use Rattle.channel_f.specs.Answers.{Answer, refusal, refusal_answer}
 use Rattle.channel_f.specs.Commands.{Around}
 
 -- what is due where no file is missing
-abbrev pub due : End Answer → Option Answer
-due (Gives answer) = Some answer
-due (Refuses refusal) = Some (refused refusal)
-due Lacks = None
+abbrev pub due_answer : End Answer → Option Answer
+due_answer (Gives answer) = Some answer
+due_answer (Refuses refusal) = Some (refusal_answer refusal)
+due_answer Lacks = None
 
 -- the status is the one that is due, with all of its lines
 pub record Answered (old new : Around) (said : ℕ) (answer : Answer) : Type 0 where
@@ -25,7 +25,7 @@ pub record Answered (old new : Around) (said : ℕ) (answer : Answer) : Type 0 w
 -- the line of a file that is refused was written, and that file or one that is asked for before it is missing
 pub record RefusesBehind (old new : Around) (files : List NamedBytes) (asks : List Ask) : Type 0 where
   pub refusal : Refusal
-  pub lines : Adds old.output new.output (text_of (refused refusal).lines)
+  pub lines : Adds old.output new.output (text_of (refusal_answer refusal).lines)
   pub misses : Misses files asks (order_of (file_of refusal))
 
 -- the line of a rack that has no place for a game was written
@@ -39,14 +39,15 @@ pub record IsComplete (old new : Around) (said : ℕ) (work : Work Answer) : Typ
   -- Where the store tells its files and has all that are asked for, and neither count rose, the call answers what is due, or memory was
   -- wanting.
   pub answers : (files : List NamedBytes) (answer : Answer) → old.input.files ≡ Some files →
-      due (work files).end ≡ Some answer →
+      due_answer (work files).end ≡ Some answer →
       (Rose old.input.faults new.input.faults → ⊥) → (Rose old.output.faults new.output.faults → ⊥) →
       Answered old new said answer ⊎ (said ≡ 6)
   -- where a file is missing, the store failed, or memory was wanting
-  pub lacks : (files : List NamedBytes) → new.input.files ≡ Some files → due (work files).end ≡ None →
+  pub lacks : (files : List NamedBytes) → new.input.files ≡ Some files → due_answer (work files).end ≡ None →
       (said ≡ 4) ⊎ (said ≡ 5) ⊎ (said ≡ 6)
   -- where a file is missing and the store made something up for it, no file before it is refused
-  pub refused : (files : List NamedBytes) → old.input.files ≡ Some files → due (work files).end ≡ None → said ≡ 2 →
+  pub refused : (files : List NamedBytes) → old.input.files ≡ Some files → due_answer (work files).end ≡ None →
+      said ≡ 2 →
       RefusesBehind old new files (work files).asks ⊎ RefusesRack old new
   -- no more files are asked for than there are to be had, with the first that is missing or refused
   pub bound : (files : List NamedBytes) → old.input.files ≡ Some files →

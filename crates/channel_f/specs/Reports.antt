@@ -4,7 +4,7 @@ use Rattle.console_spec.specs.RunText.{text_of}
 use Rattle.outside.specs.SinkRules.{Output, Adds, AddsPart}
 use Rattle.loader.specs.declared.refusals.Stop.{Stop}
 use Rattle.loader.specs.declared.refusals.Stop.TheVariants.{Refused, Store, Memory}
-use Rattle.channel_f.specs.Answers.{Answer, refused, not_had}
+use Rattle.channel_f.specs.Answers.{Answer, refusal_answer, missing_answer}
 
 -- What a call that writes lines and ends with a status says: the sink, old and new, beside the status and the lines that are due.
 pub record Reports (old new : Output) (said due : ℕ) (lines : List (List ℕ)) : Type 0 where
@@ -33,6 +33,7 @@ pub record Wants (old new : Output) (said : ℕ) : Type 0 where
 
 -- what a call says that files stopped
 abbrev pub Stops : Output → Output → ℕ → Stop → Type 0
-Stops old new said (Refused refusal) = Reports old new said (refused refusal).status (refused refusal).lines
-Stops old new said (Store purpose) = Reports old new said (not_had purpose).status (not_had purpose).lines
+Stops old new said (Refused refusal) =
+    Reports old new said (refusal_answer refusal).status (refusal_answer refusal).lines
+Stops old new said (Store purpose) = Reports old new said (missing_answer purpose).status (missing_answer purpose).lines
 Stops old new said Memory = Wants old new said

@@ -8,12 +8,12 @@ use Rattle.clap.specs.Walk.{Row, Text, first_of}
 use Rattle.clap.specs.Simple.{App, built, is_simple, matches_of, with_rule}
 use Rattle.clap.specs.Faults.{defaults_fault, fault_of, is_simple_and_free}
 use Rattle.command_line.specs.CommandLine.{Flag, Plain, Word, one_in, one_of, words_of}
-use Rattle.command_line.specs.Parsers.{bare, wanted}
+use Rattle.command_line.specs.Parsers.{bare_command, wanted_word}
 use Rattle.command_line.proofs.WordSorts.{HasNoOtherFlag}
 use Rattle.command_line.proofs.Reading.{at_first, rows_unless, told, told-apart}
 
 abbrev pub word_app : Text → App
-word_app name = with_rule (bare name) (wanted (codes "word"))
+word_app name = with_rule (bare_command name) (wanted_word (codes "word"))
 
 abbrev pub word_row : List Row → Option Text
 word_row rows = first_of (codes "word") rows

@@ -9,12 +9,14 @@ use Rattle.clap.specs.Values.{bool_text}
 use Rattle.clap.specs.Simple.{App, built, is_simple, matches_of, with_rule}
 use Rattle.clap.specs.Faults.{defaults_fault, fault_of, is_simple_and_free}
 use Rattle.command_line.specs.CommandLine.{Flag, Plain, Run, Word, run_in, run_of, words_of}
-use Rattle.command_line.specs.Parsers.{bare, trace, wanted}
+use Rattle.command_line.specs.Parsers.{bare_command, trace, wanted_word}
 use Rattle.command_line.proofs.WordSorts.{HasNoOtherFlag}
 use Rattle.command_line.proofs.Reading.{at_first, rows_unless, told, told-apart}
 
 abbrev pub play_app : Text → App
-play_app name = with_rule (with_rule (with_rule (bare name) trace) (wanted (codes "cart"))) (wanted (codes "script"))
+play_app name =
+    with_rule (with_rule (with_rule (bare_command name) trace) (wanted_word (codes "cart")))
+    (wanted_word (codes "script"))
 
 -- the flag's value and the files that a parse found
 abbrev pub RunRow : Type 0

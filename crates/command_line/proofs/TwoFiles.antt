@@ -8,12 +8,12 @@ use Rattle.clap.specs.Walk.{Row, Text, first_of}
 use Rattle.clap.specs.Simple.{App, built, is_simple, matches_of, with_rule}
 use Rattle.clap.specs.Faults.{defaults_fault, fault_of, is_simple_and_free}
 use Rattle.command_line.specs.CommandLine.{Flag, Plain, Word, two_in, two_of, words_of}
-use Rattle.command_line.specs.Parsers.{bare, wanted}
+use Rattle.command_line.specs.Parsers.{bare_command, wanted_word}
 use Rattle.command_line.proofs.WordSorts.{HasNoOtherFlag}
 use Rattle.command_line.proofs.Reading.{at_first, rows_unless, told, told-apart}
 
 abbrev pub files_app : Text → App
-files_app name = with_rule (with_rule (bare name) (wanted (codes "cart"))) (wanted (codes "script"))
+files_app name = with_rule (with_rule (bare_command name) (wanted_word (codes "cart"))) (wanted_word (codes "script"))
 
 abbrev pub both_files : List Row → Option Text × Option Text
 both_files rows = (first_of (codes "cart") rows, first_of (codes "script") rows)
@@ -48,7 +48,8 @@ module _ (name : Text) where
       ∙ go (words_of (drop 1 words))
     where
       go : (o : Option (List Word)) →
-          option_map both_files (option_and_then (told app at_first) o) ≡ option_map both_given (option_and_then two_in o)
+          option_map both_files (option_and_then (told app at_first) o) ≡ option_map both_given
+          (option_and_then two_in o)
       go None = refl
       go (Some words) = two_told words
 

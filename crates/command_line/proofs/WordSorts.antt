@@ -113,16 +113,16 @@ trace-met rules again position h only passes = go (arg_by_long rules trace) only
     go : (o : Option Rule) → option_map_or takes_values o false ≡ false → long_fault rules again o None h ≡ []
         → after_flag rules idle trace_word (long_met rules o None h).0 (long_met rules o None h).1
         ≡ ((long_met rules o None h).0, next idle)
-    go None bare passes = cc
-    go (Some a) bare passes = rw bare refl
+    go None bare_command passes = cc
+    go (Some a) bare_command passes = rw bare_command refl
 
 pub trace-keeps : (rules : List Rule) (h : Held) → HasNoOtherFlag rules →
     (long_met rules (arg_by_long rules trace) None h).0.skip ≡ h.skip
 trace-keeps rules h only = go (arg_by_long rules trace) only.valueless
   where
     go : (o : Option Rule) → option_map_or takes_values o false ≡ false → (long_met rules o None h).0.skip ≡ h.skip
-    go None bare = refl
-    go (Some a) bare = rw bare refl
+    go None bare_command = refl
+    go (Some a) bare_command = rw bare_command refl
 
 -- ---- any other dashed word
 
@@ -150,9 +150,9 @@ long-refused rules again text h only apart = by_name (bytes_eq trace (name_and_v
 
     valued : (o : Option Rule) → option_map_or takes_values o false ≡ false → (t : Bool) → has_byte 61 text ≡ t
         → trace ≡ (name_and_value text).0 → is_refusal (long_fault rules again o (name_and_value text).1 h) ≡ true
-    valued None bare t e same = refl
-    valued (Some a) bare true e same = rw (bare, e) refl
-    valued (Some a) bare false e same = absurd (no_value e same)
+    valued None bare_command t e same = refl
+    valued (Some a) bare_command true e same = rw (bare_command, e) refl
+    valued (Some a) bare_command false e same = absurd (no_value e same)
 
     by_name : (t : Bool) → bytes_eq trace (name_and_value text).0 ≡ t
         → is_refusal (long_fault rules again (arg_by_long rules (name_and_value text).0) (name_and_value text).1 h)

@@ -64,8 +64,8 @@ run_in words = None
 abbrev pub run_of : List (List ℕ) → Option Run
 run_of words = option_and_then run_in (words_of words)
 
-abbrev pub played : Run → Command
-played run = Play run.cart run.script run.traced
+abbrev pub play_of : Run → Command
+play_of run = Play run.cart run.script run.traced
 
 -- one to ten decimal digits, with leading zeros or without, of a number below 2 ^ 32
 abbrev pub is_seed : List ℕ → Bool
@@ -90,7 +90,7 @@ has_command (name ∷ rest) = is_command name
 -- what a command's word asks for, with the words behind it
 abbrev pub asked_by : List ℕ → List (List ℕ) → Option Command
 asked_by name words =
-    if bytes_eq name (codes "play") then option_map played (run_of words)
+    if bytes_eq name (codes "play") then option_map play_of (run_of words)
     else (if bytes_eq name (codes "ref") then option_map (λ files. Ref files.0 files.1) (two_of words)
     else (if bytes_eq name (codes "asm") then option_map Asm (one_of words)
     else (if bytes_eq name (codes "dis") then option_map Dis (one_of words)

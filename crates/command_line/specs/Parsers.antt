@@ -5,13 +5,13 @@ use Rattle.clap.specs.Simple.{App, new_app, new_rule, on_top}
 use Rattle.clap.specs.declared.builder.action.ArgAction.TheVariants.{Set, SetTrue}
 
 -- a positional that has to be there, once
-abbrev pub wanted : Text → Rule
-wanted id = record (new_rule id) { action = Some Set; required = true }
+abbrev pub wanted_word : Text → Rule
+wanted_word id = record (new_rule id) { action = Some Set; required = true }
 
 -- the flag `--trace`, which takes no value
 abbrev pub trace : Rule
 trace = record (new_rule (codes "trace")) { long = Some (codes "trace"); action = Some SetTrue }
 
 -- a command without help and version
-abbrev pub bare : Text → App
-bare name = on_top (λ s. record s { disable_help_flag = true; disable_version_flag = true }) (new_app name)
+abbrev pub bare_command : Text → App
+bare_command name = on_top (λ s. record s { disable_help_flag = true; disable_version_flag = true }) (new_app name)

@@ -4,7 +4,7 @@ ghost use Rattle.clap.specs.Words.{kind_of};
 ghost use Rattle.command_line.specs.CommandLine.{one_of, two_of};
 ghost use Rattle.command_line.specs.Seen.{seen_files};
 
-use super::parsers::{bare, wanted};
+use super::parsers::{bare_command, wanted_word};
 use clap::Error;
 use clap::error::ErrorKind;
 use std::alloc::Global;
@@ -20,7 +20,7 @@ pub fn one_word<'a>(alloc: Global, words: &'a [String]) -> Result<Option<&'a str
     let Some(name) = words.first() else {
         return Ok(None);
     };
-    let command = bare(alloc, name.as_str()).arg(wanted(alloc, "word"))?;
+    let command = bare_command(alloc, name.as_str()).arg(wanted_word(alloc, "word"))?;
     let matches = command.try_get_matches_from(words)?;
     Ok(matches.get_str("word"))
 }
@@ -39,9 +39,9 @@ pub fn two_files<'a>(
     let Some(name) = words.first() else {
         return Ok(None);
     };
-    let command = bare(alloc, name.as_str())
-        .arg(wanted(alloc, "cart"))?
-        .arg(wanted(alloc, "script"))?;
+    let command = bare_command(alloc, name.as_str())
+        .arg(wanted_word(alloc, "cart"))?
+        .arg(wanted_word(alloc, "script"))?;
     let matches = command.try_get_matches_from(words)?;
     Ok(matches.get_str("cart").zip(matches.get_str("script")))
 }

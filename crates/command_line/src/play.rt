@@ -1,11 +1,11 @@
 // The words behind `play`, which has a flag, by a simple command of clap's.
 ghost use Rattle.std.specs.Prelude.{◌≡◌, ◌⊎◌, IfErr, IfOk, None, drop, map, option_map, string_bytes};
 ghost use Rattle.clap.specs.Words.{kind_of};
-ghost use Rattle.command_line.specs.CommandLine.{played, run_of};
+ghost use Rattle.command_line.specs.CommandLine.{play_of, run_of};
 ghost use Rattle.command_line.specs.Seen.{seen_command};
 
 use super::asked::Command;
-use super::parsers::{bare, trace, wanted};
+use super::parsers::{bare_command, trace, wanted_word};
 use clap::Error;
 use clap::error::ErrorKind;
 use std::alloc::Global;
@@ -14,7 +14,7 @@ use std::alloc::Global;
 /// stands twice, or a word is neither.
 pub fn play<'a>(alloc: Global, words: &'a [String]) -> Result<Option<Command<'a>>, Error>
     ensures run { IfOk result (λ run.
-        option_map seen_command run ≡ option_map played
+        option_map seen_command run ≡ option_map play_of
         (run_of (drop 1 (map string_bytes words.now)))) }
     ensures refused { IfErr result (λ error.
         (kind_of error ≡ ErrorKind.OutOfMemory)
@@ -23,10 +23,10 @@ pub fn play<'a>(alloc: Global, words: &'a [String]) -> Result<Option<Command<'a>
     let Some(name) = words.first() else {
         return Ok(None);
     };
-    let command = bare(alloc, name.as_str())
+    let command = bare_command(alloc, name.as_str())
         .arg(trace(alloc))?
-        .arg(wanted(alloc, "cart"))?
-        .arg(wanted(alloc, "script"))?;
+        .arg(wanted_word(alloc, "cart"))?
+        .arg(wanted_word(alloc, "script"))?;
     let matches = command.try_get_matches_from(words)?;
     let traced = matches.get_flag("trace");
     let files = matches.get_str("cart").zip(matches.get_str("script"));

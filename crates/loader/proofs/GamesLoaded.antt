@@ -14,7 +14,7 @@ use Rattle.console_spec.specs.Scripts.{Script as RunScript}
 use Rattle.f8_asm.specs.declared.answers.Room.{Room}
 use Rattle.loader.specs.declared.purposes.Purpose.TheVariants.{Cart as CartFile, Script, Source}
 use Rattle.loader.specs.declared.refusals.Stop.{Stop}
-use Rattle.loader.specs.Readings.{Says, assembled, description_of}
+use Rattle.loader.specs.Readings.{Says, image_in, description_of}
 use Rattle.loader.specs.Games.{Game, image_for, filled_from, filled_at, filled_up_to, planned_chips, chips_of}
 use Rattle.loader.specs.Games.{script_by, game_of}
 use Rattle.loader.specs.Work.{Work, gives, reads, ask, ◌>>=◌}
@@ -28,9 +28,9 @@ use Rattle.loader.proofs.WorkLaws.{IsOrdered, ordered_gives, ordered_reads, orde
 ordered_image : (chip : ℕ) (name : List ℕ) (room : Room) → IsOrdered (chip + 1) (image_for chip name room)
 unfolding image_for
 ordered_image chip name room =
-    ordered_then (chip + 1) (ask (Source chip) name 262144) (λ text. reads (assembled (Some chip) room text))
+    ordered_then (chip + 1) (ask (Source chip) name 262144) (λ text. reads (image_in (Some chip) room text))
     (ordered_ask (chip + 1) (Source chip) name 262144 (omega arith))
-    (λ text. ordered_reads (chip + 1) (assembled (Some chip) room text))
+    (λ text. ordered_reads (chip + 1) (image_in (Some chip) room text))
 
 ordered_from : (chip : ℕ) (plan : Planned) (source : Option DescribedSource) →
     IsOrdered (chip + 1) (filled_from chip plan source)

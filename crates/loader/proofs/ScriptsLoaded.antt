@@ -12,7 +12,7 @@ use Rattle.loader.specs.declared.refusals.Refusal.{Refusal}
 use Rattle.loader.specs.declared.refusals.Refusal.TheVariants as refusal
 use Rattle.loader.specs.declared.refusals.Stop.{Stop}
 use Rattle.loader.specs.declared.refusals.Stop.TheVariants.{Refused, Store, Memory}
-use Rattle.loader.specs.Readings.{Says, ◌&>=◌, is_pulse, without_pulses, script_told, script_in, assembled, bytes_in}
+use Rattle.loader.specs.Readings.{Says, ◌&>=◌, is_pulse, without_pulses, script_told, script_in, image_in, bytes_in}
 use Rattle.loader.specs.Games.{script_by, image_by, bytes_by}
 use Rattle.loader.specs.Work.{ask, reads, ◌>>=◌}
 use Rattle.loader.specs.Works.{order_of, file_of, RefusesFrom, outcome_as, Works}
@@ -53,19 +53,19 @@ script_stop a b name stop first = works_stop a b (ask Script name 65536) (λ tex
 -- ---- one file
 
 pub picture_read : (a b : Input) (name text : List ℕ) (outcome : Result Picture Stop) →
-    Works a b (ask File name 262144) (Ok text) → Says (λ picture. picture) outcome (assembled None everywhere text) →
+    Works a b (ask File name 262144) (Ok text) → Says (λ picture. picture) outcome (image_in None everywhere text) →
     Works a b (image_by name) outcome
 unfolding image_by
 picture_read a b name text outcome first says =
-    works_seen a b (ask File name 262144 >>= λ text. reads (assembled None everywhere text)) outcome
-    (works_text a b File name text 262144 (λ picture. picture) (assembled None everywhere) outcome first says
+    works_seen a b (ask File name 262144 >>= λ text. reads (image_in None everywhere text)) outcome
+    (works_text a b File name text 262144 (λ picture. picture) (image_in None everywhere) outcome first says
     (from_first outcome))
 
 pub picture_stop : (a b : Input) (name : List ℕ) (stop : Stop) → Works a b (ask File name 262144) (Err stop) →
     Works a b (image_by name) (Err stop)
 unfolding image_by
 picture_stop a b name stop first =
-    works_stop a b (ask File name 262144) (λ text. reads (assembled None everywhere text)) stop first
+    works_stop a b (ask File name 262144) (λ text. reads (image_in None everywhere text)) stop first
 
 pub bytes_read : {A : Type 0} (a b : Input) (name text : List ℕ) (seen : A → List ℕ) (outcome : Result A Stop) →
     Works a b (ask File name 262144) (Ok text) → Says seen outcome (bytes_in text) →

@@ -21,7 +21,7 @@ use Rattle.loader.specs.declared.refusals.Refusal.TheVariants.{Assembly}
 use Rattle.loader.specs.declared.refusals.Stop.{Stop}
 use Rattle.loader.specs.declared.refusals.Stop.TheVariants.{Refused, Store, Memory}
 use Rattle.loader.specs.Games.{image_for, filled_from, filled_at}
-use Rattle.loader.specs.Readings.{Says, image_told, assembled}
+use Rattle.loader.specs.Readings.{Says, image_told, image_in}
 use Rattle.loader.specs.Work.{ask, gives, reads, ◌>>=◌}
 use Rattle.loader.specs.Works.{order_of, file_of, RefusesFrom, Works}
 use Rattle.loader.proofs.WorkLaws.{works_gives, works_done, works_stop, works_text, works_seen}
@@ -35,8 +35,8 @@ assembly_order chip (Ok picture) r e = cc e
 assembly_order chip (Err fault) r e = let same : Assembly (Some chip) fault ≡ r = cc e in rw (← same) (omega arith)
 
 pub image_order : {A : Type 0} (chip : ℕ) (room : Room) (text : List ℕ) (seen : A → Picture) (outcome : Result A Stop) →
-    Says seen outcome (assembled (Some chip) room text) → RefusesFrom (chip + 1) outcome
-unfolding assembled
+    Says seen outcome (image_in (Some chip) room text) → RefusesFrom (chip + 1) outcome
+unfolding image_in
 image_order chip room text seen (Ok x) says = tt
 image_order chip room text seen (Err (Refused r)) says = assembly_order chip (image_of text room) r says
 image_order chip room text seen (Err (Store p)) says = absurd says
@@ -110,18 +110,18 @@ same_placeless chip plan none = same_without chip plan (placeless (source_at pla
 
 pub image_read : (a b : Input) (chip : ℕ) (name text : List ℕ) (room : Room) (outcome : Result Picture Stop) →
     Works a b (ask (Source chip) name 262144) (Ok text) →
-    Says (λ picture. picture) outcome (assembled (Some chip) room text) → Works a b (image_for chip name room) outcome
+    Says (λ picture. picture) outcome (image_in (Some chip) room text) → Works a b (image_for chip name room) outcome
 unfolding image_for
 image_read a b chip name text room outcome first says =
-    works_seen a b (ask (Source chip) name 262144 >>= λ text. reads (assembled (Some chip) room text)) outcome
-    (works_text a b (Source chip) name text 262144 (λ picture. picture) (assembled (Some chip) room) outcome first says
+    works_seen a b (ask (Source chip) name 262144 >>= λ text. reads (image_in (Some chip) room text)) outcome
+    (works_text a b (Source chip) name text 262144 (λ picture. picture) (image_in (Some chip) room) outcome first says
     (image_order chip room text (λ picture. picture) outcome says))
 
 pub image_stop : (a b : Input) (chip : ℕ) (name : List ℕ) (room : Room) (stop : Stop) →
     Works a b (ask (Source chip) name 262144) (Err stop) → Works a b (image_for chip name room) (Err stop)
 unfolding image_for
 image_stop a b chip name room stop first =
-    works_stop a b (ask (Source chip) name 262144) (λ text. reads (assembled (Some chip) room text)) stop first
+    works_stop a b (ask (Source chip) name 262144) (λ text. reads (image_in (Some chip) room text)) stop first
 
 -- a chip that has a source
 module _ (a b : Input) (chip : ℕ) (plan : Planned) (name : List ℕ) (room : Room)

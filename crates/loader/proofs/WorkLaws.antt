@@ -14,8 +14,8 @@ use Rattle.loader.specs.declared.refusals.Refusal.{Refusal}
 use Rattle.loader.specs.declared.refusals.Refusal.TheVariants.{Long}
 use Rattle.loader.specs.declared.refusals.Stop.{Stop}
 use Rattle.loader.specs.declared.refusals.Stop.TheVariants.{Refused, Store, Memory}
-use Rattle.loader.specs.Work.{Ask, End, Gives, Refuses, Lacks, Course, Work, gives, reads, end_of, found, ask}
-use Rattle.loader.specs.Work.{continued, ◌>>=◌}
+use Rattle.loader.specs.Work.{Ask, End, Gives, Refuses, Lacks, Course, Work, gives, reads, end_of, end_for, ask}
+use Rattle.loader.specs.Work.{course_behind, ◌>>=◌}
 use Rattle.loader.specs.Works.{more, AsksFew, FailsAt, Follows, StoreFails, order_of, file_of, RefusesFrom, Misses}
 use Rattle.loader.specs.Works.{RefusesBy}
 use Rattle.loader.specs.Works.{HasFiles, Works, outcome_as}
@@ -74,14 +74,14 @@ works_unsaid now seen read Memory says = works_memory now (reads read)
 
 -- a fetch of a file, as a work sees it
 module _ (old new : Input) (purpose : Purpose) (name : List ℕ) (limit : ℕ) where
-  found_has : (file : Option (List ℕ)) → HasFiles (found purpose limit file) → IsSome file
+  found_has : (file : Option (List ℕ)) → HasFiles (end_for purpose limit file) → IsSome file
   found_has (Some bytes) has = refl
   found_has None has = absurd has
 
-  within_limit : (bytes : List ℕ) → length bytes ≤ limit → found purpose limit (Some bytes) ≡ Gives bytes
+  within_limit : (bytes : List ℕ) → length bytes ≤ limit → end_for purpose limit (Some bytes) ≡ Gives bytes
   within_limit bytes within = rw (le-leb (length bytes) limit within) refl
 
-  past_limit : (bytes : List ℕ) → limit < length bytes → found purpose limit (Some bytes) ≡ Refuses (Long purpose)
+  past_limit : (bytes : List ℕ) → limit < length bytes → end_for purpose limit (Some bytes) ≡ Refuses (Long purpose)
   past_limit bytes past = rw (past_leb (leb_tells (length bytes) limit)) refl
     where
       past_leb : ((nat_le (length bytes) limit ≡ true) × (length bytes ≤ limit)) ⊎
@@ -103,7 +103,7 @@ module _ (old new : Input) (purpose : Purpose) (name : List ℕ) (limit : ℕ) w
     same = fetches.same;
     follows = λ files e.
         let here = subst (λ (told : Option (List NamedBytes)). IsFile told name bytes) e file in
-        (ap (found purpose limit) here ∙ within_limit bytes within, fetches.counted);
+        (ap (end_for purpose limit) here ∙ within_limit bytes within, fetches.counted);
     telling = telling outcome fetches;
     refused = λ files e. tt;
     fails = faults;
@@ -135,7 +135,7 @@ module _ (old new : Input) (purpose : Purpose) (name : List ℕ) (limit : ℕ) w
       (ask purpose name limit files).end ≡ Refuses (Long purpose)
   refused_long files long e =
       let here = subst (λ (told : Option (List NamedBytes)). IsLong told name limit) e long in
-      ap (found purpose limit) here.1 ∙ past_limit here.0 here.2
+      ap (end_for purpose limit) here.1 ∙ past_limit here.0 here.2
 
   refused_here : (files : List NamedBytes) (file : Option (List ℕ)) → bytes_of files name ≡ file →
       (IsSome (bytes_of files name) → (ask purpose name limit files).end ≡ Refuses (Long purpose)) →
@@ -252,7 +252,7 @@ ordered_ask last purpose name limit early = record {
     only (suc place) other here = cc here
 
     missed : (files : List NamedBytes) (file : Option (List ℕ)) → bytes_of files name ≡ file →
-        found purpose limit (bytes_of files name) ≡ Lacks →
+        end_for purpose limit (bytes_of files name) ≡ Lacks →
         Misses files (record { purpose = purpose; name = name; limit = limit } ∷ []) last
     missed files None is e = record {
       place = 0;
@@ -292,7 +292,7 @@ ordered_then {A = A} {B = B} last work f first second = record {
   where
     within : (files : List NamedBytes) (asks : List Ask) (end : End A) →
         ((place : ℕ) (ask : Ask) → slice_get asks place ≡ Some ask → order_of ask.purpose ≤ last) →
-        (place : ℕ) (ask : Ask) → slice_get (continued asks end (λ x. f x files)).asks place ≡ Some ask →
+        (place : ℕ) (ask : Ask) → slice_get (course_behind asks end (λ x. f x files)).asks place ≡ Some ask →
         order_of ask.purpose ≤ last
     within files asks (Gives x) early place ask here =
         in_either (λ (a : Ask). order_of a.purpose ≤ last) asks (f x files).asks early ((second x).within files) place
@@ -301,7 +301,8 @@ ordered_then {A = A} {B = B} last work f first second = record {
     within files asks Lacks early place ask here = early place ask here
 
     lacks : (files : List NamedBytes) (asks : List Ask) (end : End A) → (end ≡ Lacks → Misses files asks last) →
-        (continued asks end (λ x. f x files)).end ≡ Lacks → Misses files (continued asks end (λ x. f x files)).asks last
+        (course_behind asks end (λ x. f x files)).end ≡ Lacks →
+        Misses files (course_behind asks end (λ x. f x files)).asks last
     lacks files asks (Gives x) missed e = misses_behind files asks (f x files).asks last ((second x).lacks files e)
     lacks files asks (Refuses r) missed e = cc e
     lacks files asks Lacks missed e = missed refl
@@ -346,7 +347,8 @@ follows_behind a b c asks course (Err Memory) count follows =
           ∙ more_behind a.fetches (length asks) follows.count;
     }
 
-has_first : {A B : Type 0} (asks : List Ask) (end : End A) (f : A → Course B) → HasFiles (continued asks end f).end →
+has_first : {A B : Type 0} (asks : List Ask) (end : End A) (f : A → Course B) →
+    HasFiles (course_behind asks end f).end →
     HasFiles end
 has_first asks (Gives x) f has = tt
 has_first asks (Refuses refusal) f has = tt
@@ -365,7 +367,7 @@ module _ {A B : Type 0} (a b c : Input) (work : Work A) (x : A) (f : A → Work 
     telling = λ files e has.
         let told = first.telling files e (has_first (work files).asks (work files).end (λ y. f y files) has) in
         let done = first.follows files told in
-        let given = λ (end : End A). HasFiles (continued (work files).asks end (λ y. f y files)).end in
+        let given = λ (end : End A). HasFiles (course_behind (work files).asks end (λ y. f y files)).end in
         second.telling files told (subst given done.0 has);
     refused = refused;
     fails = fails_behind outcome second.fails;
@@ -433,7 +435,8 @@ works_done a b work x f first =
 
 -- a first work that stops
 stops_first : {A B : Type 0} (old new : Input) (asks : List Ask) (end : End A) (f : A → Course B) (stop : Stop) →
-    Follows old new (record { asks = asks; end = end }) (Err stop) → Follows old new (continued asks end f) (Err stop)
+    Follows old new (record { asks = asks; end = end }) (Err stop) →
+    Follows old new (course_behind asks end f) (Err stop)
 stops_first old new asks end f (Refused refusal) follows = rw follows.0 (refl, follows.1)
 stops_first old new asks (Gives x) f (Store purpose) follows = record {
   place = follows.place;
@@ -453,7 +456,8 @@ stops_first old new asks Lacks f Memory follows = follows
 
 refuses_first : {A B : Type 0} (files : List NamedBytes) (asks : List Ask) (end : End A) (f : A → Course B)
     (stop : Stop) →
-    RefusesBy files (record { asks = asks; end = end }) (Err stop) → RefusesBy files (continued asks end f) (Err stop)
+    RefusesBy files (record { asks = asks; end = end }) (Err stop) →
+    RefusesBy files (course_behind asks end f) (Err stop)
 refuses_first files asks end f (Refused r) (inl is) = rw is (inl refl)
 refuses_first files asks (Gives x) f (Refused r) (inr misses) =
     inr (misses_before files asks (f x).asks (order_of (file_of r)) misses)

@@ -9,7 +9,7 @@ use Rattle.f8_asm.specs.declared.answers.Room.{Room}
 use Rattle.f8_asm.specs.Image.{Picture, everywhere}
 use Rattle.console_spec.specs.Scripts.{Script as RunScript}
 use Rattle.loader.specs.declared.purposes.Purpose.TheVariants.{Cart, Script, File, Source}
-use Rattle.loader.specs.Readings.{description_of, assembled, script_in, bytes_in}
+use Rattle.loader.specs.Readings.{description_of, image_in, script_in, bytes_in}
 use Rattle.loader.specs.Work.{Work, gives, reads, ask, ◌>>=◌}
 
 -- ---- the chips of a cartridge
@@ -17,7 +17,7 @@ use Rattle.loader.specs.Work.{Work, gives, reads, ask, ◌>>=◌}
 -- the image of a chip's source, by its name, which may have the addresses of a room
 unfoldable pub image_for : ℕ → List ℕ → Room → Work Picture
 image_for chip name room =
-    ask (Source chip) name 262144 >>= λ text. reads (assembled (Some chip) room text)
+    ask (Source chip) name 262144 >>= λ text. reads (image_in (Some chip) room text)
 
 -- the image of its source is put into the chip with this number
 abbrev pub filled_from : ℕ → Planned → Option DescribedSource → Work Planned
@@ -60,7 +60,7 @@ game_of cart script =
 
 -- the image of an assembly file, which may have all addresses
 unfoldable pub image_by : List ℕ → Work Picture
-image_by file = ask File file 262144 >>= λ text. reads (assembled None everywhere text)
+image_by file = ask File file 262144 >>= λ text. reads (image_in None everywhere text)
 
 -- the bytes of a file of digits
 unfoldable pub bytes_by : List ℕ → Work (List ℕ)

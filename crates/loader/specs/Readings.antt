@@ -62,8 +62,8 @@ image_told source (Ok picture) = Ok picture
 image_told source (Err fault) = Err (Assembly source fault)
 
 -- the image of an assembly text: that of a chip, or the one file of a command
-unfoldable pub assembled : Option ℕ → Room → List ℕ → Result Picture Refusal
-assembled source room text = image_told source (image_of text room)
+unfoldable pub image_in : Option ℕ → Room → List ℕ → Result Picture Refusal
+image_in source room text = image_told source (image_of text room)
 
 -- ---- scripts
 

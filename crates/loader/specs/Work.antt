@@ -41,26 +41,26 @@ reads read files = record { asks = []; end = end_of read }
 
 -- ---- one file
 
-abbrev pub found : Purpose → ℕ → Option (List ℕ) → End (List ℕ)
-found purpose limit None = Lacks
-found purpose limit (Some bytes) = if nat_le (length bytes) limit then Gives bytes else Refuses (Long purpose)
+abbrev pub end_for : Purpose → ℕ → Option (List ℕ) → End (List ℕ)
+end_for purpose limit None = Lacks
+end_for purpose limit (Some bytes) = if nat_le (length bytes) limit then Gives bytes else Refuses (Long purpose)
 
 -- the bytes of a file
 abbrev pub ask : Purpose → List ℕ → ℕ → Work (List ℕ)
 ask purpose name limit files = record {
   asks = record { purpose = purpose; name = name; limit = limit } ∷ [];
-  end = found purpose limit (bytes_of files name);
+  end = end_for purpose limit (bytes_of files name);
 }
 
 -- ---- one after another
 
-abbrev pub continued : {A B : Type 0} → List Ask → End A → (A → Course B) → Course B
-continued asks (Gives x) f = record { asks = asks ++ (f x).asks; end = (f x).end }
-continued asks (Refuses refusal) f = record { asks = asks; end = Refuses refusal }
-continued asks Lacks f = record { asks = asks; end = Lacks }
+abbrev pub course_behind : {A B : Type 0} → List Ask → End A → (A → Course B) → Course B
+course_behind asks (Gives x) f = record { asks = asks ++ (f x).asks; end = (f x).end }
+course_behind asks (Refuses refusal) f = record { asks = asks; end = Refuses refusal }
+course_behind asks Lacks f = record { asks = asks; end = Lacks }
 
 abbrev pub follow : {A B : Type 0} → Course A → (A → Course B) → Course B
-follow course f = continued course.asks course.end f
+follow course f = course_behind course.asks course.end f
 
 infixl 1 ◌>>=◌
 abbrev pub ◌>>=◌ : {A B : Type 0} → Work A → (A → Work B) → Work B

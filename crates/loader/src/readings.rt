@@ -6,7 +6,7 @@ ghost use Rattle.cartridge.specs.Filling.{IsPlan};
 ghost use Rattle.cartridge.specs.Rooms.{LiesIn};
 ghost use Rattle.pad_script.specs.Limits.{HasLimits};
 ghost use Rattle.pad_script.specs.Reading.{seen};
-ghost use Rattle.loader.specs.Readings.{Says, bytes_in, is_pulse, table_of, description_of, assembled, script_in};
+ghost use Rattle.loader.specs.Readings.{Says, bytes_in, is_pulse, table_of, description_of, image_in, script_in};
 
 use super::purposes::Purpose;
 use super::refusals::{Refusal, Stop};
@@ -44,10 +44,10 @@ pub fn read_description(alloc: Global, bytes: &[u8]) -> Result<Plan, Stop>
 }
 
 /// The image of an assembly text, that of a chip's source or the one file of a command, with its bytes in the room.
-#[tactic(auto, unfolding(crate::specs::Readings::assembled))]
+#[tactic(auto, unfolding(crate::specs::Readings::image_in))]
 pub fn read_image(alloc: Global, source: Option<u8>, text: &[u8], room: Room) -> Result<Image, Stop>
     requires { length text.now ≤ 262144 }
-    ensures says { Says (λ image. image) result (assembled source room text.now) }
+    ensures says { Says (λ image. image) result (image_in source room text.now) }
     ensures inside { IfOk result (λ image. LiesIn room image.bytes) }
 {
     match assemble(alloc, text, room) {

@@ -42,8 +42,8 @@ fn load_source<S: Store>(
 fn fill_at<S: Store>(alloc: Global, store: &mut S, mut plan: Plan, chip: u8) -> Result<Plan, Stop>
     ensures works { Works (S.input store.old) (S.input store.new) (filled_at chip plan) result }
     ensures order { RefusesFrom (chip + 1) result }
-    ensures filled { IfOk result (λ filled. (bytes : List (ℕ × ℕ))
-        × (filled ≡ filled_plan plan chip bytes)) }
+    ensures filled { IfOk result (λ filled.
+        (bytes : List (ℕ × ℕ)) × (filled ≡ filled_plan plan chip bytes)) }
 {
     let Some(name) = plan.source(chip) else {
         return Ok(plan);

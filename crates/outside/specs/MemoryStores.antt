@@ -51,13 +51,13 @@ kept_input s = record { files = Some s.files; faults = s.faults; fetches = s.cal
 abbrev pub call_fails : KeptFiles → Bool
 call_fails s = list_any (λ call. call == one_more s.calls) s.failing
 
-abbrev pub found : ℕ → Option (List ℕ) → Answer
-found limit None = Fails
-found limit (Some bytes) = within_limit limit bytes
+abbrev pub answer_for : ℕ → Option (List ℕ) → Answer
+answer_for limit None = Fails
+answer_for limit (Some bytes) = within_limit limit bytes
 
 -- A call that is to fail does so, and a missing file is a failure.
 abbrev pub kept_answer : KeptFiles → List ℕ → ℕ → Answer
-kept_answer s name limit = if call_fails s then Fails else found limit (bytes_of s.files name)
+kept_answer s name limit = if call_fails s then Fails else answer_for limit (bytes_of s.files name)
 
 abbrev pub failures : Answer → ℕ → ℕ
 failures Fails n = one_more n
@@ -78,12 +78,12 @@ abbrev pub sure_input : SureFiles → Input
 sure_input s = record { files = (if s.strayed then None else Some s.files); faults = 0; fetches = s.calls }
 
 -- A missing file is taken as an empty one.
-abbrev pub sure_found : ℕ → Option (List ℕ) → Answer
-sure_found limit None = Gives []
-sure_found limit (Some bytes) = within_limit limit bytes
+abbrev pub sure_answer_for : ℕ → Option (List ℕ) → Answer
+sure_answer_for limit None = Gives []
+sure_answer_for limit (Some bytes) = within_limit limit bytes
 
 abbrev pub sure_answer : SureFiles → List ℕ → ℕ → Answer
-sure_answer s name limit = sure_found limit (bytes_of s.files name)
+sure_answer s name limit = sure_answer_for limit (bytes_of s.files name)
 
 -- the store after a fetch: one more call, and it has strayed from its files where it was asked for a missing one
 abbrev pub after_sure_fetch : SureFiles → List ℕ → SureFiles

@@ -22,9 +22,10 @@ use Rattle.pad_script.specs.FirstFault.{HasNoFault, IsFirstFault, AtLine, Behind
 use Rattle.pad_script.specs.FirstFault.{TellsFault}
 use Rattle.pad_script.specs.FirstFault.{counted_lines}
 use Rattle.text_lines.specs.Lines.{lines}
-use Rattle.pad_script.specs.Reading.{Draft, Script, SaysOfText, and_then, ended, finished, no_draft, read_line}
+use Rattle.pad_script.specs.Reading.{Draft, Script, SaysOfText, and_then, script_with_end, script_at_end, no_draft}
+use Rattle.pad_script.specs.Reading.{read_line}
 use Rattle.pad_script.specs.Reading.{read_lines}
-use Rattle.pad_script.specs.Reading.{said, said_by, script_of, told}
+use Rattle.pad_script.specs.Reading.{draft_after, draft_by, script_of, fault_at}
 use Rattle.pad_script.specs.Statements.{line_of}
 use Rattle.pad_script.specs.Telling.{ends, powers, said_in, statements}
 use Rattle.pad_script.proofs.LineSteps.{Reaches, read_to_end}
@@ -168,8 +169,8 @@ no_lines c power end ats frames fits =
     }
 
 found_end : (number : ℕ) (c : Counts) (power : Option ℕ) (end : Option End) (ats : List At) (frames : List ℕ) →
-    Fits c power end ats frames → IsFoundFrom c number [] (finished number (draft power end ats frames))
-unfolding finished
+    Fits c power end ats frames → IsFoundFrom c number [] (script_at_end number (draft power end ats frames))
+unfolding script_at_end
 found_end number c power None ats frames fits =
     Behind_last (no_lines c power None ats frames fits) (omega (arith, fits.ends)) (omega arith) refl
 found_end number c power (Some end) ats frames fits = no_lines c power (Some end) ats frames fits
@@ -193,7 +194,7 @@ module _ (l : List ℕ) (ls : List (List ℕ)) (number : ℕ) (rest : Rest ls (n
   found_comes : (at : At) (full : Bool) → (length ats + length frames == 1024) ≡ full →
       line_of l ≡ Ok (Some (Comes at)) →
       IsFoundFrom c number (l ∷ ls)
-      (and_then (cond full (told number TooMany) (Ok (draft power end (ats ++ at ∷ []) frames)))
+      (and_then (cond full (fault_at number TooMany) (Ok (draft power end (ats ++ at ∷ []) frames)))
       (λ next. read_lines (number + 1) next ls))
   found_comes at true test is = here _ TooMany is (grind (arith, nat_tests, fits.counted), refl)
   found_comes at false test is =
@@ -208,7 +209,7 @@ module _ (l : List ℕ) (ls : List (List ℕ)) (number : ℕ) (rest : Rest ls (n
   found_shows : (frame : ℕ) (full : Bool) → (length ats + length frames == 1024) ≡ full →
       line_of l ≡ Ok (Some (Shows frame)) →
       IsFoundFrom c number (l ∷ ls)
-      (and_then (cond full (told number TooMany) (Ok (draft power end ats (frames ++ frame ∷ []))))
+      (and_then (cond full (fault_at number TooMany) (Ok (draft power end ats (frames ++ frame ∷ []))))
       (λ next. read_lines (number + 1) next ls))
   found_shows frame true test is = here _ TooMany is (grind (arith, nat_tests, fits.counted), refl)
   found_shows frame false test is =
@@ -224,8 +225,8 @@ module _ (l : List ℕ) (ls : List (List ℕ)) (number : ℕ) (rest : Rest ls (n
   found_line : (line : Result (Option Statement) ScriptCause) → line_of l ≡ line →
       (power : Option ℕ) (end : Option End) (ats : List At) (frames : List ℕ) → Fits c power end ats frames →
       IsFoundFrom c number (l ∷ ls)
-      (and_then (said_by number (draft power end ats frames) line) (λ next. read_lines (number + 1) next ls))
-  unfolding said
+      (and_then (draft_by number (draft power end ats frames) line) (λ next. read_lines (number + 1) next ls))
+  unfolding draft_after
   found_line (Err cause) is power end ats frames fits =
       here l ls number rest c power end ats frames fits (Err cause) cause is refl
   found_line (Ok None) is power end ats frames fits =
@@ -234,14 +235,22 @@ module _ (l : List ℕ) (ls : List (List ℕ)) (number : ℕ) (rest : Rest ls (n
       here l ls number rest c (Some other) end ats frames fits _ Twice is (omega (arith, fits.powers), refl)
   found_line (Ok (Some (Power byte))) is None end ats frames fits =
       found_before c (Some (Power byte)) l is number ls _
-      (rest (after c (Some (Power byte))) (Some byte) end ats frames
-      (record { powers = omega (arith, fits.powers); ends = fits.ends; counted = fits.counted; few = fits.few }))
+      (rest (after c (Some (Power byte))) (Some byte) end ats frames (record {
+        powers = omega (arith, fits.powers);
+        ends = fits.ends;
+        counted = fits.counted;
+        few = fits.few;
+      }))
   found_line (Ok (Some (Ends said))) is power (Some other) ats frames fits =
       here l ls number rest c power (Some other) ats frames fits _ Twice is (omega (arith, fits.ends), refl)
   found_line (Ok (Some (Ends said))) is power None ats frames fits =
       found_before c (Some (Ends said)) l is number ls _
-      (rest (after c (Some (Ends said))) power (Some said) ats frames
-      (record { powers = fits.powers; ends = omega (arith, fits.ends); counted = fits.counted; few = fits.few }))
+      (rest (after c (Some (Ends said))) power (Some said) ats frames (record {
+        powers = fits.powers;
+        ends = omega (arith, fits.ends);
+        counted = fits.counted;
+        few = fits.few;
+      }))
   found_line (Ok (Some (Comes at))) is power end ats frames fits =
       found_comes l ls number rest c power end ats frames fits at _ refl is
   found_line (Ok (Some (Shows frame))) is power end ats frames fits =
@@ -294,7 +303,7 @@ found_all ls =
 
 -- lines that were read to a draft have no fault: were the text to end there, a missing end at most would be told
 reached_end : (before : List (List ℕ)) (number : ℕ) (d : Draft) (end : Option End) → number ≡ length before + 1 →
-    IsFoundFrom nothing 1 before (ended number d end) → HasNoFault before
+    IsFoundFrom nothing 1 before (script_with_end number d end) → HasNoFault before
 reached_end before number d (Some end) counted clean = no_fault before clean
 reached_end before number d None counted (Behind_last clean none line cause) = no_fault before clean
 reached_end before number d None counted (At_line first l behind parts clean line cause) =
@@ -303,9 +312,9 @@ reached_end before number d None counted (At_line first l behind parts clean lin
     absurd (omega (arith, counted, line, size, sum))
 
 reached_clean : (before : List (List ℕ)) (number : ℕ) (d : Draft) → Reaches before number d → HasNoFault before
-unfolding finished
+unfolding script_at_end
 reached_clean before number d reaches =
-    let whole : read_lines 1 no_draft before ≡ ended number d d.end =
+    let whole : read_lines 1 no_draft before ≡ script_with_end number d d.end =
     ap (read_lines 1 no_draft) (sym (append-nil before)) ∙ reaches.behind [] ∙ read_to_end number d in
     reached_end before number d d.end reaches.counted
     (subst (λ (said : Result Script ScriptFault). IsFoundFrom nothing 1 before said) whole (found_all before))

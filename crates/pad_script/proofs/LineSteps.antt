@@ -7,11 +7,12 @@ use Rattle.pad_script.specs.declared.answers.ScriptFault.{ScriptFault}
 use Rattle.pad_script.specs.declared.script.Script.{Script as KeptScript}
 use Rattle.text_lines.specs.Lines.{lines}
 use Rattle.pad_script.specs.Answers.{answer_as}
-use Rattle.pad_script.specs.Reading.{Draft, Script, SaysOfText, StepsOfText, finished, no_draft, read_line, read_lines}
+use Rattle.pad_script.specs.Reading.{Draft, Script, SaysOfText, StepsOfText, script_at_end, no_draft, read_line}
+use Rattle.pad_script.specs.Reading.{read_lines}
 use Rattle.pad_script.specs.Reading.{script_of}
 
 -- no line is left
-pub read_to_end : (number : ℕ) (d : Draft) → read_lines number d [] ≡ finished number d
+pub read_to_end : (number : ℕ) (d : Draft) → read_lines number d [] ≡ script_at_end number d
 unfolding read_lines
 read_to_end number d = refl
 
@@ -78,9 +79,9 @@ read_stops number d next l ls answer.Memory whole is step = tt
 
 -- no line is left
 pub says_at_end : (text rest : List ℕ) (number : ℕ) (d : Draft) (result : Result KeptScript ScriptFault) →
-    Reads text rest number d → rest ≡ [] → SaysOfText (answer_as result) (finished number d) →
+    Reads text rest number d → rest ≡ [] → SaysOfText (answer_as result) (script_at_end number d) →
     SaysOfText (answer_as result) (script_of text)
 says_at_end text rest number d result reads none says =
-    let left : read_lines number d (lines rest) ≡ finished number d = rw none (read_to_end number d) in
-    let whole : finished number d ≡ script_of text = sym left ∙ reads_whole text rest number d reads in
+    let left : read_lines number d (lines rest) ≡ script_at_end number d = rw none (read_to_end number d) in
+    let whole : script_at_end number d ≡ script_of text = sym left ∙ reads_whole text rest number d reads in
     subst (λ (said : Result Script ScriptFault). SaysOfText (answer_as result) said) whole says

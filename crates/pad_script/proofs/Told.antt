@@ -11,8 +11,8 @@ use Rattle.pad_script.specs.declared.script.Script.{Script as KeptScript}
 use Rattle.pad_script.specs.declared.statement.Statement.{Statement}
 use Rattle.pad_script.specs.declared.statement.Statement.TheVariants.{Power, Ends, Comes, Shows}
 use Rattle.text_lines.specs.Lines.{lines}
-use Rattle.pad_script.specs.Reading.{Draft, Script, SaysOfText, and_then, finished, is_full, no_draft, read_line}
-use Rattle.pad_script.specs.Reading.{read_lines, said, said_by, script_of, seen}
+use Rattle.pad_script.specs.Reading.{Draft, Script, SaysOfText, and_then, script_at_end, is_full, no_draft, read_line}
+use Rattle.pad_script.specs.Reading.{read_lines, draft_after, draft_by, script_of, seen}
 use Rattle.pad_script.specs.Statements.{line_of}
 use Rattle.pad_script.specs.Telling.{IsPower, IsTold, ends, events, powers, said_in, shows, statements}
 
@@ -47,8 +47,8 @@ no_fault false fault next f x is = is
 
 -- the text ends
 told_end : (number : ℕ) (power : Option ℕ) (end : Option End) (ats : List At) (frames : List ℕ) (script : Script) →
-    finished number (draft power end ats frames) ≡ Ok script → IsToldFrom power end ats frames [] script
-unfolding finished
+    script_at_end number (draft power end ats frames) ≡ Ok script → IsToldFrom power end ats frames [] script
+unfolding script_at_end
 told_end number power None ats frames script is = absurd cc
 told_end number None (Some end) ats frames script is =
     subst (λ (s : Script). IsToldFrom None (Some end) ats frames [] s) (same_value _ script is)
@@ -77,9 +77,10 @@ Rest ls number script =
 module _ (ls : List (List ℕ)) (number : ℕ) (script : Script) (rest : Rest ls (number + 1) script) where
   -- a line says something
   told_said : (s : Statement) (power : Option ℕ) (end : Option End) (ats : List At) (frames : List ℕ) →
-      and_then (said number (draft power end ats frames) s) (λ next. read_lines (number + 1) next ls) ≡ Ok script →
+      and_then (draft_after number (draft power end ats frames) s) (λ next. read_lines (number + 1) next ls) ≡ Ok
+      script →
       IsToldFrom power end ats frames (s ∷ statements ls) script
-  unfolding said
+  unfolding draft_after
   told_said (Power byte) (Some other) end ats frames is = absurd cc
   told_said (Power byte) None end ats frames is =
       let r = rest (Some byte) end ats frames is in
@@ -112,7 +113,7 @@ module _ (ls : List (List ℕ)) (number : ℕ) (script : Script) (rest : Rest ls
   -- a line is read
   told_line : (line : Result (Option Statement) ScriptCause) (power : Option ℕ) (end : Option End) (ats : List At)
       (frames : List ℕ) →
-      and_then (said_by number (draft power end ats frames) line)
+      and_then (draft_by number (draft power end ats frames) line)
       (λ next. read_lines (number + 1) next ls) ≡ Ok script →
       IsToldFrom power end ats frames (said_in line ++ statements ls) script
   told_line (Err cause) power end ats frames is = absurd cc

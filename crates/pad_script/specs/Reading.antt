@@ -31,37 +31,41 @@ no_draft = record { power = None; end = None; events = []; shows = [] }
 
 -- ---- one line
 
-abbrev pub told : {A : Type 0} → ℕ → ScriptCause → Result A ScriptFault
-told number cause = Err (record { line = number; cause = cause })
+abbrev pub fault_at : {A : Type 0} → ℕ → ScriptCause → Result A ScriptFault
+fault_at number cause = Err (record { line = number; cause = cause })
 
 -- 1,024 lines of events and shown frames
 abbrev pub is_full : Draft → Bool
 is_full d = length d.events + length d.shows == 1024
 
 -- a second power-on byte and a second end are Twice, and the 1,025th line of an event or a shown frame is TooMany
-unfoldable pub said : ℕ → Draft → Statement → Result Draft ScriptFault
-said number d (Power byte) = if is_some d.power then told number Twice else Ok (record d { power = Some byte })
-said number d (Ends end) = if is_some d.end then told number Twice else Ok (record d { end = Some end })
-said number d (Comes at) = if is_full d then told number TooMany else Ok (record d { events = d.events ++ at ∷ [] })
-said number d (Shows frame) = if is_full d then told number TooMany else Ok (record d { shows = d.shows ++ frame ∷ [] })
+unfoldable pub draft_after : ℕ → Draft → Statement → Result Draft ScriptFault
+draft_after number d (Power byte) =
+    if is_some d.power then fault_at number Twice else Ok (record d { power = Some byte })
+draft_after number d (Ends end) = if is_some d.end then fault_at number Twice else Ok (record d { end = Some end })
+draft_after number d (Comes at) =
+    if is_full d then fault_at number TooMany else Ok (record d { events = d.events ++ at ∷ [] })
+draft_after number d (Shows frame) =
+    if is_full d then fault_at number TooMany else Ok (record d { shows = d.shows ++ frame ∷ [] })
 
-abbrev pub said_by : ℕ → Draft → Result (Option Statement) ScriptCause → Result Draft ScriptFault
-said_by number d (Err cause) = told number cause
-said_by number d (Ok None) = Ok d
-said_by number d (Ok (Some statement)) = said number d statement
+abbrev pub draft_by : ℕ → Draft → Result (Option Statement) ScriptCause → Result Draft ScriptFault
+draft_by number d (Err cause) = fault_at number cause
+draft_by number d (Ok None) = Ok d
+draft_by number d (Ok (Some statement)) = draft_after number d statement
 
 unfoldable pub read_line : ℕ → Draft → List ℕ → Result Draft ScriptFault
-read_line number d line = said_by number d (line_of line)
+read_line number d line = draft_by number d (line_of line)
 
 -- ---- all lines
 
 -- the text ends before this line
-abbrev pub ended : ℕ → Draft → Option End → Result Script ScriptFault
-ended number d None = told number NoEnd
-ended number d (Some end) = Ok (record { power = unwrap_or d.power 0; end = end; events = d.events; shows = d.shows })
+abbrev pub script_with_end : ℕ → Draft → Option End → Result Script ScriptFault
+script_with_end number d None = fault_at number NoEnd
+script_with_end number d (Some end) =
+    Ok (record { power = unwrap_or d.power 0; end = end; events = d.events; shows = d.shows })
 
-unfoldable pub finished : ℕ → Draft → Result Script ScriptFault
-finished number d = ended number d d.end
+unfoldable pub script_at_end : ℕ → Draft → Result Script ScriptFault
+script_at_end number d = script_with_end number d d.end
 
 abbrev pub and_then : {A B : Type 0} → Result A ScriptFault → (A → Result B ScriptFault) → Result B ScriptFault
 and_then (Ok x) f = f x
@@ -69,7 +73,7 @@ and_then (Err e) f = Err e
 
 -- lines from this number on
 unfoldable pub read_lines : ℕ → Draft → List (List ℕ) → Result Script ScriptFault
-read_lines number d [] = finished number d
+read_lines number d [] = script_at_end number d
 read_lines number d (l ∷ ls) = and_then (read_line number d l) (λ next. read_lines (number + 1) next ls)
 
 -- the script of a text, or its first fault

@@ -3,7 +3,7 @@ ghost use Rattle.std.specs.Prelude.{◌≡◌, ◌<◌, ◌≤◌, ◌+◌, [], 
 ghost use Rattle.pad_script.specs.Answers.{answer_as, OnMemory};
 ghost use Rattle.pad_script.specs.FirstFault.{counted_lines};
 ghost use Rattle.pad_script.specs.Reading.{StepsOfText, SaysOfText};
-ghost use Rattle.pad_script.specs.Reading.{finished, is_full, no_draft, said, read_line};
+ghost use Rattle.pad_script.specs.Reading.{script_at_end, is_full, no_draft, draft_after, read_line};
 ghost use Rattle.pad_script.specs.Statements.{line_of as spelled_line};
 ghost use Rattle.pad_script.specs.Telling.{said_in};
 
@@ -60,9 +60,9 @@ impl Draft {
     }
 
     /// One line more says something. Memory is wanting only where that is an event or a shown frame.
-    #[tactic(auto, unfolding(crate::specs::Reading::said))]
+    #[tactic(auto, unfolding(crate::specs::Reading::draft_after))]
     fn say(&mut self, line: u32, statement: Statement) -> Result<(), ScriptAnswer>
-        ensures steps { StepsOfText result self.new (said line self.old statement) }
+        ensures steps { StepsOfText result self.new (draft_after line self.old statement) }
         ensures memory { OnMemory result (0 < counted_lines (statement ∷ [])) }
     {
         match statement {
@@ -108,9 +108,9 @@ impl Draft {
     }
 
     /// The script, where the text ends before this line. This takes no memory.
-    #[tactic(auto, unfolding(crate::specs::Reading::finished))]
+    #[tactic(auto, unfolding(crate::specs::Reading::script_at_end))]
     pub fn finish(self, number: u32) -> Result<Script, ScriptFault>
-        ensures script { SaysOfText (answer_as result) (finished number self) }
+        ensures script { SaysOfText (answer_as result) (script_at_end number self) }
         ensures limit { IfOk result (λ script. length script.events + length script.shows ≤ 1024) }
     {
         let Some(end) = self.end else {

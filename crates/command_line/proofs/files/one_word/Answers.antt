@@ -23,7 +23,8 @@ returns-in_err-matches-clause-refused c =
     let name = c.as_str.result.now in
     let words = map string_bytes c.args.words.now in
     let app_is : app_of c.in_ok-command.command ≡ word_app name =
-    c.in_ok-command.ensures.shape c.wanted.ensures.local ∙ ap₂ with_rule c.bare.ensures c.wanted.ensures.rule in
+    c.in_ok-command.ensures.shape c.wanted_word.ensures.local
+    ∙ ap₂ with_rule c.bare_command.ensures c.wanted_word.ensures.rule in
     let kinds =
     subst (λ a. HasKind (fault_of a words) c.in_err-matches.field-0.0) app_is
     (c.in_err-matches.ensures.kinds (ap is_simple_and_free app_is ∙ one_word_free name)) in
@@ -38,7 +39,8 @@ returns-clause-word c =
     let name = c.as_str.result.now in
     let words = map string_bytes c.args.words.now in
     let app_is : app_of c.in_ok-command.command ≡ word_app name =
-    c.in_ok-command.ensures.shape c.wanted.ensures.local ∙ ap₂ with_rule c.bare.ensures c.wanted.ensures.rule in
+    c.in_ok-command.ensures.shape c.wanted_word.ensures.local
+    ∙ ap₂ with_rule c.bare_command.ensures c.wanted_word.ensures.rule in
     let none =
     ap (λ a. fault_of a words) (sym app_is)
     ∙ c.in_ok-matches.ensures.kinds (ap is_simple_and_free app_is ∙ one_word_free name) in

@@ -42,10 +42,10 @@ returns-in_err-matches-clause-refused c =
     let name = c.as_str.result.now in
     let words = map string_bytes c.args.words.now in
     let app_is : app_of c.in_ok-command.command ≡ files_app name =
-    c.in_ok-command.ensures.shape c.wanted-2.ensures.local
+    c.in_ok-command.ensures.shape c.wanted_word-2.ensures.local
     ∙ ap₂ with_rule
-    (c.in_ok-arg.ensures.shape c.wanted.ensures.local ∙ ap₂ with_rule c.bare.ensures c.wanted.ensures.rule)
-    c.wanted-2.ensures.rule in
+    (c.in_ok-arg.ensures.shape c.wanted_word.ensures.local ∙ ap₂ with_rule c.bare_command.ensures c.wanted_word.ensures.rule)
+    c.wanted_word-2.ensures.rule in
     let kinds =
     subst (λ a. HasKind (fault_of a words) c.in_err-matches.field-0.0) app_is
     (c.in_err-matches.ensures.kinds (ap is_simple_and_free app_is ∙ two_files_free name)) in
@@ -60,10 +60,10 @@ returns-clause-files c =
     let name = c.as_str.result.now in
     let words = map string_bytes c.args.words.now in
     let app_is : app_of c.in_ok-command.command ≡ files_app name =
-    c.in_ok-command.ensures.shape c.wanted-2.ensures.local
+    c.in_ok-command.ensures.shape c.wanted_word-2.ensures.local
     ∙ ap₂ with_rule
-    (c.in_ok-arg.ensures.shape c.wanted.ensures.local ∙ ap₂ with_rule c.bare.ensures c.wanted.ensures.rule)
-    c.wanted-2.ensures.rule in
+    (c.in_ok-arg.ensures.shape c.wanted_word.ensures.local ∙ ap₂ with_rule c.bare_command.ensures c.wanted_word.ensures.rule)
+    c.wanted_word-2.ensures.rule in
     let none =
     ap (λ a. fault_of a words) (sym app_is)
     ∙ c.in_ok-matches.ensures.kinds (ap is_simple_and_free app_is ∙ two_files_free name) in

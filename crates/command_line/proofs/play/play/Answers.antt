@@ -10,7 +10,7 @@ use Rattle.clap.specs.Values.{bool_text, kind_of}
 use Rattle.clap.specs.declared.error.kind.ErrorKind.TheVariants.{OutOfMemory}
 use Rattle.clap.proofs.TakesLemmas.{passed_up}
 use Rattle.clap.proofs.WalkLemmas.{first_value-rows, one_text-rows}
-use Rattle.command_line.specs.CommandLine.{Play, Run, played, run_of}
+use Rattle.command_line.specs.CommandLine.{Play, Run, play_of, run_of}
 use Rattle.command_line.specs.Seen.{seen_command}
 use Rattle.std.specs.Borrow.{Bor}
 use Rattle.clap.specs.Walk.{Row, Text, first_of, one_of, rows_of}
@@ -28,7 +28,7 @@ flag_is read text false is on off = off is
 -- what the flag and the files come to, where they are those of a run
 files_are : (run : Run) (read : Bool) (cart script : Option (Bor Text)) → option_map (λ s. s.now) cart ≡ Some run.cart
     → option_map (λ s. s.now) script ≡ Some run.script → read ≡ run.traced
-    → option_map (λ files. Play files.0.now files.1.now read) (option_zip cart script) ≡ Some (played run)
+    → option_map (λ files. Play files.0.now files.1.now read) (option_zip cart script) ≡ Some (play_of run)
 files_are run read None script e f g = cc
 files_are run read (Some a) None e f g = cc
 files_are run read (Some a) (Some b) e f g =
@@ -42,7 +42,7 @@ run_is : (asked : Option Run) (read : Bool) (cart script : Option (Bor Text)) (r
     (one_of (codes "trace") rows ≡ Some (codes "false") → read ≡ false)
     → option_map (λ s. s.now) cart ≡ first_of (codes "cart") rows →
     option_map (λ s. s.now) script ≡ first_of (codes "script") rows
-    → option_map (λ files. Play files.0.now files.1.now read) (option_zip cart script) ≡ option_map played asked
+    → option_map (λ files. Play files.0.now files.1.now read) (option_zip cart script) ≡ option_map play_of asked
 run_is None read cart script rows e on off f g = cc
 run_is (Some run) read cart script rows e on off f g =
     let found : run_row rows ≡ run_given run = cc in
@@ -53,10 +53,12 @@ pub returns-in_err-matches-clause-refused : goal.returns-in_err-matches-clause-r
 returns-in_err-matches-clause-refused c =
     let name = c.as_str.result.now in
     let words = map string_bytes c.args.words.now in
-    let flagged = c.in_ok-arg.ensures.shape c.trace.ensures.local ∙ ap₂ with_rule c.bare.ensures c.trace.ensures.rule in
-    let first = c.in_ok-arg-2.ensures.shape c.wanted.ensures.local ∙ ap₂ with_rule flagged c.wanted.ensures.rule in
+    let flagged =
+    c.in_ok-arg.ensures.shape c.trace.ensures.local ∙ ap₂ with_rule c.bare_command.ensures c.trace.ensures.rule in
+    let first =
+    c.in_ok-arg-2.ensures.shape c.wanted_word.ensures.local ∙ ap₂ with_rule flagged c.wanted_word.ensures.rule in
     let app_is : app_of c.in_ok-command.command ≡ play_app name =
-    c.in_ok-command.ensures.shape c.wanted-2.ensures.local ∙ ap₂ with_rule first c.wanted-2.ensures.rule in
+    c.in_ok-command.ensures.shape c.wanted_word-2.ensures.local ∙ ap₂ with_rule first c.wanted_word-2.ensures.rule in
     let kinds = subst (λ a. HasKind (fault_of a words) c.in_err-matches.field-0.0) app_is
     (c.in_err-matches.ensures.kinds (ap is_simple_and_free app_is ∙ play_free name)) in
     passed_up c.from_residual-in_err-matches.result c.in_err-matches.field-0.0
@@ -69,10 +71,12 @@ pub returns-clause-run : goal.returns-clause-run
 returns-clause-run c =
     let name = c.as_str.result.now in
     let words = map string_bytes c.args.words.now in
-    let flagged = c.in_ok-arg.ensures.shape c.trace.ensures.local ∙ ap₂ with_rule c.bare.ensures c.trace.ensures.rule in
-    let first = c.in_ok-arg-2.ensures.shape c.wanted.ensures.local ∙ ap₂ with_rule flagged c.wanted.ensures.rule in
+    let flagged =
+    c.in_ok-arg.ensures.shape c.trace.ensures.local ∙ ap₂ with_rule c.bare_command.ensures c.trace.ensures.rule in
+    let first =
+    c.in_ok-arg-2.ensures.shape c.wanted_word.ensures.local ∙ ap₂ with_rule flagged c.wanted_word.ensures.rule in
     let app_is : app_of c.in_ok-command.command ≡ play_app name =
-    c.in_ok-command.ensures.shape c.wanted-2.ensures.local ∙ ap₂ with_rule first c.wanted-2.ensures.rule in
+    c.in_ok-command.ensures.shape c.wanted_word-2.ensures.local ∙ ap₂ with_rule first c.wanted_word-2.ensures.rule in
     let none =
     ap (λ a. fault_of a words) (sym app_is)
     ∙ c.in_ok-matches.ensures.kinds (ap is_simple_and_free app_is ∙ play_free name) in

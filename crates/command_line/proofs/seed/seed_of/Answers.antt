@@ -17,7 +17,8 @@ no_plus (x ∷ rest) never e = never rest (ap (λ byte. byte ∷ rest) e)
 
 -- digits of a number that fits, and of them ten at most
 seed_is : {E : Type 0} (text : List ℕ) (r : Result ℕ E) → length text ≤ 10
-    → OkIff r ((all_ascii_digits text ≡ true) × (0 < length text) × (digits_value 10 text < 2 ^ 32)) (digits_value 10 text) →
+    → OkIff r ((all_ascii_digits text ≡ true) × (0 < length text) × (digits_value 10 text < 2 ^ 32))
+    (digits_value 10 text) →
     result_ok r ≡ seed_of text
 seed_is text (Ok n) short h =
     let some : nat_le 1 (length text) ≡ true = le-leb 1 (length text) (omega arith) in

@@ -1,3 +1,4 @@
+-- What the store answers, as a work sees it.
 use Rattle.std.proofs.Common.{Err, ap, ◌∙◌}
 use Rattle.loader.proofs.WorkLaws.{ask_failed, ask_long, failed_rose, long_stays, long_said}
 use Rattle.loader.proofs.fetching.fetch.Goals as goal

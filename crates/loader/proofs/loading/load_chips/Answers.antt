@@ -1,3 +1,4 @@
+-- The description is fetched and read, and then the sources of its chips.
 use Rattle.std.proofs.lemmas.Result.{err_from_is_err_and}
 use Rattle.loader.proofs.GamesLoaded.{chips_stop, chips_unread, chips_loaded}
 use Rattle.loader.proofs.loading.load_chips.Goals as goal

@@ -1,3 +1,4 @@
+-- First the chips, and then the script.
 use Rattle.std.proofs.lemmas.Result.{err_from_is_err_and}
 use Rattle.loader.proofs.GamesLoaded.{game_loaded, game_without_chips, game_without_script}
 use Rattle.loader.proofs.loading.load_game.Goals as goal

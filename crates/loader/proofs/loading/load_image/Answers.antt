@@ -1,3 +1,4 @@
+-- The file is fetched, and then read.
 use Rattle.std.proofs.lemmas.Result.{err_from_is_err_and}
 use Rattle.loader.proofs.ScriptsLoaded.{picture_read, picture_stop}
 use Rattle.loader.proofs.loading.load_image.Goals as goal

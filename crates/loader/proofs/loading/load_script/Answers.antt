@@ -1,3 +1,4 @@
+-- The script is fetched, and then read.
 use Rattle.std.proofs.lemmas.Result.{err_from_is_err_and}
 use Rattle.pad_script.specs.Reading.{seen}
 use Rattle.loader.proofs.ScriptsLoaded.{script_read, script_stop, script_order}

@@ -1,3 +1,4 @@
+-- A chip without a source stays, and one with a source gets its image.
 use Rattle.std.proofs.lemmas.Result.{err_from_is_err_and}
 use Rattle.loader.proofs.SourcesFilled.{filled_none, filled_some, filled_stop}
 use Rattle.loader.proofs.sources.fill_at.Goals as goal

@@ -1,3 +1,4 @@
+-- One chip more has its image.
 use Rattle.std.proofs.Common.{◌∙◌, refl, arith}
 use Rattle.std.proofs.lemmas.Result.{err_from_is_err_and}
 use Rattle.loader.proofs.SourcesFilled.{none_wants_first, none_wants_more, none_wants_all, filled_length}

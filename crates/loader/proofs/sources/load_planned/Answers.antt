@@ -1,3 +1,4 @@
+-- All sources have their images, so that the cartridge is there.
 use Rattle.std.proofs.lemmas.Result.{err_from_is_err_and}
 use Rattle.loader.proofs.GamesLoaded.{planned_stops, planned_loaded, cart_is}
 use Rattle.loader.proofs.sources.load_planned.Goals as goal

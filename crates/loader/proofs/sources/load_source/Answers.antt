@@ -1,3 +1,4 @@
+-- The source is fetched, and then read.
 use Rattle.std.proofs.lemmas.Result.{err_from_is_err_and}
 use Rattle.loader.proofs.SourcesFilled.{image_read, image_stop}
 use Rattle.loader.proofs.sources.load_source.Goals as goal

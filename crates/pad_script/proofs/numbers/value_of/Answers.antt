@@ -5,10 +5,16 @@ use Rattle.pad_script.proofs.numbers.value_of.Goals as goal
 
 pub overflow_mul-value : goal.overflow_mul-value
 overflow_mul-value c =
-    omega
-    (arith, small_value c.loop-digit.digit-index c.loop-digit.value (omega (arith, c.loop-digit-test.true, c.requires)) c.loop-digit.invariant.small)
+    omega (
+      arith,
+      small_value c.loop-digit.digit-index c.loop-digit.value
+          (omega (arith, c.loop-digit-test.true, c.requires)) c.loop-digit.invariant.small,
+    )
 
 pub overflow_add-value : goal.overflow_add-value
 overflow_add-value c =
-    omega
-    (arith, small_value c.loop-digit.digit-index c.loop-digit.value (omega (arith, c.loop-digit-test.true, c.requires)) c.loop-digit.invariant.small)
+    omega (
+      arith,
+      small_value c.loop-digit.digit-index c.loop-digit.value
+          (omega (arith, c.loop-digit-test.true, c.requires)) c.loop-digit.invariant.small,
+    )

@@ -1,7 +1,7 @@
 -- A command as clap's definitions see it.
 use Rattle.std.proofs.Common.{◌∙◌, true, ap}
 use Rattle.clap.specs.Simple.{app_of_fields, on_top}
-use Rattle.command_line.proofs.parsers.bare.Goals as goal
+use Rattle.command_line.proofs.parsers.bare_command.Goals as goal
 
 pub returns : goal.returns
 returns c =
