@@ -25,7 +25,7 @@ use Rattle.cartridge.specs.declared.refusal.CartCause.TheVariants.{Range, Bounda
 use Rattle.cartridge.specs.declared.refusal.KeyFault.{KeyFault}
 use Rattle.cartridge.specs.Faults.{◌>>=◌, at_key}
 use Rattle.cartridge.specs.Keys.{value_at, known, chip_keys}
-use Rattle.cartridge.specs.Pages.{lies_within, lie_apart, runs_with, run_at, pages_of}
+use Rattle.cartridge.specs.Pages.{lies_within, lie_apart, run_apart, run_at, pages_of}
 use Rattle.cartridge.specs.Values.{required_value, optional, value_needed, usually, value_of_type, text, within, number_in, multiple_of}
 use Rattle.cartridge.specs.Values.{multiple_in, kind_in, filled, fitting, rom_in, is_file_name, source_named, source_in}
 use Rattle.cartridge.specs.Rooms.{room_size, psu_room, run_room}
@@ -185,9 +185,9 @@ pub record IsRun (s : PageSort) (run : PageRun) : Type 0 where
   pub sorted : run.sort ≡ s
   pub inside : run.first + run.count ≤ 256
 
-runs_with-ok : (earlier : List PageRun) (s : PageSort) (first count : ℕ) (run : PageRun)
-    → runs_with earlier (record { sort = s; first = first; count = count }) ≡ Ok run → IsRun s run
-runs_with-ok earlier s first count run h =
+run_apart-ok : (earlier : List PageRun) (s : PageSort) (first count : ℕ) (run : PageRun)
+    → run_apart earlier (record { sort = s; first = first; count = count }) ≡ Ok run → IsRun s run
+run_apart-ok earlier s first count run h =
     let asked : PageRun = record { sort = s; first = first; count = count } in
     let (t, e) = if-ok (lies_within asked && list_all (lie_apart asked) earlier) asked run Boundary h in
     let both = and_parts (lies_within asked) (list_all (lie_apart asked) earlier) t in
@@ -198,8 +198,8 @@ pub run_at-ok : (s : PageSort) (first_key count_key : Key) (earlier : List PageR
 run_at-ok s first_key count_key earlier table run h =
     bind-ok (IsRun s run) (usually first_key 0 (number_in 0 255) table) _ run h (λ first at_first h.
     bind-ok (IsRun s run) (usually count_key 0 (number_in 0 256) table) _ run h (λ count at_count h.
-    runs_with-ok earlier s first count run
-    (at_key-ok count_key (runs_with earlier (record { sort = s; first = first; count = count })) run h)))
+    run_apart-ok earlier s first count run
+    (at_key-ok count_key (run_apart earlier (record { sort = s; first = first; count = count })) run h)))
 
 smi-whole : (rom ram void : PageRun) (wired : Bool) (bytes : List ℕ) (source : Option (List ℕ)) → IsRun sort.Rom rom → IsRun sort.Ram ram
     → IsRun sort.Void void → length bytes ≡ 256 * rom.count → ((name : List ℕ) → source ≡ Some name → 1 ≤ 256 * rom.count)

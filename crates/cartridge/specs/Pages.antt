@@ -25,15 +25,15 @@ lies_before run other = nat_le (run.first + run.count) other.first
 abbrev pub lie_apart : PageRun → PageRun → Bool
 lie_apart run other = (run.count == 0) || (other.count == 0) || lies_before run other || lies_before other run
 
-abbrev pub runs_with : List PageRun → PageRun → Result PageRun CartCause
-runs_with earlier run = if lies_within run && list_all (lie_apart run) earlier then Ok run else Err Boundary
+abbrev pub run_apart : List PageRun → PageRun → Result PageRun CartCause
+run_apart earlier run = if lies_within run && list_all (lie_apart run) earlier then Ok run else Err Boundary
 
 -- a run by the keys of its first page and of its number of pages, at which a run that doesn't fit is told
 abbrev pub run_at : PageSort → Key → Key → List PageRun → Members → Result PageRun KeyFault
 run_at sort first_key count_key earlier table =
     usually first_key 0 (number_in 0 255) table >>= λ first.
     usually count_key 0 (number_in 0 256) table >>= λ count.
-    at_key count_key (runs_with earlier (record { sort = sort; first = first; count = count }))
+    at_key count_key (run_apart earlier (record { sort = sort; first = first; count = count }))
 
 -- the page with a number is one of the run's
 abbrev pub has_page : ℕ → PageRun → Bool

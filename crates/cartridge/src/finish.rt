@@ -43,7 +43,7 @@ pub fn finished_specs(
     ensures { let chips = seen_chips specs.items sources.items in
         MatchResult result
         (λ specs. (position wants_image chips ≡ None) × (specs.items ≡ map specification_of chips))
-        (λ without_image. position wants_image chips ≡ Some without_image.chip) }
+        (λ unfilled. position wants_image chips ≡ Some unfilled.chip) }
 {
     for index in 0..specs.len() {
         if let Some(rom) = sources[index].take() {

@@ -2,7 +2,7 @@
 ghost use Rattle.std.specs.Prelude.{◌≡◌, ◌+◌, ◌≤◌, IfOk};
 ghost use Rattle.std.specs.List.{list_all};
 ghost use Rattle.toml.specs.View.{table_view};
-ghost use Rattle.cartridge.specs.Pages.{lies_within as within, lies_before as before, lie_apart as apart, runs_with as placed_after, run_at as run_told, has_page as includes, page_at as found_at, pages_of as all_pages};
+ghost use Rattle.cartridge.specs.Pages.{lies_within as within, lies_before as before, lie_apart as apart, run_apart as placed_after, run_at as run_told, has_page as includes, page_at as found_at, pages_of as all_pages};
 ghost use Rattle.cartridge.specs.Rooms.{run_room};
 
 use super::keys::Key;
@@ -51,7 +51,7 @@ impl PageRun {
     }
 
     /// The run, where it lies within the pages that there are, and apart from the earlier runs.
-    fn runs_with(self, earlier: &[PageRun]) -> Result<PageRun, CartCause>
+    fn run_apart(self, earlier: &[PageRun]) -> Result<PageRun, CartCause>
         ensures { result ≡ placed_after earlier.now self }
     {
         if self.lies_within() && self.lies_apart_from_all(earlier) {
@@ -95,7 +95,7 @@ pub fn run_at(
     let first = number_at(table, first_key, 255)? as u8;
     let count = number_at(table, count_key, 256)?;
     let run = PageRun { sort, first, count };
-    run.runs_with(earlier).map_err(|cause| KeyFault {
+    run.run_apart(earlier).map_err(|cause| KeyFault {
         key: count_key,
         cause,
     })

@@ -200,7 +200,7 @@ fn the_lowest_unfilled_chip_is_told(rt: HostRuntime) -> Result<(), Fail> {
         put(rt.alloc(), &mut plan, filled, "")?;
         match plan.cart() {
             Ok(_) => assert!(rt; false),
-            Err(without_image) => {
+            Err(unfilled) => {
                 let told = format!(in rt.alloc(); "{unfilled}")?;
                 assert_eq!(rt; told.as_str(), want);
             }

@@ -1,10 +1,13 @@
 -- What a command answers, from what its files came to.
-use Rattle.std.proofs.Common.{◌≡◌, ℕ, Bool, List, Option, Some, None, Ok, Err, refl}
+use Rattle.std.proofs.Common.{◌≡◌, ℕ, Bool, true, false, ◌⊎◌, inl, inr, List, [], ◌∷◌, Option, Some, None, Ok, Err}
+use Rattle.std.proofs.Common.{refl}
+use Rattle.std.specs.Prelude.{◌||◌, if◌then◌else◌, IsTrue, bytes_eq, codes, option_map, option_and_then}
 use Rattle.f8_spec.specs.ChipState.{ChipState}
 use Rattle.outside.specs.SinkRules.{Output}
 use Rattle.outside.specs.StoreRules.{Input}
 use Rattle.outside.proofs.SinkLaws.{adds_none}
-use Rattle.command_line.specs.CommandLine.{Command, Play, Ref, Asm, Dis, Gen}
+use Rattle.command_line.specs.CommandLine.{Command, Play, Ref, Asm, Dis, Gen, command_of, has_command, played}
+use Rattle.command_line.specs.CommandLine.{one_of, two_of, run_of, seed_of}
 use Rattle.loader.specs.declared.refusals.Stop.{Stop}
 use Rattle.loader.specs.declared.refusals.Stop.TheVariants.{Memory}
 use Rattle.loader.specs.Games.{Game, game_of, image_by, bytes_by}
@@ -15,7 +18,7 @@ use Rattle.channel_f.specs.Answers.{Answer, generated_game, gen_answer, play_ans
 use Rattle.channel_f.specs.Answers.{words_answer}
 use Rattle.channel_f.specs.Commands.{Around, around, Told, Tells, TellsGame, TellsGenerated, Says}
 use Rattle.channel_f.specs.RackAfter.{PlaysGame, RackAfter}
-use Rattle.channel_f.specs.Reports.{Answers, Stops}
+use Rattle.channel_f.specs.Reports.{Answers, Reports, Stops}
 use Rattle.channel_f.specs.declared.manner.Manner.TheVariants.{Whole, Summary}
 use Rattle.channel_f.proofs.Games.{answers_wanting, game_wanting}
 
@@ -101,3 +104,36 @@ module _ (now : Around) where
     asks = refl;
   }
   says_wanting None = record { answers = answers_wanting now.output words_answer; asks = refl; same = refl }
+
+-- ---- words without a command
+
+named_by : (a b c d e : Bool) (play ref asm dis gen : Option Command) (command : Command) →
+    Some command
+    ≡ (if a then play else (if b then ref else (if c then asm else (if d then dis else (if e then gen else None))))) →
+    IsTrue (a || b || c || d || e)
+named_by true b c d e play ref asm dis gen command is = refl
+named_by false true c d e play ref asm dis gen command is = refl
+named_by false false true d e play ref asm dis gen command is = refl
+named_by false false false true e play ref asm dis gen command is = refl
+named_by false false false false true play ref asm dis gen command is = refl
+named_by false false false false false play ref asm dis gen command is = cc is
+
+-- what asks for something begins with the word of a command
+pub command_named : (words : List (List ℕ)) (command : Command) → Some command ≡ command_of words →
+    IsTrue (has_command words)
+command_named [] command is = cc is
+command_named (name ∷ rest) command is =
+    named_by (bytes_eq name (codes "play")) (bytes_eq name (codes "ref")) (bytes_eq name (codes "asm"))
+    (bytes_eq name (codes "dis")) (bytes_eq name (codes "gen")) (option_map played (run_of rest))
+    (option_map (λ files. Ref files.0 files.1) (two_of rest)) (option_map Asm (one_of rest))
+    (option_map Dis (one_of rest))
+    (option_map Gen (option_and_then seed_of (one_of rest))) command is
+
+-- other words are refused, and take no memory
+pub words_not_memory : {P : Type 0} (a b : Output) (said : ℕ) (lines : List (List ℕ)) → Reports a b said 1 lines →
+    said ≡ 6 → P
+words_not_memory {P = P} a b said lines reports six = by_status reports.which
+  where
+    by_status : (said ≡ 1) ⊎ (said ≡ 5) → P
+    by_status (inl one) = cc
+    by_status (inr five) = cc

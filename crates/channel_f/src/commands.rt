@@ -86,7 +86,8 @@ pub fn answer_asm<S: Store, K: Sink>(
 #[tactic(auto, using(crate::proofs::Games::answers_of, crate::proofs::Games::answers_wanting))]
 fn list_bytes<K: Sink>(alloc: Global, bytes: &[u8], sink: &mut K) -> Status
     requires { length bytes.now ≤ 65536 }
-    ensures { Answers (K.output sink.old) (K.output sink.new) (exit_code result) (dis_answer bytes.now) }
+    ensures { Answers (K.output sink.old) (K.output sink.new) (exit_code result)
+        (dis_answer bytes.now) }
 {
     match disassemble(alloc, bytes) {
         Ok(text) => put_text(sink, &text),
@@ -133,7 +134,8 @@ pub fn answer_gen<K: Sink>(alloc: Global, seed: u32, sink: &mut K, rack: &mut Ra
     ensures answers { Answers (K.output sink.old) (K.output sink.new) (exit_code result)
         (gen_answer (map state rack.old.items) seed) }
     ensures rack { PlaysGame (K.output sink.old) (K.output sink.new) (exit_code result)
-        (Manner.Summary seed) (generated_game seed) (map state rack.old.items) (map state rack.new.items) }
+        (Manner.Summary seed) (generated_game seed)
+        (map state rack.old.items) (map state rack.new.items) }
 {
     match generate(alloc, seed) {
         Ok(game) => play_game(alloc, &game, Manner::Summary { seed }, sink, rack),

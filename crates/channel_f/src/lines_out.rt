@@ -21,7 +21,8 @@ use report::{Line, VerdictWord};
 /// Each line is one put.
 fn put_all<K: Sink>(sink: &mut K, lines: &[Line]) -> Result<(), SinkFault>
     ensures ok { OnOk result (Adds (K.output sink.old) (K.output sink.new) (text_of lines.now)) }
-    ensures err { OnErr result (AddsPart (K.output sink.old) (K.output sink.new) (text_of lines.now)) }
+    ensures err { OnErr result (AddsPart (K.output sink.old) (K.output sink.new)
+        (text_of lines.now)) }
 {
     for line in lines {
         sink.put(line.as_bytes())?;

@@ -51,9 +51,12 @@ fn play_fitted<K: Sink>(
     requires ports { LeaveOwnPorts (map seat_of (views (map state rack.old.items))) }
     requires limits { HasLimits game.now.script.end }
     ensures reports { Reports (K.output sink.old) (K.output sink.new) (exit_code result)
-        (status_of (run_fitted manner (seen_game game.now) chain (map state rack.old.items)).ending.stop)
-        (lines_by manner (run_fitted manner (seen_game game.now) chain (map state rack.old.items))) }
-    ensures rack { OnFitted (K.output sink.old) (K.output sink.new) (exit_code result) manner game.now.script.power
+        (status_of
+        (run_fitted manner (seen_game game.now) chain (map state rack.old.items)).ending.stop)
+        (lines_by manner
+        (run_fitted manner (seen_game game.now) chain (map state rack.old.items))) }
+    ensures rack { OnFitted (K.output sink.old) (K.output sink.new) (exit_code result)
+        manner game.now.script.power
         (run_fitted manner (seen_game game.now) chain (map state rack.old.items))
         (map state rack.old.items) (map state rack.new.items) }
 {

@@ -1,6 +1,6 @@
 // The top call of the program.
-ghost use Rattle.std.specs.Prelude.{map, string_bytes};
-ghost use Rattle.command_line.specs.CommandLine.{command_of};
+ghost use Rattle.std.specs.Prelude.{◌≡◌, IsTrue, map, string_bytes};
+ghost use Rattle.command_line.specs.CommandLine.{command_of, has_command};
 ghost use Rattle.channel_f.specs.Answers.{answer_of};
 ghost use Rattle.channel_f.specs.Commands.{around, Says};
 ghost use Rattle.channel_f.specs.Completeness.{IsComplete};
@@ -16,7 +16,7 @@ use f8_spec::Memory;
 use outside::{Sink, Store};
 use std::alloc::Global;
 
-#[tactic(auto, using(crate::proofs::Outcomes::says_play, crate::proofs::Outcomes::says_ref, crate::proofs::Outcomes::says_asm, crate::proofs::Outcomes::says_dis, crate::proofs::Outcomes::says_gen, crate::proofs::Outcomes::says_words, crate::proofs::Outcomes::says_wanting, crate::proofs::Games::answers_of))]
+#[tactic(auto, using(crate::proofs::Outcomes::says_play, crate::proofs::Outcomes::says_ref, crate::proofs::Outcomes::says_asm, crate::proofs::Outcomes::says_dis, crate::proofs::Outcomes::says_gen, crate::proofs::Outcomes::says_words, crate::proofs::Outcomes::says_wanting, crate::proofs::Outcomes::command_named, crate::proofs::Outcomes::words_not_memory, crate::proofs::Games::answers_of))]
 fn answer_words<S: Store, K: Sink>(
     alloc: Global,
     words: &[String],
@@ -24,10 +24,11 @@ fn answer_words<S: Store, K: Sink>(
     sink: &mut K,
     rack: &mut Rack,
 ) -> Status
-    ensures { Says
+    ensures says { Says
         (around (K.output sink.old) (S.input store.old) (map state rack.old.items))
         (around (K.output sink.new) (S.input store.new) (map state rack.new.items))
         (exit_code result) (command_of (map string_bytes words.now)) }
+    ensures memory { exit_code result ≡ 6 → IsTrue (has_command (map string_bytes words.now)) }
 {
     match read_words(alloc, words) {
         Ok(
@@ -72,7 +73,7 @@ fn answer_words<S: Store, K: Sink>(
 /// - 3 where a bus step isn't served,
 /// - 4 where the store failed, as one does that hasn't the file,
 /// - 5 where the sink failed,
-/// - 6 where memory was wanting, and then nothing was written,
+/// - 6 where memory was wanting, and then nothing was written; this comes only where the first word is that of a command,
 /// - 8 at a reserved opcode.
 ///
 /// Where a run of `play` or `gen` began, each chip has heard its bus steps and has taken its key bytes, and nothing else. Where the sink failed at
@@ -93,6 +94,7 @@ pub fn console<S: Store, K: Sink>(
         (around (K.output sink.old) (S.input store.old) (map state rack.old.items))
         (around (K.output sink.new) (S.input store.new) (map state rack.new.items))
         result (answer_of (map state rack.old.items) (command_of (map string_bytes words.now))) }
+    ensures memory { result ≡ 6 → IsTrue (has_command (map string_bytes words.now)) }
 {
     answer_words(alloc, words, store, sink, rack).code()
 }

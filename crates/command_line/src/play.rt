@@ -14,7 +14,8 @@ use std::alloc::Global;
 /// stands twice, or a word is neither.
 pub fn play<'a>(alloc: Global, words: &'a [String]) -> Result<Option<Command<'a>>, Error>
     ensures run { IfOk result (λ run.
-        option_map seen_command run ≡ option_map played (run_of (drop 1 (map string_bytes words.now)))) }
+        option_map seen_command run ≡ option_map played
+        (run_of (drop 1 (map string_bytes words.now)))) }
     ensures refused { IfErr result (λ error.
         (kind_of error ≡ ErrorKind.OutOfMemory)
         ⊎ (run_of (drop 1 (map string_bytes words.now)) ≡ None)) }

@@ -28,6 +28,10 @@ use Rattle.f8_machine.specs.PortWrites.{chip_write}
 use Rattle.f8_machine.specs.Refinement.{AreAddresses}
 use Rattle.f8_machine.specs.Rounds.{heard_of}
 use Rattle.f8_machine.proofs.Bounds.{GetsBytes, AreAt, branch_small, displaced_small, word_small}
+use Rattle.std.proofs.lemmas.List.{map-append}
+use Rattle.f8_spec.specs.BusCodes.{Count}
+use Rattle.console_spec.proofs.Walks.{moved_along}
+use Rattle.f8_machine.proofs.Places.{last_along, named_place, places_along, places_along-append}
 use Rattle.f8_machine.proofs.PortValues.{FromPort, PortValues, bus_port, no_port_values, writes_along, writes_stay}
 use Rattle.f8_machine.proofs.StepTests.{by_taken, is_portless, is_plain}
 use Rattle.f8_machine.proofs.Values.{FromFlat, Values, Values-append, memory_along, memory_along-append}
@@ -60,6 +64,29 @@ memory_before Branch false seats i c last memory = refl
 memory_before BranchIsar true seats i c last memory = refl
 memory_before BranchIsar false seats i c last memory = refl
 memory_before row taken seats i c last memory = refl
+
+-- before the last fetch the places of the steps are those of the accesses
+branch_places : (i : Inputs) (taken second : Bool) (c : Flow) (last : ℕ) → i.taken ≡ taken →
+    places_along second i (steps_before_fetch Branch i.taken) (fetched c) last
+    ≡ map (named_place second c) (accesses_before_fetch Branch i)
+branch_places i true second c last e = rw e refl
+branch_places i false second c last e = rw e refl
+
+branch_isar_places : (i : Inputs) (taken second : Bool) (c : Flow) (last : ℕ) → i.taken ≡ taken →
+    places_along second i (steps_before_fetch BranchIsar i.taken) (fetched c) last
+    ≡ map (named_place second c) (accesses_before_fetch BranchIsar i)
+branch_isar_places i true second c last e = rw e refl
+branch_isar_places i false second c last e = rw e refl
+
+places_before : (row : Row) (i : Inputs) (second : Bool) (c : Flow) (last : ℕ) →
+    places_along second i (steps_before_fetch row i.taken) (fetched c) last
+    ≡ map (named_place second c) (accesses_before_fetch row i)
+places_before Call i second c last = rw places_on-places_on
+places_before Jump i second c last = rw places_on-places_on
+places_before LoadData i second c last = rw places_on-places_on
+places_before Branch i second c last = branch_places i i.taken second c last refl
+places_before BranchIsar i second c last = branch_isar_places i i.taken second c last refl
+places_before row i second c last = refl
 
 -- ---- what differs by row
 
@@ -335,3 +362,17 @@ pub places_small : (row : Row) (i : Inputs) (c : Flow) → GetsBytes i → AreAd
     AreAt c (accesses_before_fetch row i ++ last_access row i ∷ [])
 places_small row i c b s =
     (row_facts row).places i c (last_access row i ∷ []) s (λ read. ((row_facts row).flow i true c b s).p, tt)
+
+-- the places of the accesses
+pub places_follow : (row : Row) (i : Inputs) → HasBytes i → (second : Bool) (c : Flow) (last : ℕ) →
+    places_along second i (steps_of row i.taken) (fetched c) last
+    ≡ map (named_place second c) (accesses_before_fetch row i ++ last_access row i ∷ [])
+places_follow row i b second c last =
+    places_along-append second i (steps_before_fetch row i.taken) (last_fetch row ∷ []) (fetched c) last
+    ∙ ap (λ places. places ++ places_along second i (last_fetch row ∷ [])
+    (moved_along second i (steps_before_fetch row i.taken) (fetched c))
+    (last_along i (steps_before_fetch row i.taken) last)) (places_before row i second c last)
+    ∙ ap (λ (d : Count). map (named_place second c) (accesses_before_fetch row i)
+    ++ places_along second i (last_fetch row ∷ []) d (last_along i (steps_before_fetch row i.taken) last))
+    (rests row i b second c)
+    ∙ sym (map-append (named_place second c) (accesses_before_fetch row i) (last_access row i ∷ []))

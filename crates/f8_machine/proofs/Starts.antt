@@ -21,12 +21,12 @@ use Rattle.probe.specs.ProbeState.{ProbeState}
 use Rattle.data_bus.specs.Racks.{views}
 use Rattle.f8_machine.specs.RackViews.{HoldsFlat, HoldsPorts, AreCopies}
 use Rattle.f8_machine.proofs.PortValues.{bus_port, from_port}
-use Rattle.f8_machine.proofs.Places.{places_follow, named_place}
+use Rattle.f8_machine.proofs.Places.{named_place}
 use Rattle.f8_machine.proofs.Values.{Values, memory_along, memory_after-with_opcode, from_flat}
 use Rattle.f8_machine.specs.Refinement.{AreAddresses, RackStands}
 use Rattle.f8_machine.proofs.Bounds.{GetsBytes}
 use Rattle.f8_machine.proofs.Along.{Aim, Along}
-use Rattle.f8_machine.proofs.Rows.{row_facts, memory_goes, values_of, places_small}
+use Rattle.f8_machine.proofs.Rows.{row_facts, memory_goes, places_follow, places_small, values_of}
 
 -- ---- an instruction
 

@@ -15,8 +15,7 @@ mod reset;
 mod wrote;
 
 pub use chain::Chain;
-pub use console_board::PortWrite;
-pub use console_spec::{Regs, Who};
+pub use console_spec::{PortWrite, Regs, Who};
 pub use data_bus::{BusFault, Rack};
 pub use heard::Heard;
 pub use machine::Machine;

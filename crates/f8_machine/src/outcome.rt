@@ -2,7 +2,7 @@
 ghost use Rattle.std.specs.Prelude.{◌≡◌};
 
 use super::Record;
-use console_board::PortWrite;
+use console_spec::PortWrite;
 use data_bus::BusFault;
 
 /// What becomes of an instruction or of reset, with the bus steps that were served.

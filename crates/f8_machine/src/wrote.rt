@@ -4,7 +4,7 @@ ghost use Rattle.f8_spec.specs.Instructions.{decoded};
 ghost use Rattle.f8_machine.specs.PortWrites.{chip_write, done_write};
 
 use super::heard::Heard;
-use console_board::PortWrite;
+use console_spec::PortWrite;
 use f8_ops::{OWN_PORTS, Op, decode};
 use romc_table::Romc;
 

@@ -3,7 +3,9 @@ use Rattle.std.proofs.Common.{◌≡◌, ◌&&◌, ℕ, ◌+◌, ◌-◌, ◌*�
 use Rattle.std.specs.Prelude.{nat_le, if◌then◌else◌}
 use Rattle.std.proofs.lemmas.Bool.{cases_eq, cases_lt}
 use Rattle.std.proofs.lemmas.Bool.Decides.{nat_tests}
-use Rattle.f8_spec.specs.ShiftTimer.{TimerState, shifted_timer, expires_next, steps_to_expiry, step_period, phase_after, idle_timer, timer_loaded, timer_after, is_step_full, expires_within, clocks_to_expiry, next_in_cycle, ExpiresAsLoaded, KeepsExpiries, TellsNextExpiry}
+use Rattle.f8_spec.specs.ShiftTimer.{TimerState, shifted_timer, expires_next, steps_to_expiry, step_period, phase_after}
+use Rattle.f8_spec.specs.ShiftTimer.{idle_timer, timer_loaded, timer_after, is_step_full, expires_within}
+use Rattle.f8_spec.specs.ShiftTimer.{clocks_to_expiry, next_in_cycle, ExpiresAsLoaded, KeepsExpiries, TellsNextExpiry}
 use Rattle.f8_spec.proofs.TimerCycle.{shifted-below, steps-within_cycle, steps-shifted, steps-last, steps-first}
 use Rattle.f8_spec.proofs.TimerPeriod.{next-stays, next-goes}
 

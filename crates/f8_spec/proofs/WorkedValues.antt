@@ -4,7 +4,8 @@ use Rattle.std.specs.Prelude.{None, Some}
 use Rattle.f8_spec.specs.Words.{decimal_value, wrapped, displaced, with_high, with_low}
 use Rattle.f8_spec.specs.Flags.{clear_status, status_byte, after_sum}
 use Rattle.f8_spec.specs.Instructions.{decoded, clocks_of}
-use Rattle.f8_spec.specs.ShiftTimer.{shifted_timer, steps_to_expiry, idle_timer, timer_loaded, timer_after, expires_within, clocks_to_expiry, next_expiry, expires_between}
+use Rattle.f8_spec.specs.ShiftTimer.{shifted_timer, steps_to_expiry, idle_timer, timer_loaded, timer_after}
+use Rattle.f8_spec.specs.ShiftTimer.{expires_within, clocks_to_expiry, next_expiry, expires_between}
 use Rattle.f8_spec.specs.declared.instructions.Op.TheVariants.{Lis, Bf, Ds, Ins, Pi}
 
 -- a branch at 0001 by -3 leads below 0, and wraps

@@ -28,7 +28,8 @@ fn load_source<S: Store>(
     name: &str,
     room: Room,
 ) -> Result<Image, Stop>
-    ensures works { Works (S.input store.old) (S.input store.new) (image_for chip name.now room) result }
+    ensures works { Works (S.input store.old) (S.input store.new)
+        (image_for chip name.now room) result }
     ensures order { RefusesFrom (chip + 1) result }
     ensures inside { IfOk result (λ image. LiesIn room image.bytes) }
 {
@@ -41,7 +42,8 @@ fn load_source<S: Store>(
 fn fill_at<S: Store>(alloc: Global, store: &mut S, mut plan: Plan, chip: u8) -> Result<Plan, Stop>
     ensures works { Works (S.input store.old) (S.input store.new) (filled_at chip plan) result }
     ensures order { RefusesFrom (chip + 1) result }
-    ensures filled { IfOk result (λ filled. (bytes : List (ℕ × ℕ)) × (filled ≡ filled_plan plan chip bytes)) }
+    ensures filled { IfOk result (λ filled. (bytes : List (ℕ × ℕ))
+        × (filled ≡ filled_plan plan chip bytes)) }
 {
     let Some(name) = plan.source(chip) else {
         return Ok(plan);
@@ -57,7 +59,8 @@ fn fill_at<S: Store>(alloc: Global, store: &mut S, mut plan: Plan, chip: u8) -> 
 /// Puts the image of its source into each chip that has one, the first chip first.
 fn fill_sources<S: Store>(alloc: Global, store: &mut S, mut plan: Plan) -> Result<Plan, Stop>
     requires { length plan.chips ≤ MOST_CHIPS }
-    ensures works { Works (S.input store.old) (S.input store.new) (filled_up_to MOST_CHIPS plan) result }
+    ensures works { Works (S.input store.old) (S.input store.new)
+        (filled_up_to MOST_CHIPS plan) result }
     ensures filled { IfOk result (λ filled. position wants_image filled.chips ≡ None) }
 {
     for chip in 0..MOST_CHIPS as u8 {

@@ -7,17 +7,17 @@ use Rattle.std.proofs.KnownBytes.{Appends-nil, Appends-trans, Appends-kept}
 use Rattle.outside.specs.Writing.{AppendsPart}
 
 -- What was taken so far is a first part of all, and the rest is left.
-pub record Written (old new : Option (List ℕ)) (all rest : List ℕ) : Type 0 where
+pub record WrittenSoFar (old new : Option (List ℕ)) (all rest : List ℕ) : Type 0 where
   pub first : List ℕ
   pub whole : all ≡ first ++ rest
   pub appended : Appends old new first
 
-pub written_none : (told : Option (List ℕ)) (all : List ℕ) → Written told told all all
+pub written_none : (told : Option (List ℕ)) (all : List ℕ) → WrittenSoFar told told all all
 written_none told all = record { first = []; whole = refl; appended = Appends-nil told }
 
 -- a write took the first n bytes of what was left
-pub written_more : (a b c : Option (List ℕ)) (all rest : List ℕ) (n : ℕ) → Written a b all rest →
-    Appends b c (take n rest) → Written a c all (drop n rest)
+pub written_more : (a b c : Option (List ℕ)) (all rest : List ℕ) (n : ℕ) → WrittenSoFar a b all rest →
+    Appends b c (take n rest) → WrittenSoFar a c all (drop n rest)
 written_more a b c all rest n written appended = record {
   first = written.first ++ take n rest;
   whole =
@@ -27,11 +27,11 @@ written_more a b c all rest n written appended = record {
   appended = Appends-trans a b c written.first (take n rest) written.appended appended;
 }
 
-pub written_all : (a b : Option (List ℕ)) (all : List ℕ) → Written a b all [] → Appends a b all
+pub written_all : (a b : Option (List ℕ)) (all : List ℕ) → WrittenSoFar a b all [] → Appends a b all
 written_all a b all written =
     subst (Appends a b) (sym (written.whole ∙ append-nil written.first)) written.appended
 
-pub written_part : (a b c : Option (List ℕ)) (all rest : List ℕ) → Written a b all rest → Keeps b c →
+pub written_part : (a b c : Option (List ℕ)) (all rest : List ℕ) → WrittenSoFar a b all rest → Keeps b c →
     AppendsPart a c all
 written_part a b c all rest written kept = record {
   part = written.first;

@@ -234,12 +234,14 @@ module _ (l : List ℕ) (ls : List (List ℕ)) (number : ℕ) (rest : Rest ls (n
       here l ls number rest c (Some other) end ats frames fits _ Twice is (omega (arith, fits.powers), refl)
   found_line (Ok (Some (Power byte))) is None end ats frames fits =
       found_before c (Some (Power byte)) l is number ls _
-      (rest (after c (Some (Power byte))) (Some byte) end ats frames (record { powers = omega (arith, fits.powers); ends = fits.ends; counted = fits.counted; few = fits.few }))
+      (rest (after c (Some (Power byte))) (Some byte) end ats frames
+      (record { powers = omega (arith, fits.powers); ends = fits.ends; counted = fits.counted; few = fits.few }))
   found_line (Ok (Some (Ends said))) is power (Some other) ats frames fits =
       here l ls number rest c power (Some other) ats frames fits _ Twice is (omega (arith, fits.ends), refl)
   found_line (Ok (Some (Ends said))) is power None ats frames fits =
       found_before c (Some (Ends said)) l is number ls _
-      (rest (after c (Some (Ends said))) power (Some said) ats frames (record { powers = fits.powers; ends = omega (arith, fits.ends); counted = fits.counted; few = fits.few }))
+      (rest (after c (Some (Ends said))) power (Some said) ats frames
+      (record { powers = fits.powers; ends = omega (arith, fits.ends); counted = fits.counted; few = fits.few }))
   found_line (Ok (Some (Comes at))) is power end ats frames fits =
       found_comes l ls number rest c power end ats frames fits at _ refl is
   found_line (Ok (Some (Shows frame))) is power end ats frames fits =

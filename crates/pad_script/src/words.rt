@@ -5,7 +5,8 @@ ghost use Rattle.std.specs.List.{list_all};
 
 /// The first word of a text, and what follows the blank behind it.
 pub fn first_word(text: &[u8]) -> (&[u8], Option<&[u8]>)
-    ensures { words text.now ≡ result.0.now ∷ unwrap_or (option_map (λ rest. words rest.now) result.1) [] }
+    ensures { words text.now ≡ result.0.now ∷
+        unwrap_or (option_map (λ rest. words rest.now) result.1) [] }
 {
     for (at, byte) in text.iter().enumerate() {
         if *byte == b' ' {

@@ -6,4 +6,4 @@ use Rattle.channel_f.proofs.top.console.Goals as goal
 
 pub returns-clause-complete : goal.returns-clause-complete
 returns-clause-complete g c =
-    rw c.code.ensures (completed _ _ _ (command_of (map string_bytes c.args.words.now)) c.answer_words.ensures)
+    rw c.code.ensures (completed _ _ _ (command_of (map string_bytes c.args.words.now)) c.answer_words.ensures.says)

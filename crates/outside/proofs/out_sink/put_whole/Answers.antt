@@ -1,3 +1,4 @@
+-- What a write took is behind what was taken before it.
 use Rattle.outside.proofs.Writing.{written_more}
 use Rattle.outside.proofs.out_sink.put_whole.Goals as goal
 
