@@ -1,3 +1,4 @@
+-- The table holds the place of each state.
 use Rattle.f8_timer.proofs.Tables.{place-in_table}
 use Rattle.f8_timer.proofs.cycle.place_of_state.Goals as goal
 

@@ -1,3 +1,4 @@
+-- The table holds the state at each place.
 use Rattle.f8_timer.proofs.Tables.{state-in_table}
 use Rattle.f8_timer.proofs.cycle.state_at_place.Goals as goal
 

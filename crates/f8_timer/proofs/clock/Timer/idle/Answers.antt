@@ -1,3 +1,4 @@
+-- FF at power-on, and no expiry from any time on.
 use Rattle.std.proofs.Common.{refl}
 use Rattle.f8_spec.proofs.TimerExpiry.{expires-idle}
 use Rattle.f8_timer.specs.CyclePlace.{state_at}

@@ -1,3 +1,4 @@
+-- The state at the place of a byte is that byte.
 use Rattle.std.proofs.Common.{refl}
 use Rattle.f8_spec.proofs.TimerExpiry.{expires-loaded}
 use Rattle.f8_timer.proofs.Tables.{state_back}

@@ -1,5 +1,5 @@
-use Rattle.f8_timer.proofs.Tables.{placed}
-use Rattle.f8_timer.proofs.Passing.{keeps-full}
+-- Clocks with a step in them keep the expiries.
+use Rattle.f8_timer.proofs.AtPlaces.{placed, keeps-full}
 use Rattle.f8_timer.proofs.clock.Timer.pass.Goals as goal
 
 pub returns-clause-expiries : goal.returns-clause-expiries

@@ -1,6 +1,7 @@
+-- A count down is a step of the state.
 use Rattle.std.proofs.Common.{arith}
 use Rattle.std.proofs.lemmas.Bool.Decides.{nat_tests}
-use Rattle.f8_timer.proofs.Tables.{stepped-none, stepped-last, stepped-other, expires-at}
+use Rattle.f8_timer.proofs.AtPlaces.{stepped-none, stepped-last, stepped-other, expires-at}
 use Rattle.f8_timer.proofs.clock.Timer.step.Goals as goal
 
 pub returns-in-0-clause-state : goal.returns-in-0-clause-state

@@ -1,6 +1,7 @@
+-- The steps to the expiry, in clocks.
 use Rattle.std.proofs.Common.{sym, ◌∙◌}
 use Rattle.f8_spec.proofs.TimerExpiry.{tells-next_expiry}
-use Rattle.f8_timer.proofs.Tables.{clocks-none, clocks-some}
+use Rattle.f8_timer.proofs.AtPlaces.{clocks-none, clocks-some}
 use Rattle.f8_timer.proofs.clock.Timer.until.Goals as goal
 
 pub returns-then-self-eq0-clause-value : goal.returns-then-self-eq0-clause-value
