@@ -1,0 +1,20 @@
+-- The steps to the expiry, in clocks.
+use Rattle.std.proofs.Common.{sym, ◌∙◌}
+use Rattle.f8_spec.proofs.TimerExpiry.{tells-next_expiry}
+use Rattle.f8_timer.proofs.AtPlaces.{clocks-none, clocks-some}
+use Rattle.f8_timer.proofs.clock.Timer.until.Goals as goal
+
+pub returns-then-self-eq0-clause-value : goal.returns-then-self-eq0-clause-value
+returns-then-self-eq0-clause-value c = rw (← c.self.view_is) (sym (clocks-none c.self.inside.place c.self.inside.phase c.if-self-eq0.true))
+
+pub returns-then-self-eq0-clause-expiry : goal.returns-then-self-eq0-clause-expiry
+returns-then-self-eq0-clause-expiry c = λ byte loaded time as_loaded.
+    returns-then-self-eq0-clause-value c ∙ tells-next_expiry c.args.self.now byte loaded time as_loaded
+
+pub returns-clause-value : goal.returns-clause-value
+returns-clause-value c = rw (← c.self.view_is, c.from.ensures, c.from-2.ensures, c.from-3.ensures)
+    (sym (clocks-some c.self.inside.place c.self.inside.phase c.self.invariant.0 c.if-self-eq0.false))
+
+pub returns-clause-expiry : goal.returns-clause-expiry
+returns-clause-expiry c = λ byte loaded time as_loaded.
+    returns-clause-value c ∙ tells-next_expiry c.args.self.now byte loaded time as_loaded
