@@ -1,5 +1,6 @@
 // Worked instructions, step by step.
 use super::*;
+use romc_table::Driver;
 use std::process::Abort;
 use std::test::Fail;
 
