@@ -2,7 +2,8 @@
 use Rattle.std.proofs.Common.{◌≡◌, ◌==◌, ◌&&◌, ◌+◌, ◌-◌, ◌*◌, ◌<◌, ◌≤◌, ℕ, Bool, true, not, refl, ap, arith}
 use Rattle.std.specs.Prelude.{if◌then◌else◌, Some, None}
 use Rattle.std.proofs.lemmas.Bool.Decides.{nat_tests}
-use Rattle.f8_spec.specs.ShiftTimer.{TimerState, shifted_timer, expires_next, steps_to_expiry, step_period, timer_after, expires_within, clocks_to_expiry, KeepsExpiries}
+use Rattle.f8_spec.specs.ShiftTimer.{TimerState, shifted_timer, expires_next, steps_to_expiry}
+use Rattle.f8_spec.specs.ShiftTimer.{step_period, timer_after, expires_within, clocks_to_expiry, KeepsExpiries}
 use Rattle.f8_spec.proofs.TimerExpiry.{keeps-expiries}
 use Rattle.f8_spec.proofs.ValuesBelow.{values_below, same_below}
 use Rattle.f8_timer.specs.CyclePlace.{place_of, state_at, placed_back}

@@ -1,3 +1,4 @@
+// The store over the system's files.
 ghost use Rattle.std.specs.Prelude.{◌≡◌, ◌≤◌, ◌<◌, length, IfOk};
 ghost use Rattle.outside.specs.Reading.{PieceRead, AllRead, ReadPast, ReadWithoutRoom, WhereWanting};
 ghost use Rattle.outside.specs.StoreRules.{CountsFault, WhereLong};

@@ -1,3 +1,4 @@
+// The words that the system gives, and the exit status that it takes.
 ghost use Rattle.std.specs.Prelude.{◌≡◌, OnOk, OnErr, IfErr, Err};
 ghost use Rattle.std.specs.Process.{exit_status};
 
