@@ -1,0 +1,7 @@
+pub mod Lattice
+pub mod AbstractState
+pub mod Joins
+pub mod KnownParts
+pub mod StateView
+pub mod PointOrder
+pub mod DomainLaws

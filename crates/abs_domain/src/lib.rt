@@ -1,0 +1,17 @@
+//! Abstract states of the F8: what may be known of registers and counters at an instruction's beginning, in an order by how much is said.
+#![tactic(auto)]
+
+mod laws;
+mod points;
+mod scratchpad;
+mod state;
+mod status;
+mod values;
+
+pub use laws::{join_law, order_law, point_law, rank_law};
+pub use points::Point;
+pub use state::Abs;
+pub use values::{Bit, Digit, Val, Word};
+
+#[cfg(test)]
+mod tests;
