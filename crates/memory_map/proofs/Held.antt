@@ -172,3 +172,10 @@ unfolding chip_page
 whole-chip_page (Blank kind) number q spec found = cc
 whole-chip_page (Psu base rom ports vector wired) number q spec found = whole-page_among (psu_pages base) rom number q spec.bytes found
 whole-chip_page (Smi pages rom wired) number q spec found = whole-page_among pages rom number q spec.bytes found
+
+-- whether the chip that is fitted holds a page
+pub holds_page : (chip : ChipSpec) (number : ℕ) → is_some (place_of (fitted None chip).pages number) ≡ is_some (chip_page number chip)
+unfolding chip_page
+holds_page (Blank kind) number = refl
+holds_page (Psu base rom ports vector wired) number = is_held-page_among (psu_pages base) rom number
+holds_page (Smi pages rom wired) number = is_held-page_among pages rom number

@@ -1,4 +1,5 @@
 pub mod Held
 pub mod Holding
+pub mod Summary
 pub mod Mapping
 pub mod PortCounts

@@ -1,26 +1,32 @@
 -- What the chips that hold a page say of an address in it, and a map that is made page by page.
 use Rattle.std.proofs.Common.{◌≡◌, ℕ, suc, ◌+◌, ◌*◌, ◌/◌, ◌%◌, ◌<◌, List, [], ◌∷◌, ◌++◌, length, map, refl, sym, ap}
-use Rattle.std.proofs.Common.{◌∙◌, arith, length-append, get_or-set_other, get_or-set_same, inl, inr, ◌-◌}
-use Rattle.std.specs.Prelude.{All, filter_map, is_some, if◌then◌else◌, slice_index, slice_index_or, slice_set, Option, Some, None, option_map}
-use Rattle.std.specs.List.{enumerate_from, cons_option}
+use Rattle.std.proofs.Common.{subst, Bool, false, ◌∙◌, arith, length-append, get_or-set_other, get_or-set_same, inl, inr, ◌-◌}
+use Rattle.std.specs.Prelude.{◌↔◌, IsTrue, All, filter_map, is_some, if◌then◌else◌, slice_index, slice_index_or, slice_set, Option, Some, None, option_map}
+use Rattle.std.specs.List.{enumerate_from, cons_option, list_any, list_all}
 use Rattle.std.proofs.lemmas.List.{get_or-replicate, length-replicate, get_or_append_left, get_or-append_right, length-set}
 use Rattle.std.proofs.lemmas.Bool.{cases_lt, cases_eq}
 use Rattle.f8_spec.specs.ChipState.{sort_at, held_byte}
+use Rattle.f8_spec.specs.declared.chips.ChipKind.{ChipKind}
+use Rattle.f8_spec.specs.declared.chips.ChipKind.TheVariants.{Psu, Smi}
 use Rattle.f8_spec.specs.declared.chips.PageSort.{PageSort}
 use Rattle.f8_spec.specs.declared.chips.PageSort.TheVariants.{Rom, Ram, Void}
 use Rattle.console_spec.specs.FlatMemory.{sort_among, only_of, holding, fixed_byte_by}
 use Rattle.console_spec.specs.declared.Sort.TheVariants.{Shared as ManyChips}
-use Rattle.chip_face.specs.Fitting.{IsSpec, rom_size}
+use Rattle.chip_face.specs.Fitting.{IsSpec, fitted, rom_size}
 use Rattle.chip_face.specs.declared.specification.ChipSpec.{ChipSpec}
 use Rattle.memory_map.specs.ChipPages.{PageView, chip_page}
 use Rattle.memory_map.specs.Holders.{OwnedPage, Empty, followed_by, holders_from, holder_of, owned_page}
-use Rattle.memory_map.specs.MapEntries.{entry_of, bytes_by, page_bytes}
+use Rattle.memory_map.specs.MapEntries.{entry_of, bytes_by, page_bytes, is_held, is_shared}
+use Rattle.memory_map.specs.MapKinds.{kind_holds, kind_has_pages, IsCovered, Overlap}
+use Rattle.memory_map.specs.KindTables.{AreKindPages}
 use Rattle.memory_map.specs.MapOf.{MapTable, Tells, IsMapOf, mapped_sort, mapped_owner, mapped_byte, mapped_readers}
+use Rattle.memory_map.specs.MapOf.{kind_pages, mapped_held, mapped_any, mapped_covered, mapped_overlaps, mapped_wired}
 use Rattle.memory_map.specs.MapOf.{mapped_takers, page_sort, sort_by, owner_by, seats_of, views_of}
 use Rattle.memory_map.specs.MapPorts.{AreReaders, AreTakers}
-use Rattle.memory_map.specs.declared.table.Entry.{Entry}
-use Rattle.memory_map.specs.declared.table.Entry.TheVariants.{Nothing}
+use Rattle.memory_map.specs.declared.entry.Entry.{Entry}
+use Rattle.memory_map.specs.declared.entry.Entry.TheVariants.{Nothing}
 use Rattle.memory_map.proofs.Held.{PageTells-from_IsSpec, fitted_byte, whole-chip_page}
+use Rattle.memory_map.proofs.Summary.{SortsBy, covered_by, overlap_by, any-views}
 
 -- ---- all holders of a page
 
@@ -192,26 +198,52 @@ Mapped-more chips pages bytes count specs within before = record {
           rw (page, offset) (get_or-append_right bytes (page_bytes (holder_of count chips)) (count * 256) at 0 before.bytes_size here)
     ]
 
+-- the rest of the map: ports and kinds by the chips, and what holds of all pages by the pages
+pub record Summed (m : MapTable) (chips : List ChipSpec) : Type 0 where
+  pub readers : AreReaders chips m.readers
+  pub takers : AreTakers chips m.takers
+  pub psu : AreKindPages Psu chips m.psu
+  pub smi : AreKindPages Smi chips m.smi
+  pub covered : m.covered ≡ list_all is_held m.pages
+  pub overlaps : m.overlaps ≡ list_any is_shared m.pages
+  pub wired : m.wired ≡ list_any (λ chip. (fitted None chip).wired) chips
+
 -- all pages are mapped
-pub IsMapOf-all : (chips : List ChipSpec) (m : MapTable) → All IsSpec chips → Mapped chips m.pages m.bytes 256 →
-    AreReaders chips m.readers → AreTakers chips m.takers → IsMapOf m chips
-unfolding mapped_sort mapped_owner mapped_byte mapped_readers mapped_takers
-IsMapOf-all chips m specs all readers takers = record {
+pub IsMapOf-all : (chips : List ChipSpec) (m : MapTable) → All IsSpec chips → Mapped chips m.pages m.bytes 256 → Summed m chips → IsMapOf m chips
+unfolding mapped_sort mapped_owner mapped_byte mapped_readers mapped_takers mapped_held mapped_any mapped_covered mapped_overlaps mapped_wired
+IsMapOf-all chips m specs all summed = record {
   tells = tells;
-  ports = λ port below. record { readers = readers.count port below; takers = takers.count port below };
+  ports = λ port below. record { readers = summed.readers.count port below; takers = summed.takers.count port below };
+  all = record {
+    any = any;
+    covered = subst (λ (b : Bool). IsTrue b ↔ IsCovered (seats_of chips)) (sym summed.covered) (covered_by (seats_of chips) m.pages sorted);
+    overlaps = subst (λ (b : Bool). IsTrue b ↔ Overlap (seats_of chips)) (sym summed.overlaps) (overlap_by (seats_of chips) m.pages sorted);
+    wired = summed.wired ∙ any-views (λ v. v.wired) chips;
+  };
 }
   where
+    of_kind : (kind : ChipKind) (at : ℕ) → at < 65536 → slice_index_or (kind_pages kind m).held (at / 256) false ≡ kind_holds kind (seats_of chips) at
+    of_kind Psu at below = summed.psu.held (at / 256) (omega arith)
+    of_kind Smi at below = summed.smi.held (at / 256) (omega arith)
+
+    any : (kind : ChipKind) → (kind_pages kind m).any ≡ kind_has_pages kind (seats_of chips)
+    any Psu = summed.psu.any
+    any Smi = summed.smi.any
+
     tells : (at : ℕ) → at < 65536 → Tells m chips at
     tells at below =
         let entry = all.entries (at / 256) (omega arith) in
         let byte = all.stays at (omega arith) in
         let offset : at % 256 < 256 = omega arith in
         let sorts = sorts_held at 0 chips specs in
-        let held : List OwnedPage = holders_from (at / 256) 0 chips in
         record {
           sort = rw (entry, sorts) (sym (sort_by-entry_of (holders_from (at / 256) 0 chips)));
           owner = rw (entry, owners_held at 0 chips specs) (sym (owner_by-entry_of (holders_from (at / 256) 0 chips)));
           byte =
               rw (entry, byte, sorts, sort_by-entry_of (holders_from (at / 256) 0 chips), bytes_held at 0 chips specs)
               (sym (byte_by-page_bytes (holders_from (at / 256) 0 chips) (at % 256) offset));
+          held = λ kind. of_kind kind at below;
         }
+
+    sorted : SortsBy (seats_of chips) m.pages
+    sorted = record { size = all.pages_size; sort = λ at below. sym (tells at below).sort }

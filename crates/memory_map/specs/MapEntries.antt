@@ -1,10 +1,10 @@
 -- What the map keeps of a page, by the chips that hold it.
-use Rattle.std.specs.Prelude.{ℕ, List, replicate}
+use Rattle.std.specs.Prelude.{ℕ, Bool, true, false, List, replicate}
 use Rattle.f8_spec.specs.declared.chips.PageSort.{PageSort}
 use Rattle.f8_spec.specs.declared.chips.PageSort.TheVariants.{Rom, Ram, Void}
 use Rattle.memory_map.specs.Holders.{OwnedPage, Few, Empty, One, Several}
-use Rattle.memory_map.specs.declared.table.Entry.{Entry}
-use Rattle.memory_map.specs.declared.table.Entry.TheVariants.{Nothing, Held, Shared}
+use Rattle.memory_map.specs.declared.entry.Entry.{Entry}
+use Rattle.memory_map.specs.declared.entry.Entry.TheVariants.{Nothing, Held, Shared}
 
 abbrev pub entry_of : Few OwnedPage → Entry
 entry_of Empty = Nothing
@@ -21,3 +21,15 @@ abbrev pub page_bytes : Few OwnedPage → List ℕ
 page_bytes Empty = replicate 256 255
 page_bytes (One x) = bytes_by x.1.sort x.1.rom
 page_bytes Several = replicate 256 255
+
+-- ---- what an entry says of the holders
+
+abbrev pub is_held : Entry → Bool
+is_held Nothing = false
+is_held (Held sort owner) = true
+is_held Shared = false
+
+abbrev pub is_shared : Entry → Bool
+is_shared Nothing = false
+is_shared (Held sort owner) = false
+is_shared Shared = true

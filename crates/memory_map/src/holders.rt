@@ -1,6 +1,6 @@
 // Which chips hold a page, and its bytes.
+use super::entry::Entry;
 use super::pages::{HeldPage, chip_page};
-use super::table::Entry;
 use chip_face::{ChipSpec, MOST_CHIPS, PAGE_SIZE, PageSort};
 use std::alloc::AllocError;
 

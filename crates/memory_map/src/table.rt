@@ -1,26 +1,18 @@
 // The map: what each address is to the chips of a description.
+use super::chips::some_wired;
+use super::entry::{Entry, all_held, any_shared};
 use super::holders::Holder;
+use super::kinds::KindPages;
 use super::ports::{all_readers, all_takers};
-use chip_face::{ChipList, ChipSpec, MOST_CHIPS, PageSort};
+use chip_face::{ChipKind, ChipList, ChipSpec, MOST_CHIPS, PageSort};
 use console_spec::Sort;
 use f8_spec::Memory;
 use std::alloc::{AllocError, Global};
 use std::marker::Model;
 
-/// What a page of 256 addresses is to the chips.
-#[derive(Clone, Copy)]
-pub enum Entry {
-    /// No chip holds it.
-    Nothing,
-    /// The chip at this place among the chips holds it.
-    Held { sort: PageSort, owner: u8 },
-    /// Two or more chips hold it.
-    Shared,
-}
-
-/// What each address is to the chips of a description, and how many of them have each port. All is worked out once, so that a question is
-/// one look-up. Contracts see the table, which the calls read by `mapped_sort`, `mapped_owner`, `mapped_byte`, `mapped_readers` and
-/// `mapped_takers`, and that it is the map of some chips by `IsMapOf`.
+/// What each address is to the chips of a description, how many of them have each port, and what holds of a kind, of all addresses and of
+/// all chips. All is worked out once, so that a question is one look-up. Contracts see the table, which each call reads by a definition
+/// of its own, `mapped_sort` and the others, and that it is the map of some chips by `IsMapOf`.
 #[derive(Drop)]
 pub struct Map {
     pages: [Entry; 256],
@@ -31,6 +23,15 @@ pub struct Map {
     /// How many chips have each port as a data port, and how many have it at all.
     readers: [u8; 256],
     takers: [u8; 256],
+
+    /// What the chips of each kind hold.
+    psu: KindPages,
+    smi: KindPages,
+
+    /// Each address has one holder alone; some address has several; some chip can interrupt.
+    covered: bool,
+    overlaps: bool,
+    wired: bool,
 }
 
 impl Model for Map {
@@ -39,7 +40,17 @@ impl Model for Map {
 
     ghost Value = { MapTable };
 
-    ghost view = { λ m. record { pages = m.pages; bytes = m.bytes.items; readers = m.readers; takers = m.takers } };
+    ghost view = { λ m. record {
+      pages = m.pages;
+      bytes = m.bytes.items;
+      readers = m.readers;
+      takers = m.takers;
+      psu = m.psu;
+      smi = m.smi;
+      covered = m.covered;
+      overlaps = m.overlaps;
+      wired = m.wired;
+    } };
 
     ghost invariant = { λ m. length m.bytes.items ≡ 65536 };
 }
@@ -48,6 +59,7 @@ impl Map {
     ghost use Rattle.std.specs.Prelude.{◌≡◌, ◌≤◌, ◌/◌, ℕ, All, IfOk, length};
     ghost use Rattle.chip_face.specs.Fitting.{IsSpec};
     ghost use Rattle.memory_map.specs.MapOf.{IsMapOf, entry_at, mapped_sort, mapped_owner, mapped_byte, mapped_readers, mapped_takers};
+    ghost use Rattle.memory_map.specs.MapOf.{kind_pages, mapped_held, mapped_any, mapped_covered, mapped_overlaps, mapped_wired};
 
     /// The map of some chips, or want of memory. What it tells is copied.
     pub fn of(alloc: Global, chips: &ChipList) -> Result<Map, Memory>
@@ -72,10 +84,15 @@ impl Map {
             pages[number] = holder.entry();
         }
         Ok(Map {
+            covered: all_held(&pages),
+            overlaps: any_shared(&pages),
             pages,
             bytes,
             readers: all_readers(chips),
             takers: all_takers(chips),
+            psu: KindPages::of(chips, ChipKind::Psu),
+            smi: KindPages::of(chips, ChipKind::Smi),
+            wired: some_wired(chips),
         })
     }
 
@@ -147,5 +164,61 @@ impl Map {
         ensures { result ≡ mapped_takers self.now port }
     {
         self.takers[usize::from(port)]
+    }
+
+    /// What the chips of a kind hold.
+    #[inline]
+    fn of_kind(&self, kind: ChipKind) -> &KindPages
+        ensures { result.now ≡ kind_pages kind self.now }
+    {
+        match kind {
+            ChipKind::Psu => &self.psu,
+            ChipKind::Smi => &self.smi,
+        }
+    }
+
+    /// Some chip of a kind holds an address.
+    #[tactic(auto, unfolding(crate::specs::MapOf::mapped_held))]
+    #[inline]
+    pub fn held(&self, at: u16, kind: ChipKind) -> bool
+        ensures { result ≡ mapped_held self.now at kind }
+    {
+        self.of_kind(kind).held[usize::from(at / 256)]
+    }
+
+    /// Some chip of a kind has a page.
+    #[tactic(auto, unfolding(crate::specs::MapOf::mapped_any))]
+    #[inline]
+    pub fn any(&self, kind: ChipKind) -> bool
+        ensures { result ≡ mapped_any self.now kind }
+    {
+        self.of_kind(kind).any
+    }
+
+    /// Each address has one holder alone.
+    #[tactic(auto, unfolding(crate::specs::MapOf::mapped_covered))]
+    #[inline]
+    pub fn covered(&self) -> bool
+        ensures { result ≡ mapped_covered self.now }
+    {
+        self.covered
+    }
+
+    /// Some address has several holders.
+    #[tactic(auto, unfolding(crate::specs::MapOf::mapped_overlaps))]
+    #[inline]
+    pub fn overlaps(&self) -> bool
+        ensures { result ≡ mapped_overlaps self.now }
+    {
+        self.overlaps
+    }
+
+    /// Some chip can interrupt.
+    #[tactic(auto, unfolding(crate::specs::MapOf::mapped_wired))]
+    #[inline]
+    pub fn wired(&self) -> bool
+        ensures { result ≡ mapped_wired self.now }
+    {
+        self.wired
     }
 }

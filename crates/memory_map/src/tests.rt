@@ -3,7 +3,7 @@ ghost use Rattle.std.specs.Prelude.{◌≡◌, IfOk, false};
 ghost use Rattle.chip_face.specs.Fitting.{IsSpec, is_blank};
 
 use super::*;
-use chip_face::{Bytes, ChipList, ChipSpec, Page, PageList, PageSort};
+use chip_face::{Bytes, ChipKind, ChipList, ChipSpec, Page, PageList, PageSort};
 use std::alloc::Global;
 use std::test::Fail;
 
@@ -80,6 +80,28 @@ fn two_chips(rt: HostRuntime) -> Result<(), Fail> {
     Ok(())
 }
 
+// what each of the two kinds holds, and what holds of all addresses and of both chips
+#[test]
+fn kinds(rt: HostRuntime) -> Result<(), Fail> {
+    let alloc = rt.alloc();
+    let chips = listed(alloc, psu(alloc)?, smi(alloc)?)?;
+    let map = Map::of(alloc, &chips)?;
+    let rows = [
+        (0x02FF, true, false),
+        (0x0300, true, true),
+        (0x0400, false, false),
+        (0x28FF, false, true),
+        (0x8000, false, true),
+    ];
+    for (at, by_psu, by_smi) in rows {
+        assert_eq!(rt; map.held(at, ChipKind::Psu), by_psu, "at {at}");
+        assert_eq!(rt; map.held(at, ChipKind::Smi), by_smi, "at {at}");
+    }
+    assert!(rt; map.any(ChipKind::Psu) && map.any(ChipKind::Smi));
+    assert!(rt; map.overlaps() && !map.covered() && !map.wired());
+    Ok(())
+}
+
 // the two data ports of the 3851 at 04, its control and its timer, the 3853's four ports, and ports that no chip has
 #[test]
 fn ports(rt: HostRuntime) -> Result<(), Fail> {
@@ -113,5 +135,6 @@ fn ports_of_two_chips(rt: HostRuntime) -> Result<(), Fail> {
     assert_eq!(rt; map.reads(0x05), 2);
     assert_eq!(rt; map.reads(0x06), 0);
     assert_eq!(rt; map.writes(0x06), 2);
+    assert!(rt; !map.any(ChipKind::Smi));
     Ok(())
 }

@@ -17,5 +17,19 @@ returns c =
       bytes = c.loop-number.bytes.items;
       readers = c.all_readers.result;
       takers = c.all_takers.result;
+      psu = c.of.result;
+      smi = c.of-2.result;
+      covered = c.all_held.result;
+      overlaps = c.any_shared.result;
+      wired = c.some_wired.result;
     })
-    c.requires.specified (rw end at c.loop-number.invariant) c.all_readers.ensures c.all_takers.ensures
+    c.requires.specified (rw end at c.loop-number.invariant)
+    (record {
+      readers = c.all_readers.ensures;
+      takers = c.all_takers.ensures;
+      psu = c.of.ensures;
+      smi = c.of-2.ensures;
+      covered = c.all_held.ensures;
+      overlaps = c.any_shared.ensures;
+      wired = c.some_wired.ensures;
+    })
