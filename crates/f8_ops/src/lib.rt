@@ -9,7 +9,10 @@ mod table;
 pub use f8_spec::{Op, Row};
 pub use mnemonics::name;
 pub use opcodes::{Reserved, decode, encode};
-pub use table::{MOST_PHI, OWN_PORTS, RESET_PHI, length, phi, row_of, shields};
+pub use table::{
+    INTERRUPT_PHI, MOST_INTERRUPTED_PHI, MOST_PHI, OWN_PORTS, RESET_PHI, length, phi, row_of,
+    shields,
+};
 
 #[cfg(test)]
 mod tests;

@@ -10,6 +10,12 @@ pub const RESET_PHI: u64 = 14;
 /// The most clocks of an instruction, in Φ: those of `PI` (Fairchild F8 User's Guide).
 pub const MOST_PHI: u64 = 26;
 
+/// The clocks of an interrupt, which takes the place of an instruction's last fetch, in Φ (this project's own).
+pub const INTERRUPT_PHI: u64 = 26;
+
+/// The most clocks of an instruction with an interrupt at its end, in Φ: those of `DCI` but its last fetch, and the interrupt's.
+pub const MOST_INTERRUPTED_PHI: u64 = 46;
+
 /// How many ports are the processor's own: 0 and 1 (Fairchild F8 User's Guide).
 pub const OWN_PORTS: u8 = 2;
 

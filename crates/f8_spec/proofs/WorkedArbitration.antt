@@ -1,6 +1,6 @@
 -- Bus steps worked out by hand, computed from the definitions.
 use Rattle.std.proofs.Common.{◌≡◌, ℕ, ◌+◌, [], ◌∷◌, refl}
-use Rattle.std.specs.Prelude.{None, Some}
+use Rattle.std.specs.Prelude.{false, None, Some}
 use Rattle.f8_spec.specs.BusArbitration.{PlacedSeat, Served, Conflict, Undriven, Astray, verdict}
 use Rattle.f8_spec.specs.declared.chips.ChipKind.TheVariants.{Psu, Smi}
 use Rattle.f8_spec.specs.declared.chips.PageSort.{PageSort}
@@ -13,17 +13,26 @@ page sort number = record { number = number; sort = sort }
 -- a 3851 with its first page and its first port, at its own place
 psu : ℕ → ℕ → ℕ → PlacedSeat
 psu first ports at = record {
-  seat = record { kind = Psu; pages = page Rom first ∷ (page Rom (first + 1) ∷ (page Rom (first + 2) ∷ (page Rom (first + 3) ∷ []))); ports = Some ports };
+  seat = record {
+    kind = Psu;
+    pages = page Rom first ∷ (page Rom (first + 1) ∷ (page Rom (first + 2) ∷ (page Rom (first + 3) ∷ [])));
+    ports = Some ports;
+    wired = false;
+    vector = 0;
+  };
   at = at;
 }
 
 -- a 3853 with one page of RAM, at its own place
 smi : ℕ → ℕ → PlacedSeat
-smi ram at = record { seat = record { kind = Smi; pages = page Ram ram ∷ []; ports = Some 0x0C }; at = at }
+smi ram at = record {
+  seat = record { kind = Smi; pages = page Ram ram ∷ []; ports = Some 0x0C; wired = false; vector = 0 };
+  at = at;
+}
 
 -- a chip that holds nothing and has no port
 blank : ℕ → PlacedSeat
-blank at = record { seat = record { kind = Psu; pages = []; ports = None }; at = at }
+blank at = record { seat = record { kind = Psu; pages = []; ports = None; wired = false; vector = 0 }; at = at }
 
 -- two 3851s at one address fetch one opcode: the bytes do not matter
 same_address : verdict 0x00 None 0x0000 ((0, psu 0x00 4 0x0000) ∷ ((1, psu 0x00 8 0x0000) ∷ []))

@@ -8,6 +8,7 @@ use Rattle.std.specs.Prelude.{ℕ, ◌/◌, Bool, false, not, ◌&&◌, ◌==◌
 use Rattle.std.specs.Prelude.{Option, Some, None, is_some, option_map, option_and_then}
 use Rattle.f8_spec.specs.BusCodes.{Count, driver_of, counter_of}
 use Rattle.f8_spec.specs.ChipState.{ChipView, PortRole, is_ram, is_sort_at, place_of, role_at, offset_from, latch_place, offered}
+use Rattle.f8_spec.specs.ChipState.{fixed_vector}
 use Rattle.f8_spec.specs.declared.bus.Driver.{Driver}
 use Rattle.f8_spec.specs.declared.bus.Driver.TheVariants.{Memory, CounterByte, Vector as VectorDriver, Port, Cpu, Nobody}
 use Rattle.f8_spec.specs.declared.bus.Counter.{Counter}
@@ -21,14 +22,23 @@ use Rattle.f8_spec.specs.declared.chips.Offer.{Offer}
 
 -- ---- what the rule reads of a chip
 
--- what no bus step changes: the kind, the pages, and the first of its four ports
+-- what no bus step changes: the kind, the pages, the first of its four ports, whether the chip can interrupt, and its vector, which is
+-- 0 here where ports write it
 pub record Seat : Type 0 where
   pub kind : ChipKind
   pub pages : List Page
   pub ports : Option ℕ
+  pub wired : Bool
+  pub vector : ℕ
 
 abbrev pub seat_of : ChipView → Seat
-seat_of v = record { kind = v.kind; pages = v.pages; ports = v.ports }
+seat_of v = record {
+  kind = v.kind;
+  pages = v.pages;
+  ports = v.ports;
+  wired = v.wired;
+  vector = fixed_vector v;
+}
 
 -- the address in a counter, and where a step goes by no counter the last byte, which names the port in the codes 1A and 1B
 abbrev pub place_by : Counter → Count → ℕ → ℕ

@@ -1,12 +1,12 @@
 -- A storage chip as contracts see it, and what each call does to it (Mostek 3851 and 3853 data sheets for the roles). That a 3851
 -- has no second data counter, the rules of requests, and what power-on leaves are this project's own.
 use Rattle.std.specs.Prelude.{ℕ, zero, suc, ◌+◌, ◌-◌, ◌*◌, ◌/◌, ◌%◌, ◌≡◌, ◌<◌, Bool, true, false, ◌&&◌, ◌||◌, nat_lt}
-use Rattle.std.specs.Prelude.{nat_le, ◌==◌, if◌then◌else◌, List, [], ◌∷◌, ◌++◌, length, take, drop, replicate}
+use Rattle.std.specs.Prelude.{nat_le, not, ◌==◌, if◌then◌else◌, List, [], ◌∷◌, ◌++◌, length, take, drop, replicate}
 use Rattle.std.specs.Prelude.{slice_get, slice_set, slice_index, bit_or, Option, Some, None, option_map}
 use Rattle.std.specs.Prelude.{option_and_then, is_some}
 use Rattle.f8_spec.specs.Words.{with_high, with_low}
 use Rattle.f8_spec.specs.BusCodes.{Count, count_at, told_count, driver_of, counter_of, counter_value, moved_by}
-use Rattle.f8_spec.specs.ShiftTimer.{shifted_timer, expires_next}
+use Rattle.f8_spec.specs.ShiftTimer.{TimerState, timer_after, expires_within}
 use Rattle.f8_spec.specs.declared.bus.Counters.{Counters}
 use Rattle.f8_spec.specs.declared.bus.Driver.{Driver}
 use Rattle.f8_spec.specs.declared.bus.Driver.TheVariants.{Memory, CounterByte, Vector, Port, Cpu, Nobody}
@@ -247,9 +247,17 @@ takes_expiries v = v.control % 4 == 3
 abbrev pub is_asking : ChipView → Bool
 is_asking v = v.wired && v.request
 
--- the vector given for a request: bit 7 of its low byte is clear for the timer and set for a pulse
+-- the vector that no port writes, and 0 of a chip whose vector ports write
+abbrev pub fixed_vector : ChipView → ℕ
+fixed_vector v = if has_fixed_vector v.kind then v.vector else 0
+
+-- a vector as it is given under a control: bit 7 of its low byte is clear for the timer and set for a pulse
+abbrev pub vector_under : ℕ → ℕ → ℕ
+vector_under control vector = vector / 256 * 256 + (if control % 4 == 3 then 0 else 128) + vector % 128
+
+-- the vector given for a request
 abbrev pub given_vector : ChipView → ℕ
-given_vector v = v.vector / 256 * 256 + (if takes_expiries v then 0 else 128) + v.vector % 128
+given_vector v = vector_under v.control v.vector
 
 -- ---- what a chip offers in a bus step
 
@@ -281,17 +289,17 @@ offered romc first v =
 
 -- ---- a chip's step
 
--- The timer after some clocks, fewer than 31: a step where the 31 Φ since the last one are full. Where it expires under control 3 a
--- request is latched.
+-- the timer of a chip
+abbrev pub timer_of : ChipView → TimerState
+timer_of v = record { state = v.timer; phase = v.phase }
+
+-- The chip after some clocks, fewer than 31, have passed its timer. Where the timer expires in them under control 3 a request is latched.
 abbrev pub timer_passed : ℕ → ChipView → ChipView
-timer_passed zero v = v
-timer_passed (suc n) v =
-    if nat_lt (v.phase + suc n) 31 then record v { phase = v.phase + suc n } else
-    record v {
-      phase = v.phase + suc n - 31;
-      timer = shifted_timer v.timer;
-      request = v.request || (takes_expiries v && expires_next v.timer);
-    }
+timer_passed clocks v = record v {
+  timer = (timer_after clocks (timer_of v)).state;
+  phase = (timer_after clocks (timer_of v)).phase;
+  request = v.request || (takes_expiries v && expires_within clocks (timer_of v));
+}
 
 -- a byte stored at an address: it is lost where the chip has no RAM there
 abbrev pub stored : ℕ → ℕ → ChipView → ChipView
@@ -301,7 +309,7 @@ stored at byte v = if has_ram_at v at then record v { bytes = bytes_with v.pages
 abbrev pub effect : ℕ → ℕ → Bool → ChipView → ChipView
 effect romc byte first v =
     if romc == 0x05 then stored v.counters.dc0 byte v else
-    if romc == 0x13 then (if first then record v { request = false } else v) else
+    if romc == 0x13 then record v { request = not first && v.request } else
     if romc == 0x1A then port_written_if (port_role v v.last) byte v else
     v
 
@@ -314,12 +322,11 @@ counters_moved romc byte v =
 abbrev pub with_counters_moved : ℕ → ℕ → ChipView → ChipView
 with_counters_moved romc byte v = record v { counters = counters_moved romc byte v; last = byte }
 
--- The chip after a step in which its timer passed some clocks: first the timer, under the old control, then the effect of the code,
--- and then the byte is the last one.
-abbrev pub after_step : ℕ → HeardStep → ChipView → ChipView
-after_step passed step v =
-    let timed = timer_passed passed v in
-    with_counters_moved step.romc step.byte (effect step.romc step.byte step.first timed)
+-- The chip after a step: first its timer passes the clocks of the step, under the old control, then comes the effect of the code, and
+-- then the byte is the last one.
+abbrev pub after_step : HeardStep → ChipView → ChipView
+after_step step v =
+    with_counters_moved step.romc step.byte (effect step.romc step.byte step.first (timer_passed step.clocks v))
 
 -- a step is told with the mark of the acknowledged chip in the two codes of an acknowledgement alone
 abbrev pub told_step : HeardStep → HeardStep
@@ -334,8 +341,8 @@ pub record HearsStep (old new : Option (List HeardStep)) (step : HeardStep) : Ty
   pub told : (now : List HeardStep) → new ≡ Some now → (before : List HeardStep) × (old ≡ Some before) × (now ≡ before ++ step ∷ [])
 
 -- a chip after a step: its view, the steps heard, and its patch, which stays
-pub record Settles (passed : ℕ) (step : HeardStep) (old new : ChipState) : Type 0 where
-  pub view : new.view ≡ after_step passed step old.view
+pub record Settles (step : HeardStep) (old new : ChipState) : Type 0 where
+  pub view : new.view ≡ after_step step old.view
   pub heard : HearsStep old.heard_steps new.heard_steps (told_step step)
   pub patch : new.patch ≡ old.patch
 

@@ -284,6 +284,14 @@ length_of op = row_length (row_of op)
 abbrev pub clocks_of : Op → Bool → ℕ
 clocks_of op taken = row_clocks (row_of op) taken
 
+-- the clocks of the bus steps before the last fetch
+abbrev pub clocks_before_fetch : Op → Bool → ℕ
+clocks_before_fetch op taken = clocks_of op taken - (if has_long_fetch (row_of op) then 6 else 4)
+
+-- the clocks of an interrupt, which takes the place of the last fetch
+abbrev pub interrupt_clocks : ℕ
+interrupt_clocks = 26
+
 -- no interrupt is taken at the end of the instruction
 abbrev pub is_shielding : Op → Bool
 is_shielding Pk = true
