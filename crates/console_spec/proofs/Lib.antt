@@ -1,9 +1,12 @@
 pub mod Played
 pub mod InputLaws
 pub mod Walks
+pub mod RequestLaws
 pub mod WorkedRacks
 pub mod WorkedRuns
 mod WorkedPictures
 mod WorkedScripts
 mod WorkedDraws
 mod WorkedMore
+mod WorkedRequests
+mod WorkedInterrupts

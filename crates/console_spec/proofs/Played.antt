@@ -9,6 +9,8 @@ use Rattle.console_spec.specs.Telling.{Telling, telling, played_by, referred_by}
 use Rattle.console_spec.specs.declared.End.TheVariants.{Steps}
 use Rattle.console_spec.specs.FlatMemory.{first_memory}
 use Rattle.console_spec.specs.Processor.{own_inputs, effect}
+use Rattle.console_spec.specs.FlatStep.{chosen_at}
+use Rattle.f8_spec.specs.ShiftTimer.{steps_to_expiry}
 use Rattle.console_spec.specs.RunText.{text_of, verdict_line, stop_line, fault_line, regs_line, scratch_line, total_line}
 use Rattle.console_spec.specs.RunText.{out_line, bus_line}
 use Rattle.f8_spec.specs.Instructions.{decoded}
@@ -16,7 +18,7 @@ use Rattle.std.specs.Fmt.{digits}
 
 -- what a run computes with
 unfoldable pub running : Unit {0}
-unfolding played_by referred_by telling own_inputs effect decoded first_memory
+unfolding played_by referred_by telling own_inputs chosen_at steps_to_expiry effect decoded first_memory
 running = tt
 
 -- what the lines of a run compute with

@@ -1,14 +1,16 @@
 -- Along the bus steps of an instruction the counters go where the flat machine's table says.
 use Rattle.std.proofs.Common.{◌≡◌, ℕ, ◌+◌, ◌<◌, Bool, true, false, List, [], ◌∷◌, ◌++◌, refl, ap, ◌∙◌, arith}
+use Rattle.std.specs.Prelude.{Option, Some, None}
 use Rattle.f8_spec.specs.Words.{word, with_high, with_low, places_on}
 use Rattle.f8_spec.specs.BusCodes.{Count, moved_by}
-use Rattle.f8_spec.specs.MicroSteps.{Step, steps_before_fetch, last_fetch, steps_of}
+use Rattle.f8_spec.specs.MicroSteps.{Step, steps_before_fetch}
 use Rattle.f8_spec.specs.declared.instructions.Row.{Row}
 use Rattle.f8_spec.specs.declared.instructions.Row.TheVariants.{StackFromK, CallK, JumpQ, DataFromQ, DataFromH}
 use Rattle.f8_spec.specs.declared.instructions.Row.TheVariants.{Immediate, PortIn, PortOut, Call, Jump, LoadData}
 use Rattle.f8_spec.specs.declared.instructions.Row.TheVariants.{Exchange, Branch, BranchIsar}
 use Rattle.console_spec.specs.CounterCopies.{fetched, resting}
-use Rattle.console_spec.specs.Processor.{Flow, Inputs, byte_of, flow_after}
+use Rattle.console_spec.specs.Processor.{Flow, Inputs, byte_of, flow_after, interrupted, interrupted_by, counters_after}
+use Rattle.console_spec.specs.BusTrace.{ending_steps, steps_with}
 
 -- ---- words
 
@@ -70,9 +72,20 @@ rests Branch i b second c = branch_rests i i.taken second c refl
 rests BranchIsar i b second c = branch_isar_rests i i.taken second c refl
 rests row i b second c = refl
 
+-- the steps at its end
+pub ends : (row : Row) (i : Inputs) → HasBytes i → (second : Bool) (c : Flow) →
+    moved_along second i (ending_steps row i.chosen) (resting c) ≡ fetched (interrupted i c)
+ends row i b second c = by i.chosen
+  where
+    by : (chosen : Option ℕ) → moved_along second i (ending_steps row chosen) (resting c)
+        ≡ fetched (interrupted_by chosen (word i.vector_high i.vector_low) c)
+    by None = refl
+    by (Some socket) = rw (with_high-with_low _ _ _ b.vector_low)
+
 -- all steps of an instruction
 pub follows : (row : Row) (i : Inputs) → HasBytes i → (second : Bool) (c : Flow) →
-    moved_along second i (steps_of row i.taken) (fetched c) ≡ fetched (flow_after row i second c)
+    moved_along second i (steps_with row i) (fetched c) ≡ fetched (counters_after row i second c)
 follows row i b second c =
-    moved_along-append second i (steps_before_fetch row i.taken) (last_fetch row ∷ []) (fetched c)
-    ∙ ap (moved_along second i (last_fetch row ∷ [])) (rests row i b second c)
+    moved_along-append second i (steps_before_fetch row i.taken) (ending_steps row i.chosen) (fetched c)
+    ∙ ap (moved_along second i (ending_steps row i.chosen)) (rests row i b second c)
+    ∙ ends row i b second (flow_after row i second c)

@@ -3,18 +3,16 @@ use Rattle.std.proofs.Common.{◌≡◌, ℕ, Bool, true, false, List, [], ◌�
 use Rattle.std.specs.Prelude.{Some, codes, flat_map}
 use Rattle.std.specs.Fmt.{digits}
 use Rattle.f8_spec.specs.Flags.{clear_status}
-use Rattle.f8_spec.specs.Instructions.{decoded}
 use Rattle.f8_spec.specs.BusCodes.{count_at}
 use Rattle.f8_spec.specs.ChipState.{ChipView, patched_bytes}
 use Rattle.f8_spec.specs.MicroSteps.{reset_steps}
-use Rattle.console_spec.specs.Processor.{Inputs, own_inputs, effect}
-use Rattle.console_spec.specs.FlatMemory.{first_memory}
+use Rattle.console_spec.specs.Processor.{Inputs}
 use Rattle.console_spec.specs.CounterCopies.{fetched, reset_flow}
 use Rattle.console_spec.specs.Run.{Reserved}
 use Rattle.console_spec.specs.declared.PortWrite.{PortWrite}
-use Rattle.console_spec.specs.Telling.{telling, told_in, played_by, referred_by}
-use Rattle.console_spec.specs.RunText.{telling_lines, flat_telling_lines, ending_lines, text_of, lines_of, verdict_line}
-use Rattle.console_spec.specs.RunText.{fault_line, stop_line, regs_line, scratch_line, total_line, out_line, frame_line}
+use Rattle.console_spec.specs.Telling.{told_in, referred_by}
+use Rattle.console_spec.specs.RunText.{telling_lines, flat_telling_lines, ending_lines, text_of, lines_of}
+use Rattle.console_spec.specs.RunText.{frame_line}
 use Rattle.console_spec.specs.RunText.{picture_row}
 use Rattle.console_spec.specs.declared.Event.TheVariants.{Keys}
 use Rattle.console_spec.specs.declared.End.TheVariants.{Steps}
@@ -75,6 +73,8 @@ decimal_state : (played (rom (0x20 ∷ 0x67 ∷ 0x50 ∷ 0x71 ∷ 0xD0 ∷ 0x90 
   registers = record { accumulator = 0x02; isar = 0; status = record clear_status { sign = true }; scratchpad = 0x67 ∷ replicate 63 0 };
   keys = replicate 256 0;
   writes = [];
+  acknowledged = [];
+  pulses = [];
   count = 4;
   phi = 40;
 }

@@ -2,16 +2,13 @@
 use Rattle.std.proofs.Common.{◌≡◌, ℕ, true, false, ◌+◌, ◌-◌, ◌/◌, List, [], ◌∷◌, ◌++◌, length, replicate, refl}
 use Rattle.std.specs.Prelude.{Some, None}
 use Rattle.f8_spec.specs.Flags.{clear_status}
-use Rattle.f8_spec.specs.Instructions.{decoded}
 use Rattle.f8_spec.specs.ChipState.{ChipView, blank_view}
 use Rattle.f8_spec.specs.declared.instructions.Op.TheVariants.{Bf}
 use Rattle.f8_spec.specs.declared.chips.ChipKind.TheVariants.{Psu, Smi}
 use Rattle.f8_spec.specs.declared.chips.PageSort.TheVariants.{Rom, Ram}
 use Rattle.f8_spec.specs.declared.chips.Page.{Page}
-use Rattle.console_spec.specs.Processor.{own_inputs, effect}
 use Rattle.console_spec.specs.FlatMemory.{first_memory}
 use Rattle.console_spec.specs.Services.{Conflict, Undriven, Astray}
-use Rattle.console_spec.specs.Telling.{telling, played_by}
 use Rattle.console_spec.proofs.Played.{played, played_record, running}
 use Rattle.console_spec.specs.Run.{Done, Unserved, Reserved, power_position, position_after_reset, instruction_course, reset_course, chain_in_order}
 use Rattle.console_spec.specs.declared.Who.TheVariants.{Cpu, Socket, Nobody}
@@ -80,6 +77,8 @@ pop_undriven_state : (played pop_at_once 0x12 3).position.flat.state ≡ record 
   registers = record { accumulator = 0x12; isar = 18; status = clear_status; scratchpad = replicate 64 0x12 };
   keys = replicate 256 0;
   writes = [];
+  acknowledged = [];
+  pulses = [];
   count = 0;
   phi = 14;
 }
@@ -125,6 +124,8 @@ ram_answers : (played (psu_and_ram ram_alone) 0x5A 6).position.flat.state ≡ re
   registers = record { accumulator = 0x5A; isar = 26; status = clear_status; scratchpad = replicate 64 0x5A };
   keys = replicate 256 0;
   writes = [];
+  acknowledged = [];
+  pulses = [];
   count = 6;
   phi = 102;
 }
@@ -148,6 +149,8 @@ jump_cut_state : (played cut_jump 0 9).position.flat.state ≡ record {
   registers = record { accumulator = 3; isar = 0; status = clear_status; scratchpad = replicate 64 0 };
   keys = replicate 256 0;
   writes = [];
+  acknowledged = [];
+  pulses = [];
   count = 1;
   phi = 36;
 }

@@ -3,15 +3,11 @@ use Rattle.std.proofs.Common.{◌≡◌, ℕ, List, [], ◌∷◌, ◌++◌, rep
 use Rattle.std.specs.Prelude.{codes}
 use Rattle.std.specs.Fmt.{digits}
 use Rattle.f8_spec.specs.Flags.{clear_status, status_byte}
-use Rattle.f8_spec.specs.Instructions.{decoded}
 use Rattle.f8_spec.specs.ChipState.{ChipView}
-use Rattle.console_spec.specs.Processor.{own_inputs, effect}
-use Rattle.console_spec.specs.FlatMemory.{first_memory}
 use Rattle.console_spec.specs.Services.{Conflict, Undriven, Astray}
-use Rattle.console_spec.specs.Telling.{telling, played_by, referred_by}
 use Rattle.console_spec.proofs.Played.{played, played_alone, referred, printing, running}
 use Rattle.console_spec.specs.Run.{Done, Unserved, Reserved}
-use Rattle.console_spec.specs.RunText.{telling_lines, text_of, verdict_line, fault_line, stop_line, regs_line, scratch_line, total_line}
+use Rattle.console_spec.specs.RunText.{telling_lines, text_of, fault_line, stop_line}
 use Rattle.console_spec.proofs.WorkedRacks.{psu}
 
 -- a 3851 at 0 with these bytes, and FF behind them
@@ -24,6 +20,8 @@ branch_to_self : (played (rom (0x71 ∷ 0x2B ∷ 0x90 ∷ 0xFE ∷ [])) 0 3).pos
   registers = record { accumulator = 1; isar = 0; status = clear_status; scratchpad = replicate 64 0 };
   keys = replicate 256 0;
   writes = [];
+  acknowledged = [];
+  pulses = [];
   count = 3;
   phi = 36;
 }
@@ -40,6 +38,8 @@ branch_below_zero_state : (played (rom (0x90 ∷ 0xFD ∷ [])) 0 5).position.fla
   registers = record { accumulator = 0; isar = 0; status = clear_status; scratchpad = replicate 64 0 };
   keys = replicate 256 0;
   writes = [];
+  acknowledged = [];
+  pulses = [];
   count = 0;
   phi = 14;
 }
@@ -56,6 +56,8 @@ decrement : (played (rom (0x70 ∷ 0x50 ∷ 0x30 ∷ 0x90 ∷ [])) 0 3).position
   registers = record { accumulator = 0; isar = 0; status = clear_status; scratchpad = 0xFF ∷ replicate 63 0 };
   keys = replicate 256 0;
   writes = [];
+  acknowledged = [];
+  pulses = [];
   count = 3;
   phi = 28;
 }
@@ -119,6 +121,8 @@ flat_branch_below_zero : (referred (rom (0x90 ∷ 0xFD ∷ [])) 0 2).position.fl
   registers = record { accumulator = 0; isar = 0; status = clear_status; scratchpad = replicate 64 0 };
   keys = replicate 256 0;
   writes = [];
+  acknowledged = [];
+  pulses = [];
   count = 1;
   phi = 28;
 }

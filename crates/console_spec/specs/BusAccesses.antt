@@ -7,7 +7,7 @@ use Rattle.f8_spec.specs.declared.instructions.Row.{Row}
 use Rattle.f8_spec.specs.declared.instructions.Row.TheVariants.{StackToK, DataToPair, ReadData, StoreData, Immediate}
 use Rattle.f8_spec.specs.declared.instructions.Row.TheVariants.{PortIn, PortOut, Call, Jump, LoadData, Branch}
 use Rattle.f8_spec.specs.declared.instructions.Row.TheVariants.{BranchIsar, ShortIn, ShortOut}
-use Rattle.console_spec.specs.Processor.{Flow, Inputs, flow_after}
+use Rattle.console_spec.specs.Processor.{Flow, Inputs, counters_after}
 
 -- An access: the code of its step, and its place, which is read on a set of counters. The flag says that the set has a second data
 -- counter. A port's place is its number.
@@ -46,9 +46,10 @@ accesses_before_fetch ShortIn i = at_port 0x1B i.port ∷ []
 accesses_before_fetch ShortOut i = at_port 0x1A i.port ∷ []
 accesses_before_fetch row i = []
 
--- the fetch of the next opcode, at each set's own next address
+-- The fetch of the next opcode, at each set's own next address; where an interrupt is taken that is the vector. The steps before it that
+-- acknowledge the interrupt need no other chip.
 abbrev pub last_access : Row → Inputs → Access
-last_access row i = record { romc = 0x00; place = λ second c. (flow_after row i second c).p }
+last_access row i = record { romc = 0x00; place = λ second c. (counters_after row i second c).p }
 
 abbrev pub accesses_of : Op → Inputs → List Access
 accesses_of op i = accesses_before_fetch (row_of op) i ++ last_access (row_of op) i ∷ []

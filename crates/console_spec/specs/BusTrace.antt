@@ -1,10 +1,11 @@
 -- The bus steps of an instruction: who drove the byte, and who took it, up to the first step that is not served, which stands beside them as
 -- the fault.
-use Rattle.std.specs.Prelude.{ℕ, Bool, true, false, ◌==◌, if◌then◌else◌, List, [], ◌∷◌, Option, Some, None}
+use Rattle.std.specs.Prelude.{ℕ, Bool, true, false, ◌==◌, if◌then◌else◌, List, [], ◌∷◌, ◌++◌, Option, Some, None}
 use Rattle.f8_spec.specs.BusCodes.{driver_of}
-use Rattle.f8_spec.specs.MicroSteps.{Source, PortNumber, Step}
+use Rattle.f8_spec.specs.MicroSteps.{Source, PortNumber, Step, steps_before_fetch, last_fetch, interrupt_steps}
 use Rattle.f8_spec.specs.BusArbitration.{Verdict, Served, Conflict as ConflictVerdict, Undriven as UndrivenVerdict, Astray as AstrayVerdict, rule_of}
 use Rattle.f8_spec.specs.declared.bus.Driver.{Driver}
+use Rattle.f8_spec.specs.declared.instructions.Row.{Row}
 use Rattle.f8_spec.specs.declared.bus.Driver.TheVariants.{Memory, CounterByte, Vector as VectorDriver, Port, Cpu as CpuDriver, Nobody as NobodyDriver}
 use Rattle.f8_spec.specs.declared.bus.BusRule.{BusRule}
 use Rattle.f8_spec.specs.declared.bus.BusRule.TheVariants.{Read, Store, PortRead, PortWrite, Vector, NoChip}
@@ -66,6 +67,14 @@ traced i s socket = record {
 
 -- ---- the steps of an instruction
 
+-- at its end comes the fetch of the next opcode, or the steps of an interrupt, which end with that fetch
+abbrev pub ending_steps : Row → Option ℕ → List Step
+ending_steps row None = last_fetch row ∷ []
+ending_steps row (Some socket) = interrupt_steps
+
+abbrev pub steps_with : Row → Inputs → List Step
+steps_with row i = steps_before_fetch row i.taken ++ ending_steps row i.chosen
+
 -- the steps that are served; and where one is not, why, and whether it is a long one
 pub record Course : Type 0 where
   pub steps : List TracedStep
@@ -93,11 +102,23 @@ is_access PortWrite = true
 is_access Vector = false
 is_access NoChip = false
 
+-- the chip that drives in a step without an access: the one that is chosen gives its vector
+abbrev pub unaccessed : BusRule → Inputs → Option ℕ
+unaccessed Read i = None
+unaccessed Store i = None
+unaccessed PortRead i = None
+unaccessed PortWrite i = None
+unaccessed Vector i = i.chosen
+unaccessed NoChip i = None
+
+abbrev pub with_unaccessed : Inputs → Step → Course → Course
+with_unaccessed i s rest = with_step (traced i s (unaccessed (rule_of s.romc) i)) rest
+
 -- The steps go along with the accesses, each in its order, on the counters before the instruction.
 abbrev pub course_of : Inputs → Flow → List Copy → List Step → List Access → Course
 course_of i c copies [] accesses = record { steps = []; fault = None }
-course_of i c copies (s ∷ later) [] = with_step (traced i s None) (course_of i c copies later [])
+course_of i c copies (s ∷ later) [] = with_unaccessed i s (course_of i c copies later [])
 course_of i c copies (s ∷ later) (a ∷ accesses) =
     if is_access (rule_of s.romc)
     then course_by i s (access_verdict c copies a) (course_of i c copies later accesses)
-    else with_step (traced i s None) (course_of i c copies later (a ∷ accesses))
+    else with_unaccessed i s (course_of i c copies later (a ∷ accesses))

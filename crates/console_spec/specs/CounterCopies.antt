@@ -1,12 +1,12 @@
 -- The copies of the counters, one set in each chip. An instruction changes each set by the flat machine's table, read on that set: with
--- the operands, the registers and the branch of the flat machine. Nothing says that the copies agree.
+-- the operands, the registers, the branch and the interrupt of the flat machine. Nothing says that the copies agree.
 use Rattle.std.specs.Prelude.{ℕ, ◌+◌, ◌*◌, ◌%◌, List, map}
 use Rattle.f8_spec.specs.Words.{places_on}
 use Rattle.f8_spec.specs.BusCodes.{Count}
 use Rattle.f8_spec.specs.ChipState.{has_second_counter}
 use Rattle.f8_spec.specs.BusArbitration.{Seat}
 use Rattle.f8_spec.specs.declared.instructions.Row.{Row}
-use Rattle.console_spec.specs.Processor.{Flow, Inputs, flow_after}
+use Rattle.console_spec.specs.Processor.{Flow, Inputs, counters_after}
 
 -- ---- counters between instructions
 
@@ -30,7 +30,7 @@ pub record Copy : Type 0 where
   pub flow : Flow
 
 abbrev pub copy_after : Row → Inputs → Copy → Copy
-copy_after row i c = record c { flow = flow_after row i (has_second_counter c.seat.kind) c.flow }
+copy_after row i c = record c { flow = counters_after row i (has_second_counter c.seat.kind) c.flow }
 
 abbrev pub copies_after : Row → Inputs → List Copy → List Copy
 copies_after row i cs = map (copy_after row i) cs

@@ -8,7 +8,8 @@ use Rattle.f8_spec.specs.declared.instructions.Row.{Row}
 use Rattle.f8_spec.specs.declared.instructions.Row.TheVariants.{StoreData}
 use Rattle.console_spec.specs.AddressSpace.{byte_at}
 use Rattle.console_spec.specs.FlatMemory.{first_memory, stored_at}
-use Rattle.console_spec.specs.Processor.{Flow, Inputs, State, at_power, own_inputs, after_instruction}
+use Rattle.console_spec.specs.Processor.{Flow, Inputs, State, at_power}
+use Rattle.console_spec.specs.FlatStep.{inputs_of, after_instruction}
 
 -- a state, and the byte that is read at each of the 65,536 addresses
 pub record FlatState : Type 0 where
@@ -25,18 +26,18 @@ memory_after StoreData seats i c memory = stored_at seats c.d0 i.accumulator mem
 memory_after row seats i c memory = memory
 
 -- what an instruction gets, but for the opcode at its end
-abbrev pub gets : Op → List Seat → FlatState → Inputs
-gets op seats f = own_inputs op f.memory seats f.state
+abbrev pub gets : Op → List Seat → List ℕ → FlatState → Inputs
+gets op seats chain f = inputs_of op f.memory seats chain f.state
 
 -- the flat machine after an instruction
-abbrev pub flat_after : Op → List Seat → FlatState → FlatState
-flat_after op seats f = record {
-  state = after_instruction op f.memory seats f.state;
-  memory = memory_after (row_of op) seats (gets op seats f) f.state.flow f.memory;
+abbrev pub flat_after : Op → List Seat → List ℕ → FlatState → FlatState
+flat_after op seats chain f = record {
+  state = after_instruction op f.memory seats chain f.state;
+  memory = memory_after (row_of op) seats (gets op seats chain f) f.state.flow f.memory;
 }
 
 -- what an instruction gets, with the opcode that it fetches at its end, after its own store
-abbrev pub gets_all : Op → List Seat → FlatState → Inputs
-gets_all op seats f =
-    let after = flat_after op seats f in
-    record (gets op seats f) { opcode = byte_at after.memory after.state.flow.p }
+abbrev pub gets_all : Op → List Seat → List ℕ → FlatState → Inputs
+gets_all op seats chain f =
+    let after = flat_after op seats chain f in
+    record (gets op seats chain f) { opcode = byte_at after.memory after.state.flow.p }

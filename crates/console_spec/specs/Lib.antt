@@ -1,5 +1,8 @@
 pub mod AddressSpace
 pub mod Writes
+pub mod InterruptRequests
+pub mod InterruptChoice
+pub mod FlatStep
 pub mod Display
 pub mod Processor
 pub mod BusAccesses

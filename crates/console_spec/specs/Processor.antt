@@ -5,7 +5,7 @@ use Rattle.std.specs.Prelude.{if◌then◌else◌, bit_and, bit_or, bit_xor, Lis
 use Rattle.std.specs.Prelude.{Option, Some, None}
 use Rattle.f8_spec.specs.Words.{word, places_on, displaced, sum_value, decimal_value}
 use Rattle.f8_spec.specs.Flags.{Status, clear_status, status_byte, status_of, after_result, after_sum}
-use Rattle.f8_spec.specs.Instructions.{row_of, row_length, clocks_of}
+use Rattle.f8_spec.specs.Instructions.{row_of, row_length}
 use Rattle.f8_spec.specs.MicroSteps.{Source, Opcode, Operand, SecondOperand, KeptOperand, DataByte, DataHigh, DataLow}
 use Rattle.f8_spec.specs.MicroSteps.{StackHigh, StackLow, KHigh, KLow, QHigh, QLow, HHigh, HLow, Accumulator}
 use Rattle.f8_spec.specs.MicroSteps.{PortNumber, PortByte, VectorHigh, VectorLow, NoByte, clocks_along, reset_steps}
@@ -24,6 +24,7 @@ use Rattle.f8_spec.specs.declared.instructions.Row.TheVariants.{ShortIn, Idle}
 use Rattle.f8_spec.specs.BusArbitration.{Seat}
 use Rattle.console_spec.specs.AddressSpace.{byte_at}
 use Rattle.console_spec.specs.Writes.{chip_port_byte, port_value, takers}
+use Rattle.console_spec.specs.InterruptRequests.{Mark, History, with_mark}
 use Rattle.console_spec.specs.declared.PortWrite.{PortWrite}
 use Rattle.console_spec.specs.declared.Regs.{Regs}
 
@@ -43,13 +44,15 @@ pub record Registers : Type 0 where
   pub status : Status
   pub scratchpad : List ℕ
 
--- the state between two instructions: a key byte for each of 256 ports and the writes that ports took, the last one first, with the
--- instructions done so far and their clocks, in Φ
+-- The state between two instructions: a key byte for each of 256 ports; the writes that ports took, the interrupts that chips had
+-- acknowledged and the pulses at their pins, the last one first; and the instructions done so far with their clocks, in Φ.
 pub record State : Type 0 where
   pub flow : Flow
   pub registers : Registers
   pub keys : List ℕ
   pub writes : List PortWrite
+  pub acknowledged : List Mark
+  pub pulses : List Mark
   pub count : ℕ
   pub phi : ℕ
 
@@ -60,9 +63,15 @@ at_power fill = record {
   registers = record { accumulator = fill; isar = fill % 64; status = clear_status; scratchpad = replicate 64 fill };
   keys = replicate 256 0;
   writes = [];
+  acknowledged = [];
+  pulses = [];
   count = 0;
   phi = 0;
 }
+
+-- the history by which chips ask for interrupts
+abbrev pub history_of : State → History
+history_of s = record { writes = s.writes; acknowledged = s.acknowledged; pulses = s.pulses }
 
 -- reset takes the clocks of its bus steps and changes nothing else
 abbrev pub after_reset : State → State
@@ -200,9 +209,10 @@ is_taken op m = false
 
 -- all that an instruction gets from the state before it, whether it uses it or not
 pub record Inputs : Type 0 where
-  -- its branch is taken; an interrupt is taken at its end
+  -- its branch is taken
   pub taken : Bool
-  pub vectored : Bool
+  -- the socket of the chip whose interrupt is taken at its end
+  pub chosen : Option ℕ
   -- the two bytes behind its opcode
   pub operand : ℕ
   pub second : ℕ
@@ -294,7 +304,30 @@ flow_after BranchIsar i second c =
     record c { p = if i.taken then displaced (places_on c.p 1) i.operand else places_on c.p 2 }
 flow_after row i second c = record c { p = places_on c.p (row_length row) }
 
--- ---- a step of the machine
+-- ---- an interrupt at the end of an instruction, after its own table
+
+-- the next address goes into the stack register, and the vector is the next one
+abbrev pub interrupted_by : Option ℕ → ℕ → Flow → Flow
+interrupted_by None vector c = c
+interrupted_by (Some socket) vector c = record c { p = vector; p1 = c.p }
+
+abbrev pub interrupted : Inputs → Flow → Flow
+interrupted i c = interrupted_by i.chosen (word i.vector_high i.vector_low) c
+
+-- the counters after an instruction and its interrupt
+abbrev pub counters_after : Row → Inputs → Bool → Flow → Flow
+counters_after row i second c = interrupted i (flow_after row i second c)
+
+-- the interrupt control bit is cleared
+abbrev pub vectored_by : Option ℕ → Registers → Registers
+vectored_by None m = m
+vectored_by (Some socket) m = record m { status = record m.status { icb = false } }
+
+-- the registers after an instruction and its interrupt
+abbrev pub registers_after : Op → Inputs → Registers → Registers
+registers_after op i m = vectored_by i.chosen (result_of op i m)
+
+-- ---- what an instruction gets and writes
 
 abbrev pub port_field : Op → ℕ
 port_field (Ins n) = n
@@ -317,11 +350,11 @@ written_port Out operand seats = if_taken operand seats
 written_port (Outs n) operand seats = if nat_lt n 2 then Some n else if_taken n seats
 written_port op operand seats = None
 
--- What an instruction gets, but for the opcode at its end.
+-- What an instruction gets, but for the opcode and the interrupt at its end.
 unfoldable pub own_inputs : Op → List ℕ → List Seat → State → Inputs
 own_inputs op memory seats s = record {
   taken = is_taken op s.registers;
-  vectored = false;
+  chosen = None;
   operand = byte_at memory (places_on s.flow.p 1);
   second = byte_at memory (places_on s.flow.p 2);
   opcode = 0;
@@ -355,23 +388,13 @@ abbrev pub with_write : Option PortWrite → List PortWrite → List PortWrite
 with_write None ws = ws
 with_write (Some w) ws = w ∷ ws
 
--- the state after an instruction
-abbrev pub after_instruction : Op → List ℕ → List Seat → State → State
-after_instruction op memory seats s =
-    let i = own_inputs op memory seats s in
-    let phi = s.phi + clocks_of op i.taken in
-    record {
-      flow = flow_after (row_of op) i true s.flow;
-      registers = result_of op i s.registers;
-      keys = s.keys;
-      writes = with_write (write_of op i seats phi) s.writes;
-      count = s.count + 1;
-      phi = phi;
-    }
-
 -- a key byte from outside
 abbrev pub with_key : ℕ → ℕ → State → State
 with_key port byte s = record s { keys = slice_set s.keys port byte }
+
+-- a pulse from outside, at the pin of the chip in a socket
+abbrev pub with_pulse : ℕ → State → State
+with_pulse chip s = record s { pulses = with_mark chip s.phi s.pulses }
 
 -- the registers as a run tells them
 abbrev pub told_regs : State → Regs

@@ -1,19 +1,19 @@
 -- The turns of a run: an instruction, power-on and reset of the flat machine, with the copies of the chips beside it. An instruction that
 -- has an access which is not served stops the run.
-use Rattle.std.specs.Prelude.{ℕ, false, List, [], ◌∷◌, length, map, Option, Some, None}
+use Rattle.std.specs.Prelude.{ℕ, false, List, [], ◌∷◌, length, map, slice_get, Option, Some, None}
 use Rattle.std.specs.List.{enumerate_from, range_with_len}
 use Rattle.f8_spec.specs.Instructions.{decoded, row_of}
-use Rattle.f8_spec.specs.MicroSteps.{steps_of, reset_steps}
+use Rattle.f8_spec.specs.MicroSteps.{reset_steps}
 use Rattle.f8_spec.specs.ChipState.{ChipView}
 use Rattle.f8_spec.specs.BusArbitration.{Seat, seat_of}
 use Rattle.f8_spec.specs.declared.instructions.Op.{Op}
 use Rattle.console_spec.specs.AddressSpace.{byte_at}
-use Rattle.console_spec.specs.Processor.{Inputs, after_reset}
+use Rattle.console_spec.specs.Processor.{Inputs, after_reset, with_pulse}
 use Rattle.console_spec.specs.FlatMachine.{FlatState, flat_at_power, flat_after, gets, gets_all}
 use Rattle.console_spec.specs.CounterCopies.{Copy, copies_after, reset_copy}
 use Rattle.console_spec.specs.BusAccesses.{Access, accesses_of}
 use Rattle.console_spec.specs.Services.{Fault, first_fault}
-use Rattle.console_spec.specs.BusTrace.{TracedStep, Course, course_of}
+use Rattle.console_spec.specs.BusTrace.{TracedStep, Course, course_of, steps_with}
 
 -- the flat machine, the copies of the chips by their sockets, and the sockets of the chips described, in the order of the description
 pub record Position : Type 0 where
@@ -24,24 +24,41 @@ pub record Position : Type 0 where
 abbrev pub seats_of : List Copy → List Seat
 seats_of copies = map (λ c. c.seat) copies
 
+-- ---- a pulse from outside
+
+abbrev pub pulse_in : Option ℕ → Position → Position
+pulse_in None x = x
+pulse_in (Some socket) x = record x { flat = record x.flat { state = with_pulse socket x.flat.state } }
+
+-- at the chip in a place of the chain, and no pulse where there is no such chip
+abbrev pub with_pulse_at : ℕ → Position → Position
+with_pulse_at chip x = pulse_in (slice_get x.chain chip) x
+
 -- ---- an instruction
+
+-- what an instruction gets at a position, without and with the opcode at its end
+abbrev pub gets_at : Op → Position → Inputs
+gets_at op x = gets op (seats_of x.copies) x.chain x.flat
+
+abbrev pub gets_all_at : Op → Position → Inputs
+gets_all_at op x = gets_all op (seats_of x.copies) x.chain x.flat
 
 -- why an instruction is not done: the first of its accesses that is not served
 abbrev pub instruction_fault : Op → Position → Option Fault
-instruction_fault op x = first_fault x.flat.state.flow x.copies (accesses_of op (gets op (seats_of x.copies) x.flat))
+instruction_fault op x = first_fault x.flat.state.flow x.copies (accesses_of op (gets_at op x))
 
 abbrev pub position_after : Op → Position → Position
 position_after op x = record {
-  flat = flat_after op (seats_of x.copies) x.flat;
-  copies = copies_after (row_of op) (gets op (seats_of x.copies) x.flat) x.copies;
+  flat = flat_after op (seats_of x.copies) x.chain x.flat;
+  copies = copies_after (row_of op) (gets_at op x) x.copies;
   chain = x.chain;
 }
 
 -- its bus steps, up to the first that is not served
 abbrev pub instruction_course : Op → Position → Course
 instruction_course op x =
-    let i = gets_all op (seats_of x.copies) x.flat in
-    course_of i x.flat.state.flow x.copies (steps_of (row_of op) i.taken) (accesses_of op i)
+    let i = gets_all_at op x in
+    course_of i x.flat.state.flow x.copies (steps_with (row_of op) i) (accesses_of op i)
 
 -- ---- power-on and reset
 
@@ -70,7 +87,7 @@ reset_fault x = first_fault x.flat.state.flow x.copies (reset_access ∷ [])
 abbrev pub reset_gets : List ℕ → Inputs
 reset_gets memory = record {
   taken = false;
-  vectored = false;
+  chosen = None;
   operand = 0;
   second = 0;
   opcode = byte_at memory 0;

@@ -9,7 +9,7 @@ use Rattle.console_spec.specs.Services.{Fault, Conflict, Undriven, Astray}
 use Rattle.console_spec.specs.BusTrace.{TracedStep, Course}
 use Rattle.console_spec.specs.Run.{Position, Turn, Goes, Stops, Done, Ending, power_position, chain_in_order}
 use Rattle.console_spec.specs.Run.{position_after_reset, reset_fault, reset_course, goes_unless, next, flat_next}
-use Rattle.console_spec.specs.Run.{turn_course}
+use Rattle.console_spec.specs.Run.{turn_course, with_pulse_at}
 use Rattle.console_spec.specs.Scripts.{Script, frames_by, events_at, most_instructions}
 use Rattle.console_spec.specs.declared.Event.{Event}
 use Rattle.console_spec.specs.declared.Event.TheVariants.{Keys, Pulse}
@@ -18,10 +18,10 @@ use Rattle.console_spec.specs.declared.End.TheVariants.{Frames, Steps}
 
 -- ---- events
 
--- so far a run has no pulses, and one changes nothing here
+-- A pulse names its chip by its place among those described.
 abbrev pub with_event : Event → Position → Position
 with_event (Keys port byte) x = record x { flat = record x.flat { state = with_key port byte x.flat.state } }
-with_event (Pulse chip) x = x
+with_event (Pulse chip) x = with_pulse_at chip x
 
 abbrev pub with_events : List Event → Position → Position
 with_events [] x = x
