@@ -40,11 +40,12 @@ pub trait Chip: Drop {
         requires { MayHear romc first (state self.now).view }
         ensures { result ≡ offered romc first (state self.now).view };
 
-    /// Hears a bus step: its code, its byte, and its length in Φ, which is 4 or 6. So far no timer moves.
+    /// Hears a bus step: its code, its byte, and its length in Φ, which is 4 or 6. The chip's timer
+    /// passes that time before the code has its effect, under the control as it was.
     fn settle(&mut self, romc: Romc, byte: u8, phi: u8, first: bool)
         requires step_length { IsStepLength phi }
         requires may_hear { MayHear romc first (state self.old).view }
-        ensures { Settles 0 (record { romc = romc; byte = byte; clocks = phi; first = first })
+        ensures { Settles (record { romc = romc; byte = byte; clocks = phi; first = first })
             (state self.old) (state self.new) };
 
     /// The chip can interrupt, and a request is latched.

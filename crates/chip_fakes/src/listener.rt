@@ -106,7 +106,7 @@ impl Chip for Listener {
     fn settle(&mut self, romc: Romc, byte: u8, phi: u8, first: bool)
         requires step_length { IsStepLength phi }
         requires may_hear { MayHear romc first (listener_state self.old).view }
-        ensures settles { Settles 0 (record {
+        ensures settles { Settles (record {
           romc = romc;
           byte = byte;
           clocks = phi;

@@ -1,16 +1,16 @@
 // Control, timer and request of a storage chip.
-ghost use Rattle.std.specs.Prelude.{◌≡◌, ◌+◌, ◌*◌, ◌/◌, ◌%◌, ◌==◌, ◌&&◌, true, false, if◌then◌else◌};
+ghost use Rattle.std.specs.Prelude.{◌≡◌, ◌<◌, ◌+◌, ◌*◌, ◌/◌, ◌%◌, ◌==◌, ◌&&◌, ◌||◌, true, false, if◌then◌else◌};
+ghost use Rattle.f8_spec.specs.ShiftTimer.{idle_timer, timer_loaded, timer_after, expires_within, step_period};
 
-/// Control, timer and request of a storage chip (Mostek 3851 and 3853 data sheets; the rules of requests are this project's own). So far
-/// the timer stands still: a write loads it, and no step passes it on.
+use f8_timer::Timer;
+
+/// Control, timer and request of a storage chip (Mostek 3851 and 3853 data sheets; the rules of requests are this project's own).
 #[derive(Clone, Copy, Debug, PartialEq, Eq)]
 pub struct Interrupts {
     /// The last byte written to the control port. Its low two bits are 1 to let pulses in, and 3 to let the timer's expiries in.
     control: u8,
 
-    /// The timer's state, and the clocks since its last step.
-    timer: u8,
-    phase: u8,
+    timer: Timer,
 
     /// The chip can interrupt.
     wired: bool,
@@ -24,16 +24,14 @@ impl Interrupts {
     pub fn new(wired: bool) -> Interrupts
         ensures { result ≡ record {
           control = 0;
-          timer = 255;
-          phase = 0;
+          timer = idle_timer;
           wired = wired;
           request = false;
         } }
     {
         Interrupts {
             control: 0,
-            timer: 255,
-            phase: 0,
+            timer: Timer::idle(),
             wired,
             request: false,
         }
@@ -43,8 +41,7 @@ impl Interrupts {
     pub fn power(&mut self)
         ensures { self.new ≡ record {
           control = 0;
-          timer = 255;
-          phase = 0;
+          timer = idle_timer;
           wired = self.old.wired;
           request = false;
         } }
@@ -64,10 +61,25 @@ impl Interrupts {
     /// A byte for the timer's port: the timer's state is that byte, and its next step is a whole one away.
     #[inline]
     pub fn write_timer(&mut self, byte: u8)
-        ensures { self.new ≡ record self.old { timer = byte; phase = 0 } }
+        ensures { self.new ≡ record self.old { timer = timer_loaded byte } }
     {
-        self.timer = byte;
-        self.phase = 0;
+        self.timer.load(byte);
+    }
+
+    /// Passes the timer some clocks in Φ, fewer than its step has. Where it expires in them and the low two bits of control are 3, a
+    /// request is latched.
+    #[inline]
+    pub fn pass(&mut self, phi: u8)
+        requires { phi < step_period }
+        ensures { self.new ≡ record self.old {
+          timer = timer_after phi self.old.timer;
+          request = self.old.request ||
+              ((self.old.control % 4 == 3) && expires_within phi self.old.timer);
+        } }
+    {
+        if self.timer.pass(phi) && self.control % 4 == 3 {
+            self.request = true;
+        }
     }
 
     /// An external pulse: a request is latched where the low two bits of control are 1, and else nothing changes.

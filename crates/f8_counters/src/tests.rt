@@ -52,6 +52,22 @@ fn requests_by_a_pulse(rt: HostRuntime) {
     assert_eq!(rt; interrupts, Interrupts::new(true));
 }
 
+// Loaded with 7F the timer expires 31 Φ later. Under control 3 that asks, with bit 7 of the vector clear, and a load ends no request.
+#[test]
+fn requests_by_an_expiry(rt: HostRuntime) {
+    let mut interrupts = Interrupts::new(true);
+    interrupts.write_control(0x03);
+    interrupts.write_timer(0x7F);
+    for _ in 0..5 {
+        interrupts.pass(6);
+    }
+    assert_eq!(rt; interrupts.asks(), false);
+    interrupts.pass(4);
+    interrupts.write_timer(0xFF);
+    assert_eq!(rt; interrupts.asks(), true);
+    assert_eq!(rt; low_byte(interrupts.given_vector(0x12B4)), 0x34);
+}
+
 // The ports 04 to 07 are the four that begin at 04.
 #[test]
 fn counts_ports_from_the_first(rt: HostRuntime) {

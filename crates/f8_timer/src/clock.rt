@@ -8,6 +8,9 @@ use std::marker::Model;
 /// The clocks from one step of a timer to the next, in Φ (this project's own).
 pub const STEP_PHI: u8 = 31;
 
+/// The clocks from one expiry of a timer to the next, in Φ: the states but FF form a cycle of 255 (this project's own).
+pub const CYCLE_PHI: u16 = 255 * 31;
+
 /// The place of FE, the state after the expiry: a whole cycle before the next one.
 const FIRST_PLACE: u8 = 255;
 

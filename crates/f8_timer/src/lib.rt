@@ -4,7 +4,7 @@
 mod clock;
 mod cycle;
 
-pub use clock::{STEP_PHI, Timer};
+pub use clock::{CYCLE_PHI, STEP_PHI, Timer};
 
 #[cfg(test)]
 mod tests;

@@ -1,5 +1,5 @@
 // The 3851.
-ghost use Rattle.std.specs.Prelude.{◌≡◌, ◌%◌, ◌≤◌};
+ghost use Rattle.std.specs.Prelude.{◌≡◌, ◌<◌, ◌%◌, ◌≤◌};
 
 use chip_face::{Chip, ChipKind, ChipSpec, FitFault, Offer, PSU_ROM_SIZE};
 use f8_counters::{Interrupts, Registers, high_byte, low_byte, port_offset};
@@ -157,6 +157,34 @@ impl Psu {
     }
 }
 
+/// What a bus step does but for the counters.
+impl Psu {
+    ghost use Rattle.f8_spec.specs.ChipState.{effect, timer_passed};
+    ghost use Rattle.f8_spec.specs.ShiftTimer.{step_period};
+    ghost use Rattle.psu3851.specs.PsuState.{psu_view};
+
+    /// The clocks of the step, which pass before its effect.
+    #[inline]
+    fn pass(&mut self, phi: u8)
+        requires { phi < step_period }
+        ensures { psu_view self.new ≡ timer_passed phi (psu_view self.old) }
+    {
+        self.interrupts.pass(phi);
+    }
+
+    /// The effect of the code on ports and request. A 3851 has no RAM, so that a store is lost.
+    #[inline]
+    fn act(&mut self, romc: Romc, byte: u8, first: bool)
+        ensures { psu_view self.new ≡ effect romc byte first (psu_view self.old) }
+    {
+        match romc {
+            Romc::VECTOR_HIGH if first => self.interrupts.acknowledge(),
+            Romc::WRITE_PORT => self.write_port(self.last, byte),
+            _ => {}
+        }
+    }
+}
+
 impl Chip for Psu {
     ghost use Rattle.std.specs.Prelude.{◌≢◌, ◌↔◌, OnOk, OnErr, IsErrOf};
     ghost use Rattle.f8_spec.specs.ChipState.{IsWhole};
@@ -256,12 +284,9 @@ impl Chip for Psu {
         }
     }
 
-    fn settle(&mut self, romc: Romc, byte: u8, _phi: u8, first: bool) {
-        match romc {
-            Romc::VECTOR_HIGH if first => self.interrupts.acknowledge(),
-            Romc::WRITE_PORT => self.write_port(self.last, byte),
-            _ => {}
-        }
+    fn settle(&mut self, romc: Romc, byte: u8, phi: u8, first: bool) {
+        self.pass(phi);
+        self.act(romc, byte, first);
         // There is no second data counter, and so nothing to exchange.
         self.registers.hear(romc, byte, false);
         self.last = byte;

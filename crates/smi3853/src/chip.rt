@@ -1,5 +1,5 @@
 // The 3853.
-ghost use Rattle.std.specs.Prelude.{◌≡◌};
+ghost use Rattle.std.specs.Prelude.{◌≡◌, ◌<◌};
 
 use super::space::Space;
 use chip_face::{Chip, ChipKind, ChipSpec, FitFault, Offer, SMI_FIRST_PORT};
@@ -152,6 +152,38 @@ impl Smi {
     }
 }
 
+/// What a bus step does but for the counters.
+impl Smi {
+    ghost use Rattle.f8_spec.specs.ChipState.{effect, timer_passed};
+    ghost use Rattle.f8_spec.specs.ShiftTimer.{step_period};
+    ghost use Rattle.smi3853.specs.SmiState.{smi_view};
+
+    /// The clocks of the step, which pass before its effect.
+    #[inline]
+    fn pass(&mut self, phi: u8)
+        requires { phi < step_period }
+        ensures { smi_view self.new ≡ timer_passed phi (smi_view self.old) }
+    {
+        self.interrupts.pass(phi);
+    }
+
+    /// The effect of the code on memory, ports and request.
+    #[inline]
+    fn act(&mut self, romc: Romc, byte: u8, first: bool)
+        ensures { smi_view self.new ≡ effect romc byte first (smi_view self.old) }
+    {
+        match romc {
+            Romc::STORE_DATA => {
+                let at = self.registers.counters(true).dc0;
+                self.store(at, byte);
+            }
+            Romc::VECTOR_HIGH if first => self.interrupts.acknowledge(),
+            Romc::WRITE_PORT => self.write_port(self.last, byte),
+            _ => {}
+        }
+    }
+}
+
 impl Chip for Smi {
     ghost use Rattle.std.specs.Prelude.{◌≢◌, ◌↔◌, false, OnOk, OnErr, IsErrOf};
     ghost use Rattle.f8_spec.specs.ChipState.{IsWhole};
@@ -242,16 +274,9 @@ impl Chip for Smi {
         }
     }
 
-    fn settle(&mut self, romc: Romc, byte: u8, _phi: u8, first: bool) {
-        match romc {
-            Romc::STORE_DATA => {
-                let at = self.registers.counters(true).dc0;
-                self.store(at, byte);
-            }
-            Romc::VECTOR_HIGH if first => self.interrupts.acknowledge(),
-            Romc::WRITE_PORT => self.write_port(self.last, byte),
-            _ => {}
-        }
+    fn settle(&mut self, romc: Romc, byte: u8, phi: u8, first: bool) {
+        self.pass(phi);
+        self.act(romc, byte, first);
         self.registers.hear(romc, byte, true);
         self.last = byte;
     }
