@@ -22,11 +22,10 @@ named_views states = enumerate_from 0 (views states)
 
 -- ---- what happens to one chip
 
--- The chip in a socket hears a step: its code, its length, its byte, and whether it is the chip whose interrupt is acknowledged. So far
--- no timer moves.
+-- The chip in a socket hears a step: its code, its length, its byte, and whether it is the chip whose interrupt is acknowledged.
 abbrev pub SettlesStep : ℕ → Bool → Option ℕ → ℕ → ℕ → ChipState → ChipState → Type 0
 SettlesStep romc long first byte socket old new =
-    Settles 0 (record { romc = romc; byte = byte; clocks = step_clocks long; first = is_first first socket }) old new
+    Settles (record { romc = romc; byte = byte; clocks = step_clocks long; first = is_first first socket }) old new
 
 -- a chip that hears nothing
 abbrev pub Stays : ℕ → ChipState → ChipState → Type 0

@@ -81,6 +81,7 @@ fn is_there(chip: &Box<dyn Chip>, rule: BusRule, reference: u16) -> bool
 
 /// Asks the chip in a socket: what it offers, and where it offers nothing whether it holds the probe's address, and then where its own
 /// counter is.
+#[inline(always)]
 pub(crate) fn ask(chip: &Box<dyn Chip>, socket: u8, question: &Question) -> Answer
     requires { MayHear question.now.romc (is_first_socket question.now.first socket)
         (state chip.now).view }

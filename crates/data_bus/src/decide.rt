@@ -136,6 +136,7 @@ fn bus_byte(romc: Romc, cpu: u8, chip: u8) -> u8
 }
 
 /// Decides a step by what the chips answered.
+#[inline(always)]
 pub(crate) fn decide(
     rule: BusRule,
     cycle: &Cycle,

@@ -62,6 +62,7 @@ impl Poll {
 }
 
 /// One pass over the chips: each is asked at most once.
+#[inline(always)]
 fn ask_all(rack: &Rack, question: &Question) -> Poll
     requires few { length rack.now.items ≤ MOST_CHIPS }
     requires chosen { AllMayHear question.now.romc question.now.first (map state rack.now.items) }
@@ -79,6 +80,7 @@ fn ask_all(rack: &Rack, question: &Question) -> Poll
 
 /// What the chips answer in a step. In a step in which no chip drives or takes, none is asked.
 #[tactic(auto, using(crate::proofs::Judging::polled_unasked))]
+#[inline(always)]
 pub(crate) fn gather(rack: &Rack, question: &Question) -> Poll
     requires few { length rack.now.items ≤ MOST_CHIPS }
     requires chosen { AllMayHear question.now.romc question.now.first (map state rack.now.items) }

@@ -17,6 +17,7 @@ fn clocks(long: bool) -> u8
 }
 
 /// The chip in a socket hears a served step.
+#[inline(always)]
 fn settle_at(chip: &mut Box<dyn Chip>, socket: u8, cycle: &Cycle, byte: u8)
     requires { MayHear cycle.now.romc (is_first_socket cycle.now.first socket)
         (state chip.old).view }
@@ -28,6 +29,7 @@ fn settle_at(chip: &mut Box<dyn Chip>, socket: u8, cycle: &Cycle, byte: u8)
 }
 
 /// Every chip hears a served step, once.
+#[inline(always)]
 pub(crate) fn settle_all(rack: &mut Rack, cycle: &Cycle, byte: u8)
     requires few { length rack.old.items ≤ MOST_CHIPS }
     requires chosen { AllMayHear cycle.now.romc cycle.now.first (map state rack.old.items) }

@@ -15,6 +15,7 @@ use probe::Probe;
 use romc_table::{Counter, Romc, counter_of};
 
 /// The address in the probe's counter, and in a step that goes by no counter the byte last heard, which names the port of a port step.
+#[inline(always)]
 fn reference_of(probe: &Probe, romc: Romc) -> u16
     ensures { result ≡ probe_place romc probe.now }
 {
@@ -29,6 +30,7 @@ fn reference_of(probe: &Probe, romc: Romc) -> u16
 
 /// What a step is to answer: every chip is asked, at most once, and the bus rule decides. Nothing changes.
 #[tactic(auto, using(crate::proofs::Racks::may_hear_all))]
+#[inline(always)]
 fn ruling(rack: &Rack, probe: &Probe, cycle: &Cycle) -> Result<Served, BusFault>
     requires few { length rack.now.items ≤ MOST_CHIPS }
     requires chosen { ChosenAsks cycle.now.romc cycle.now.first (map state rack.now.items) }
@@ -50,6 +52,7 @@ fn ruling(rack: &Rack, probe: &Probe, cycle: &Cycle) -> Result<Served, BusFault>
 /// In the codes 0F and 13 `first` has to name the socket of a chip that asks for an interrupt. In the codes 1A and 1B a chip goes by the
 /// last byte that it heard, which names the port; where all have heard the same steps, that is the probe's.
 #[tactic(auto, using(crate::proofs::Racks::may_hear_all, crate::proofs::Racks::stays_all))]
+#[inline(always)]
 pub fn step(rack: &mut Rack, probe: &mut Probe, cycle: Cycle) -> Result<Served, BusFault>
     requires few { length rack.old.items ≤ MOST_CHIPS }
     requires chosen { ChosenAsks cycle.romc cycle.first (map state rack.old.items) }
