@@ -9,7 +9,8 @@ use Rattle.f8_spec.specs.declared.instructions.Op.TheVariants.{Out, Ins, Outs}
 use Rattle.console_spec.specs.AddressSpace.{byte_at}
 use Rattle.console_spec.specs.Writes.{latch_of, takers}
 use Rattle.console_spec.specs.declared.PortWrite.{PortWrite}
-use Rattle.console_spec.specs.Processor.{State, own_inputs, read_port, if_taken, written_port, write_at, with_write, with_key, after_instruction}
+use Rattle.console_spec.specs.Processor.{State, own_inputs, read_port, if_taken, written_port, write_at, with_write, with_key}
+use Rattle.console_spec.specs.FlatStep.{after_instruction}
 use Rattle.cpu3850.specs.CpuPorts.{with_own_key, read_by, put_by}
 use Rattle.cpu3850.specs.Reaching.{from_cpu}
 use Rattle.cpu3850.specs.OwnWrites.{own_ports, LeaveOwnPorts}
@@ -99,8 +100,8 @@ written (Outs n) operand phi byte seats ws keys leave = latches-outs n phi byte 
 written op operand phi byte seats ws keys leave = refl
 
 -- an instruction leaves both alike
-pub own_ports-after_instruction : (op : Op) (rom : List ℕ) (seats : List Seat) (s : State) → LeaveOwnPorts seats →
-    own_ports (after_instruction op rom seats s) ≡ put_by op s.registers.accumulator (own_ports s)
+pub own_ports-after_instruction : (op : Op) (rom : List ℕ) (seats : List Seat) (chain : List ℕ) (s : State) → LeaveOwnPorts seats →
+    own_ports (after_instruction op rom seats chain s) ≡ put_by op s.registers.accumulator (own_ports s)
 unfolding own_inputs
-own_ports-after_instruction op rom seats s leave =
+own_ports-after_instruction op rom seats chain s leave =
     written op (byte_at rom (places_on s.flow.p 1)) _ s.registers.accumulator seats s.writes _ leave

@@ -171,6 +171,8 @@ impl Cpu {
           registers = self.now.registers;
           keys = [];
           writes = [];
+          acknowledged = [];
+          pulses = [];
           count = 0;
           phi = 0;
         }) }

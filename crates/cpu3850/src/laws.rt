@@ -4,7 +4,8 @@ ghost use Rattle.f8_spec.specs.declared.instructions.Op.{Op};
 ghost use Rattle.f8_spec.specs.Instructions.{decoded, row_of};
 ghost use Rattle.f8_spec.specs.MicroSteps.{steps_of};
 ghost use Rattle.f8_spec.specs.BusArbitration.{Seat};
-ghost use Rattle.console_spec.specs.Processor.{Inputs, State, is_taken, at_power, with_key, own_inputs, after_instruction};
+ghost use Rattle.console_spec.specs.Processor.{Inputs, State, is_taken, at_power, with_key, own_inputs};
+ghost use Rattle.console_spec.specs.FlatStep.{after_instruction};
 ghost use Rattle.cpu3850.specs.CpuPorts.{with_own_key, put_by};
 ghost use Rattle.cpu3850.specs.CpuSteps.{CpuState, powered, planned, taken};
 ghost use Rattle.cpu3850.specs.Keeping.{IsRestorable};
@@ -46,7 +47,7 @@ pub fn port_law()
     ensures inputs { (op : Op) (rom : List ℕ) (seats : List Seat) (s : State) (opcode : ℕ) →
         from_cpu op (record { registers = s.registers; ports = own_ports s; opcode = opcode })
         (own_inputs op rom seats s) ≡ own_inputs op rom seats s }
-    ensures written { (op : Op) (rom : List ℕ) (seats : List Seat) (s : State) →
-        LeaveOwnPorts seats → own_ports (after_instruction op rom seats s)
+    ensures written { (op : Op) (rom : List ℕ) (seats : List Seat) (chain : List ℕ) (s : State) →
+        LeaveOwnPorts seats → own_ports (after_instruction op rom seats chain s)
         ≡ put_by op s.registers.accumulator (own_ports s) }
 {}

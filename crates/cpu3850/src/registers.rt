@@ -272,6 +272,8 @@ impl RegisterFile {
           registers = self.now;
           keys = [];
           writes = [];
+          acknowledged = [];
+          pulses = [];
           count = 0;
           phi = 0;
         }) }

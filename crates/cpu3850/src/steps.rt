@@ -1,5 +1,5 @@
 // The bus steps of each instruction.
-ghost use Rattle.std.specs.Prelude.{◌≡◌, ◌==◌, ◌<◌, ◌≤◌, ◌++◌, [], ◌∷◌, true, false, if◌then◌else◌, map, sum_by, length};
+ghost use Rattle.std.specs.Prelude.{◌≡◌, ◌==◌, ◌<◌, ◌≤◌, ◌++◌, [], ◌∷◌, ◌-◌, ◌*◌, true, false, if◌then◌else◌, map, sum_by, length, take, slice_get};
 ghost use Rattle.f8_spec.specs.MicroSteps.{step_clocks, steps_before_fetch};
 ghost use Rattle.f8_spec.specs.BusCodes.{driver_of as driver_by_table};
 ghost use Rattle.f8_spec.specs.Instructions.{clocks_of};
@@ -83,10 +83,31 @@ impl Steps {
     pub fn clocks(&self) -> u8
         ensures { result ≡ sum_by (λ step. step_clocks step.long) self.now }
     {
-        self.as_slice()
-            .iter()
-            .map(|step| clocks_of_step(step.long))
-            .sum()
+        clocks_of_steps(self.as_slice())
+    }
+
+    /// The steps but the last.
+    pub fn before_last(&self) -> &[Step]
+        ensures value { result.now ≡ take (length self.now - 1) self.now }
+        ensures few { length result.now ≤ 4 }
+    {
+        &self.as_slice()[..self.len().saturating_sub(1)]
+    }
+
+    /// The last step, and `None` where there is none.
+    pub fn last(&self) -> Option<Step>
+        ensures { result ≡ slice_get self.now (length self.now - 1) }
+    {
+        self.as_slice().get(self.len().saturating_sub(1)).copied()
+    }
+
+    /// The clocks of all steps but the last, in Φ.
+    pub fn clocks_before_fetch(&self) -> u8
+        ensures value { result ≡
+            sum_by (λ step. step_clocks step.long) (take (length self.now - 1) self.now) }
+        ensures most { result ≤ 24 }
+    {
+        clocks_of_steps(self.before_last())
     }
 
     /// What the list is kept as.
@@ -173,6 +194,14 @@ impl Steps {
             driver: Driver::Nobody,
         })
     }
+}
+
+fn clocks_of_steps(steps: &[Step]) -> u8
+    requires { length steps.now ≤ 5 }
+    ensures value { result ≡ sum_by (λ step. step_clocks step.long) steps.now }
+    ensures most { result ≤ length steps.now * 6 }
+{
+    steps.iter().map(|step| clocks_of_step(step.long)).sum()
 }
 
 fn clocks_of_step(long: bool) -> u8
