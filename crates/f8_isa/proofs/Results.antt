@@ -96,6 +96,7 @@ pub after_plain : (op : Op) (isa : IsaState) → row_of op ≡ Plain →
       memory = isa.memory;
       ram_pages = isa.ram_pages;
       ports = isa.ports;
+      requests = isa.requests;
     }
 after_plain op isa plain =
     rw (

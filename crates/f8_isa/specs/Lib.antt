@@ -4,3 +4,4 @@ pub mod IsaState
 pub mod KeptMemory
 pub mod KeptPorts
 pub mod Ports
+pub mod Requests

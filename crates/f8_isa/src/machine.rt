@@ -1,14 +1,21 @@
 // The instruction set on flat memory, an instruction at a time.
+ghost use Rattle.std.specs.Prelude.{◌≡◌};
+ghost use Rattle.f8_isa.specs.IsaState.{with_clocks};
+
 use super::counters::Flow;
 use super::flat_memory::FlatMemory;
 use super::instruction_table::{Instruction, InstructionTable};
+use super::interrupt::first_asking;
 use super::ports::Ports;
 use super::register_file::RegisterFile;
+use super::requests::Requests;
 use chip_face::ChipList;
 use console_board::PortWrite;
 use console_spec::Regs;
 use f8_ops::registers::{H, K, Q};
-use f8_ops::{MOST_PHI, OWN_PORTS, Op, RESET_PHI, Reserved, Row};
+use f8_ops::{
+    INTERRUPT_PHI, MOST_INTERRUPTED_PHI, MOST_PHI, OWN_PORTS, Op, RESET_PHI, Reserved, Row, shields,
+};
 use f8_spec::Memory;
 use f8_words::wrap_add;
 use memory_map::Map;
@@ -16,15 +23,25 @@ use std::alloc::Global;
 use std::marker::Model;
 
 /// What an instruction did beyond registers and memory: its write, where a port took one, with the clocks at the instruction's end, and
-/// whether an interrupt was taken at its end. So far there is no interrupt.
+/// whether an interrupt was taken at its end.
 #[derive(Clone, Copy, Debug, PartialEq, Eq)]
 pub struct Done {
     pub wrote: Option<PortWrite>,
     pub vectored: bool,
 }
 
+/// A write with other clocks.
+fn with_clocks(wrote: Option<PortWrite>, phi: u64) -> Option<PortWrite>
+    ensures { result ≡ with_clocks phi wrote }
+{
+    match wrote {
+        Some(write) => Some(PortWrite { phi, ..write }),
+        None => None,
+    }
+}
+
 /// The F8 instruction set over one flat memory, one set of counters and one set of ports (Fairchild F8 User's Guide). It does a whole
-/// instruction at once, with no chip and no bus step.
+/// instruction and the interrupt at its end at once, with no chip and no bus step.
 #[derive(Drop)]
 pub struct Isa {
     instructions: InstructionTable,
@@ -32,6 +49,7 @@ pub struct Isa {
     ports: Ports,
     flow: Flow,
     registers: RegisterFile,
+    requests: Requests,
 
     /// The clocks since power-on.
     phi: u64,
@@ -43,23 +61,26 @@ impl Model for Isa {
 
     ghost Value = { IsaState };
 
-    ghost view = { λ m. record { flow = flow_of m.flow; registers = m.registers; phi = m.phi; memory = m.memory.bytes; ram_pages = m.memory.ram_pages; ports = m.ports } };
+    ghost view = { λ m. record { flow = flow_of m.flow; registers = m.registers; phi = m.phi; memory = m.memory.bytes; ram_pages = m.memory.ram_pages; ports = m.ports; requests = m.requests } };
 }
 
 impl Isa {
-    ghost use Rattle.std.specs.Prelude.{◌≡◌, ◌+◌, ◌^◌, ◌<◌, ◌≤◌, true, false, None, [], IfOk, IfErr, OnErr};
-    ghost use Rattle.f8_spec.specs.Instructions.{InRange, row_of};
+    ghost use Rattle.std.specs.Prelude.{◌≡◌, ◌+◌, ◌^◌, ◌<◌, ◌≤◌, true, false, None, Some, IfOk, IfErr, OnErr, is_some};
+    ghost use Rattle.f8_spec.specs.Instructions.{InRange, row_of, is_shielding};
     ghost use Rattle.f8_spec.specs.Words.{word, places_on, displaced};
     ghost use Rattle.f8_spec.specs.declared.instructions.Op.{Op};
     ghost use Rattle.console_spec.specs.AddressSpace.{byte_at};
+    ghost use Rattle.console_spec.specs.InterruptRequests.{no_history};
     ghost use Rattle.console_spec.specs.Processor.{used_byte, result_of, is_taken, flow_after, told_regs};
     ghost use Rattle.console_spec.specs.Run.{Reserved as StopReserved, power_position, chain_in_order, position_after_reset};
     ghost use Rattle.memory_map.specs.MapOf.{IsMapOf, views_of};
     ghost use Rattle.f8_isa.specs.Counters.{flow_of};
     ghost use Rattle.f8_isa.specs.InstructionRows.{IsInstruction};
     ghost use Rattle.f8_isa.specs.Ports.{value_read, with_key_byte};
+    ghost use Rattle.f8_isa.specs.Requests.{pulse_at, place_vector};
     ghost use Rattle.f8_isa.specs.IsaState.{state_of, kept_inputs, kept_write, isa_after, phi_after};
-    ghost use Rattle.f8_isa.specs.IsaState.{GoesTo, StopsBy, StandsAt, InReach, TakesKey};
+    ghost use Rattle.f8_isa.specs.IsaState.{fetch_clocks, sample_time, chosen_place, with_interrupt, finished, finished_write, HasVector};
+    ghost use Rattle.f8_isa.specs.IsaState.{GoesTo, TellsInterrupt, StopsBy, StandsAt, InReach, TakesKey, TakesPulse, TakesEarlyPulse};
 
     /// A program on some chips, after power-on with a byte and reset, or want of memory. The map is that of the chips; what it tells is
     /// copied.
@@ -68,26 +89,31 @@ impl Isa {
         ensures { let vs = views_of chips.now in IfOk result (λ isa. StandsAt isa 0
             (position_after_reset (power_position vs (chain_in_order vs) fill))) }
     {
-        let _chips = chips;
         let memory = FlatMemory::new(alloc, map, fill)?;
         let ports = Ports::new(map);
+        let Ok(requests) = Requests::new(alloc, chips) else {
+            return Err(Memory);
+        };
         Ok(Isa {
             instructions: InstructionTable::new(),
             memory,
             ports,
             flow: Flow::default(),
             registers: RegisterFile::at_power(fill),
+            requests,
             phi: RESET_PHI,
         })
     }
 
-    /// The next instruction, or [`Reserved`] with the opcode, exactly where no instruction has it; then nothing changes.
+    /// The next instruction with the interrupt at its end, or [`Reserved`] with the opcode, exactly where no instruction has it; then
+    /// nothing changes. An interrupt is taken where the instruction doesn't shield its end, the interrupt control bit is set after it, and
+    /// a chip asks as its last fetch would begin: the first one of the description. It takes the place of that fetch.
     #[inline]
     pub fn step(&mut self) -> Result<Done, Reserved>
         requires { self.old.phi < 2 ^ 62 }
         ensures goes { IfOk result (λ done. GoesTo self.old self.new done.wrote) }
-        ensures uninterrupted { IfOk result (λ done. done.vectored ≡ false) }
-        ensures clocks { self.new.phi ≤ self.old.phi + MOST_PHI }
+        ensures interrupt { IfOk result (λ done. TellsInterrupt self.old done.vectored) }
+        ensures clocks { self.new.phi ≤ self.old.phi + MOST_INTERRUPTED_PHI }
         ensures onward { self.old.phi ≤ self.new.phi }
         ensures stops { IfErr result (λ error. StopsBy self.old
             (StopReserved self.old.flow.p error.code)) }
@@ -98,10 +124,7 @@ impl Isa {
             return Err(Reserved { code });
         };
         let wrote = self.carry_out(instruction);
-        Ok(Done {
-            wrote,
-            vectored: false,
-        })
+        Ok(self.finish(instruction, wrote))
     }
 
     /// Sets the key byte of a port. It is read there together with what was last written to the port.
@@ -113,6 +136,95 @@ impl Isa {
         } }
     {
         self.ports.set_key(port, byte);
+    }
+
+    /// A pulse at the external interrupt pin of a chip, by its place in the description. Where there is no such chip nothing changes.
+    pub fn pulse(&mut self, chip: u8)
+        ensures stands { TakesPulse chip self.old self.new }
+        ensures early { TakesEarlyPulse chip self.old self.new }
+        ensures kept { self.new ≡ record self.old { requests = pulse_at chip self.old.requests } }
+    {
+        self.requests.pulse(chip);
+    }
+
+    /// The interrupt at the end of an instruction that is done but for it, if one is taken. Where the interrupt control bit is clear, or
+    /// the instruction shields its end, no chip is asked.
+    #[inline]
+    fn finish(&mut self, instruction: Instruction, wrote: Option<PortWrite>) -> Done
+        requires right { IsInstruction instruction }
+        requires phi { self.old.phi < 2 ^ 63 }
+        ensures state { self.new ≡ finished instruction.op self.old }
+        ensures wrote { result.wrote ≡ finished_write instruction.op self.old wrote }
+        ensures vectored { result.vectored ≡ is_some (chosen_place instruction.op self.old) }
+        ensures reach { HasVector (chosen_place instruction.op self.old) self.old }
+    {
+        if self.registers.icb() && !shields(instruction.op) {
+            return self.finish_open(instruction, wrote);
+        }
+        Done {
+            wrote,
+            vectored: false,
+        }
+    }
+
+    /// The same at an end where the chips are asked.
+    // Not inlined, so that the end of every other instruction stays a test.
+    #[inline(never)]
+    fn finish_open(&mut self, instruction: Instruction, wrote: Option<PortWrite>) -> Done
+        requires right { IsInstruction instruction }
+        requires phi { self.old.phi < 2 ^ 63 }
+        requires enabled { self.old.registers.status.icb ≡ true }
+        requires open { is_shielding instruction.op ≡ false }
+        ensures state { self.new ≡ finished instruction.op self.old }
+        ensures wrote { result.wrote ≡ finished_write instruction.op self.old wrote }
+        ensures vectored { result.vectored ≡ is_some (chosen_place instruction.op self.old) }
+        ensures reach { HasVector (chosen_place instruction.op self.old) self.old }
+    {
+        let time = self.sample_time(instruction);
+        let Some(place) = first_asking(self.requests.as_slice(), time) else {
+            return Done {
+                wrote,
+                vectored: false,
+            };
+        };
+        self.interrupt(place, time);
+        Done {
+            wrote: with_clocks(wrote, self.phi),
+            vectored: true,
+        }
+    }
+
+    /// The clocks as the last fetch of an instruction began that is done but for its interrupt.
+    fn sample_time(&self, instruction: Instruction) -> u64
+        requires { IsInstruction instruction }
+        ensures is { result ≡ sample_time instruction.op self.now }
+        ensures before { result ≤ self.now.phi }
+    {
+        self.phi.saturating_sub(instruction.fetch_phi())
+    }
+
+    /// The interrupt of the chip in a place of the description, in place of the fetch that began at a time.
+    fn interrupt(&mut self, place: u8, time: u64)
+        requires { time < 2 ^ 63 }
+        ensures state { self.new ≡ with_interrupt (Some place) time self.old }
+        ensures reach { HasVector (Some place) self.old }
+    {
+        let vector = self.vector(place);
+        self.flow = self.flow.with_stack(self.flow.p).with_next(vector);
+        self.registers.clear_icb();
+        self.phi = time + INTERRUPT_PHI;
+        self.requests.acknowledge(place, self.phi);
+    }
+
+    /// The vector of the chip in a place of the description.
+    fn vector(&self, place: u8) -> u16
+        ensures is { result ≡ place_vector place self.now.ports.latches self.now.requests }
+        ensures range { result < 65536 }
+    {
+        match self.requests.as_slice().get(usize::from(place)) {
+            Some(chip) => chip.vector(&self.ports),
+            None => 0,
+        }
     }
 
     /// A whole instruction, with its write.
@@ -187,6 +299,7 @@ impl Isa {
             self.memory.store(at, byte);
         }
         self.ports.take(wrote);
+        self.requests.take(wrote);
         self.flow = flow;
         self.phi = phi;
         wrote
@@ -352,7 +465,7 @@ impl Isa {
     /// The registers between two instructions.
     #[inline]
     pub fn regs(&self) -> Regs
-        ensures regs { result ≡ told_regs (state_of self.now 0 []) }
+        ensures regs { result ≡ told_regs (state_of self.now 0 no_history) }
         ensures isar { result.isar < 64 }
     {
         Regs {

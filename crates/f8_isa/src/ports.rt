@@ -26,7 +26,8 @@ impl Model for Ports {
 }
 
 impl Ports {
-    ghost use Rattle.std.specs.Prelude.{◌≡◌};
+    ghost use Rattle.std.specs.Prelude.{◌≡◌, ◌+◌, ◌<◌, slice_index};
+    ghost use Rattle.f8_spec.specs.Words.{word};
     ghost use Rattle.f8_isa.specs.Ports.{kept_value, chip_value, if_writable, ports_after, with_key_byte};
     ghost use Rattle.f8_isa.specs.KeptPorts.{AreFirstPorts};
 
@@ -60,6 +61,16 @@ impl Ports {
         } else {
             NO_BYTE
         }
+    }
+
+    /// The word whose halves were last written to two ports, the high one to the first.
+    pub fn latch_word(&self, port: u8) -> u16
+        requires { port < 255 }
+        ensures { result ≡ word (slice_index self.now.latches port)
+            (slice_index self.now.latches (port + 1)) }
+    {
+        let place = usize::from(port);
+        u16::from(self.latches[place]) * 256 + u16::from(self.latches[place + 1])
     }
 
     /// The port, where exactly one chip takes a write to it.

@@ -72,6 +72,21 @@ impl RegisterFile {
         self.status.to_byte()
     }
 
+    /// The interrupt control bit is set.
+    #[inline]
+    pub fn icb(&self) -> bool
+        ensures { result ≡ self.now.status.icb }
+    {
+        self.status.icb
+    }
+
+    /// Clears the interrupt control bit.
+    pub fn clear_icb(&mut self)
+        ensures { self.new ≡ record self.old { status = record self.old.status { icb = false } } }
+    {
+        self.status.icb = false;
+    }
+
     pub fn scratchpad(&self) -> &[u8; 64]
         ensures { result.now ≡ self.now.scratchpad }
     {

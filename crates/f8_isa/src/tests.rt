@@ -2,6 +2,7 @@
 ghost use Rattle.std.specs.Prelude.{◌≡◌, ◌%◌, ◌≤◌, IfOk, false, length};
 ghost use Rattle.chip_face.specs.Fitting.{IsSpec, is_blank};
 
+use super::requests::Requests;
 use super::*;
 use chip_face::{Bytes, ChipList, ChipSpec, Page, PageList, PageSort};
 use memory_map::Map;
@@ -9,8 +10,24 @@ use std::alloc::Global;
 use std::process::Abort;
 use std::test::Fail;
 
-// a 3851 with these bytes, and FF in the rest of its ROM
+// a 3851 with these bytes, and FF in the rest of its ROM, that can't interrupt
 fn psu(alloc: Global, base: u16, program: &[u8]) -> Result<ChipSpec, Fail>
+    requires boundary { base % 1024 ≡ 0 }
+    requires fits { length program.now ≤ 1024 }
+    ensures spec { IfOk result IsSpec }
+    ensures kept { IfOk result (λ chip. is_blank chip ≡ false) }
+{
+    psu_wired(alloc, base, program, 0x0000, false)
+}
+
+// such a 3851 with a vector, that can interrupt or can't
+fn psu_wired(
+    alloc: Global,
+    base: u16,
+    program: &[u8],
+    vector: u16,
+    wired: bool,
+) -> Result<ChipSpec, Fail>
     requires boundary { base % 1024 ≡ 0 }
     requires fits { length program.now ≤ 1024 }
     ensures spec { IfOk result IsSpec }
@@ -22,8 +39,8 @@ fn psu(alloc: Global, base: u16, program: &[u8]) -> Result<ChipSpec, Fail>
         base,
         rom: Bytes::from_vec(bytes),
         ports: 0x04,
-        vector: 0x0000,
-        wired: false,
+        vector,
+        wired,
     })
 }
 
@@ -306,5 +323,80 @@ fn keys(rt: HostRuntime) -> Result<(), Fail> {
         let _done = step(&rt, &mut isa)?;
     }
     assert_eq!(rt; isa.regs().a, 0x5F);
+    Ok(())
+}
+
+// Control 3, the timer loaded with 7F, seven NOPs, EI and a NOP. The timer expires at 87 Φ; EI, which ends at 96 Φ, shields its end; and
+// so the interrupt comes behind the last NOP, to the vector 0180 with bit 7 of its low byte clear.
+const TIMER_CART: [u8; 14] = [
+    0x73, 0xB6, 0x20, 0x7F, 0xB7, 0x2B, 0x2B, 0x2B, 0x2B, 0x2B, 0x2B, 0x2B, 0x1B, 0x2B,
+];
+
+#[test]
+fn interrupt_of_a_timer(rt: HostRuntime) -> Result<(), Fail> {
+    let alloc = rt.alloc();
+    let chip = psu_wired(alloc, 0x0000, &TIMER_CART, 0x0180, true)?;
+    let chips = listed(alloc, chip, smi(alloc)?)?;
+    let mut isa = isa_of(alloc, &chips, 0x00)?;
+    for _ in 0..12 {
+        let done = step(&rt, &mut isa)?;
+        assert!(rt; !done.vectored);
+    }
+    let done = step(&rt, &mut isa)?;
+    assert!(rt; done.vectored);
+    assert_eq!(rt; done.wrote, None);
+    let regs = isa.regs();
+    assert_eq!(rt; counters(&regs), [0x0100, 0x000E, 0x0000, 0x0000]);
+    assert_eq!(rt; regs.a, 0x7F);
+    assert_eq!(rt; regs.w, 0x00);
+    assert_eq!(rt; isa.phi(), 122);
+    Ok(())
+}
+
+// whether the first chip asks at each of these times
+fn asks(requests: &Requests, times: [u64; 2]) -> Option<[bool; 2]> {
+    let chip = requests.as_slice().first()?;
+    Some([chip.asks(times[0]), chip.asks(times[1])])
+}
+
+// what a 3851 with ports 4 to 7 asks for after a write at each of these clocks
+fn requests_after(alloc: Global, writes: &[(u64, u8, u8)]) -> Result<Requests, Fail> {
+    let chips = listed(alloc, psu(alloc, 0x0000, &[])?, smi(alloc)?)?;
+    let mut requests = Requests::new(alloc, &chips)?;
+    for &(phi, port, byte) in writes {
+        requests.take(Some(PortWrite { phi, port, byte }));
+    }
+    Ok(requests)
+}
+
+// control 3 at 30 Φ, and the timer loaded with 7F at 56 Φ: it expires 31 Φ later
+#[test]
+fn asks_from_the_expiry_on(rt: HostRuntime) -> Result<(), Fail> {
+    let requests = requests_after(rt.alloc(), &[(34, 6, 0x03), (60, 7, 0x7F)])?;
+    assert_eq!(rt; asks(&requests, [86, 87]), Some([false, true]));
+    Ok(())
+}
+
+// control 1 at 30 Φ: a pulse asks at once, at the chip that it is for
+#[test]
+fn asks_from_a_pulse_on(rt: HostRuntime) -> Result<(), Fail> {
+    let mut requests = requests_after(rt.alloc(), &[(34, 6, 0x01)])?;
+    requests.pulse(1);
+    requests.pulse(2);
+    assert_eq!(rt; asks(&requests, [34, 7000]), Some([false, false]));
+    requests.pulse(0);
+    assert_eq!(rt; asks(&requests, [34, 7000]), Some([true, true]));
+    Ok(())
+}
+
+#[test]
+fn pulse_changes_no_register(rt: HostRuntime) -> Result<(), Fail> {
+    let mut isa = program(rt.alloc(), &[0x71, 0xB6, 0x2B], 0x00)?;
+    for _ in 0..3 {
+        isa.pulse(0);
+        let _done = step(&rt, &mut isa)?;
+    }
+    assert_eq!(rt; isa.phi(), 38);
+    assert_eq!(rt; isa.p(), 3);
     Ok(())
 }

@@ -1,11 +1,29 @@
 use Rattle.std.proofs.Common.{◌≡◌}
 use Rattle.console_spec.specs.AddressSpace.{byte_at}
-use Rattle.f8_isa.proofs.Standing.{goes_to}
+use Rattle.f8_isa.proofs.Standing.{goes_to, tells_interrupt, finished_phi}
 use Rattle.f8_isa.proofs.machine.Isa.step.Goals as goal
 
 pub returns-clause-goes : goal.returns-clause-goes
 returns-clause-goes c =
     let code : c.byte-code.result ≡ byte_at c.args.self.now.memory c.args.self.now.flow.p = rw (← c.self.view_is) c.byte-code.ensures in
     let row = rw code at c.in-Some.ensures in
-    goes_to c.in-Some.instruction.op c.args.self.now c.carry_out-wrote.new.self c.carry_out-wrote.result row.0 c.carry_out-wrote.ensures.state
-    c.carry_out-wrote.ensures.wrote row.1.in_range c.carry_out-wrote.ensures.ranges
+    goes_to c.in-Some.instruction.op c.args.self.now c.carry_out-wrote.new.self c.finish.new.self c.carry_out-wrote.result c.finish.result.wrote
+    row.0 row.1.in_range c.carry_out-wrote.ensures.ranges c.carry_out-wrote.ensures.state c.carry_out-wrote.ensures.wrote c.finish.ensures.state
+    c.finish.ensures.wrote c.finish.ensures.reach
+
+pub returns-clause-interrupt : goal.returns-clause-interrupt
+returns-clause-interrupt c =
+    let code : c.byte-code.result ≡ byte_at c.args.self.now.memory c.args.self.now.flow.p = rw (← c.self.view_is) c.byte-code.ensures in
+    let row = rw code at c.in-Some.ensures in
+    tells_interrupt c.in-Some.instruction.op c.args.self.now c.carry_out-wrote.new.self c.finish.result.vectored
+    row.0 row.1.in_range c.carry_out-wrote.ensures.ranges c.carry_out-wrote.ensures.state c.finish.ensures.vectored
+
+pub returns-clause-clocks : goal.returns-clause-clocks
+returns-clause-clocks c =
+    (finished_phi c.in-Some.instruction.op c.args.self.now c.carry_out-wrote.new.self c.finish.new.self c.carry_out-wrote.ensures.state
+    c.finish.ensures.state c.carry_out-wrote.ensures.clocks).1
+
+pub returns-clause-onward : goal.returns-clause-onward
+returns-clause-onward c =
+    (finished_phi c.in-Some.instruction.op c.args.self.now c.carry_out-wrote.new.self c.finish.new.self c.carry_out-wrote.ensures.state
+    c.finish.ensures.state c.carry_out-wrote.ensures.clocks).0
