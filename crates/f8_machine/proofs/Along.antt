@@ -1,6 +1,6 @@
 -- What is left of an instruction or of reset, on the bus: from here the steps that are left lead to the end, or to the first access that
 -- is not served. The bus rule is never opened here.
-use Rattle.std.proofs.Common.{append-nil, eqb-true, ◌≡◌, ℕ, ◌<◌, Bool, true, false, List, [], ◌∷◌, ◌++◌, length, map}
+use Rattle.std.proofs.Common.{append-nil, eqb-true, ◌≡◌, ℕ, ◌+◌, ◌<◌, Bool, true, false, List, [], ◌∷◌, ◌++◌, length, map}
 use Rattle.std.proofs.Common.{refl, ap, ◌∙◌, sym, subst}
 use Rattle.std.specs.Prelude.{◌==◌, if◌then◌else◌, Option, Some, None}
 use Rattle.std.specs.List.{enumerate_from}
@@ -9,7 +9,7 @@ use Rattle.f8_spec.specs.BusCodes.{Count, driver_of, moved_by}
 use Rattle.f8_spec.specs.ChipState.{ChipView, after_step}
 use Rattle.f8_spec.specs.BusArbitration.{Verdict, Served, Conflict, Undriven, Astray, Seat, PlacedSeat, place_in}
 use Rattle.f8_spec.specs.BusArbitration.{parties, bystanders, lowest, judged, rule_by, rule_of, view_verdict, bus_byte}
-use Rattle.f8_spec.specs.MicroSteps.{Step}
+use Rattle.f8_spec.specs.MicroSteps.{Step, clocks_along}
 use Rattle.f8_spec.specs.declared.bus.Driver.{Driver}
 use Rattle.f8_spec.specs.declared.bus.Driver.TheVariants.{Memory, CounterByte, Vector as VectorDriver, Port, Cpu}
 use Rattle.f8_spec.specs.declared.bus.Driver.TheVariants.{Nobody}
@@ -18,11 +18,16 @@ use Rattle.f8_spec.specs.declared.bus.BusRule.TheVariants.{Read, Store, PortRead
 use Rattle.f8_spec.specs.declared.bus.BusRule.TheVariants.{NoChip}
 use Rattle.console_spec.specs.Processor.{Flow, Inputs, byte_of}
 use Rattle.console_spec.specs.FlatMemory.{stored_at}
+use Rattle.console_spec.specs.FlatStep.{with_acknowledged}
+use Rattle.console_spec.specs.InterruptRequests.{Mark, History}
+use Rattle.f8_machine.specs.BusSteps.{IsPlain}
+use Rattle.f8_machine.specs.RequestsHeld.{IsInTime}
+use Rattle.f8_machine.proofs.StepTests.{puts_last, no_vector}
 use Rattle.console_spec.specs.CounterCopies.{Copy}
 use Rattle.console_spec.specs.BusAccesses.{Access}
 use Rattle.console_spec.specs.Services.{Fault, fault_by, access_verdict, first_fault}
-use Rattle.console_spec.specs.BusTrace.{TracedStep, Course, traced, with_step, stopped_by, course_by, course_of}
-use Rattle.console_spec.specs.BusTrace.{is_access}
+use Rattle.console_spec.specs.BusTrace.{TracedStep, Course, with_step, stopped_by, course_by, course_of}
+use Rattle.console_spec.specs.BusTrace.{is_access, with_unaccessed, unaccessed}
 use Rattle.console_spec.specs.Run.{Position, seats_of}
 use Rattle.console_spec.specs.CounterCopies.{fetched}
 use Rattle.console_spec.proofs.Walks.{moved_along}
@@ -49,8 +54,22 @@ pub record Aim : Type 0 where
   pub course : Course
   pub memory : List ℕ
   pub writes : List PortWrite
+  pub acknowledged : List Mark
   pub phi : ℕ
   pub flow : Bool → Flow → Flow
+
+-- the history so far, and how it goes on
+abbrev pub history_with : Position → List PortWrite → List Mark → History
+history_with x writes acknowledged =
+    record { writes = writes; acknowledged = acknowledged; pulses = x.flat.state.pulses }
+
+abbrev pub acknowledged_by : Option ℕ → ℕ → ℕ → List Mark → List Mark
+acknowledged_by chosen phi romc marks = if romc == 0x13 then with_acknowledged chosen phi marks else marks
+
+abbrev pub acknowledged_along : Option ℕ → ℕ → List Step → List Mark → List Mark
+acknowledged_along chosen phi [] marks = marks
+acknowledged_along chosen phi (s ∷ later) marks =
+    acknowledged_along chosen phi later (acknowledged_by chosen phi s.romc marks)
 
 pub record Along (i : Inputs) (x : Position) (aim : Aim) (rest : List Step) (probe : ProbeState) (vs : List ChipView)
     (so_far : List TracedStep) : Type 0 where
@@ -74,6 +93,14 @@ pub record Along (i : Inputs) (x : Position) (aim : Aim) (rest : List Step) (pro
   pub course : with_steps so_far (course_of i x.flat.state.flow x.copies rest accesses) ≡ aim.course
   pub later : memory_along (seats_of x.copies) i rest probe.count probe.last memory ≡ aim.memory
   pub writes_later : writes_along (seats_of x.copies) aim.phi i rest probe.last writes ≡ aim.writes
+  -- the time, and the acknowledgements so far, beside which the chips stand
+  pub time : ℕ
+  pub acknowledged : List Mark
+  pub in_time : IsInTime time (history_with x writes acknowledged) vs
+  pub ends : time + clocks_along rest ≡ aim.phi
+  pub late : puts_last rest ≡ true
+  pub accumulator : i.accumulator < 256
+  pub acknowledged_later : acknowledged_along i.chosen aim.phi rest acknowledged ≡ aim.acknowledged
 
 -- ---- the access of a step
 
@@ -136,10 +163,20 @@ no_access WriteRule romc reference xs e = cc
 no_access Vector romc reference xs e = refl
 no_access NoChip romc reference xs e = refl
 
+-- a step of no acknowledgement that is no access names no chip
+pub unaccessed_none : (rule : BusRule) (i : Inputs) → is_access rule ≡ false → (rule ≡ Vector → ⊥) →
+    unaccessed rule i ≡ None
+unaccessed_none Read i idle other = cc
+unaccessed_none Store i idle other = cc
+unaccessed_none PortRead i idle other = cc
+unaccessed_none WriteRule i idle other = cc
+unaccessed_none Vector i idle other = absurd (other refl)
+unaccessed_none NoChip i idle other = refl
+
 -- the course of a step that is no access
 pub course_idle : (i : Inputs) (c : Flow) (copies : List Copy) (s : Step) (later : List Step) (accesses : List Access) →
     is_access (rule_of s.romc) ≡ false →
-    course_of i c copies (s ∷ later) accesses ≡ with_step (traced i s None) (course_of i c copies later accesses)
+    course_of i c copies (s ∷ later) accesses ≡ with_unaccessed i s (course_of i c copies later accesses)
 course_idle i c copies s later [] e = refl
 course_idle i c copies s later (a ∷ behind) e = rw e refl
 
@@ -168,11 +205,11 @@ pub flat_more : (b : Bool) (i : Inputs) (s : Step) (clocks : ℕ) (socket : Opti
     view_verdict s.romc None (place_in s.romc probe.count probe.last) (enumerate_from 0 vs) ≡ Served socket →
     HoldsFlat (if b then stored_at (seats_of cs) (place_in s.romc probe.count probe.last)
     (byte_of i s.source) memory else memory)
-    (map (after_step 0 (plain_step s.romc (byte_of i s.source) clocks)) vs)
+    (map (after_step (plain_step s.romc (byte_of i s.source) clocks)) vs)
 flat_more true i s clocks socket now probe cs vs memory is copies whole flat served =
     let code : s.romc ≡ 0x05 = eqb-true s.romc 0x05 is in
     rw code (subst (λ seats. HoldsFlat (stored_at seats (place_in 0x05 probe.count probe.last)
-    (byte_of i s.source) memory) (map (after_step 0 (plain_step 0x05 (byte_of i s.source) clocks)) vs))
+    (byte_of i s.source) memory) (map (after_step (plain_step 0x05 (byte_of i s.source) clocks)) vs))
     (seats_same now probe.last cs vs copies)
     (store_keeps_flat (byte_of i s.source) clocks (place_in 0x05 probe.count probe.last) socket vs memory whole
     (all_filled now probe.last cs vs copies) flat (rw code at served)))
@@ -199,22 +236,23 @@ read_rule false true romc d five port driver read =
 read_rule false false romc d five port driver read = rw (five, port, driver) read
 
 pub byte_is : (d : Driver) (romc placed value reference : ℕ) (socket : Option ℕ) (vs : List ChipView)
-    (memory : List ℕ) →
+    (memory : List ℕ) → IsPlain romc →
     driver_of romc ≡ d → Places (is_placed_by d) placed value → ValueIs d romc memory reference value →
     HoldsFlat memory vs →
     (rule_of romc ≡ Read → reference < 65536) →
     (driver_of romc ≡ Port → bus_byte romc None placed (enumerate_from 0 vs) ≡ value) →
     view_verdict romc None reference (enumerate_from 0 vs) ≡ Served socket →
     bus_byte romc None placed (enumerate_from 0 vs) ≡ value
-byte_is Memory romc placed value reference socket vs memory driver places is flat small port served =
+byte_is Memory romc placed value reference socket vs memory plain driver places is flat small port served =
     let rule : rule_of romc ≡ Read = read_rule (romc == 0x05) (romc == 0x1A) romc Memory refl refl driver refl in
     served_read romc placed reference socket vs memory rule (small rule) flat served
     ∙ ap (λ (d : Driver). read_value d romc memory reference) driver ∙ sym is
-byte_is CounterByte romc placed value reference socket vs memory driver places is flat small port served =
+byte_is CounterByte romc placed value reference socket vs memory plain driver places is flat small port served =
     let rule : rule_of romc ≡ Read = read_rule (romc == 0x05) (romc == 0x1A) romc CounterByte refl refl driver refl in
     served_read romc placed reference socket vs memory rule (small rule) flat served
     ∙ ap (λ (d : Driver). read_value d romc memory reference) driver ∙ sym is
-byte_is VectorDriver romc placed value reference socket vs memory driver places is flat small port served = absurd is
-byte_is Port romc placed value reference socket vs memory driver places is flat small port served = port driver
-byte_is Cpu romc placed value reference socket vs memory driver places is flat small port served = rw driver places
-byte_is Nobody romc placed value reference socket vs memory driver places is flat small port served = rw driver (sym is)
+byte_is VectorDriver romc placed value reference socket vs memory plain driver places is flat small port served =
+    absurd (no_vector romc VectorDriver driver plain refl)
+byte_is Port romc placed value reference socket vs memory plain driver places is flat small port served = port driver
+byte_is Cpu romc placed value reference socket vs memory plain driver places is flat small port served = rw driver places
+byte_is Nobody romc placed value reference socket vs memory plain driver places is flat small port served = rw driver (sym is)

@@ -21,11 +21,12 @@ pub record GetsBytes (i : Inputs) : Type 0 where
   pub k_high : i.k_high < 256
   pub q_high : i.q_high < 256
   pub h_high : i.h_high < 256
+  pub vector_high : i.vector_high < 256
 
-pub gets_bytes : (op : Op) (seats : List Seat) (f : FlatState) → AreInRange f.state.registers →
-    ((at : ℕ) → byte_at f.memory at < 256) → GetsBytes (gets_all op seats f)
+pub gets_bytes : (op : Op) (seats : List Seat) (chain : List ℕ) (f : FlatState) → AreInRange f.state.registers →
+    ((at : ℕ) → byte_at f.memory at < 256) → GetsBytes (gets_all op seats chain f)
 unfolding own_inputs
-gets_bytes op seats f range bytes = record {
+gets_bytes op seats chain f range bytes = record {
   low = record {
     second = bytes (places_on f.state.flow.p 2);
     k_low = range.bytes 13;
@@ -38,6 +39,7 @@ gets_bytes op seats f range bytes = record {
   k_high = range.bytes 12;
   q_high = range.bytes 14;
   h_high = range.bytes 10;
+  vector_high = omega arith;
 }
 
 -- ---- addresses

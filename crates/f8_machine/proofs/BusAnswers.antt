@@ -13,7 +13,7 @@ use Rattle.data_bus.specs.Racks.{ChosenAsks, RackSettles, RackStays}
 use Rattle.data_bus.specs.Steps.{answered, step_answer}
 use Rattle.data_bus.specs.declared.cycle.Served.{Served}
 use Rattle.data_bus.specs.declared.fault.BusFault.{BusFault}
-use Rattle.f8_machine.specs.BusSteps.{IsPlain, IsServed, IsRefused, heard_served}
+use Rattle.f8_machine.specs.BusSteps.{IsPlain, IsServedBy, IsRefusedBy, heard_served}
 use Rattle.f8_machine.specs.Faults.{fault_of}
 use Rattle.f8_machine.specs.declared.heard.Heard.{Heard}
 
@@ -45,13 +45,13 @@ answered_fault romc byte (Astray socket at reference) fault e =
     ap (λ (f : BusFault). Some (fault_of f)) (sym same)
 
 -- a step that the bus serves
-pub served_by : (step : Step) (placed : ℕ) (before after : ProbeState) (olds news : List ChipState)
+pub served_by : (first : Option ℕ) (step : Step) (placed : ℕ) (before after : ProbeState) (olds news : List ChipState)
     (earlier now : List Heard) (served : Served) →
-    Ok served ≡ step_answer (record { romc = step.romc; long = step.long; byte = placed; first = None }) before olds →
-    RackSettles step.romc step.long None served.byte olds news → after ≡ probe_after step.romc served.byte before →
+    Ok served ≡ step_answer (record { romc = step.romc; long = step.long; byte = placed; first = first }) before olds →
+    RackSettles step.romc step.long first served.byte olds news → after ≡ probe_after step.romc served.byte before →
     now ≡ earlier ++ heard_served step served.byte served.socket ∷ [] →
-    IsServed step placed before after olds news earlier now served.byte
-served_by step placed before after olds news earlier now served answer settled heard recorded = record {
+    IsServedBy first step placed before after olds news earlier now served.byte
+served_by first step placed before after olds news earlier now served answer settled heard recorded = record {
   socket = served.socket;
   verdict = answered_served _ _ _ served answer;
   driven = answered_byte _ _ _ served answer;
@@ -61,11 +61,12 @@ served_by step placed before after olds news earlier now served answer settled h
 }
 
 -- and one that it does not
-pub refused_by : (step : Step) (placed : ℕ) (before after : ProbeState) (olds news : List ChipState)
+pub refused_by : (first : Option ℕ) (step : Step) (placed : ℕ) (before after : ProbeState) (olds news : List ChipState)
     (earlier now : List Heard) (fault : BusFault) →
-    Err fault ≡ step_answer (record { romc = step.romc; long = step.long; byte = placed; first = None }) before olds →
-    RackStays olds news → after ≡ before → now ≡ earlier → IsRefused step fault before after olds news earlier now
-refused_by step placed before after olds news earlier now fault answer stays unheard recorded = record {
+    Err fault ≡ step_answer (record { romc = step.romc; long = step.long; byte = placed; first = first }) before olds →
+    RackStays olds news → after ≡ before → now ≡ earlier →
+    IsRefusedBy first step fault before after olds news earlier now
+refused_by first step placed before after olds news earlier now fault answer stays unheard recorded = record {
   verdict = answered_fault _ _ _ fault answer;
   stays = stays;
   unheard = unheard;

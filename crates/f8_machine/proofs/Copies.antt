@@ -6,7 +6,7 @@ use Rattle.f8_spec.specs.BusCodes.{Count, moved_by}
 use Rattle.f8_spec.specs.ChipState.{ChipView, after_step, has_second_counter}
 use Rattle.f8_spec.specs.BusArbitration.{Seat, seat_of, place_in, named_placed, verdict, view_verdict}
 use Rattle.f8_spec.specs.declared.instructions.Row.{Row}
-use Rattle.console_spec.specs.Processor.{Flow, Inputs, flow_after}
+use Rattle.console_spec.specs.Processor.{Flow, Inputs, counters_after}
 use Rattle.console_spec.specs.CounterCopies.{Copy, copies_after}
 use Rattle.console_spec.specs.BusAccesses.{Access}
 use Rattle.console_spec.specs.Services.{placed_copy, access_verdict}
@@ -75,7 +75,7 @@ verdict_same now last romc reference a c cs vs code place at are =
 -- ---- a step
 
 copy_more : (now : Bool → Flow → Count) (last romc byte clocks : ℕ) (c : Copy) (v : ChipView) → IsCopy now last c v →
-    IsCopy (λ second x. moved_by romc byte second (now second x)) byte c (after_step 0 (plain_step romc byte clocks) v)
+    IsCopy (λ second x. moved_by romc byte second (now second x)) byte c (after_step (plain_step romc byte clocks) v)
 copy_more now last romc byte clocks c v is = record {
   seat = seat_of-after romc byte clocks v ∙ is.seat;
   counters = counters-after romc byte clocks v
@@ -88,7 +88,7 @@ copy_more now last romc byte clocks c v is = record {
 pub copies_more : (now : Bool → Flow → Count) (last romc byte clocks : ℕ) (cs : List Copy) (vs : List ChipView) →
     AreCopies now last cs vs →
     AreCopies (λ second x. moved_by romc byte second (now second x)) byte cs
-    (map (after_step 0 (plain_step romc byte clocks)) vs)
+    (map (after_step (plain_step romc byte clocks)) vs)
 copies_more now last romc byte clocks [] [] are = tt
 copies_more now last romc byte clocks [] (v ∷ vs) are = absurd are
 copies_more now last romc byte clocks (c ∷ cs) [] are = absurd are
@@ -97,7 +97,7 @@ copies_more now last romc byte clocks (c ∷ cs) (v ∷ vs) are =
 
 -- at the end of an instruction the chips stand at the copies after it
 pub copies_end : (now : Bool → Flow → Count) (last : ℕ) (row : Row) (i : Inputs) (cs : List Copy) (vs : List ChipView) →
-    ((second : Bool) (c : Flow) → now second c ≡ fetched (flow_after row i second c)) → AreCopies now last cs vs →
+    ((second : Bool) (c : Flow) → now second c ≡ fetched (counters_after row i second c)) → AreCopies now last cs vs →
     AreCopies (λ second c. fetched c) last (copies_after row i cs) vs
 copies_end now last row i [] [] moves are = tt
 copies_end now last row i [] (v ∷ vs) moves are = absurd are

@@ -11,7 +11,7 @@ use Rattle.std.proofs.lemmas.List.{length-replicate, length-take-le}
 use Rattle.std.proofs.lemmas.List.FromFn.{length-map-range_with_len, get_or-map-range_with_len}
 use Rattle.std.proofs.lemmas.Option.{slice_get-map}
 use Rattle.f8_spec.specs.ChipState.{ChipView, ChipState, byte_in, held_byte, holds, place_of, filled_bytes, is_ram}
-use Rattle.f8_spec.specs.ChipState.{powered}
+use Rattle.f8_spec.specs.ChipState.{powered, has_fixed_vector}
 use Rattle.f8_spec.specs.BusArbitration.{seat_of}
 use Rattle.f8_spec.specs.declared.chips.Page.{Page}
 use Rattle.f8_spec.specs.declared.chips.PageSort.{PageSort}
@@ -215,11 +215,22 @@ powered_comes : (fill : ℕ) (vs : List ChipView) (k : ℕ) (w : ChipView) → s
 powered_comes fill vs k w lies = comes (powered fill (power_start fill k)) (slice_get vs k) w
     (sym (slice_get-powered_views fill vs k) ∙ lies)
 
+-- power-on leaves the seat of a chip
+fixed_twice : (is_fixed : Bool) (vector : ℕ) →
+    (if is_fixed then (if is_fixed then vector else 0) else 0) ≡ (if is_fixed then vector else 0)
+fixed_twice true vector = refl
+fixed_twice false vector = refl
+
+pub seat_of-powered : (fill start : ℕ) (v : ChipView) → seat_of (powered fill start v) ≡ seat_of v
+seat_of-powered fill start v =
+    ap (λ (n : ℕ). record (seat_of v) { vector = n }) (fixed_twice (has_fixed_vector v.kind) v.vector)
+
 -- their seats, from a socket on
 seats_from : (fill n : ℕ) (vs : List ChipView) →
     map seat_of (map (λ x. powered fill (power_start fill x.0) x.1) (enumerate_from n vs)) ≡ map seat_of vs
 seats_from fill n [] = refl
-seats_from fill n (v ∷ vs) = ap (λ ss. seat_of v ∷ ss) (seats_from fill (n + 1) vs)
+seats_from fill n (v ∷ vs) =
+    ap₂ (λ s ss. s ∷ ss) (seat_of-powered fill (power_start fill n) v) (seats_from fill (n + 1) vs)
 
 -- their seats are the same
 pub seats-powered_views : (fill : ℕ) (vs : List ChipView) → map seat_of (powered_views fill vs) ≡ map seat_of vs

@@ -1,16 +1,19 @@
 -- An instruction of a machine, from the position that it stands for to the next one.
-use Rattle.std.proofs.Common.{◌≡◌, ℕ, ◌+◌, ◌%◌, ◌<◌, Bool, true, List, [], ◌∷◌, map, length, Option, Some, None}
+use Rattle.std.proofs.Common.{◌≡◌, ℕ, ◌+◌, ◌-◌, ◌%◌, ◌<◌, ◌≤◌, Bool, true, false, List, [], ◌∷◌, map, length, Option, Some, None}
 use Rattle.std.proofs.Common.{refl, sym, ap, ◌∙◌, subst, arith}
-use Rattle.std.specs.Prelude.{IsSome, sum_by, if◌then◌else◌, slice_index, slice_set}
+use Rattle.std.specs.Prelude.{IfSome, IsSome, nat_lt, sum_by, if◌then◌else◌, slice_index, slice_set}
 use Rattle.f8_spec.specs.BusArbitration.{Seat}
 use Rattle.f8_spec.specs.ChipState.{ChipState}
-use Rattle.f8_spec.specs.Instructions.{decoded, row_of, row_clocks}
+use Rattle.f8_spec.specs.Instructions.{decoded, row_of, row_clocks, has_long_fetch, is_shielding, interrupt_clocks}
 use Rattle.f8_spec.specs.MicroSteps.{step_clocks}
 use Rattle.f8_spec.specs.declared.instructions.Op.{Op}
-use Rattle.f8_spec.specs.declared.instructions.Op.TheVariants.{Outs}
+use Rattle.f8_spec.specs.declared.instructions.Op.TheVariants.{Bf, Br7, Bt, Ins, Outs, Pi}
 use Rattle.f8_spec.specs.declared.instructions.Row.{Row}
-use Rattle.f8_spec.specs.declared.instructions.Row.TheVariants.{StoreData}
+use Rattle.f8_spec.specs.declared.instructions.Row.TheVariants.{Branch, BranchIsar, Idle, ShortIn, ShortOut, StoreData}
 use Rattle.console_spec.specs.Processor.{Flow, Registers, Inputs, is_taken, result_of, own_inputs, with_write, write_of}
+use Rattle.console_spec.specs.Processor.{vectored_by, written_port, write_at, history_of}
+use Rattle.console_spec.specs.FlatStep.{clocks_by as flat_clocks, with_acknowledged}
+use Rattle.console_spec.specs.InterruptRequests.{History}
 use Rattle.cpu3850.specs.CpuPorts.{PortBytes, put_by, with_latch}
 use Rattle.cpu3850.proofs.PortLaws.{own_ports-after_instruction}
 use Rattle.f8_machine.proofs.PortEnds.{OwnLatch, port_gets, op_write}
@@ -21,28 +24,32 @@ use Rattle.cpu3850.specs.OwnWrites.{own_ports, LeaveOwnPorts}
 use Rattle.cpu3850.specs.Reaching.{done}
 use Rattle.f8_machine.specs.PortWrites.{done_write}
 use Rattle.console_spec.specs.CounterCopies.{Copy, fetched, copies_after}
-use Rattle.console_spec.specs.FlatMachine.{FlatState, memory_after, gets, gets_all}
+use Rattle.console_spec.specs.FlatMachine.{memory_after}
 use Rattle.console_spec.specs.Services.{Fault}
 use Rattle.console_spec.specs.BusTrace.{Course}
 use Rattle.console_spec.specs.Run.{Position, goes_unless, decided, next, opcode_at, seats_of, instruction_fault}
-use Rattle.console_spec.specs.Run.{position_after, course_as, turn_course}
-use Rattle.console_spec.proofs.InputLaws.{result_of-with_opcode, flow_after-with_opcode}
+use Rattle.console_spec.specs.Run.{position_after, course_as, turn_course, gets_at, gets_all_at}
+use Rattle.console_spec.proofs.InputLaws.{result_of-with_opcode, counters_after-with_opcode}
 use Rattle.cpu3850.specs.declared.steps.Step.{Step}
 use Rattle.cpu3850.specs.CpuSteps.{CpuState, AreInRange, planned_as, planned}
 use Rattle.cpu3850.specs.Keeping.{KeptRegisters, kept_of, restored, IsRestorable}
 use Rattle.probe.specs.ProbeState.{ProbeState}
 use Rattle.data_bus.specs.declared.fault.BusFault.{BusFault}
-use Rattle.f8_machine.specs.Carrying.{HoldsInstruction, IsCarriedOut, IsCutShort}
+use Rattle.f8_machine.specs.Carrying.{HoldsInstruction, IsCarriedOut, IsCutShort, planned_before_as}
+use Rattle.f8_machine.specs.RequestsHeld.{IsSettledBy}
+use Rattle.f8_machine.specs.Vectoring.{clocks_by}
 use Rattle.f8_machine.specs.Faults.{fault_of}
 use Rattle.f8_machine.specs.MachineState.{MachineState, flow_before_fetch, outcome_again, steps_in}
-use Rattle.f8_machine.specs.Refinement.{AreAddresses, IsMemory, Represents, IsDone, IsFaulted}
+use Rattle.f8_machine.specs.Refinement.{AreAddresses, IsMemory, IsSettled, Represents, IsDone, IsFaulted}
 use Rattle.f8_machine.specs.Rounds.{heard_of}
 use Rattle.f8_machine.specs.declared.heard.Heard.{Heard}
 use Rattle.f8_machine.specs.declared.outcome.Mode.TheVariants.{Stopped}
 use Rattle.f8_machine.specs.declared.outcome.StoppedBy.{StoppedBy}
 use Rattle.f8_machine.specs.declared.outcome.StoppedBy.TheVariants.{Fault as ByFault, Reserved as ByOpcode}
 use Rattle.f8_machine.proofs.Bounds.{GetsBytes, gets_bytes}
-use Rattle.f8_machine.proofs.Rows.{clocks_listed, row_facts}
+use Rattle.f8_machine.proofs.Rows.{clocks_before_are, clocks_listed, counters_small}
+use Rattle.f8_machine.proofs.Carried.{before_planned, taken-gets}
+use Rattle.f8_machine.proofs.Settling.{settled_acknowledged, settled_later, settled_written}
 use Rattle.f8_machine.proofs.Stores.{stored_long, stored_bytes}
 
 -- ---- the opcode
@@ -68,15 +75,51 @@ course_with x code found opcode held =
 
 -- ---- clocks, counters and memory
 
-pub clocks_planned : (cpu : CpuState) (op : Op) → decoded cpu.opcode ≡ Some op →
-    sum_by (λ (step : Step). step_clocks step.long) (planned cpu) ≡ row_clocks (row_of op) (is_taken op cpu.registers)
-clocks_planned cpu op held =
+-- the clocks of the steps that are planned, with the interrupt at their end
+pub clocks_planned : (cpu : CpuState) (op : Op) (chosen : Option ℕ) → decoded cpu.opcode ≡ Some op →
+    clocks_by chosen (planned cpu) ≡ flat_clocks chosen op (is_taken op cpu.registers)
+clocks_planned cpu op None held =
     ap (λ (found : Option Op). sum_by (λ (step : Step). step_clocks step.long) (planned_as found cpu.registers)) held
     ∙ clocks_listed (row_of op) (is_taken op cpu.registers)
+clocks_planned cpu op (Some socket) held =
+    ap (λ (l : List Step). sum_by (λ (step : Step). step_clocks step.long) l + interrupt_clocks) (before_planned cpu)
+    ∙ ap (λ (found : Option Op). sum_by (λ (step : Step). step_clocks step.long)
+    (planned_before_as found cpu.registers) + interrupt_clocks) held
+    ∙ ap (λ (n : ℕ). n + interrupt_clocks) (clocks_before_are (row_of op) (is_taken op cpu.registers))
 
-own_taken : (op : Op) (seats : List Seat) (f : FlatState) → (gets op seats f).taken ≡ is_taken op f.state.registers
-unfolding own_inputs
-own_taken op seats f = refl
+-- the clocks of a row before the last fetch
+abbrev clocks_in_row : Row → Bool → ℕ
+clocks_in_row row taken = row_clocks row taken - (if has_long_fetch row then 6 else 4)
+
+-- an instruction takes 26 Φ at most, and with an interrupt at its end 46
+row_few : (row : Row) (taken : Bool) → row_clocks row taken ≤ 26
+row_few Branch true = omega arith
+row_few Branch false = omega arith
+row_few BranchIsar true = omega arith
+row_few BranchIsar false = omega arith
+row_few row taken = omega arith
+
+port_few : (own : Bool) (there here : Row) (taken : Bool) → clocks_in_row there taken ≤ 20 →
+    clocks_in_row here taken ≤ 20 → clocks_in_row (if own then there else here) taken ≤ 20
+port_few true there here taken a b = a
+port_few false there here taken a b = b
+
+before_few : (op : Op) (taken : Bool) → is_shielding op ≡ false → clocks_in_row (row_of op) taken ≤ 20
+before_few Pi taken other = cc
+before_few (Bt t) true other = omega arith
+before_few (Bt t) false other = omega arith
+before_few (Bf t) true other = omega arith
+before_few (Bf t) false other = omega arith
+before_few Br7 true other = omega arith
+before_few Br7 false other = omega arith
+before_few (Ins n) taken other = port_few (nat_lt n 2) Idle ShortIn taken (omega arith) (omega arith)
+before_few (Outs n) taken other = port_few (nat_lt n 2) Idle ShortOut taken (omega arith) (omega arith)
+before_few op taken other = omega arith
+
+pub few_clocks : (op : Op) (taken : Bool) (chosen : Option ℕ) → IfSome chosen (λ socket. is_shielding op ≡ false) →
+    flat_clocks chosen op taken ≤ 46
+few_clocks op taken None unshielded = let few = row_few (row_of op) taken in omega (arith, few)
+few_clocks op taken (Some socket) unshielded = let few = before_few op taken unshielded in omega (arith, few)
 
 -- the counters, from the probe's
 pub flow_before_fetch-fetched : (c : Flow) → AreAddresses c → flow_before_fetch (fetched c) ≡ c
@@ -98,21 +141,20 @@ seats_after : (row : Row) (i : Inputs) (cs : List Copy) → seats_of (copies_aft
 seats_after row i [] = refl
 seats_after row i (c ∷ cs) = ap (λ (ss : List Seat). c.seat ∷ ss) (seats_after row i cs)
 
-own_accumulator : (op : Op) (seats : List Seat) (f : FlatState) →
-    (gets_all op seats f).accumulator ≡ f.state.registers.accumulator
+own_accumulator : (op : Op) (x : Position) → (gets_all_at op x).accumulator ≡ x.flat.state.registers.accumulator
 unfolding own_inputs
-own_accumulator op seats f = refl
+own_accumulator op x = refl
 
 -- the ports of the processor's own are the flat machine's
 own_done : (op : Op) (x : Position) (start cpu : CpuState) → start.ports ≡ own_ports x.flat.state →
     LeaveOwnPorts (seats_of x.copies) →
-    cpu ≡ done op (gets_all op (seats_of x.copies) x.flat) start →
+    cpu.ports ≡ (done op (gets_all_at op x) start).ports →
     cpu.ports ≡ own_ports (position_after op x).flat.state
 own_done op x start cpu own free is =
-    ap (λ (k : CpuState). k.ports) is
-    ∙ ap (λ (n : ℕ). put_by op n start.ports) (own_accumulator op (seats_of x.copies) x.flat)
+    is
+    ∙ ap (λ (n : ℕ). put_by op n start.ports) (own_accumulator op x)
     ∙ ap (put_by op x.flat.state.registers.accumulator) own
-    ∙ sym (own_ports-after_instruction op x.flat.memory (seats_of x.copies) x.flat.state free)
+    ∙ sym (own_ports-after_instruction op x.flat.memory (seats_of x.copies) x.chain x.flat.state free)
 
 -- `OUTS` of port 0 or 1 leaves the accumulator in its latch
 own_latch : (op : Op) (accumulator : ℕ) (p : PortBytes) (latches : List ℕ) →
@@ -134,58 +176,89 @@ write_as_told told found op phi latches own steps steps_told e held same same_st
     ∙ ap (λ (l : List ℕ). done_write (Some op) phi l steps) same ∙ ap (done_write (Some op) phi own) same_steps
 
 -- the write that is told is the flat machine's
-written_done : (op : Op) (x : Position) (start cpu : CpuState) (steps : List Heard) (wrote : Option PortWrite)
-    (phi : ℕ) → phi ≡ (position_after op x).flat.state.phi → start.ports ≡ own_ports x.flat.state →
-    {probe : ProbeState} {news : List ChipState} → IsCarriedOut start cpu probe news steps op x →
+written_done : (op : Op) (x : Position) (start cpu : CpuState) (steps : List Heard) (chosen : Option ℕ)
+    (wrote : Option PortWrite) (phi : ℕ) → phi ≡ (position_after op x).flat.state.phi → start.ports ≡ own_ports x.flat.state →
+    {probe : ProbeState} {news : List ChipState} → IsCarriedOut start cpu probe news steps chosen op x →
     wrote ≡ done_write (Some op) phi cpu.ports.latches steps →
     (position_after op x).flat.state.writes ≡ with_write wrote x.flat.state.writes
-written_done op x start cpu steps wrote phi spent own carried told =
+written_done op x start cpu steps chosen wrote phi spent own carried told =
     let seats = seats_of x.copies in
-    let i = gets_all op seats x.flat in
+    let i = gets_all_at op x in
     let latch : OwnLatch op i.accumulator cpu.ports.latches =
     own_latch op i.accumulator start.ports cpu.ports.latches (ap (λ (k : CpuState). k.ports.latches) carried.processor)
     (ap (λ (p : PortBytes). length p.latches) own) in
     ap (λ (o : Option PortWrite). with_write o x.flat.state.writes) (sym (told
     ∙ ap (done_write (Some op) phi cpu.ports.latches) carried.recorded
     ∙ op_write op i x.flat.state.flow x.copies phi cpu.ports.latches carried.so_far
-    (port_gets op seats x.flat) latch carried.trace
+    (port_gets op seats x.chain x.flat) latch carried.trace
     ∙ ap (write_of op i seats) spent))
 
 pub holds_of : (m : MachineState) (states : List ChipState) (op : Op) (x : Position) → decoded m.cpu.opcode ≡ Some op →
-    AreInRange m.cpu.registers →
-    Represents m states x → HoldsInstruction m.cpu m.probe states op x
-holds_of m states op x held range r = record { instruction = held; range = range; holds = r.stands.holds }
+    m.cpu.opcode < 256 → AreInRange m.cpu.registers →
+    Represents m states x → HoldsInstruction m.cpu m.probe states m.chain op x
+holds_of m states op x held small range r = record {
+  instruction = held;
+  byte = small;
+  range = range;
+  holds = r.stands.holds;
+  chain_is = r.stands.chain;
+}
+
+-- the last write and the last acknowledgement lie 4 Φ before the end
+settled_write : (written : Option ℕ) (phi byte : ℕ) (h : History) → IsSettledBy (phi - 4) h →
+    IsSettledBy (phi - 4) (record h { writes = with_write (write_at phi byte written) h.writes })
+settled_write None phi byte h is = is
+settled_write (Some port) phi byte h is =
+    settled_written (record { phi = phi; port = port; byte = byte }) (phi - 4) h (omega arith) is
+
+settled_mark : (chosen : Option ℕ) (phi : ℕ) (h : History) → IsSettledBy (phi - 4) h →
+    IsSettledBy (phi - 4) (record h { acknowledged = with_acknowledged chosen phi h.acknowledged })
+settled_mark None phi h is = is
+settled_mark (Some socket) phi h is = settled_acknowledged socket (phi - 4) (phi - 4) h (omega arith) is
+
+settled_done : (op : Op) (x : Position) → IsSettled x.flat.state → IsSettled (position_after op x).flat.state
+settled_done op x is =
+    let phi = (position_after op x).flat.state.phi in
+    let begun = is.begun in
+    record {
+      begun = omega arith;
+      back = settled_mark (gets_at op x).chosen phi _
+          (settled_write (written_port op (gets_at op x).operand (seats_of x.copies)) phi (gets_at op x).accumulator _
+          (settled_later (x.flat.state.phi - 4) (phi - 4) (history_of x.flat.state) (omega arith) is.back));
+    }
 
 module _ (m : MachineState) (states news : List ChipState) (op : Op) (x : Position)
     (held : decoded m.cpu.opcode ≡ Some op) (r : Represents m states x) where
   pub done_of : (cpu : CpuState) (probe : ProbeState) (flow : Flow) (clocks : ℕ) (wrote : Option PortWrite)
-      (steps : List Heard) → AreInRange m.cpu.registers →
-      IsCarriedOut m.cpu cpu probe news steps op x → flow ≡ flow_before_fetch probe.count →
-      clocks ≡ row_clocks (row_of op) (is_taken op m.cpu.registers) →
+      (steps : List Heard) (chosen : Option ℕ) → AreInRange m.cpu.registers →
+      IsCarriedOut m.cpu cpu probe news steps chosen op x → flow ≡ flow_before_fetch probe.count →
+      clocks ≡ flat_clocks chosen op (is_taken op m.cpu.registers) →
       wrote ≡ done_write (Some op) (m.phi + clocks) cpu.ports.latches steps →
       IsDone (record m { probe = probe; cpu = cpu; flow = flow; phi = m.phi + clocks }) news (next x)
       (turn_course x) x.flat.state.writes wrote steps
-  done_of cpu probe flow clocks wrote steps range carried moved spent told =
+  done_of cpu probe flow clocks wrote steps chosen range carried moved spent told =
       let there = r.stands.holds in
       let seats = seats_of x.copies in
-      let i = gets_all op seats x.flat in
+      let i = gets_all_at op x in
       let y = position_after op x in
       let registers_in_range : AreInRange x.flat.state.registers = subst AreInRange there.registers range in
-      let bytes : GetsBytes i = gets_bytes op seats x.flat registers_in_range there.memory.bytes in
+      let bytes : GetsBytes i = gets_bytes op seats x.chain x.flat registers_in_range there.memory.bytes in
       let small : AreAddresses y.flat.state.flow =
-      subst AreAddresses (flow_after-with_opcode (row_of op) i.opcode (gets op seats x.flat) true x.flat.state.flow)
-      ((row_facts (row_of op)).flow i true x.flat.state.flow bytes there.addresses) in
+      subst AreAddresses (counters_after-with_opcode (row_of op) i.opcode (gets_at op x) true x.flat.state.flow)
+      (counters_small (row_of op) i true x.flat.state.flow bytes there.addresses) in
       let same_flow : flow ≡ y.flat.state.flow =
       moved ∙ ap flow_before_fetch carried.rack.reference ∙ flow_before_fetch-fetched y.flat.state.flow small in
       let same_registers : cpu.registers ≡ y.flat.state.registers =
       ap (λ (k : CpuState). k.registers) carried.processor
-      ∙ ap (λ (regs : Registers). result_of op i regs) there.registers
-      ∙ result_of-with_opcode op i.opcode (gets op seats x.flat) x.flat.state.registers in
+      ∙ ap (λ (o : Option ℕ). vectored_by o (result_of op i m.cpu.registers)) carried.chosen_is
+      ∙ ap (λ (regs : Registers). vectored_by i.chosen (result_of op i regs)) there.registers
+      ∙ ap (vectored_by i.chosen) (result_of-with_opcode op i.opcode (gets_at op x) x.flat.state.registers) in
       let same_clocks : m.phi + clocks ≡ y.flat.state.phi =
       ap (λ (n : ℕ). n + clocks) r.stands.phi
       ∙ ap (λ (n : ℕ). x.flat.state.phi + n) (spent
-      ∙ ap (λ (regs : Registers). row_clocks (row_of op) (is_taken op regs)) there.registers
-      ∙ ap (row_clocks (row_of op)) (sym (own_taken op seats x.flat))) in
+      ∙ ap (λ (o : Option ℕ). flat_clocks o op (is_taken op m.cpu.registers)) carried.chosen_is
+      ∙ ap (λ (regs : Registers). flat_clocks i.chosen op (is_taken op regs)) there.registers
+      ∙ ap (flat_clocks i.chosen op) (sym (taken-gets op x))) in
       let trace = course_with x m.cpu.opcode (Some op) r.opcode held ∙ carried.trace in
       record {
         after = y;
@@ -195,11 +268,11 @@ module _ (m : MachineState) (states news : List ChipState) (op : Op) (x : Positi
           stands = record {
             holds = record {
               registers = same_registers;
-              own = own_done op x m.cpu cpu there.own there.free carried.processor;
+              own = own_done op x m.cpu cpu there.own there.free (ap (λ (k : CpuState). k.ports) carried.processor);
               rack = carried.rack;
-              free = subst LeaveOwnPorts (sym (seats_after (row_of op) (gets op seats x.flat) x.copies)) there.free;
+              free = subst LeaveOwnPorts (sym (seats_after (row_of op) (gets_at op x) x.copies)) there.free;
               memory = stored_memory (row_of op) seats
-                  (gets op seats x.flat) x.flat.state.flow x.flat.memory bytes.accumulator there.memory;
+                  (gets_at op x) x.flat.state.flow x.flat.memory bytes.accumulator there.memory;
               addresses = small;
             };
             flow = same_flow;
@@ -207,10 +280,11 @@ module _ (m : MachineState) (states news : List ChipState) (op : Op) (x : Positi
             chain = r.stands.chain;
             keys = r.stands.keys;
           };
+          settled = settled_done op x r.settled;
           opcode = ap (λ (k : CpuState). k.opcode) carried.processor;
           running = r.running;
         };
-        written = written_done op x m.cpu cpu steps wrote (m.phi + clocks) same_clocks there.own carried told;
+        written = written_done op x m.cpu cpu steps chosen wrote (m.phi + clocks) same_clocks there.own carried told;
         trace = trace ∙ ap (λ (c : Course). record { steps = c.steps; fault = None }) (sym trace);
         recorded = carried.recorded ∙ ap (λ (c : Course). map heard_of c.steps) (sym trace);
       }
@@ -236,17 +310,18 @@ module _ (m : MachineState) (states news : List ChipState) (op : Op) (x : Positi
 
 pub done_from : (m k : MachineState) → k ≡ m → (states news : List ChipState) (op : Op) (x : Position) →
     decoded k.cpu.opcode ≡ Some op → Represents m states x →
-    (cpu : CpuState) (probe : ProbeState) (flow : Flow) (clocks : ℕ) (wrote : Option PortWrite) (steps : List Heard) →
-    AreInRange k.cpu.registers →
-    (HoldsInstruction k.cpu k.probe states op x → IsCarriedOut k.cpu cpu probe news steps op x) →
-    flow ≡ flow_before_fetch probe.count → clocks ≡ row_clocks (row_of op) (is_taken op k.cpu.registers) →
+    (cpu : CpuState) (probe : ProbeState) (flow : Flow) (clocks : ℕ) (wrote : Option PortWrite) (steps : List Heard)
+    (chosen : Option ℕ) → k.cpu.opcode < 256 → AreInRange k.cpu.registers →
+    (HoldsInstruction k.cpu k.probe states k.chain op x → IsCarriedOut k.cpu cpu probe news steps chosen op x) →
+    flow ≡ flow_before_fetch probe.count → clocks ≡ flat_clocks chosen op (is_taken op k.cpu.registers) →
     wrote ≡ done_write (Some op) (k.phi + clocks) cpu.ports.latches steps →
     IsDone (record k { probe = probe; cpu = cpu; flow = flow; phi = k.phi + clocks }) news (next x)
     (turn_course x) x.flat.state.writes wrote steps
-done_from m k same states news op x held r cpu probe flow clocks wrote steps range carried moved spent told =
+done_from m k same states news op x held r cpu probe flow clocks wrote steps chosen small range carried moved spent
+    told =
     let there : Represents k states x = subst (λ (y : MachineState). Represents y states x) (sym same) r in
-    done_of k states news op x held there cpu probe flow clocks wrote steps range
-    (carried (holds_of k states op x held range there)) moved spent told
+    done_of k states news op x held there cpu probe flow clocks wrote steps chosen range
+    (carried (holds_of k states op x held small range there)) moved spent told
 
 -- what was kept is put back
 restored_same : (start cpu now : CpuState) (kept : KeptRegisters) → kept ≡ kept_of start → now ≡ restored kept cpu →
@@ -257,12 +332,12 @@ restored_same start cpu now kept kept_is now_is restorable =
 pub faulted_from : (m k : MachineState) → k ≡ m → (states : List ChipState) (op : Op) (x : Position) →
     decoded k.cpu.opcode ≡ Some op → Represents m states x →
     (cpu now : CpuState) (probe : ProbeState) (kept : KeptRegisters) (fault : BusFault) (why : StoppedBy) (long : Bool)
-    (steps : List Heard) → AreInRange k.cpu.registers →
-    (HoldsInstruction k.cpu k.probe states op x → IsCutShort steps fault long op x) → kept ≡ kept_of k.cpu →
+    (steps : List Heard) → k.cpu.opcode < 256 → AreInRange k.cpu.registers →
+    (HoldsInstruction k.cpu k.probe states k.chain op x → IsCutShort steps fault long op x) → kept ≡ kept_of k.cpu →
     now ≡ restored kept cpu → IsRestorable k.cpu cpu → why ≡ ByFault fault long →
     IsFaulted m (record k { probe = probe; cpu = now; mode = Stopped why }) (next x) (turn_course x) fault long steps
-faulted_from m k same states op x held r cpu now probe kept fault why long steps range cut kept_is now_is restorable
-    stopped =
+faulted_from m k same states op x held r cpu now probe kept fault why long steps small range cut kept_is now_is
+    restorable stopped =
     let there : Represents k states x = subst (λ (y : MachineState). Represents y states x) (sym same) r in
     let after : MachineState = record k { probe = probe; cpu = now; mode = Stopped why } in
     let put_back : after ≡ record k { probe = probe; mode = Stopped (ByFault fault long) } =
@@ -271,7 +346,7 @@ faulted_from m k same states op x held r cpu now probe kept fault why long steps
     ∙ ap (λ (h : StoppedBy). record k { probe = probe; mode = Stopped h }) stopped in
     subst (λ (y : MachineState). IsFaulted y after (next x) (turn_course x) fault long steps) same
     (faulted_of k states states op x held there after fault long steps
-    (cut (holds_of k states op x held range there)) put_back)
+    (cut (holds_of k states op x held small range there)) put_back)
 
 -- a stopped machine tells no step
 pub no_steps : (why : StoppedBy) → steps_in (outcome_again why) ≡ []

@@ -11,7 +11,7 @@ use Rattle.f8_spec.specs.BusArbitration.{Seat, seat_of, seat_has_port, seat_has_
 use Rattle.f8_spec.specs.ChipState.{ChipView, ChipState, data_port, port_role, role_at, offset_from, latch_place}
 use Rattle.f8_spec.specs.ChipState.{keyed_at, keyed, holds, byte_in}
 use Rattle.console_spec.specs.AddressSpace.{byte_at}
-use Rattle.console_spec.specs.Processor.{Flow, State, with_key}
+use Rattle.console_spec.specs.Processor.{Flow, State, with_key, history_of}
 use Rattle.console_spec.specs.CounterCopies.{Copy}
 use Rattle.console_spec.specs.Run.{Position, seats_of}
 use Rattle.console_spec.specs.declared.Event.TheVariants.{Keys}
@@ -26,12 +26,14 @@ use Rattle.data_bus.specs.Racks.{NumberedZip, views}
 use Rattle.f8_machine.specs.RackViews.{AreCopies, HeldOnce, HoldsFlat, ReadOnce, IsPort, HoldsPorts}
 use Rattle.f8_machine.specs.Keying.{is_own, KeysInSocket, RackTakesKeys, RackKeyedBy, RackKeyed, keyed_machine}
 use Rattle.f8_machine.specs.MachineState.{MachineState}
+use Rattle.f8_machine.specs.RequestsHeld.{IsInTime}
 use Rattle.f8_machine.specs.Refinement.{Stands, Represents, IsPowered}
 use Rattle.f8_machine.proofs.Copies.{seats_same}
 use Rattle.f8_machine.proofs.Holding.{holds_flat_by}
 use Rattle.f8_machine.proofs.Kept.{Comes, comes}
 use Rattle.f8_machine.proofs.PortEnds.{free_of}
 use Rattle.f8_machine.proofs.PortSteps.{behind, apart_by, counts_one, has_port}
+use Rattle.f8_machine.proofs.RequestEvents.{in_time_keyed}
 
 -- ---- what a key byte leaves of a chip
 
@@ -223,6 +225,8 @@ module _ (now : Flow → Count) (m : MachineState) (olds news : List ChipState) 
             ports = subst (λ (ws : List ChipView). HoldsPorts
                 (slice_set x.flat.state.keys port byte) x.flat.state.writes ws) (sym vs)
                 (ports_own x.flat.state.keys x.flat.state.writes port byte (views olds) none there.rack.ports);
+            in_time = subst (λ (ws : List ChipView). IsInTime x.flat.state.phi (history_of x.flat.state) ws) (sym vs)
+                there.rack.in_time;
           };
           free = there.free;
           memory = there.memory;
@@ -251,6 +255,8 @@ module _ (now : Flow → Count) (m : MachineState) (olds news : List ChipState) 
             ports = subst (λ (ws : List ChipView). HoldsPorts
                 (slice_set x.flat.state.keys port byte) x.flat.state.writes ws) (sym vs)
                 (ports_keyed x.flat.state.keys x.flat.state.writes port byte (views olds) within there.rack.ports);
+            in_time = subst (λ (ws : List ChipView). IsInTime x.flat.state.phi (history_of x.flat.state) ws) (sym vs)
+                (in_time_keyed port byte x.flat.state.phi (history_of x.flat.state) (views olds) there.rack.in_time);
           };
           free = there.free;
           memory = there.memory;
@@ -283,6 +289,7 @@ pub represents_keyed : (m after : MachineState) (olds news : List ChipState) (x 
 represents_keyed m after olds news x port byte small is all r =
     subst (λ (k : MachineState). Represents k news (with_event (Keys port byte) x)) (sym is) (record {
       stands = stands_keyed _ m olds news x port byte small r.stands all;
+      settled = record { begun = r.settled.begun; back = r.settled.back };
       opcode = opcode_keyed (is_own port) (with_own_key port byte m.cpu.ports) m ∙ r.opcode;
       running = mode_keyed (is_own port) (with_own_key port byte m.cpu.ports) m ∙ r.running;
     })
@@ -293,6 +300,8 @@ pub powered_keyed : (m after : MachineState) (olds news : List ChipState) (x : P
 powered_keyed m after olds news x port byte small is all p =
     subst (λ (k : MachineState). IsPowered k news (with_event (Keys port byte) x)) (sym is) (record {
       stands = stands_keyed _ m olds news x port byte small p.stands all;
+      unwritten = p.unwritten;
+      unacknowledged = p.unacknowledged;
       at_zero = p.at_zero;
       copies_at_zero = p.copies_at_zero;
       powered = mode_keyed (is_own port) (with_own_key port byte m.cpu.ports) m ∙ p.powered;

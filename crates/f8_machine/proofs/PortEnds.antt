@@ -6,14 +6,13 @@ use Rattle.std.proofs.lemmas.Bool.{ltb-true}
 use Rattle.f8_spec.specs.BusArbitration.{Seat, seat_of, seat_has_port}
 use Rattle.f8_spec.specs.ChipState.{ChipView, data_port, port_role}
 use Rattle.f8_spec.specs.Instructions.{row_of}
-use Rattle.f8_spec.specs.MicroSteps.{steps_of}
 use Rattle.f8_spec.specs.declared.instructions.Op.{Op}
 use Rattle.f8_spec.specs.declared.instructions.Op.TheVariants.{Ins, Outs}
 use Rattle.f8_spec.specs.declared.instructions.Row.TheVariants.{Idle, ShortIn, ShortOut}
 use Rattle.console_spec.specs.FlatMachine.{FlatState, gets_all}
 use Rattle.console_spec.specs.Processor.{Flow, Inputs, if_taken, write_at, write_of, with_write, port_field, own_inputs}
 use Rattle.console_spec.specs.BusAccesses.{accesses_before_fetch, last_access}
-use Rattle.console_spec.specs.BusTrace.{TracedStep, course_of}
+use Rattle.console_spec.specs.BusTrace.{TracedStep, course_of, steps_with}
 use Rattle.console_spec.specs.CounterCopies.{Copy}
 use Rattle.console_spec.specs.Run.{seats_of}
 use Rattle.console_spec.specs.Writes.{latch_of, takers}
@@ -27,9 +26,10 @@ use Rattle.f8_machine.proofs.PortValues.{bus_port}
 use Rattle.f8_machine.proofs.Rows.{row_facts}
 
 -- the number of its port
-pub port_gets : (op : Op) (seats : List Seat) (f : FlatState) → (gets_all op seats f).port ≡ port_field op
+pub port_gets : (op : Op) (seats : List Seat) (chain : List ℕ) (f : FlatState) →
+    (gets_all op seats chain f).port ≡ port_field op
 unfolding own_inputs
-port_gets op seats f = refl
+port_gets op seats chain f = refl
 
 -- no chip has the processor's own ports
 pub free_of : (n : ℕ) (seats : List Seat) → LeaveOwnPorts seats → nat_lt n 2 ≡ true → takers n seats ≡ 0
@@ -107,7 +107,7 @@ outs_done false n i seats phi latches found port latch e =
 
 pub op_write : (op : Op) (i : Inputs) (c : Flow) (copies : List Copy) (phi : ℕ) (latches : List ℕ)
     (so_far : List TracedStep) → i.port ≡ port_field op → OwnLatch op i.accumulator latches →
-    course_of i c copies (steps_of (row_of op) i.taken)
+    course_of i c copies (steps_with (row_of op) i)
     (accesses_before_fetch (row_of op) i ++ last_access (row_of op) i ∷ [])
     ≡ record { steps = so_far; fault = None } →
     done_write (Some op) phi latches (map heard_of so_far) ≡ write_of op i (seats_of copies) phi

@@ -11,7 +11,7 @@ use Rattle.std.proofs.lemmas.Option.{slice_get-map}
 use Rattle.f8_spec.specs.BusCodes.{Count}
 use Rattle.f8_spec.specs.ChipState.{ChipView, PortRole, DataPort, VectorHigh, VectorLow, ControlPort, TimerPort}
 use Rattle.f8_spec.specs.ChipState.{has_ram_at, bytes_with, stored, has_data_ports, clear_data_ports, data_port}
-use Rattle.f8_spec.specs.ChipState.{port_role, role_at, offset_from, latch_place, port_written_if, effect, after_step}
+use Rattle.f8_spec.specs.ChipState.{port_role, role_at, offset_from, latch_place, port_written_if, effect, after_step, timer_passed}
 use Rattle.f8_spec.specs.BusArbitration.{Seat, Served, seat_of, seat_has_port, seat_has_data_port, parties}
 use Rattle.f8_spec.specs.BusArbitration.{port_write_verdict, view_verdict}
 use Rattle.f8_spec.specs.declared.bus.BusRule.TheVariants.{PortWrite as WriteRule}
@@ -35,7 +35,7 @@ use Rattle.f8_machine.proofs.Slots.{plain_step, seat_of-after}
 
 module _ (romc byte clocks : ℕ) (vs : List ChipView) where
   abbrev step : ChipView → ChipView
-  step v = after_step 0 (plain_step romc byte clocks) v
+  step v = after_step (plain_step romc byte clocks) v
 
   read_once_back : (port place : ℕ) → ReadOnce (map step vs) port place → ReadOnce vs port place
   read_once_back port place once j v lies has =
@@ -71,7 +71,8 @@ effect_leaves romc byte v other = rw other (by (romc == 0x05) (romc == 0x13))
     stored_leaves true = record { latches = refl; key_bytes = refl }
     stored_leaves false = record { latches = refl; key_bytes = refl }
 
-    by : (store ends : Bool) → LeavesPorts v (if store then stored v.counters.dc0 byte v else if ends then v else v)
+    by : (store ends : Bool) → LeavesPorts v
+        (if store then stored v.counters.dc0 byte v else if ends then record v { request = v.request } else v)
     by true ends = stored_leaves (has_ram_at v v.counters.dc0)
     by false true = record { latches = refl; key_bytes = refl }
     by false false = record { latches = refl; key_bytes = refl }
@@ -88,10 +89,10 @@ is_port_left keys writes port latch old new latches key_bytes is = record {
 
 ports_stay : (romc byte clocks : ℕ) (vs : List ChipView) (keys : List ℕ) (writes : List PortWrite) →
     (romc == 0x1A) ≡ false → HoldsPorts keys writes vs →
-    HoldsPorts keys writes (map (after_step 0 (plain_step romc byte clocks)) vs)
+    HoldsPorts keys writes (map (after_step (plain_step romc byte clocks)) vs)
 ports_stay romc byte clocks vs keys writes other holds = ports_by romc byte clocks vs keys writes writes holds
-    (λ place v port latch lies found is. let left = effect_leaves romc byte v other in
-    is_port_left keys writes port latch v (after_step 0 (plain_step romc byte clocks) v) left.latches left.key_bytes
+    (λ place v port latch lies found is. let left = effect_leaves romc byte (timer_passed clocks v) other in
+    is_port_left keys writes port latch v (after_step (plain_step romc byte clocks) v) left.latches left.key_bytes
     is)
 
 -- ---- a port write
@@ -246,7 +247,7 @@ module _ (byte clocks phi last : ℕ) (vs : List ChipView) (heard : (k : ℕ) (v
     v.last ≡ last) (socket : Option ℕ) (reference : ℕ)
     (served : view_verdict 0x1A None reference (enumerate_from 0 vs) ≡ Served socket) where
   -- a port that a chip has, one has
-  one_takes : (k : ℕ) (v : ChipView) → slice_get vs k ≡ Some v → seat_has_port (seat_of v) last ≡ true →
+  pub one_takes : (k : ℕ) (v : ChipView) → slice_get vs k ≡ Some v → seat_has_port (seat_of v) last ≡ true →
       (takers last (map seat_of vs) == 1) ≡ true
   one_takes k v lies has =
       let count = parties_count WriteRule 0x1A (λ s. seat_has_port s last) 0 vs
@@ -261,14 +262,15 @@ module _ (byte clocks phi last : ℕ) (vs : List ChipView) (heard : (k : ℕ) (v
   written_here : (keys : List ℕ) (writes : List PortWrite) (k : ℕ) (v : ChipView) (latch : ℕ) →
       slice_get vs k ≡ Some v → data_port v last ≡ Some latch → IsPort keys writes last latch v →
       IsPort keys (with_write (write_at phi byte (if_taken last (map seat_of vs))) writes) last latch
-      (after_step 0 (plain_step 0x1A byte clocks) v)
+      (after_step (plain_step 0x1A byte clocks) v)
   written_here keys writes k v latch lies found is =
       let role : port_role v v.last ≡ Some (DataPort latch) =
       role_of (port_role v v.last) latch (ap (data_port v) (heard k v lies) ∙ found) in
-      let latches : (port_written_if (port_role v v.last) byte v).latches ≡ slice_set v.latches latch byte =
-      ap (λ (r : Option PortRole). (port_written_if r byte v).latches) role in
-      let key_bytes : (port_written_if (port_role v v.last) byte v).key_bytes ≡ v.key_bytes =
-      ap (λ (r : Option PortRole). (port_written_if r byte v).key_bytes) role in
+      let timed : ChipView = timer_passed clocks v in
+      let latches : (port_written_if (port_role v v.last) byte timed).latches ≡ slice_set v.latches latch byte =
+      ap (λ (r : Option PortRole). (port_written_if r byte timed).latches) role in
+      let key_bytes : (port_written_if (port_role v v.last) byte timed).key_bytes ≡ v.key_bytes =
+      ap (λ (r : Option PortRole). (port_written_if r byte timed).key_bytes) role in
       let one : (takers last (map seat_of vs) == 1) ≡ true =
       one_takes k v lies (has_port (port_role v last) latch found) in
       let now : latch_of last (with_write (write_at phi byte (if_taken last (map seat_of vs))) writes) ≡ byte =
@@ -286,10 +288,11 @@ module _ (byte clocks phi last : ℕ) (vs : List ChipView) (heard : (k : ℕ) (v
       slice_get vs k ≡ Some v → (last == port) ≡ false → data_port v port ≡ Some latch →
       IsPort keys writes port latch v →
       IsPort keys (with_write (write_at phi byte (if_taken last (map seat_of vs))) writes) port latch
-      (after_step 0 (plain_step 0x1A byte clocks) v)
+      (after_step (plain_step 0x1A byte clocks) v)
   written_other keys writes k v port latch lies other found is =
-      let left : LeavesLatch latch v (port_written_if (port_role v v.last) byte v) =
-      leaves_latch (port_role v v.last) latch byte v apart in
+      let timed : ChipView = timer_passed clocks v in
+      let left : LeavesLatch latch timed (port_written_if (port_role v v.last) byte timed) =
+      leaves_latch (port_role v v.last) latch byte timed apart in
       record {
         latches = subst (λ (n : ℕ). latch < n) (sym left.count) is.latches;
         key_bytes = subst (λ (l : List ℕ). latch < length l) (sym left.key_bytes) is.key_bytes;
@@ -311,26 +314,26 @@ module _ (byte clocks phi last : ℕ) (vs : List ChipView) (heard : (k : ℕ) (v
 
   ports_written : (keys : List ℕ) (writes : List PortWrite) → HoldsPorts keys writes vs →
       HoldsPorts keys (with_write (write_at phi byte (if_taken last (map seat_of vs))) writes)
-      (map (after_step 0 (plain_step 0x1A byte clocks)) vs)
+      (map (after_step (plain_step 0x1A byte clocks)) vs)
   ports_written keys writes holds = ports_by 0x1A byte clocks vs keys writes _ holds by
     where
       by : (place : ℕ) (v : ChipView) (port latch : ℕ) → slice_get vs place ≡ Some v → data_port v port ≡ Some latch →
           IsPort keys writes port latch v →
           IsPort keys (with_write (write_at phi byte (if_taken last (map seat_of vs))) writes) port latch
-          (after_step 0 (plain_step 0x1A byte clocks) v)
+          (after_step (plain_step 0x1A byte clocks) v)
       by place v port latch lies found is = at (last == port) refl
         where
           at : (here : Bool) → (last == port) ≡ here →
               IsPort keys (with_write (write_at phi byte (if_taken last (map seat_of vs))) writes) port latch
-              (after_step 0 (plain_step 0x1A byte clocks) v)
+              (after_step (plain_step 0x1A byte clocks) v)
           at true here =
               let same : last ≡ port = eqb-true last port here in
               let goes : (p : ℕ) → last ≡ p → data_port v p ≡ Some latch → IsPort keys writes p latch v →
               IsPort keys (with_write (write_at phi byte (if_taken last (map seat_of vs))) writes) p latch
-              (after_step 0 (plain_step 0x1A byte clocks) v) =
+              (after_step (plain_step 0x1A byte clocks) v) =
               λ p e d i. subst (λ (q : ℕ). IsPort keys
               (with_write (write_at phi byte (if_taken last (map seat_of vs))) writes) q latch
-              (after_step 0 (plain_step 0x1A byte clocks) v)) e
+              (after_step (plain_step 0x1A byte clocks) v)) e
               (written_here keys writes place v latch lies (ap (data_port v) e ∙ d)
               (subst (λ (q : ℕ). IsPort keys writes q latch v) (sym e) i)) in
               goes port same found is
@@ -343,12 +346,12 @@ pub ports_more : (romc byte clocks phi reference : ℕ) (now : Bool → Flow →
     AreCopies now last cs vs → HoldsPorts keys writes vs →
     view_verdict romc None reference (enumerate_from 0 vs) ≡ Served socket →
     HoldsPorts keys (writes_by romc (seats_of cs) phi last byte writes)
-    (map (after_step 0 (plain_step romc byte clocks)) vs)
+    (map (after_step (plain_step romc byte clocks)) vs)
 ports_more romc byte clocks phi reference now last socket cs vs keys writes copies holds served = by (romc == 0x1A) refl
   where
     by : (put : Bool) → (romc == 0x1A) ≡ put →
         HoldsPorts keys (if put then with_write (write_at phi byte (if_taken last (seats_of cs))) writes else writes)
-        (map (after_step 0 (plain_step romc byte clocks)) vs)
+        (map (after_step (plain_step romc byte clocks)) vs)
     by true is =
         let code : romc ≡ 0x1A = eqb-true romc 0x1A is in
         let there : view_verdict 0x1A None reference (enumerate_from 0 vs) ≡ Served socket =
@@ -357,7 +360,7 @@ ports_more romc byte clocks phi reference now last socket cs vs keys writes copi
         (all_heard now last cs vs copies) socket reference there keys writes holds in
         let seated = subst (λ (ss : List Seat). HoldsPorts keys
         (with_write (write_at phi byte (if_taken last ss)) writes)
-        (map (after_step 0 (plain_step 0x1A byte clocks)) vs)) (seats_same now last cs vs copies) done in
+        (map (after_step (plain_step 0x1A byte clocks)) vs)) (seats_same now last cs vs copies) done in
         subst (λ (k : ℕ). HoldsPorts keys (with_write (write_at phi byte (if_taken last (seats_of cs))) writes)
-        (map (after_step 0 (plain_step k byte clocks)) vs)) (sym code) seated
+        (map (after_step (plain_step k byte clocks)) vs)) (sym code) seated
     by false other = ports_stay romc byte clocks vs keys writes other holds

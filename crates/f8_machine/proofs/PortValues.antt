@@ -1,5 +1,5 @@
 -- Along the bus steps of an instruction the byte that a port gives is the flat machine's, and the writes become the flat machine's.
-use Rattle.std.proofs.Common.{◌≡◌, ℕ, Bool, true, false, List, [], ◌∷◌, Option, None, refl, ap, ◌∙◌}
+use Rattle.std.proofs.Common.{◌≡◌, ℕ, Bool, true, false, List, [], ◌∷◌, ◌++◌, Option, None, refl, ap, ◌∙◌}
 use Rattle.std.specs.Prelude.{◌==◌, nat_lt, if◌then◌else◌}
 use Rattle.std.specs.List.{list_all}
 use Rattle.f8_spec.specs.BusCodes.{driver_of}
@@ -16,6 +16,7 @@ use Rattle.console_spec.specs.FlatMachine.{FlatState, gets_all}
 use Rattle.console_spec.specs.Processor.{Inputs, byte_of, if_taken, write_at, with_write, own_inputs}
 use Rattle.console_spec.specs.Writes.{chip_port_byte}
 use Rattle.console_spec.specs.declared.PortWrite.{PortWrite}
+use Rattle.f8_machine.proofs.Places.{last_along}
 use Rattle.f8_machine.proofs.StepTests.{both_true, is_port, is_portless, writes_no_port, reads_no_port}
 
 -- ---- the writes along the steps
@@ -30,6 +31,13 @@ abbrev pub writes_along : List Seat → ℕ → Inputs → List Step → ℕ →
 writes_along seats phi i [] last writes = writes
 writes_along seats phi i (s ∷ later) last writes =
     writes_along seats phi i later (byte_of i s.source) (writes_by s.romc seats phi last (byte_of i s.source) writes)
+
+pub writes_along-append : (seats : List Seat) (phi : ℕ) (i : Inputs) (first later : List Step) (last : ℕ)
+    (writes : List PortWrite) →
+    writes_along seats phi i (first ++ later) last writes
+    ≡ writes_along seats phi i later (last_along i first last) (writes_along seats phi i first last writes)
+writes_along-append seats phi i [] later last writes = refl
+writes_along-append seats phi i (s ∷ first) later last writes = writes_along-append seats phi i first later _ _
 
 -- the port that the steps of a row write
 abbrev pub bus_port : Row → Inputs → List Seat → Option ℕ
@@ -61,6 +69,15 @@ PortValues seats keys phi i (s ∷ later) last writes =
     PortIs (driver_of s.romc) seats keys writes last (byte_of i s.source)
     × PortValues seats keys phi i later (byte_of i s.source)
     (writes_by s.romc seats phi last (byte_of i s.source) writes)
+
+pub PortValues-append : (seats : List Seat) (keys : List ℕ) (phi : ℕ) (i : Inputs) (first later : List Step)
+    (last : ℕ) (writes : List PortWrite) →
+    PortValues seats keys phi i first last writes →
+    PortValues seats keys phi i later (last_along i first last) (writes_along seats phi i first last writes) →
+    PortValues seats keys phi i (first ++ later) last writes
+PortValues-append seats keys phi i [] later last writes front back = back
+PortValues-append seats keys phi i (s ∷ first) later last writes front back =
+    (front.0, PortValues-append seats keys phi i first later _ _ front.1 back)
 
 -- what an instruction gets from a chip's port
 abbrev pub FromPort : Row → Inputs → List Seat → List ℕ → List PortWrite → Type 0
@@ -97,17 +114,18 @@ out_short : (own : Bool) (i : Inputs) (seats : List Seat) (keys : List ℕ) (wri
 out_short true i seats keys writes = tt
 out_short false i seats keys writes = tt
 
-from_short_port : (n : ℕ) (seats : List Seat) (f : FlatState) →
-    FromPort (row_of (Ins n)) (gets_all (Ins n) seats f) seats f.state.keys f.state.writes
+from_short_port : (n : ℕ) (seats : List Seat) (chain : List ℕ) (f : FlatState) →
+    FromPort (row_of (Ins n)) (gets_all (Ins n) seats chain f) seats f.state.keys f.state.writes
 unfolding own_inputs
-from_short_port n seats f = from_short (nat_lt n 2) n
-    (gets_all (Ins n) seats f) seats f.state.keys f.state.writes _ refl refl
+from_short_port n seats chain f = from_short (nat_lt n 2) n
+    (gets_all (Ins n) seats chain f) seats f.state.keys f.state.writes _ refl refl
 
 -- the flat machine's own inputs
-pub from_port : (op : Op) (seats : List Seat) (f : FlatState) →
-    FromPort (row_of op) (gets_all op seats f) seats f.state.keys f.state.writes
+pub from_port : (op : Op) (seats : List Seat) (chain : List ℕ) (f : FlatState) →
+    FromPort (row_of op) (gets_all op seats chain f) seats f.state.keys f.state.writes
 unfolding own_inputs
-from_port In seats f = refl
-from_port (Ins n) seats f = from_short_port n seats f
-from_port (Outs n) seats f = out_short (nat_lt n 2) (gets_all (Outs n) seats f) seats f.state.keys f.state.writes
-from_port op seats f = tt
+from_port In seats chain f = refl
+from_port (Ins n) seats chain f = from_short_port n seats chain f
+from_port (Outs n) seats chain f =
+    out_short (nat_lt n 2) (gets_all (Outs n) seats chain f) seats f.state.keys f.state.writes
+from_port op seats chain f = tt

@@ -9,17 +9,20 @@ use Rattle.f8_spec.specs.ChipState.{ChipView, ChipState, IsFilled, IsWhole, has_
 use Rattle.f8_spec.specs.declared.chips.ChipKind.{ChipKind}
 use Rattle.f8_spec.specs.declared.chips.ChipKind.TheVariants.{Psu, Smi}
 use Rattle.console_spec.specs.CounterCopies.{reset_copy, power_start, unreset}
+use Rattle.console_spec.specs.InterruptRequests.{no_history}
 use Rattle.console_spec.specs.Run.{power_position, seats_of}
 use Rattle.data_bus.specs.Racks.{views}
 use Rattle.f8_machine.specs.RackViews.{AreCopies, HoldsFlat, HoldsPorts}
 use Rattle.cpu3850.specs.OwnWrites.{LeaveOwnPorts}
 use Rattle.f8_machine.specs.MachineState.{powered_machine}
+use Rattle.f8_machine.specs.RequestsHeld.{IsInTime}
 use Rattle.f8_machine.specs.Refinement.{AreWhole, AreAtZero, IsPowered}
 use Rattle.f8_machine.specs.Rounds.{RackPowers}
 use Rattle.f8_machine.proofs.FirstViews.{powered_views, slice_get-powered_views, views_powered, first_flat, first_bytes}
-use Rattle.f8_machine.proofs.FirstViews.{length-first_memory, length-filled_bytes}
+use Rattle.f8_machine.proofs.FirstViews.{length-first_memory, length-filled_bytes, seat_of-powered}
 use Rattle.f8_machine.proofs.Kept.{Comes, comes}
 use Rattle.f8_machine.proofs.PortSteps.{latch_small}
+use Rattle.f8_machine.proofs.RequestEvents.{in_time_powered}
 
 counts : (k : ChipKind) (c d : Count) → (if has_counters k then c else d) ≡ c
 counts Psu c d = refl
@@ -32,7 +35,7 @@ copies_powered : (fill n : ℕ) (vs : List ChipView) → ((k : ℕ) (v : ChipVie
 copies_powered fill n [] filled = tt
 copies_powered fill n (v ∷ vs) filled = (
   record {
-    seat = refl;
+    seat = seat_of-powered fill (power_start fill n) v;
     counters = counts v.kind (count_at (power_start fill n)) v.counters;
     heard = refl;
     filled = length-filled_bytes fill v.pages v.bytes (filled 0 v refl);
@@ -108,6 +111,7 @@ powers_pair fill chain olds news small whole free powers =
                 (first_flat fill vs filled);
             ports = subst (λ (ws : List ChipView). HoldsPorts (replicate 256 0) [] ws) (sym same)
                 (powered_ports fill vs);
+            in_time = subst (λ (ws : List ChipView). IsInTime 0 no_history ws) (sym same) (in_time_powered fill vs);
           };
           free = subst LeaveOwnPorts (sym (seats_reset fill 0 (map seat_of vs))) free;
           memory = record {
@@ -121,6 +125,8 @@ powers_pair fill chain olds news small whole free powers =
         chain = refl;
         keys = refl;
       };
+      unwritten = refl;
+      unacknowledged = refl;
       at_zero = refl;
       copies_at_zero = resets_to_zero fill 0 (map seat_of vs);
       powered = refl;

@@ -1,8 +1,12 @@
 -- Reset of a machine, from power-on to the position before the first instruction.
-use Rattle.std.proofs.Common.{◌≡◌, ℕ, ◌+◌, Bool, List, [], ◌∷◌, map, Option, Some, None, refl, sym, ap, ◌∙◌, subst}
+use Rattle.std.proofs.Common.{◌≡◌, ℕ, ◌+◌, ◌≤◌, Bool, List, [], ◌∷◌, map, Option, Some, None, refl, sym, ap, ◌∙◌, subst}
+use Rattle.std.proofs.Common.{arith}
+use Rattle.std.specs.Prelude.{◌-◌}
 use Rattle.f8_spec.specs.ChipState.{ChipView, ChipState}
 use Rattle.console_spec.specs.AddressSpace.{byte_at}
-use Rattle.console_spec.specs.Processor.{Flow}
+use Rattle.console_spec.specs.InterruptRequests.{Mark, ArePastWrites, ArePastMarks}
+use Rattle.console_spec.specs.declared.PortWrite.{PortWrite}
+use Rattle.console_spec.specs.Processor.{Flow, State, after_reset}
 use Rattle.console_spec.specs.CounterCopies.{Copy, fetched}
 use Rattle.console_spec.specs.Services.{Fault}
 use Rattle.console_spec.specs.BusTrace.{Course}
@@ -14,7 +18,7 @@ use Rattle.data_bus.specs.declared.fault.BusFault.{BusFault}
 use Rattle.f8_machine.specs.RackViews.{AreCopies}
 use Rattle.f8_machine.specs.Faults.{fault_of}
 use Rattle.f8_machine.specs.MachineState.{MachineState, flow_before_fetch}
-use Rattle.f8_machine.specs.Refinement.{AreAtZero, IsPowered, IsDone, IsFaulted}
+use Rattle.f8_machine.specs.Refinement.{AreAtZero, IsPowered, IsSettled, IsDone, IsFaulted}
 use Rattle.f8_machine.specs.Resetting.{IsAtPower, IsFetched, IsNotFetched}
 use Rattle.f8_machine.specs.Rounds.{heard_of}
 use Rattle.f8_machine.specs.declared.heard.Heard.{Heard}
@@ -46,6 +50,18 @@ copies_at_zero last (c ∷ cs) (v ∷ vs) zero are = (
   copies_at_zero last cs vs zero.1 are.1,
 )
 
+-- nothing was written or acknowledged, and reset takes more than 4 Φ
+settled_reset : (s : State) → s.writes ≡ [] → s.acknowledged ≡ [] → IsSettled (after_reset s)
+settled_reset s unwritten unacknowledged =
+    let begun : 4 ≤ s.phi + 14 = omega arith in
+    record {
+      begun = begun;
+      back = record {
+        writes = subst (λ (ws : List PortWrite). ArePastWrites (s.phi + 14 - 4) ws) (sym unwritten) tt;
+        acknowledged = subst (λ (ms : List Mark). ArePastMarks (s.phi + 14 - 4) ms) (sym unacknowledged) tt;
+      };
+    }
+
 reset_done_of : (m : MachineState) (states news : List ChipState) (x : Position) (opcode : ℕ) (probe : ProbeState)
     (cpu : CpuState) (flow : Flow) (steps : List Heard) → IsPowered m states x →
     IsFetched opcode probe news steps x → cpu ≡ record m.cpu { opcode = opcode } →
@@ -69,6 +85,7 @@ reset_done_of m states news x opcode probe cpu flow steps p is holds moved =
               copies = copies_at_zero probe.last x.copies (views news) p.copies_at_zero is.rack.copies;
               flat = is.rack.flat;
               ports = is.rack.ports;
+              in_time = is.rack.in_time;
             };
             free = p.stands.holds.free;
             memory = p.stands.holds.memory;
@@ -79,6 +96,7 @@ reset_done_of m states news x opcode probe cpu flow steps p is holds moved =
           chain = p.stands.chain;
           keys = p.stands.keys;
         };
+        settled = settled_reset x.flat.state p.unwritten p.unacknowledged;
         opcode = ap (λ (k : CpuState). k.opcode) holds ∙ is.opcode_is ∙ ap (byte_at x.flat.memory) (sym p.at_zero);
         running = refl;
       };

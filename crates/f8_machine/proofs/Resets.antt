@@ -1,5 +1,5 @@
 -- The bus steps of reset, one by one.
-use Rattle.std.proofs.Common.{◌≡◌, ℕ, Bool, List, [], ◌∷◌, Some, refl, sym, ap, subst, ◌∙◌}
+use Rattle.std.proofs.Common.{◌≡◌, ℕ, Bool, List, [], ◌∷◌, Some, None, refl, sym, ap, subst, ◌∙◌}
 use Rattle.std.specs.Prelude.{Result, Ok, Err, IfOk, IfErr}
 use Rattle.f8_spec.specs.BusCodes.{driver_of}
 use Rattle.f8_spec.specs.ChipState.{ChipState}
@@ -13,11 +13,11 @@ use Rattle.probe.specs.ProbeState.{ProbeState}
 use Rattle.data_bus.specs.Racks.{views}
 use Rattle.data_bus.specs.declared.fault.BusFault.{BusFault}
 use Rattle.cpu3850.specs.declared.steps.Step.{Step as Cpu3850Step}
-use Rattle.f8_machine.specs.BusSteps.{IsServed, IsRefused, heard_served}
+use Rattle.f8_machine.specs.BusSteps.{IsPlain, IsServed, IsRefused, heard_served}
 use Rattle.f8_machine.specs.Faults.{fault_of}
 use Rattle.f8_machine.specs.Rounds.{RackRuns}
 use Rattle.f8_machine.specs.declared.carry.Unserved.{Unserved}
-use Rattle.f8_machine.proofs.RackLaws.{rack_runs_more, rack_runs_stays}
+use Rattle.f8_machine.proofs.RackLaws.{rack_runs_more, rack_runs_stays, plain_marks}
 use Rattle.f8_machine.proofs.Slots.{rack_stays_same}
 use Rattle.f8_machine.specs.Resetting.{IsAtPower, IsFetched, IsNotFetched}
 use Rattle.f8_machine.specs.declared.heard.Heard.{Heard}
@@ -39,14 +39,14 @@ module _ (x : Position) where
   }
 
   -- a step before the fetch
-  pub reset_more : (s : Step) (rest : List Step) (probe probe_now : ProbeState) (states states_now : List ChipState)
+  pub reset_more : (s : Step) (rest : List Step) → IsPlain s.romc → (probe probe_now : ProbeState) (states states_now : List ChipState)
       (steps steps_now : List Heard) (byte : ℕ) →
       Places (is_placed_by (driver_of s.romc)) 0 (byte_of (reset_gets x.flat.memory) s.source) →
       IsServed (bus_step s) 0 probe probe_now states states_now steps steps_now byte →
       Left (s ∷ rest) probe states steps → Left rest probe_now states_now steps_now
-  reset_more s rest probe probe_now states states_now steps steps_now byte places served left =
+  reset_more s rest plain probe probe_now states states_now steps steps_now byte places served left =
       on_bus_more (reset_gets x.flat.memory) x
-      (reset_aim x) s rest probe states steps left 0 byte probe_now states_now steps_now places served
+      (reset_aim x) s rest probe states steps left plain 0 byte probe_now states_now steps_now places served
 
   -- the fetch
   pub reset_last : (probe probe_now : ProbeState) (states states_now : List ChipState) (steps steps_now : List Heard)
@@ -56,12 +56,12 @@ module _ (x : Position) where
       IsFetched byte probe_now states_now steps_now x
   reset_last probe probe_now states states_now steps steps_now byte served left =
       let i = reset_gets x.flat.memory in
-      let bus = on_bus_more i x (reset_aim x) (short_step 0x00 Opcode) [] probe states steps left 0 byte probe_now
-      states_now steps_now tt served in
+      let bus = on_bus_more i x (reset_aim x) (short_step 0x00 Opcode) [] probe states steps left refl 0 byte
+      probe_now states_now steps_now tt served in
       let ended = along-ends i x (reset_aim x) probe_now (views states_now) bus.so_far bus.along in
       record {
         opcode_is = bus_byte_is i x (reset_aim x)
-            (short_step 0x00 Opcode) [] probe states steps left 0 byte probe_now states_now steps_now tt served;
+            (short_step 0x00 Opcode) [] probe states steps left refl 0 byte probe_now states_now steps_now tt served;
         rack = record {
           reference = ended.reference;
           copies = copies_same ended.now (λ second c. fetched (record c { p = 0 })) probe_now.last x.copies
@@ -69,6 +69,7 @@ module _ (x : Position) where
               ended.moves ended.copies;
           flat = ended.flat;
           ports = ended.ports;
+          in_time = ended.in_time;
         };
         served = ended.fault;
         so_far = bus.so_far;
@@ -106,21 +107,22 @@ if_err_both P R Q (Ok a) f p q = p
 if_err_both P R Q (Err e) f p q = f e p q
 
 -- the rack after a step that is served
-pub rack_served : (step : Cpu3850Step) (byte : ℕ) (probe probe_now : ProbeState) (olds mids news : List ChipState)
+pub rack_served : (step : Cpu3850Step) → IsPlain step.romc → (byte : ℕ) (probe probe_now : ProbeState) (olds mids news : List ChipState)
     (steps steps_now : List Heard) → RackRuns steps olds mids →
     IsServed step 0 probe probe_now mids news steps steps_now byte → RackRuns steps_now olds news
-rack_served step byte probe probe_now olds mids news steps steps_now ran served =
+rack_served step plain byte probe probe_now olds mids news steps steps_now ran served =
     subst (λ (l : List Heard). RackRuns l olds news) (sym served.recorded)
-    (rack_runs_more 0 steps (heard_served step byte served.socket) olds mids news ran served.settled)
+    (rack_runs_more None 0 steps (heard_served step byte served.socket) olds mids news
+    (plain_marks (heard_served step byte served.socket) plain) ran served.settled)
 
 -- and after one that is served or not
-pub rack_ran : (step : Cpu3850Step) (r : Result ℕ Unserved) (probe probe_now : ProbeState)
+pub rack_ran : (step : Cpu3850Step) → IsPlain step.romc → (r : Result ℕ Unserved) (probe probe_now : ProbeState)
     (olds mids news : List ChipState) (steps steps_now : List Heard) → RackRuns steps olds mids →
     IfOk r (λ byte. IsServed step 0 probe probe_now mids news steps steps_now byte) →
     IfErr r (λ unserved. IsRefused step unserved.fault probe probe_now mids news steps steps_now) →
     RackRuns steps_now olds news
-rack_ran step (Ok byte) probe probe_now olds mids news steps steps_now ran served refused =
-    rack_served step byte probe probe_now olds mids news steps steps_now ran served
-rack_ran step (Err e) probe probe_now olds mids news steps steps_now ran served refused =
+rack_ran step plain (Ok byte) probe probe_now olds mids news steps steps_now ran served refused =
+    rack_served step plain byte probe probe_now olds mids news steps steps_now ran served
+rack_ran step plain (Err e) probe probe_now olds mids news steps steps_now ran served refused =
     subst (λ (l : List Heard). RackRuns l olds news) (sym refused.recorded)
     (rack_runs_stays steps olds mids news ran (rack_stays_same mids news refused.stays))

@@ -1,13 +1,13 @@
 -- What a bus step makes of a chip, and of a rack: its seat stays, its counters move by the code, and only a store changes its bytes.
 use Rattle.std.proofs.Common.{◌≡◌, ℕ, ◌+◌, ◌*◌, ◌/◌, ◌%◌, Bool, true, false, List, [], ◌∷◌, map, length, refl, sym, ap}
 use Rattle.std.proofs.Common.{ap₂, subst, ◌∙◌, eqb-true, length-set}
-use Rattle.std.specs.Prelude.{◌==◌, if◌then◌else◌, Option, Some, None, option_map, slice_get}
+use Rattle.std.specs.Prelude.{◌==◌, if◌then◌else◌, Option, Some, None, option_map, option_and_then, slice_get}
 use Rattle.std.proofs.lemmas.Option.{slice_get-map}
 use Rattle.f8_spec.specs.BusCodes.{Count, moved_by}
 use Rattle.f8_spec.specs.ChipState.{ChipView, ChipState, HeardStep, PortRole, DataPort, VectorHigh, VectorLow}
 use Rattle.f8_spec.specs.ChipState.{ControlPort, TimerPort, has_counters, has_second_counter, has_ram_at, place_of}
 use Rattle.f8_spec.specs.ChipState.{bytes_with_at, bytes_with, stored, port_role, port_written, port_written_if, effect}
-use Rattle.f8_spec.specs.ChipState.{after_step}
+use Rattle.f8_spec.specs.ChipState.{after_step, timer_passed, has_fixed_vector, role_at, offset_from}
 use Rattle.f8_spec.specs.BusArbitration.{Seat, seat_of}
 use Rattle.f8_spec.specs.MicroSteps.{step_clocks}
 use Rattle.f8_spec.specs.declared.chips.ChipKind.{ChipKind}
@@ -35,18 +35,44 @@ pub record LeavesBytes (old new : ChipView) : Type 0 where
 leaves_all : (v : ChipView) → LeavesBytes v v
 leaves_all v = record { rest = record { seat = refl; counters = refl }; bytes = refl }
 
+-- only a chip whose vector ports write has a port for a half of it
+abbrev FitsRole : ChipKind → PortRole → Type 0
+FitsRole kind (DataPort place) = Unit {0}
+FitsRole kind VectorHigh = has_fixed_vector kind ≡ false
+FitsRole kind VectorLow = has_fixed_vector kind ≡ false
+FitsRole kind ControlPort = Unit {0}
+FitsRole kind TimerPort = Unit {0}
+
+role_fits : (kind : ChipKind) (offset : ℕ) → FitsRole kind (role_at kind offset)
+role_fits Psu offset = by (offset == 2) (offset == 3)
+  where
+    by : (control timer : Bool) → FitsRole Psu (if control then ControlPort else if timer then TimerPort else DataPort offset)
+    by true timer = tt
+    by false true = tt
+    by false false = tt
+role_fits Smi offset = by (offset == 2) (offset == 3) (offset == 0)
+  where
+    by : (control timer high : Bool) → FitsRole Smi (if control then ControlPort else if timer then TimerPort else
+        if high then VectorHigh else VectorLow)
+    by true timer high = tt
+    by false true high = tt
+    by false false true = refl
+    by false false false = refl
+
 -- a port write
-written_leaves : (role : PortRole) (byte : ℕ) (v : ChipView) → LeavesBytes v (port_written role byte v)
-written_leaves (DataPort place) byte v = record { rest = record { seat = refl; counters = refl }; bytes = refl }
-written_leaves VectorHigh byte v = record { rest = record { seat = refl; counters = refl }; bytes = refl }
-written_leaves VectorLow byte v = record { rest = record { seat = refl; counters = refl }; bytes = refl }
-written_leaves ControlPort byte v = record { rest = record { seat = refl; counters = refl }; bytes = refl }
-written_leaves TimerPort byte v = record { rest = record { seat = refl; counters = refl }; bytes = refl }
+written_leaves : (role : PortRole) (byte : ℕ) (v : ChipView) → FitsRole v.kind role →
+    LeavesBytes v (port_written role byte v)
+written_leaves (DataPort place) byte v fits = record { rest = record { seat = refl; counters = refl }; bytes = refl }
+written_leaves VectorHigh byte v fits = record { rest = record { seat = rw fits refl; counters = refl }; bytes = refl }
+written_leaves VectorLow byte v fits = record { rest = record { seat = rw fits refl; counters = refl }; bytes = refl }
+written_leaves ControlPort byte v fits = record { rest = record { seat = refl; counters = refl }; bytes = refl }
+written_leaves TimerPort byte v fits = record { rest = record { seat = refl; counters = refl }; bytes = refl }
 
 -- a port write, where the chip has the port
-written_if_leaves : (role : Option PortRole) (byte : ℕ) (v : ChipView) → LeavesBytes v (port_written_if role byte v)
+written_if_leaves : (offset : Option ℕ) (byte : ℕ) (v : ChipView) →
+    LeavesBytes v (port_written_if (option_map (role_at v.kind) offset) byte v)
 written_if_leaves None byte v = leaves_all v
-written_if_leaves (Some role) byte v = written_leaves role byte v
+written_if_leaves (Some offset) byte v = written_leaves (role_at v.kind offset) byte v (role_fits v.kind offset)
 
 -- a store
 stored_leaves : (at byte : ℕ) (v : ChipView) → Leaves v (stored at byte v)
@@ -56,26 +82,30 @@ stored_leaves at byte v = step (has_ram_at v at)
     step true = record { seat = refl; counters = refl }
     step false = record { seat = refl; counters = refl }
 
+-- an acknowledgement of another chip
+ended_leaves : (v : ChipView) → LeavesBytes v (record v { request = v.request })
+ended_leaves v = record { rest = record { seat = refl; counters = refl }; bytes = refl }
+
 -- any code
 effect_leaves : (romc byte : ℕ) (v : ChipView) → Leaves v (effect romc byte false v)
 effect_leaves romc byte v = step (romc == 0x05) (romc == 0x13) (romc == 0x1A)
   where
     step : (store ends write : Bool) → Leaves v (
-        if store then stored v.counters.dc0 byte v else if ends then v else if write then port_written_if
-        (port_role v v.last) byte v else v)
+        if store then stored v.counters.dc0 byte v else if ends then record v { request = v.request } else
+        if write then port_written_if (port_role v v.last) byte v else v)
     step true ends write = stored_leaves v.counters.dc0 byte v
-    step false true write = (leaves_all v).rest
-    step false false true = (written_if_leaves (port_role v v.last) byte v).rest
+    step false true write = (ended_leaves v).rest
+    step false false true = (written_if_leaves (option_and_then (offset_from v.last) v.ports) byte v).rest
     step false false false = (leaves_all v).rest
 
 -- any code but a store's
 effect_bytes : (romc byte : ℕ) (v : ChipView) → (romc == 0x05) ≡ false → (effect romc byte false v).bytes ≡ v.bytes
 effect_bytes romc byte v other = rw other (step (romc == 0x13) (romc == 0x1A)).bytes
   where
-    step : (ends write : Bool) → LeavesBytes v
-        (if ends then v else if write then port_written_if (port_role v v.last) byte v else v)
-    step true write = leaves_all v
-    step false true = written_if_leaves (port_role v v.last) byte v
+    step : (ends write : Bool) → LeavesBytes v (if ends then record v { request = v.request } else
+        if write then port_written_if (port_role v v.last) byte v else v)
+    step true write = ended_leaves v
+    step false true = written_if_leaves (option_and_then (offset_from v.last) v.ports) byte v
     step false false = leaves_all v
 
 -- ---- the step on one chip
@@ -89,32 +119,35 @@ counters_move Smi romc byte c = refl
 
 -- the seat stays: the kind, the pages and the first port
 pub seat_of-after : (romc byte clocks : ℕ) (v : ChipView) →
-    seat_of (after_step 0 (plain_step romc byte clocks) v) ≡ seat_of v
-seat_of-after romc byte clocks v = (effect_leaves romc byte v).seat
+    seat_of (after_step (plain_step romc byte clocks) v) ≡ seat_of v
+seat_of-after romc byte clocks v = (effect_leaves romc byte (timer_passed clocks v)).seat
 
 -- the pages
-pub pages-after : (romc byte clocks : ℕ) (v : ChipView) → (after_step 0 (plain_step romc byte clocks) v).pages ≡ v.pages
+pub pages-after : (romc byte clocks : ℕ) (v : ChipView) → (after_step (plain_step romc byte clocks) v).pages ≡ v.pages
 pages-after romc byte clocks v = ap (λ (s : Seat). s.pages) (seat_of-after romc byte clocks v)
 
 -- the counters move by the code
 pub counters-after : (romc byte clocks : ℕ) (v : ChipView) →
-    (after_step 0 (plain_step romc byte clocks) v).counters ≡ moved_by romc byte (has_second_counter v.kind) v.counters
+    (after_step (plain_step romc byte clocks) v).counters ≡ moved_by romc byte (has_second_counter v.kind) v.counters
 counters-after romc byte clocks v =
-    let left : Leaves v (effect romc byte false v) = effect_leaves romc byte v in
-    counters_move (effect romc byte false v).kind romc byte (effect romc byte false v).counters
+    let timed : ChipView = timer_passed clocks v in
+    let left : Leaves timed (effect romc byte false timed) = effect_leaves romc byte timed in
+    counters_move (effect romc byte false timed).kind romc byte (effect romc byte false timed).counters
     ∙ ap₂ (λ (s : Seat) (c : Count). moved_by romc byte (has_second_counter s.kind) c) left.seat left.counters
 
 -- only a store changes bytes
 pub bytes-after : (romc byte clocks : ℕ) (v : ChipView) → (romc == 0x05) ≡ false →
-    (after_step 0 (plain_step romc byte clocks) v).bytes ≡ v.bytes
-bytes-after romc byte clocks v other = effect_bytes romc byte v other
+    (after_step (plain_step romc byte clocks) v).bytes ≡ v.bytes
+bytes-after romc byte clocks v other = effect_bytes romc byte (timer_passed clocks v) other
 
 -- a store changes the byte at the chip's own data counter, where the chip has RAM there
-pub bytes-stored : (byte clocks : ℕ) (v : ChipView) → (after_step 0 (plain_step 0x05 byte clocks) v).bytes
+pub bytes-stored : (byte clocks : ℕ) (v : ChipView) → (after_step (plain_step 0x05 byte clocks) v).bytes
     ≡ (if has_ram_at v v.counters.dc0 then bytes_with v.pages v.bytes v.counters.dc0 byte else v.bytes)
 bytes-stored byte clocks v = step (has_ram_at v v.counters.dc0)
   where
-    step : (ram : Bool) → (if ram then record v { bytes = bytes_with v.pages v.bytes v.counters.dc0 byte } else v).bytes
+    step : (ram : Bool) → (if ram then record (timer_passed clocks v) {
+      bytes = bytes_with v.pages v.bytes v.counters.dc0 byte;
+    } else timer_passed clocks v).bytes
         ≡ (if ram then bytes_with v.pages v.bytes v.counters.dc0 byte else v.bytes)
     step true = refl
     step false = refl
@@ -130,7 +163,7 @@ length-bytes_with pages bytes at byte = step (place_of pages (at / 256))
 
 -- after a store
 length-stored : (byte clocks : ℕ) (v : ChipView) →
-    length (after_step 0 (plain_step 0x05 byte clocks) v).bytes ≡ length v.bytes
+    length (after_step (plain_step 0x05 byte clocks) v).bytes ≡ length v.bytes
 length-stored byte clocks v = ap length (bytes-stored byte clocks v) ∙ step (has_ram_at v v.counters.dc0)
   where
     step : (ram : Bool) → length (if ram then bytes_with v.pages v.bytes v.counters.dc0 byte else v.bytes)
@@ -140,18 +173,18 @@ length-stored byte clocks v = ap length (bytes-stored byte clocks v) ∙ step (h
 
 -- after any code
 length-after : (romc byte clocks : ℕ) (v : ChipView) →
-    length (after_step 0 (plain_step romc byte clocks) v).bytes ≡ length v.bytes
+    length (after_step (plain_step romc byte clocks) v).bytes ≡ length v.bytes
 length-after romc byte clocks v = step (romc == 0x05) refl
   where
     step : (store : Bool) → (romc == 0x05) ≡ store →
-        length (after_step 0 (plain_step romc byte clocks) v).bytes ≡ length v.bytes
-    step true is = subst (λ code. length (after_step 0 (plain_step code byte clocks) v).bytes ≡ length v.bytes)
+        length (after_step (plain_step romc byte clocks) v).bytes ≡ length v.bytes
+    step true is = subst (λ code. length (after_step (plain_step code byte clocks) v).bytes ≡ length v.bytes)
         (sym (eqb-true romc 0x05 is)) (length-stored byte clocks v)
     step false is = ap length (bytes-after romc byte clocks v is)
 
 -- so a chip has 256 for each page
 pub filled-after : (romc byte clocks : ℕ) (v : ChipView) → IsFilled v →
-    IsFilled (after_step 0 (plain_step romc byte clocks) v)
+    IsFilled (after_step (plain_step romc byte clocks) v)
 filled-after romc byte clocks v filled =
     length-after romc byte clocks v ∙ filled ∙ ap (λ pages. length pages * 256) (sym (pages-after romc byte clocks v))
 
@@ -159,7 +192,7 @@ filled-after romc byte clocks v filled =
 
 -- the seats of a list of chips stay
 pub seats-after : (romc byte clocks : ℕ) (vs : List ChipView) →
-    map seat_of (map (after_step 0 (plain_step romc byte clocks)) vs) ≡ map seat_of vs
+    map seat_of (map (after_step (plain_step romc byte clocks)) vs) ≡ map seat_of vs
 seats-after romc byte clocks [] = refl
 seats-after romc byte clocks (v ∷ vs) = ap₂ (λ s ss. s ∷ ss) (seat_of-after romc byte clocks v)
     (seats-after romc byte clocks vs)
@@ -167,10 +200,10 @@ seats-after romc byte clocks (v ∷ vs) = ap₂ (λ s ss. s ∷ ss) (seat_of-aft
 -- a chip after a step comes of the chip at its place
 pub comes_after : (romc byte clocks : ℕ) (vs : List ChipView) (place : ℕ) (v w : ChipView) →
     slice_get vs place ≡ Some v →
-    slice_get (map (after_step 0 (plain_step romc byte clocks)) vs) place ≡ Some w →
-    after_step 0 (plain_step romc byte clocks) v ≡ w
+    slice_get (map (after_step (plain_step romc byte clocks)) vs) place ≡ Some w →
+    after_step (plain_step romc byte clocks) v ≡ w
 comes_after romc byte clocks vs place v w lies lies_after =
-    let step : ChipView → ChipView = after_step 0 (plain_step romc byte clocks) in
+    let step : ChipView → ChipView = after_step (plain_step romc byte clocks) in
     let both : Some (step v) ≡ Some w = ap (option_map step) (sym lies) ∙ sym (slice_get-map step vs place)
     ∙ lies_after in
     cc
@@ -178,7 +211,7 @@ comes_after romc byte clocks vs place v w lies lies_after =
 -- the views from a socket on
 settled_from : (romc : ℕ) (long : Bool) (byte n : ℕ) (olds news : List ChipState) →
     NumberedZip (SettlesStep romc long None byte) n olds news →
-    views news ≡ map (after_step 0 (plain_step romc byte (step_clocks long))) (views olds)
+    views news ≡ map (after_step (plain_step romc byte (step_clocks long))) (views olds)
 settled_from romc long byte n [] [] all = refl
 settled_from romc long byte n [] (new ∷ news) all = absurd all
 settled_from romc long byte n (old ∷ olds) [] all = absurd all
@@ -188,7 +221,7 @@ settled_from romc long byte n (old ∷ olds) (new ∷ news) all =
 -- the views of a rack that heard a step
 pub views_settled : (romc : ℕ) (long : Bool) (byte : ℕ) (olds news : List ChipState) →
     RackSettles romc long None byte olds news →
-    map (λ s. s.view) news ≡ map (after_step 0 (plain_step romc byte (step_clocks long))) (map (λ s. s.view) olds)
+    map (λ s. s.view) news ≡ map (after_step (plain_step romc byte (step_clocks long))) (map (λ s. s.view) olds)
 views_settled romc long byte olds news all = settled_from romc long byte 0 olds news all
 
 -- the chips from a socket on

@@ -1,19 +1,23 @@
 -- How an instruction and reset begin and end on the bus.
-use Rattle.std.proofs.Common.{◌≡◌, Bool, true, List, [], ◌∷◌, ◌++◌, append-nil, length, map, refl, ap, ◌∙◌, sym}
+use Rattle.std.proofs.Common.{◌≡◌, ℕ, ◌+◌, Bool, true, false, List, [], ◌∷◌, ◌++◌, append-nil, length, map, refl, ap, ◌∙◌, sym}
 use Rattle.std.proofs.Common.{subst, arith}
-use Rattle.std.specs.Prelude.{None}
+use Rattle.std.specs.Prelude.{Option, None, Some}
 use Rattle.f8_spec.specs.BusCodes.{Count}
 use Rattle.f8_spec.specs.ChipState.{ChipView, ChipState}
 use Rattle.f8_spec.specs.Instructions.{row_of}
-use Rattle.f8_spec.specs.MicroSteps.{steps_of, reset_steps}
+use Rattle.f8_spec.specs.MicroSteps.{steps_before_fetch, reset_steps}
+use Rattle.f8_spec.specs.declared.instructions.Row.{Row}
+use Rattle.f8_spec.specs.declared.instructions.Row.TheVariants.{Branch, BranchIsar}
+use Rattle.console_spec.specs.FlatStep.{with_acknowledged}
+use Rattle.console_spec.specs.InterruptRequests.{Mark}
+use Rattle.console_spec.specs.declared.PortWrite.{PortWrite}
 use Rattle.f8_spec.specs.declared.instructions.Op.{Op}
-use Rattle.console_spec.specs.Processor.{Flow, Inputs, flow_after, write_at, with_write}
-use Rattle.console_spec.specs.FlatMachine.{gets, gets_all, flat_after}
+use Rattle.console_spec.specs.Processor.{Flow, Inputs, counters_after, write_at, with_write}
 use Rattle.console_spec.specs.BusAccesses.{Access, accesses_before_fetch, last_access}
 use Rattle.console_spec.specs.Services.{first_fault}
-use Rattle.console_spec.specs.BusTrace.{TracedStep}
+use Rattle.console_spec.specs.BusTrace.{TracedStep, ending_steps, steps_with}
 use Rattle.console_spec.specs.Run.{Position, seats_of, instruction_fault, instruction_course, reset_fault, reset_access}
-use Rattle.console_spec.specs.Run.{reset_gets, reset_course}
+use Rattle.console_spec.specs.Run.{reset_gets, reset_course, gets_at, gets_all_at, position_after, position_after_reset}
 use Rattle.console_spec.proofs.InputLaws.{accesses-with_opcode}
 use Rattle.console_spec.specs.CounterCopies.{fetched, unreset}
 use Rattle.console_spec.proofs.Walks.{follows}
@@ -25,8 +29,10 @@ use Rattle.f8_machine.proofs.Places.{named_place}
 use Rattle.f8_machine.proofs.Values.{Values, memory_along, memory_after-with_opcode, from_flat}
 use Rattle.f8_machine.specs.Refinement.{AreAddresses, RackStands}
 use Rattle.f8_machine.proofs.Bounds.{GetsBytes}
-use Rattle.f8_machine.proofs.Along.{Aim, Along}
-use Rattle.f8_machine.proofs.Rows.{row_facts, memory_goes, places_follow, places_small, values_of}
+use Rattle.f8_machine.specs.RequestsHeld.{IsInTime}
+use Rattle.f8_machine.proofs.Along.{Aim, Along, history_with, acknowledged_along}
+use Rattle.f8_machine.proofs.Rows.{has_put, puts_of, clocks_with, memory_goes, places_follow, places_small, values_of}
+use Rattle.f8_machine.proofs.Rows.{port_values_of, writes_of}
 
 -- ---- an instruction
 
@@ -35,24 +41,43 @@ abbrev pub instruction_aim : Op → Position → Aim
 instruction_aim op x = record {
   fault = instruction_fault op x;
   course = instruction_course op x;
-  memory = (flat_after op (seats_of x.copies) x.flat).memory;
-  writes = with_write (write_at (flat_after op (seats_of x.copies) x.flat).state.phi
-      (gets_all op (seats_of x.copies) x.flat).accumulator
-      (bus_port (row_of op) (gets_all op (seats_of x.copies) x.flat) (seats_of x.copies))) x.flat.state.writes;
-  phi = (flat_after op (seats_of x.copies) x.flat).state.phi;
-  flow = flow_after (row_of op) (gets_all op (seats_of x.copies) x.flat);
+  memory = (position_after op x).flat.memory;
+  writes = with_write (write_at (position_after op x).flat.state.phi (gets_all_at op x).accumulator
+      (bus_port (row_of op) (gets_all_at op x) (seats_of x.copies))) x.flat.state.writes;
+  acknowledged = (position_after op x).flat.state.acknowledged;
+  phi = (position_after op x).flat.state.phi;
+  flow = counters_after (row_of op) (gets_all_at op x);
 }
 
+-- the acknowledgements along all steps
+acknowledged-goes : (op : Op) (taken : Bool) (chosen : Option ℕ) (phi : ℕ) (marks : List Mark) →
+    acknowledged_along chosen phi (steps_before_fetch (row_of op) taken ++ ending_steps (row_of op) chosen) marks
+    ≡ with_acknowledged chosen phi marks
+acknowledged-goes op taken chosen phi marks = by (row_of op) taken chosen
+  where
+    by : (row : Row) (taken : Bool) (chosen : Option ℕ) →
+        acknowledged_along chosen phi (steps_before_fetch row taken ++ ending_steps row chosen) marks
+        ≡ with_acknowledged chosen phi marks
+    by Branch true None = refl
+    by Branch true (Some socket) = refl
+    by Branch false None = refl
+    by Branch false (Some socket) = refl
+    by BranchIsar true None = refl
+    by BranchIsar true (Some socket) = refl
+    by BranchIsar false None = refl
+    by BranchIsar false (Some socket) = refl
+    by row taken None = refl
+    by row taken (Some socket) = refl
+
 pub along-starts : (op : Op) (x : Position) (probe : ProbeState) (states : List ChipState) →
-    GetsBytes (gets_all op (seats_of x.copies) x.flat) → AreAddresses x.flat.state.flow →
+    GetsBytes (gets_all_at op x) → (has_put (row_of op) ≡ true → (gets_all_at op x).chosen ≡ None) →
+    AreAddresses x.flat.state.flow →
     RackStands fetched probe states x → length x.flat.memory ≡ 65536 →
-    Along (gets_all op (seats_of x.copies) x.flat) x (instruction_aim op x)
-    (steps_of (row_of op) (gets_all op (seats_of x.copies) x.flat).taken) probe (views states) []
-along-starts op x probe states bytes addresses rack whole =
+    Along (gets_all_at op x) x (instruction_aim op x) (steps_with (row_of op) (gets_all_at op x)) probe (views states) []
+along-starts op x probe states bytes free addresses rack whole =
     let seats = seats_of x.copies in
-    let i = gets_all op seats x.flat in
+    let i = gets_all_at op x in
     let row = row_of op in
-    let facts = row_facts row in
     let c = x.flat.state.flow in
     record {
       now = λ second d. fetched d;
@@ -66,20 +91,26 @@ along-starts op x probe states bytes addresses rack whole =
       flat = rack.flat;
       ports = rack.ports;
       whole = whole;
-      values = subst (λ (k : Count). Values seats i (steps_of row i.taken) k probe.last x.flat.memory)
+      values = subst (λ (k : Count). Values seats i (steps_with row i) k probe.last x.flat.memory)
           (sym rack.reference)
-          (values_of seats row i bytes.low c probe.last x.flat.memory (from_flat op seats x.flat));
-      port_values = facts.ports.port_values i.taken seats x.flat.state.keys
-          (flat_after op seats x.flat).state.phi i probe.last x.flat.state.writes
-          (from_port op seats x.flat);
-      writes_later = facts.ports.writes i.taken seats
-          (flat_after op seats x.flat).state.phi i probe.last x.flat.state.writes;
+          (values_of seats row i bytes.low c probe.last x.flat.memory (from_flat op seats x.chain x.flat));
+      port_values = port_values_of seats x.flat.state.keys (position_after op x).flat.state.phi row i probe.last
+          x.flat.state.writes (from_port op seats x.chain x.flat);
+      writes_later = writes_of seats (position_after op x).flat.state.phi row i probe.last x.flat.state.writes;
       small = places_small row i c bytes addresses;
-      fault = ap (first_fault c x.copies) (accesses-with_opcode row i.opcode (gets op (seats_of x.copies) x.flat));
+      fault = ap (first_fault c x.copies) (accesses-with_opcode row i.opcode (gets_at op x));
       course = refl;
-      later = ap (λ (k : Count). memory_along seats i (steps_of row i.taken) k probe.last x.flat.memory) rack.reference
+      later = ap (λ (k : Count). memory_along seats i (steps_with row i) k probe.last x.flat.memory) rack.reference
           ∙ memory_goes seats row i c probe.last x.flat.memory
-          ∙ memory_after-with_opcode seats row i.opcode (gets op (seats_of x.copies) x.flat) c x.flat.memory;
+          ∙ memory_after-with_opcode seats row i.opcode (gets_at op x) c x.flat.memory;
+      time = x.flat.state.phi;
+      acknowledged = x.flat.state.acknowledged;
+      in_time = rack.in_time;
+      ends = ap (λ (n : ℕ). x.flat.state.phi + n) (clocks_with op i.taken i.chosen);
+      late = puts_of row i.taken i.chosen free;
+      accumulator = bytes.accumulator;
+      acknowledged_later = acknowledged-goes op i.taken i.chosen (position_after op x).flat.state.phi
+          x.flat.state.acknowledged;
     }
 
 -- ---- reset
@@ -91,7 +122,8 @@ reset_aim x = record {
   course = reset_course x;
   memory = x.flat.memory;
   writes = x.flat.state.writes;
-  phi = 0;
+  acknowledged = x.flat.state.acknowledged;
+  phi = (position_after_reset x).flat.state.phi;
   flow = λ second c. record c { p = 0 };
 }
 
@@ -116,6 +148,13 @@ reset-starts x probe states rack whole = record {
   fault = refl;
   course = refl;
   later = refl;
+  time = x.flat.state.phi;
+  acknowledged = x.flat.state.acknowledged;
+  in_time = rack.in_time;
+  ends = refl;
+  late = refl;
+  accumulator = omega arith;
+  acknowledged_later = refl;
 }
 
 -- ---- the end
@@ -129,22 +168,30 @@ pub record Ended (x : Position) (aim : Aim) (probe : ProbeState) (vs : List Chip
   pub copies : AreCopies now probe.last x.copies vs
   pub flat : HoldsFlat aim.memory vs
   pub ports : HoldsPorts x.flat.state.keys aim.writes vs
+  pub in_time : IsInTime aim.phi (history_with x aim.writes aim.acknowledged) vs
   pub fault : aim.fault ≡ None
   pub course : aim.course ≡ record { steps = so_far; fault = None }
 
 ended_by : (i : Inputs) (x : Position) (aim : Aim) (probe : ProbeState) (vs : List ChipView) (so_far : List TracedStep)
     (left : Along i x aim [] probe vs so_far) (accesses : List Access) → left.accesses ≡ accesses →
     Ended x aim probe vs so_far
-ended_by i x aim probe vs so_far left [] none = record {
-  now = left.now;
-  moves = left.moves;
-  reference = left.reference ∙ left.moves true x.flat.state.flow;
-  copies = left.copies;
-  flat = subst (λ memory. HoldsFlat memory vs) left.later left.flat;
-  ports = subst (λ writes. HoldsPorts x.flat.state.keys writes vs) left.writes_later left.ports;
-  fault = sym left.fault ∙ ap (λ (l : List Access). first_fault x.flat.state.flow x.copies l) none;
-  course = sym left.course ∙ ap (λ (l : List TracedStep). record { steps = l; fault = None }) (append-nil so_far);
-}
+ended_by i x aim probe vs so_far left [] none =
+    let time : left.time ≡ aim.phi = (let all = left.ends in omega (arith, all)) in
+    record {
+      now = left.now;
+      moves = left.moves;
+      reference = left.reference ∙ left.moves true x.flat.state.flow;
+      copies = left.copies;
+      flat = subst (λ memory. HoldsFlat memory vs) left.later left.flat;
+      ports = subst (λ writes. HoldsPorts x.flat.state.keys writes vs) left.writes_later left.ports;
+      in_time = subst (λ (n : ℕ). IsInTime n (history_with x aim.writes aim.acknowledged) vs) time
+          (subst (λ (ws : List PortWrite). IsInTime left.time (history_with x ws aim.acknowledged) vs) left.writes_later
+          (subst (λ (ms : List Mark). IsInTime left.time (history_with x left.writes ms) vs) left.acknowledged_later
+          left.in_time));
+      fault = sym left.fault ∙ ap (λ (l : List Access). first_fault x.flat.state.flow x.copies l) none;
+      course = sym left.course ∙ ap (λ (l : List TracedStep). record { steps = l; fault = None })
+          (append-nil so_far);
+    }
 ended_by i x aim probe vs so_far left (a ∷ later) some =
     let none : [] ≡ map (named_place true x.flat.state.flow) (a ∷ later) =
     left.places true x.flat.state.flow ∙ ap (map (named_place true x.flat.state.flow)) some in

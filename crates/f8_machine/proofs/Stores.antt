@@ -65,9 +65,9 @@ stored_bytes seats at byte memory small bytes other = step (is_ram_sort (sort_of
 -- it changes no byte of a chip
 pub keeps_flat : (romc byte clocks : ℕ) (vs : List ChipView) (memory : List ℕ) → (romc == 0x05) ≡ false →
     HoldsFlat memory vs →
-    HoldsFlat memory (map (after_step 0 (plain_step romc byte clocks)) vs)
+    HoldsFlat memory (map (after_step (plain_step romc byte clocks)) vs)
 keeps_flat romc byte clocks vs memory other flat =
-    holds_flat_by vs (map (after_step 0 (plain_step romc byte clocks)) vs) (seats-after romc byte clocks vs) memory
+    holds_flat_by vs (map (after_step (plain_step romc byte clocks)) vs) (seats-after romc byte clocks vs) memory
     (λ place v w at small lies lies_after held once.
     let same : w.bytes ≡ v.bytes = ap (λ (u : ChipView). u.bytes)
     (sym (comes_after romc byte clocks vs place v w lies lies_after)) ∙ bytes-after romc byte clocks v other in
@@ -107,7 +107,7 @@ module _ (byte clocks reference : ℕ) (vs : List ChipView) (memory : List ℕ) 
     (agrees : Agrees Store 0x05 reference vs) where
   -- a chip after the store
   abbrev storing : ChipView → ChipView
-  storing v = after_step 0 (plain_step 0x05 byte clocks) v
+  storing v = after_step (plain_step 0x05 byte clocks) v
 
   -- the flat memory after it
   abbrev memory_after : List ℕ
@@ -185,9 +185,9 @@ pub store_keeps_flat : (byte clocks reference : ℕ) (socket : Option ℕ) (vs :
     length memory ≡ 65536 →
     ((k : ℕ) (v : ChipView) → slice_get vs k ≡ Some v → IsFilled v) → HoldsFlat memory vs →
     view_verdict 0x05 None reference (enumerate_from 0 vs) ≡ Served socket →
-    HoldsFlat (stored_at (map seat_of vs) reference byte memory) (map (after_step 0 (plain_step 0x05 byte clocks)) vs)
+    HoldsFlat (stored_at (map seat_of vs) reference byte memory) (map (after_step (plain_step 0x05 byte clocks)) vs)
 store_keeps_flat byte clocks reference socket vs memory long filled flat served =
-    holds_flat_by vs (map (after_step 0 (plain_step 0x05 byte clocks)) vs) (seats-after 0x05 byte clocks vs)
+    holds_flat_by vs (map (after_step (plain_step 0x05 byte clocks)) vs) (seats-after 0x05 byte clocks vs)
     (stored_at (map seat_of vs) reference byte memory)
     (λ place v w at small lies lies_after held once.
     ap (λ (u : ChipView). byte_in v.pages u.bytes at) (sym (comes_after 0x05 byte clocks vs place v w lies lies_after))

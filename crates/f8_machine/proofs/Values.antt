@@ -15,8 +15,8 @@ use Rattle.f8_spec.specs.declared.instructions.Row.TheVariants.{StoreData}
 use Rattle.console_spec.specs.AddressSpace.{byte_at}
 use Rattle.console_spec.specs.FlatMemory.{stored_at}
 use Rattle.console_spec.specs.FlatMachine.{FlatState, memory_after, gets, gets_all}
-use Rattle.console_spec.specs.Processor.{Flow, Inputs, byte_of, flow_after, own_inputs}
-use Rattle.console_spec.proofs.InputLaws.{with_opcode, flow_after-with_opcode}
+use Rattle.console_spec.specs.Processor.{Flow, Inputs, byte_of, counters_after, own_inputs}
+use Rattle.console_spec.proofs.InputLaws.{with_opcode, counters_after-with_opcode}
 use Rattle.console_spec.proofs.Walks.{moved_along}
 use Rattle.f8_machine.proofs.Places.{last_along}
 
@@ -42,11 +42,11 @@ memory_along-append seats i (s ∷ first) later c last memory = memory_along-app
 
 -- ---- the bytes along the steps
 
--- what the byte of a step has to be, by who drives it; the ports stand apart, and the vector comes later
+-- what the byte of a step has to be, by who drives it; the ports and the vector stand apart
 abbrev pub ValueIs : Driver → ℕ → List ℕ → ℕ → ℕ → Type 0
 ValueIs Memory romc memory at value = value ≡ byte_at memory at
 ValueIs CounterByte romc memory at value = value ≡ counter_byte romc at
-ValueIs Vector romc memory at value = ⊥
+ValueIs Vector romc memory at value = Unit {0}
 ValueIs Port romc memory at value = Unit {0}
 ValueIs Cpu romc memory at value = Unit {0}
 ValueIs Nobody romc memory at value = value ≡ 0
@@ -77,7 +77,7 @@ pub record FromFlat (row : Row) (seats : List Seat) (i : Inputs) (memory : List 
   pub data_low : i.data_low ≡ c.d0 % 256
   pub stack_high : i.stack_high ≡ c.p1 / 256
   pub stack_low : i.stack_low ≡ c.p1 % 256
-  pub opcode : i.opcode ≡ byte_at (memory_after row seats i c memory) (flow_after row i true c).p
+  pub opcode : i.opcode ≡ byte_at (memory_after row seats i c memory) (counters_after row i true c).p
 
 -- ---- the flat machine's own inputs
 
@@ -87,18 +87,19 @@ memory_after-with_opcode seats StoreData code i c memory = refl
 memory_after-with_opcode seats row code i c memory = refl
 
 own_opcode : (row : Row) (seats : List Seat) (own : Inputs) (c : Flow) (memory : List ℕ) (code : ℕ) →
-    code ≡ byte_at (memory_after row seats own c memory) (flow_after row own true c).p →
+    code ≡ byte_at (memory_after row seats own c memory) (counters_after row own true c).p →
     code ≡ byte_at (memory_after row seats (with_opcode code own) c memory)
-    (flow_after row (with_opcode code own) true c).p
+    (counters_after row (with_opcode code own) true c).p
 own_opcode row seats own c memory code e =
-    e ∙ sym (ap (λ m. byte_at m (flow_after row (with_opcode code own) true c).p)
+    e ∙ sym (ap (λ m. byte_at m (counters_after row (with_opcode code own) true c).p)
     (memory_after-with_opcode seats row code own c memory)
-    ∙ ap (λ (x : Flow). byte_at (memory_after row seats own c memory) x.p) (flow_after-with_opcode row code own true c))
+    ∙ ap (λ (x : Flow). byte_at (memory_after row seats own c memory) x.p)
+    (counters_after-with_opcode row code own true c))
 
-pub from_flat : (op : Op) (seats : List Seat) (f : FlatState) →
-    FromFlat (row_of op) seats (gets_all op seats f) f.memory f.state.flow
+pub from_flat : (op : Op) (seats : List Seat) (chain : List ℕ) (f : FlatState) →
+    FromFlat (row_of op) seats (gets_all op seats chain f) f.memory f.state.flow
 unfolding own_inputs
-from_flat op seats f = record {
+from_flat op seats chain f = record {
   operand = refl;
   second = refl;
   data_byte = refl;
@@ -106,5 +107,5 @@ from_flat op seats f = record {
   data_low = refl;
   stack_high = refl;
   stack_low = refl;
-  opcode = own_opcode (row_of op) seats (gets op seats f) f.state.flow f.memory _ refl;
+  opcode = own_opcode (row_of op) seats (gets op seats chain f) f.state.flow f.memory _ refl;
 }

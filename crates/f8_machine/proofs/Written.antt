@@ -7,13 +7,14 @@ use Rattle.f8_spec.specs.BusArbitration.{Seat, Verdict, Served, Conflict, Undriv
 use Rattle.f8_spec.specs.BusArbitration.{port_write_verdict, rule_of}
 use Rattle.f8_spec.specs.declared.bus.BusRule.TheVariants.{PortWrite as WriteRule}
 use Rattle.f8_spec.specs.declared.bus.Party.{Party}
-use Rattle.f8_spec.specs.MicroSteps.{Accumulator, Step, long_step, steps_of}
+use Rattle.f8_spec.specs.MicroSteps.{Accumulator, Step, long_step}
 use Rattle.f8_spec.specs.declared.instructions.Row.{Row}
 use Rattle.console_spec.specs.Processor.{Flow, Inputs, byte_of, if_taken, write_at}
 use Rattle.console_spec.specs.CounterCopies.{Copy}
 use Rattle.console_spec.specs.BusAccesses.{Access, at_port, accesses_before_fetch, last_access}
 use Rattle.console_spec.specs.Services.{placed_copy, access_verdict}
 use Rattle.console_spec.specs.BusTrace.{TracedStep, Course, traced, with_step, course_by, course_of, is_access}
+use Rattle.console_spec.specs.BusTrace.{unaccessed, with_unaccessed, steps_with}
 use Rattle.console_spec.specs.Run.{seats_of}
 use Rattle.console_spec.specs.Writes.{takers}
 use Rattle.f8_machine.specs.PortWrites.{chip_write}
@@ -78,14 +79,14 @@ course_traced : (i : Inputs) (c : Flow) (copies : List Copy) (steps : List Step)
 course_traced i c copies [] accesses [] e = tt
 course_traced i c copies [] accesses (t ∷ ts) e = let none = ap (λ (k : Course). k.steps) e in cc
 course_traced i c copies (s ∷ later) [] so_far e =
-    let first = first_idle i s None (course_of i c copies later []) so_far e in
+    let first = first_idle i s (unaccessed (rule_of s.romc) i) (course_of i c copies later []) so_far e in
     traced_more i s later first.socket _ so_far first.are (course_traced i c copies later [] _ first.rest_ends)
 course_traced i c copies (s ∷ later) (a ∷ accesses) so_far e = by (is_access (rule_of s.romc)) e
     (λ ts there. course_traced i c copies later accesses ts there)
     (λ ts there. course_traced i c copies later (a ∷ accesses) ts there)
   where
     by : (b : Bool) → (if b then course_by i s (access_verdict c copies a)
-        (course_of i c copies later accesses) else with_step (traced i s None)
+        (course_of i c copies later accesses) else with_unaccessed i s
         (course_of i c copies later (a ∷ accesses))) ≡ ends so_far →
         ((ts : List TracedStep) → course_of i c copies later accesses ≡ ends ts → AreTraced i later ts) →
         ((ts : List TracedStep) → course_of i c copies later (a ∷ accesses) ≡ ends ts → AreTraced i later ts) →
@@ -94,7 +95,8 @@ course_traced i c copies (s ∷ later) (a ∷ accesses) so_far e = by (is_access
         let first = first_by i s (access_verdict c copies a) (course_of i c copies later accesses) so_far e in
         traced_more i s later first.socket _ so_far first.are (access _ first.rest_ends)
     by false e access idle =
-        let first = first_idle i s None (course_of i c copies later (a ∷ accesses)) so_far e in
+        let first = first_idle i s (unaccessed (rule_of s.romc) i) (course_of i c copies later (a ∷ accesses)) so_far e
+        in
         traced_more i s later first.socket _ so_far first.are (idle _ first.rest_ends)
 
 -- the second step is no port write
@@ -167,9 +169,9 @@ written_by phi i names port c copies socket rest so_far are put named =
 
 -- the steps of a row in which none writes a port
 pub row_none : (row : Row) (i : Inputs) (c : Flow) (copies : List Copy) (phi : ℕ) (so_far : List TracedStep) →
-    course_of i c copies (steps_of row i.taken) (accesses_before_fetch row i ++ last_access row i ∷ []) ≡ ends so_far →
-    PutsNothing (steps_of row i.taken) → chip_write phi (map heard_of so_far) ≡ None
+    course_of i c copies (steps_with row i) (accesses_before_fetch row i ++ last_access row i ∷ []) ≡ ends so_far →
+    PutsNothing (steps_with row i) → chip_write phi (map heard_of so_far) ≡ None
 row_none row i c copies phi so_far e puts =
-    no_write i (steps_of row i.taken) so_far phi
-    (course_traced i c copies (steps_of row i.taken) (accesses_before_fetch row i ++ last_access row i ∷ []) so_far e)
+    no_write i (steps_with row i) so_far phi
+    (course_traced i c copies (steps_with row i) (accesses_before_fetch row i ++ last_access row i ∷ []) so_far e)
     puts

@@ -1,7 +1,7 @@
 -- What reset and an instruction leave of a machine and its rack, whatever they answer.
 use Rattle.std.specs.Prelude.{◌≡◌, ◌+◌, ◌≤◌, List}
 use Rattle.f8_spec.specs.ChipState.{ChipState}
-use Rattle.f8_ops.specs.declared.table.TheConstants.{MOST_PHI}
+use Rattle.f8_ops.specs.declared.table.TheConstants.{MOST_INTERRUPTED_PHI}
 use Rattle.console_spec.specs.Run.{Position}
 use Rattle.f8_machine.specs.MachineState.{MachineState, IsReset, outcome_again, probe_after_steps, steps_in}
 use Rattle.f8_machine.specs.Refinement.{Represents, Refines}
@@ -16,10 +16,11 @@ pub record Follows (result : Outcome) (old new : MachineState) (olds news : List
   pub mode : IsReset new.mode
   pub chain : new.chain ≡ old.chain
 
--- An instruction does what the flat machine's next one does, and the clocks go on by no more than an instruction's.
+-- An instruction does what the flat machine's next one does, and the clocks go on by no more than those of an instruction with an
+-- interrupt at its end.
 pub record Advances (result : Outcome) (old new : MachineState) (olds news : List ChipState) : Type 0 where
   pub refines : (x : Position) → Represents old olds x → Refines result old new news x
-  pub clocks : new.phi ≤ old.phi + MOST_PHI
+  pub clocks : new.phi ≤ old.phi + MOST_INTERRUPTED_PHI
   pub onward : old.phi ≤ new.phi
 
 -- A machine that was stopped answers the same again, and nothing changes: neither the machine nor what its chips are and have heard.

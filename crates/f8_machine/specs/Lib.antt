@@ -1,5 +1,7 @@
 pub mod Chains
 pub mod RackViews
+pub mod Requests
+pub mod RequestsHeld
 pub mod Faults
 pub mod HeardSteps
 pub mod BusSteps
@@ -9,5 +11,7 @@ pub mod MachineState
 pub mod Keying
 pub mod Refinement
 pub mod Advancing
+pub mod Choosing
+pub mod Vectoring
 pub mod Carrying
 pub mod Resetting

@@ -1,9 +1,9 @@
 -- A machine with its rack stands for the flat machine with copies of its counters, one in each chip. Nothing says that the copies agree.
-use Rattle.std.specs.Prelude.{◌≡◌, ℕ, ◌<◌, Bool, List, [], ◌∷◌, length, map, slice_get, Option, Some, None}
+use Rattle.std.specs.Prelude.{◌≡◌, ℕ, ◌-◌, ◌<◌, ◌≤◌, Bool, List, [], ◌∷◌, length, map, slice_get, Option, Some, None}
 use Rattle.f8_spec.specs.BusCodes.{Count}
 use Rattle.f8_spec.specs.ChipState.{ChipState, IsWhole}
 use Rattle.console_spec.specs.AddressSpace.{byte_at}
-use Rattle.console_spec.specs.Processor.{Flow, with_write}
+use Rattle.console_spec.specs.Processor.{Flow, State, with_write, history_of}
 use Rattle.console_spec.specs.declared.PortWrite.{PortWrite}
 use Rattle.console_spec.specs.CounterCopies.{Copy, fetched, unreset}
 use Rattle.console_spec.specs.BusTrace.{Course}
@@ -16,6 +16,7 @@ use Rattle.data_bus.specs.declared.fault.BusFault.{BusFault}
 use Rattle.cpu3850.specs.CpuSteps.{CpuState}
 use Rattle.cpu3850.specs.OwnWrites.{own_ports, LeaveOwnPorts}
 use Rattle.f8_machine.specs.RackViews.{HoldsFlat, HoldsPorts, AreCopies}
+use Rattle.f8_machine.specs.RequestsHeld.{IsInTime, IsSettledBy}
 use Rattle.f8_machine.specs.Faults.{fault_of}
 use Rattle.f8_machine.specs.Rounds.{heard_of}
 use Rattle.f8_machine.specs.MachineState.{MachineState}
@@ -38,13 +39,13 @@ pub record IsMemory (memory : List ℕ) : Type 0 where
   pub bytes : (at : ℕ) → byte_at memory at < 256
 
 -- The probe and the chips of a rack stand at a position: the counters of the probe and of each chip are those of the flat machine and of
--- the
--- copies, as a function of them, and the chips hold its memory and its ports.
+-- the copies, as a function of them; the chips hold its memory and its ports; and their timers and requests are as its history says.
 pub record RackStands (now : Flow → Count) (probe : ProbeState) (states : List ChipState) (x : Position) : Type 0 where
   pub reference : probe.count ≡ now x.flat.state.flow
   pub copies : AreCopies (λ second c. now c) probe.last x.copies (views states)
   pub flat : HoldsFlat x.flat.memory (views states)
   pub ports : HoldsPorts x.flat.state.keys x.flat.state.writes (views states)
+  pub in_time : IsInTime x.flat.state.phi (history_of x.flat.state) (views states)
 
 -- And so does the processor. The ports of its own are the flat machine's ports 0 and 1, which no chip has.
 pub record Holds (now : Flow → Count) (cpu : CpuState) (probe : ProbeState) (states : List ChipState)
@@ -64,9 +65,15 @@ pub record Stands (now : Flow → Count) (m : MachineState) (states : List ChipS
   pub chain : m.chain ≡ x.chain
   pub keys : length x.flat.state.keys ≡ 256
 
+-- Between instructions the last write and the last acknowledgement lie 4 Φ back, so that a pulse now is later than both.
+pub record IsSettled (s : State) : Type 0 where
+  pub begun : 4 ≤ s.phi
+  pub back : IsSettledBy (s.phi - 4) (history_of s)
+
 -- after reset, as long as nothing stops the machine
 pub record Represents (m : MachineState) (states : List ChipState) (x : Position) : Type 0 where
   pub stands : Stands fetched m states x
+  pub settled : IsSettled x.flat.state
   pub opcode : m.cpu.opcode ≡ opcode_at x
   pub running : m.mode ≡ Running
 
@@ -78,6 +85,8 @@ AreAtZero (c ∷ copies) = (c.flow.p ≡ 0) × AreAtZero copies
 -- before reset
 pub record IsPowered (m : MachineState) (states : List ChipState) (x : Position) : Type 0 where
   pub stands : Stands unreset m states x
+  pub unwritten : x.flat.state.writes ≡ []
+  pub unacknowledged : x.flat.state.acknowledged ≡ []
   pub at_zero : x.flat.state.flow.p ≡ 0
   pub copies_at_zero : AreAtZero x.copies
   pub powered : m.mode ≡ Powered

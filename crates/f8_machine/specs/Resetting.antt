@@ -4,7 +4,7 @@ use Rattle.f8_spec.specs.ChipState.{ChipState}
 use Rattle.console_spec.specs.AddressSpace.{byte_at}
 use Rattle.console_spec.specs.CounterCopies.{fetched, unreset}
 use Rattle.console_spec.specs.BusTrace.{TracedStep}
-use Rattle.console_spec.specs.Run.{Position, reset_fault, reset_course}
+use Rattle.console_spec.specs.Run.{Position, reset_fault, reset_course, position_after_reset}
 use Rattle.probe.specs.ProbeState.{ProbeState}
 use Rattle.data_bus.specs.declared.fault.BusFault.{BusFault}
 use Rattle.f8_machine.specs.Faults.{fault_of}
@@ -17,11 +17,11 @@ pub record IsAtPower (probe : ProbeState) (states : List ChipState) (x : Positio
   pub rack : RackStands unreset probe states x
   pub whole : length x.flat.memory ≡ 65536
 
--- the opcode at 0 was fetched, and every counter set goes on from there
+-- the opcode at 0 was fetched, every counter set goes on from there, and the clocks of reset have passed
 pub record IsFetched (opcode : ℕ) (probe : ProbeState) (states : List ChipState) (steps : List Heard)
     (x : Position) : Type 0 where
   pub opcode_is : opcode ≡ byte_at x.flat.memory 0
-  pub rack : RackStands (λ c. fetched (record c { p = 0 })) probe states x
+  pub rack : RackStands (λ c. fetched (record c { p = 0 })) probe states (position_after_reset x)
   pub served : reset_fault x ≡ None
   pub so_far : List TracedStep
   pub recorded : steps ≡ map heard_of so_far

@@ -1,24 +1,36 @@
 -- What the chips of a rack are after the bus steps of a record, and what those that tell it heard.
-use Rattle.std.specs.Prelude.{◌≡◌, ℕ, false, List, [], ◌∷◌, ◌++◌, map, Option, Some}
+use Rattle.std.specs.Prelude.{◌≡◌, ℕ, Bool, false, ◌==◌, ◌&&◌, ◌||◌, List, [], ◌∷◌, ◌++◌, map, Option, Some}
 use Rattle.f8_spec.specs.ChipState.{ChipView, ChipState, HeardStep, PowersOn, after_step, told_step}
 use Rattle.f8_spec.specs.MicroSteps.{step_clocks}
 use Rattle.data_bus.specs.Racks.{NumberedZip}
 use Rattle.console_spec.specs.CounterCopies.{power_start}
 use Rattle.console_spec.specs.BusTrace.{TracedStep}
+use Rattle.console_spec.specs.declared.Who.{Who}
+use Rattle.console_spec.specs.declared.Who.TheVariants.{Cpu, Socket, Nobody}
 use Rattle.f8_machine.specs.declared.heard.Heard.{Heard}
 
 -- a step of the definitions' trace, as a machine tells it
 abbrev pub heard_of : TracedStep → Heard
 heard_of t = record { romc = t.romc; long = t.long; byte = t.byte; who = t.who; taker = t.taker }
 
--- a step of a record as the chip in a socket hears it; no interrupt is acknowledged so far
+abbrev pub is_socket : ℕ → Who → Bool
+is_socket socket Cpu = false
+is_socket socket (Socket driver) = driver == socket
+is_socket socket Nobody = false
+
+-- a step of a record as the chip in a socket hears it: in the two codes of an acknowledgement it is marked where it gave its vector
 abbrev pub heard_in : ℕ → Heard → HeardStep
-heard_in socket h = record { romc = h.romc; byte = h.byte; clocks = step_clocks h.long; first = false }
+heard_in socket h = record {
+  romc = h.romc;
+  byte = h.byte;
+  clocks = step_clocks h.long;
+  first = (h.romc == 0x0F || h.romc == 0x13) && is_socket socket h.who;
+}
 
 -- the chip in a socket after the steps
 abbrev pub after_steps : ℕ → List Heard → ChipView → ChipView
 after_steps socket [] v = v
-after_steps socket (h ∷ later) v = after_steps socket later (after_step 0 (heard_in socket h) v)
+after_steps socket (h ∷ later) v = after_steps socket later (after_step (heard_in socket h) v)
 
 -- where the steps heard are told afterwards, they were told before, and have gained these
 pub record HearsSteps (socket : ℕ) (steps : List Heard) (old new : Option (List HeardStep)) : Type 0 where

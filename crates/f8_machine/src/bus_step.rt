@@ -1,6 +1,7 @@
 //! One bus step of a machine.
 ghost use Rattle.std.specs.Prelude.{◌≡◌, ◌<◌, ◌≤◌, length, map, IfOk, IfErr};
-ghost use Rattle.f8_machine.specs.BusSteps.{IsPlain, IsServed, IsRefused};
+ghost use Rattle.data_bus.specs.Racks.{ChosenAsks};
+ghost use Rattle.f8_machine.specs.BusSteps.{IsPlain, IsServed, IsServedBy, IsRefused, IsRefusedBy};
 
 use super::heard::{Heard, taker, who_drove};
 use super::record::{MOST_STEPS, Record};
@@ -11,7 +12,9 @@ use probe::Probe;
 
 /// One bus step of an instruction or of reset, with the byte that the CPU places, which counts where nobody else drives. A step that is
 /// served is told behind the others, and its byte is answered; one that isn't changes nothing.
-#[tactic(auto, using(crate::proofs::BusAnswers::served_by, crate::proofs::BusAnswers::refused_by, crate::proofs::BusAnswers::none_chosen))]
+#[tactic(auto, using(crate::proofs::BusAnswers::none_chosen))]
+// A function of its own, made for steps in which no chip is acknowledged, which are nearly all.
+#[inline(never)]
 pub(crate) fn bus_step(
     rack: &mut Rack,
     probe: &mut Probe,
@@ -28,11 +31,35 @@ pub(crate) fn bus_step(
         (map state rack.old.items) (map state rack.new.items) steps.old steps.new) }
     ensures chips { length rack.new.items ≡ length rack.old.items }
 {
+    bus_step_by(rack, probe, step, placed, None, steps)
+}
+
+/// One bus step, as [`bus_step`] does it. In the two codes of an acknowledgement `first` is the socket of the chip whose interrupt is
+/// acknowledged.
+#[tactic(auto, using(crate::proofs::BusAnswers::served_by, crate::proofs::BusAnswers::refused_by))]
+#[inline(always)]
+pub(crate) fn bus_step_by(
+    rack: &mut Rack,
+    probe: &mut Probe,
+    step: Step,
+    placed: u8,
+    first: Option<u8>,
+    steps: &mut Record,
+) -> Result<u8, BusFault>
+    requires few { length rack.old.items ≤ MOST_CHIPS }
+    requires room { length steps.old < MOST_STEPS }
+    requires chosen { ChosenAsks step.romc first (map state rack.old.items) }
+    ensures served { IfOk result (λ byte. IsServedBy first step placed probe.old probe.new
+        (map state rack.old.items) (map state rack.new.items) steps.old steps.new byte) }
+    ensures refused { IfErr result (λ fault. IsRefusedBy first step fault probe.old probe.new
+        (map state rack.old.items) (map state rack.new.items) steps.old steps.new) }
+    ensures chips { length rack.new.items ≡ length rack.old.items }
+{
     let cycle = Cycle {
         romc: step.romc,
         long: step.long,
         byte: placed,
-        first: None,
+        first,
     };
     let served = bus(rack, probe, cycle)?;
     steps.push(Heard {

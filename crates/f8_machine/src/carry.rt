@@ -1,18 +1,22 @@
 //! The bus steps of an instruction.
-ghost use Rattle.std.specs.Prelude.{◌≡◌, ◌≤◌, [], length, map, IfErr, OnOk, OnErr};
+ghost use Rattle.std.specs.Prelude.{◌≡◌, ◌<◌, ◌≤◌, [], length, map, IfOk, IfErr, IfSome, OnErr, IsSome, Some, false};
+ghost use Rattle.f8_spec.specs.Instructions.{decoded, is_shielding};
 ghost use Rattle.f8_spec.specs.declared.instructions.Op.{Op};
 ghost use Rattle.console_spec.specs.Run.{Position};
-ghost use Rattle.cpu3850.specs.CpuSteps.{planned};
+ghost use Rattle.cpu3850.specs.CpuSteps.{planned, taken};
 ghost use Rattle.cpu3850.specs.Keeping.{IsRestorable};
-ghost use Rattle.f8_machine.specs.Carrying.{HoldsInstruction, IsCarriedOut, IsCutShort};
+ghost use Rattle.f8_machine.specs.Carrying.{HoldsInstruction, IsCarriedOut, IsCutShort, vectored};
 ghost use Rattle.f8_machine.specs.MachineState.{probe_after_steps};
 ghost use Rattle.f8_machine.specs.Rounds.{RackRuns};
 
 use super::bus_step::bus_step;
+use super::chain::Chain;
+use super::choose::choose;
+use super::interrupt::{acknowledge_chosen, fetch_by};
 use super::outcome::StoppedBy;
 use super::record::Record;
 use chip_face::{Chip, MOST_CHIPS};
-use cpu3850::{Cpu, Step};
+use cpu3850::{Cpu, Steps};
 use data_bus::{BusFault, Rack};
 use probe::Probe;
 
@@ -35,32 +39,48 @@ impl Unserved {
     }
 }
 
-/// The bus steps of the instruction that the processor holds, each told in `steps`. Where one isn't served the processor differs from
-/// what it was in nothing but what can be put back.
+/// What the processor does with the opcode that is fetched at the end, and with the interrupt that is taken there.
+fn conclude(cpu: &mut Cpu, index: u8, opcode: u8, chosen: Option<u8>)
+    requires { index < length (planned cpu.old) }
+    ensures { cpu.new ≡ vectored chosen (taken index opcode cpu.old) }
+{
+    cpu.take(index, opcode);
+    if chosen.is_some() {
+        cpu.vectored();
+    }
+}
+
+/// The bus steps of the instruction that the processor holds, each told in `steps`. Requests for an interrupt are sampled as its last
+/// step begins; the answer is the socket of the chip whose interrupt is taken in place of it. Where a step isn't served the processor
+/// differs from what it was in nothing but what can be put back.
 pub(crate) fn carry_out(
     cpu: &mut Cpu,
     probe: &mut Probe,
     rack: &mut Rack,
-    plan: &[Step],
+    plan: &Steps,
+    chain: &Chain,
     steps: &mut Record,
-) -> Result<(), Unserved>
+) -> Result<Option<u8>, Unserved>
     requires few { length rack.old.items ≤ MOST_CHIPS }
     requires plan { plan.now ≡ planned cpu.old }
-    requires short { length plan.now ≤ 5 }
+    requires instruction { IsSome (decoded cpu.old.opcode) }
     requires none { steps.old ≡ [] }
     ensures done { (op : Op) (x : Position) →
-        HoldsInstruction cpu.old probe.old (map state rack.old.items) op x →
-        OnOk result (IsCarriedOut cpu.old cpu.new probe.new
-        (map state rack.new.items) steps.new op x) }
+        HoldsInstruction cpu.old probe.old (map state rack.old.items) chain.now op x →
+        IfOk result (λ chosen. IsCarriedOut cpu.old cpu.new probe.new
+        (map state rack.new.items) steps.new chosen op x) }
     ensures cut { (op : Op) (x : Position) →
-        HoldsInstruction cpu.old probe.old (map state rack.old.items) op x →
+        HoldsInstruction cpu.old probe.old (map state rack.old.items) chain.now op x →
         IfErr result (λ unserved. IsCutShort steps.new unserved.fault unserved.long op x) }
+    ensures open { (op : Op) → decoded cpu.old.opcode ≡ Some op →
+        IfOk result (λ chosen. IfSome chosen (λ socket. is_shielding op ≡ false)) }
     ensures restorable { OnErr result (IsRestorable cpu.old cpu.new) }
     ensures ran { RackRuns steps.new (map state rack.old.items) (map state rack.new.items) }
     ensures reference { probe.new ≡ probe_after_steps steps.new probe.old }
     ensures chips { length rack.new.items ≡ length rack.old.items }
 {
-    for (index, step) in plan.iter().enumerate() {
+    let before = plan.before_last();
+    for (index, step) in before.iter().enumerate() {
         let placed = cpu.drive(index as u8);
         match bus_step(rack, probe, *step, placed, steps) {
             Ok(byte) => cpu.take(index as u8, byte),
@@ -72,5 +92,18 @@ pub(crate) fn carry_out(
             }
         }
     }
-    Ok(())
+    let Some(last) = plan.last() else {
+        unreachable!()
+    };
+    let chosen = choose(cpu, rack, chain);
+    acknowledge_chosen(rack, probe, chosen, steps);
+    let fetch = fetch_by(chosen, last);
+    let long = fetch.long;
+    match bus_step(rack, probe, fetch, 0, steps) {
+        Ok(opcode) => {
+            conclude(cpu, (plan.len() - 1) as u8, opcode, chosen);
+            Ok(chosen)
+        }
+        Err(fault) => Err(Unserved { fault, long }),
+    }
 }

@@ -1,9 +1,11 @@
-//! The machine: power, reset, instructions and key bytes.
+//! The machine: power, reset, instructions, key bytes and pulses.
 use super::all_chips::{key_all, power_all};
 use super::carry::{Unserved, carry_out};
 use super::chain::Chain;
 use super::flow::Flow;
+use super::interrupt::clocks_by;
 use super::outcome::{Mode, Outcome, StoppedBy};
+use super::pulse::pulse_at;
 use super::record::Record;
 use super::reset::fetch_first;
 use super::wrote::done_write;
@@ -51,7 +53,7 @@ impl Model for Machine {
 }
 
 impl Machine {
-    ghost use Rattle.std.specs.Prelude.{◌≡◌, ◌≤◌, ◌<◌, ◌+◌, ◌^◌, [], length, map, IsSome};
+    ghost use Rattle.std.specs.Prelude.{◌≡◌, ◌≤◌, ◌<◌, ◌+◌, ◌^◌, [], length, map, slice_get, IsSome};
     ghost use Rattle.f8_spec.specs.Instructions.{decoded};
     ghost use Rattle.f8_spec.specs.BusArbitration.{seat_of};
     ghost use Rattle.cpu3850.specs.OwnWrites.{LeaveOwnPorts};
@@ -65,7 +67,8 @@ impl Machine {
     ghost use Rattle.f8_machine.specs.Advancing.{Follows, Advances, StaysStopped};
     ghost use Rattle.f8_machine.specs.Rounds.{RackPowers};
     ghost use Rattle.f8_machine.specs.Keying.{RackKeyed, keyed_machine};
-    ghost use Rattle.console_spec.specs.declared.Event.TheVariants.{Keys};
+    ghost use Rattle.console_spec.specs.declared.Event.TheVariants.{Keys, Pulse};
+    ghost use Rattle.f8_machine.specs.RequestsHeld.{RackPulsed};
     ghost use Rattle.console_spec.specs.Telling.{with_event};
 
     /// Power-on of the machine and of every chip of the rack, of which there are at most 16. The power byte is in the accumulator, in
@@ -122,9 +125,9 @@ impl Machine {
         }
     }
 
-    /// The next instruction, on a machine that was reset. Where a bus step of it isn't served, the registers and the clocks are those
-    /// before it, while the probe and the chips have heard its served steps; and from then on each call answers the same, with no step,
-    /// and changes nothing. So it does at an opcode that is reserved.
+    /// The next instruction, with the interrupt at its end, on a machine that was reset. Where a bus step of it isn't served, the
+    /// registers and the clocks are those before it, while the probe and the chips have heard its served steps; and from then on each
+    /// call answers the same, with no step, and changes nothing. So it does at an opcode that is reserved.
     // Not inlined, so that an outcome is built in its caller's place, and isn't copied there piece by piece.
     #[inline(never)]
     pub fn instr(&mut self, rack: &mut Rack) -> Outcome
@@ -192,13 +195,14 @@ impl Machine {
             &mut self.cpu,
             &mut self.probe,
             rack,
-            plan.as_slice(),
+            &plan,
+            &self.chain,
             &mut steps,
         );
         match carried {
-            Ok(()) => {
+            Ok(chosen) => {
                 self.flow = Flow::of(self.probe.counters());
-                self.phi += u64::from(plan.clocks());
+                self.phi += clocks_by(chosen, &plan);
                 let wrote = done_write(code, self.phi, self.cpu.ports(), steps.as_slice());
                 Outcome::Done { wrote, steps }
             }
@@ -230,6 +234,24 @@ impl Machine {
         }
     }
 
+    /// An external pulse at the chip described at this place. Its chip latches a request where the low two bits of its control are 1. A
+    /// place at which no chip is described changes nothing.
+    pub fn pulse(&mut self, rack: &mut Rack, chip: u8)
+        requires few { length rack.old.items ≤ MOST_CHIPS }
+        ensures machine { self.new ≡ self.old }
+        ensures pulsed { RackPulsed (slice_get self.old.chain chip)
+            (map state rack.old.items) (map state rack.new.items) }
+        ensures powered { (x : Position) → IsPowered self.old (map state rack.old.items) x →
+            IsPowered self.new (map state rack.new.items) (with_event (Pulse chip) x) }
+        ensures running { (x : Position) → Represents self.old (map state rack.old.items) x →
+            Represents self.new (map state rack.new.items) (with_event (Pulse chip) x) }
+        ensures chips { length rack.new.items ≡ length rack.old.items }
+    {
+        if let Some(&socket) = self.chain.as_slice().get(usize::from(chip)) {
+            pulse_at(rack, socket);
+        }
+    }
+
     /// The registers, after the last instruction that was done: the address of the one that comes next, the stack register, the data
     /// counters, the accumulator, ISAR, the status word and the scratchpad.
     pub fn regs(&self) -> Regs
@@ -238,6 +260,8 @@ impl Machine {
           registers = self.now.cpu.registers;
           keys = [];
           writes = [];
+          acknowledged = [];
+          pulses = [];
           count = 0;
           phi = 0;
         }) }

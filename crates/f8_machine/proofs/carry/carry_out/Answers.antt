@@ -1,60 +1,115 @@
--- A turn takes one step of what is left; at its end the instruction is done, and at a step that isn't served it is cut short.
-use Rattle.std.proofs.Common.{◌+◌, ◌<◌, ◌≤◌, refl, length, ap, sym, subst, ◌∙◌, arith, rules}
-use Rattle.std.proofs.lemmas.List.{length-append}
+-- A turn takes one step of what is left before the end; then comes the end, with the interrupt that is chosen. At a step that isn't served
+-- the instruction is cut short.
+use Rattle.std.proofs.Common.{◌≡◌, ℕ, ◌+◌, ◌-◌, ◌<◌, ◌≤◌, Bool, true, false, List, take, Option, Some, None, refl, length, ap, sym, subst, ◌∙◌, arith, rules}
+use Rattle.std.specs.Prelude.{if◌then◌else◌, not, ◌&&◌, IfSome, IsSome, slice_get}
+use Rattle.f8_spec.specs.ChipState.{ChipState}
+use Rattle.f8_machine.specs.Choosing.{chosen_by, first_in}
+use Rattle.std.proofs.lemmas.List.{length-append, length-map}
+use Rattle.f8_spec.specs.Instructions.{decoded, is_shielding, row_of}
+use Rattle.f8_spec.specs.MicroSteps.{last_fetch, steps_before_fetch}
+use Rattle.f8_spec.specs.declared.instructions.Op.{Op}
+use Rattle.f8_spec.specs.declared.instructions.Row.{Row}
+use Rattle.f8_spec.specs.declared.instructions.Row.TheVariants.{Branch, BranchIsar}
+use Rattle.console_spec.specs.Processor.{is_taken}
+use Rattle.console_spec.specs.Run.{gets_all_at}
 use Rattle.cpu3850.proofs.KeepingLaws.{IsRestorable-start, IsRestorable-taken}
-use Rattle.cpu3850.proofs.PlanLaws.{planned-taken}
-use Rattle.cpu3850.specs.CpuSteps.{CpuState, planned}
+use Rattle.cpu3850.proofs.PlanLaws.{is_no_last, planned-taken}
+use Rattle.cpu3850.specs.declared.steps.Step.{Step}
+use Rattle.cpu3850.specs.CpuSteps.{CpuState, bus_step, last_step, planned, planned_as, taken, taken_as}
 use Rattle.cpu3850.specs.Keeping.{IsRestorable}
-use Rattle.probe.specs.ProbeState.{ProbeState, probe_after}
-use Rattle.f8_machine.specs.BusSteps.{heard_served}
-use Rattle.f8_machine.specs.MachineState.{probe_after_steps}
-use Rattle.f8_machine.proofs.Carried.{remaining_first, remaining_ends}
-use Rattle.f8_machine.proofs.RackLaws.{rack_runs_none, rack_runs_more, rack_runs_stays, probe_after_steps-more}
-use Rattle.f8_machine.proofs.Remains.{planned_plain, split_plan, remaining_more, remaining_stops}
-use Rattle.f8_machine.proofs.Slots.{rack_stays_same}
+use Rattle.f8_machine.specs.Carrying.{planned_before, planned_before_as, vectored}
+use Rattle.f8_machine.specs.BusSteps.{IsPlain}
+use Rattle.f8_machine.specs.Vectoring.{fetch_by}
+use Rattle.f8_machine.proofs.Instructions.{some_of}
+use Rattle.f8_machine.proofs.Carried.{before_planned, carried_out, cut_short, last_planned, length-planned}
+use Rattle.f8_machine.proofs.Carried.{remaining_first, remaining_over}
+use Rattle.f8_machine.proofs.RackLaws.{rack_runs_none}
+use Rattle.f8_machine.proofs.RackRuns.{ran_chosen, ran_more, ran_still}
+use Rattle.f8_machine.proofs.Remains.{planned_before_plain, split_plan, remaining_more, remaining_stops}
+use Rattle.f8_machine.proofs.Starts.{instruction_aim}
 use Rattle.f8_machine.proofs.StepTests.{ArePlain}
 use Rattle.f8_machine.proofs.carry.carry_out.Goals as goal
 
+-- the steps before the last are those that are planned
+before_is : (cpu : CpuState) (plan before : List Step) → plan ≡ planned cpu → before ≡ take (length plan - 1) plan →
+    before ≡ planned_before cpu
+before_is cpu plan before is taken_are =
+    taken_are ∙ ap (λ (l : List Step). take (length l - 1) l) is ∙ before_planned cpu
+
+-- how many come before the last
+length-before : (row : Row) (branched : Bool) → length (steps_before_fetch row branched) ≡ last_step row
+length-before Branch true = refl
+length-before Branch false = refl
+length-before BranchIsar true = refl
+length-before BranchIsar false = refl
+length-before row branched = refl
+
+-- they are one less than all
+one_more : (cpu : CpuState) (plan before : List Step) → plan ≡ planned cpu → before ≡ take (length plan - 1) plan →
+    IsSome (decoded cpu.opcode) → length before + 1 ≡ length (planned cpu)
+one_more cpu plan before is taken_are held =
+    let op = some_of (decoded cpu.opcode) held in
+    let all = length-planned cpu op.0 op.1 in
+    ap (λ (l : List Step). length l + 1) (before_is cpu plan before is taken_are)
+    ∙ ap (λ (found : Option Op). length (planned_before_as found cpu.registers) + 1) op.1
+    ∙ ap (λ (n : ℕ). n + 1) (length-map (steps_before_fetch (row_of op.0) (is_taken op.0 cpu.registers)) bus_step
+    ∙ length-before (row_of op.0) (is_taken op.0 cpu.registers))
+    ∙ sym all
+
+-- a step before the last leaves the opcode held
+opcode-taken_as : (found : Option Op) (index byte : ℕ) (c : CpuState) → decoded c.opcode ≡ found →
+    index + 1 < length (planned_as found c.registers) → (taken_as found index byte c).opcode ≡ c.opcode
+opcode-taken_as None index byte c held later = refl
+opcode-taken_as (Some op) index byte c held later =
+    rw (is_no_last index op (is_taken op c.registers) later) refl
+
+opcode-taken : (index byte : ℕ) (c : CpuState) → index + 1 < length (planned c) → (taken index byte c).opcode ≡ c.opcode
+opcode-taken index byte c later = opcode-taken_as (decoded c.opcode) index byte c refl later
+
+-- a step before the last is no last one
+shorter : (before planned : ℕ) (index : ℕ) → before + 1 ≡ planned → index < before → index + 1 < planned
+shorter before planned index longer within = omega arith
+
 pub loop-index-init : goal.loop-index-init
-loop-index-init g c = record {
-  short = c.requires.short;
-  chips = refl;
-  count = ap length c.requires.none;
-  plain = subst ArePlain (sym c.requires.plan) (planned_plain c.args.cpu.now);
-  plan = λ within. sym c.requires.plan;
-  restorable = λ within. IsRestorable-start c.args.cpu.now;
-  ran = rw c.requires.none (rack_runs_none 0 _);
-  reference = rw c.requires.none refl;
-  left = λ op x holds. rw c.requires.none (remaining_first c.args.cpu.now c.args.probe.now _ op x c.args.plan.now
-      c.requires.plan holds);
-}
+loop-index-init g c =
+    let before = before_is c.args.cpu.now c.args.plan.now c.before_last-before.result.now c.requires.plan
+    c.before_last-before.ensures.value in
+    record {
+      short = c.before_last-before.ensures.few;
+      chips = refl;
+      count = ap length c.requires.none;
+      within = search rules;
+      plain = subst ArePlain (sym before) (planned_before_plain c.args.cpu.now);
+      plan = refl;
+      longer = one_more c.args.cpu.now c.args.plan.now c.before_last-before.result.now c.requires.plan
+          c.before_last-before.ensures.value c.requires.instruction;
+      opcode = refl;
+      restorable = IsRestorable-start c.args.cpu.now;
+      ran = rw c.requires.none (rack_runs_none 0 _);
+      reference = rw c.requires.none refl;
+      left = λ op x holds. rw c.requires.none (remaining_first c.args.cpu.now c.args.probe.now _ c.args.chain.now op x
+          c.before_last-before.result.now before holds);
+    }
 
 pub drive-placed-requires : goal.drive-placed-requires
 drive-placed-requires g c =
-    let within : c.loop-index.index < length c.args.plan.now = search rules in
-    rw (c.loop-index.invariant.plan within) within
+    rw c.loop-index.invariant.plan (omega (arith, c.loop-index.invariant.longer, c.loop-index-test.true))
 
 pub bus_step-requires-clause-room : goal.bus_step-requires-clause-room
-bus_step-requires-clause-room g c = omega (arith, c.loop-index.invariant.count, c.loop-index.invariant.short)
-
-pub bus_step-requires-clause-plain : goal.bus_step-requires-clause-plain
-bus_step-requires-clause-plain g c =
-    let within : c.loop-index.index < length c.args.plan.now = search rules in
-    (subst ArePlain (split_plan c.args.plan.now c.loop-index.index c.index-plan-index.result within
-    c.index-plan-index.is) c.loop-index.invariant.plain).0
+bus_step-requires-clause-room g c =
+    omega (arith, c.loop-index.invariant.count, c.loop-index.invariant.short, c.loop-index-test.true)
 
 pub take-requires : goal.take-requires
 take-requires g c =
-    let within : c.loop-index.index < length c.args.plan.now = search rules in
-    rw (c.loop-index.invariant.plan within) within
+    rw c.loop-index.invariant.plan (omega (arith, c.loop-index.invariant.longer, c.loop-index-test.true))
 
 pub returns-in-Err-clause-cut : goal.returns-in-Err-clause-cut
 returns-in-Err-clause-cut g c = λ op x holds.
-    let within : c.loop-index.index < length c.args.plan.now = search rules in
-    let stopped = remaining_stops op x _ _ _ c.args.plan.now c.index-plan-index.result c.loop-index.index
+    let stopped = remaining_stops (row_of op) x (gets_all_at op x) (instruction_aim op x) _
+    c.before_last-before.result.now c.index-before-index.result c.loop-index.index
     c.loop-index.cpu c.loop-index.probe _ c.loop-index.steps
-    c.in-Err.fault c.bus_step.new.probe _ c.bus_step.new.steps within c.index-plan-index.is c.in-Err.ensures.refused
-    (c.loop-index.invariant.left op x holds) in
+    c.in-Err.fault c.bus_step.new.probe _ c.bus_step.new.steps c.loop-index-test.true c.index-before-index.is
+    c.in-Err.ensures.refused (c.loop-index.invariant.left op x holds) in
     record {
       unserved = stopped.fault_is;
       so_far = stopped.so_far;
@@ -63,66 +118,212 @@ returns-in-Err-clause-cut g c = λ op x holds.
     }
 
 pub returns-in-Err-clause-restorable : goal.returns-in-Err-clause-restorable
-returns-in-Err-clause-restorable g c =
-    let within : c.loop-index.index < length c.args.plan.now = search rules in
-    c.loop-index.invariant.restorable within
+returns-in-Err-clause-restorable g c = c.loop-index.invariant.restorable
 
 pub returns-in-Err-clause-ran : goal.returns-in-Err-clause-ran
 returns-in-Err-clause-ran g c =
-    rw c.in-Err.ensures.refused.recorded (rack_runs_stays c.loop-index.steps _ _ _ c.loop-index.invariant.ran
-    (rack_stays_same _ _ c.in-Err.ensures.refused.stays))
+    (ran_still c.args.probe.now _ c.index-before-index.result c.in-Err.fault c.loop-index.probe c.bus_step.new.probe _ _
+    c.loop-index.steps c.bus_step.new.steps
+    (record { rack = c.loop-index.invariant.ran; reference = c.loop-index.invariant.reference })
+    c.in-Err.ensures.refused).rack
 
 pub returns-in-Err-clause-reference : goal.returns-in-Err-clause-reference
 returns-in-Err-clause-reference g c =
-    c.in-Err.ensures.refused.unheard ∙ c.loop-index.invariant.reference
-    ∙ ap (λ steps. probe_after_steps steps c.args.probe.now) (sym c.in-Err.ensures.refused.recorded)
+    (ran_still c.args.probe.now _ c.index-before-index.result c.in-Err.fault c.loop-index.probe c.bus_step.new.probe _ _
+    c.loop-index.steps c.bus_step.new.steps
+    (record { rack = c.loop-index.invariant.ran; reference = c.loop-index.invariant.reference })
+    c.in-Err.ensures.refused).reference
 
 pub loop-index-preserved : goal.loop-index-preserved
 loop-index-preserved g c =
-    let within : c.loop-index.index < length c.args.plan.now = search rules in
-    let plan_is = c.loop-index.invariant.plan within in
     let served = c.in-Ok.ensures.served in
-    let codes = subst ArePlain (split_plan c.args.plan.now c.loop-index.index c.index-plan-index.result within
-    c.index-plan-index.is) c.loop-index.invariant.plain in
+    let codes = subst ArePlain (split_plan c.before_last-before.result.now c.loop-index.index
+    c.index-before-index.result c.loop-index-test.true c.index-before-index.is) c.loop-index.invariant.plain in
+    let more : c.loop-index.index + 1 < length (planned c.loop-index.cpu) =
+    rw c.loop-index.invariant.plan (shorter _ _ c.loop-index.index c.loop-index.invariant.longer
+    c.loop-index-test.true) in
+    let ran = ran_more c.args.probe.now _ c.index-before-index.result c.drive-placed.result c.in-Ok.byte
+    c.loop-index.probe c.bus_step.new.probe _ _ c.loop-index.steps c.bus_step.new.steps codes.0
+    (record { rack = c.loop-index.invariant.ran; reference = c.loop-index.invariant.reference }) served in
     record {
       short = c.loop-index.invariant.short;
       chips = c.bus_step.ensures.chips ∙ c.loop-index.invariant.chips;
       count = ap length served.recorded ∙ length-append c.loop-index.steps _
           ∙ ap (λ n. n + 1) c.loop-index.invariant.count;
+      within = omega (arith, c.loop-index-test.true);
       plain = codes.1;
-      plan = λ later.
-          let more : c.loop-index.index + 1 < length (planned c.loop-index.cpu) = rw plan_is later in
-          ap planned c.take.ensures ∙ planned-taken c.loop-index.index c.in-Ok.byte c.loop-index.cpu more ∙ plan_is;
-      restorable = λ later.
-          let more : c.loop-index.index + 1 < length (planned c.loop-index.cpu) = rw plan_is later in
-          subst (λ (cpu : CpuState). IsRestorable c.args.cpu.now cpu) (sym c.take.ensures)
+      plan = ap planned c.take.ensures ∙ planned-taken c.loop-index.index c.in-Ok.byte c.loop-index.cpu more
+          ∙ c.loop-index.invariant.plan;
+      longer = c.loop-index.invariant.longer;
+      opcode = ap (λ (k : CpuState). k.opcode) c.take.ensures
+          ∙ opcode-taken c.loop-index.index c.in-Ok.byte c.loop-index.cpu more ∙ c.loop-index.invariant.opcode;
+      restorable = subst (λ (cpu : CpuState). IsRestorable c.args.cpu.now cpu) (sym c.take.ensures)
           (IsRestorable-taken c.args.cpu.now c.loop-index.cpu c.loop-index.index c.in-Ok.byte more
-          (c.loop-index.invariant.restorable within));
-      ran = rw served.recorded (rack_runs_more 0 c.loop-index.steps
-          (heard_served c.index-plan-index.result c.in-Ok.byte served.socket) _ _ _ c.loop-index.invariant.ran
-          served.settled);
-      reference = served.heard
-          ∙ ap (λ (p : ProbeState). probe_after c.index-plan-index.result.romc c.in-Ok.byte p)
-          c.loop-index.invariant.reference
-          ∙ sym (probe_after_steps-more c.loop-index.steps
-          (heard_served c.index-plan-index.result c.in-Ok.byte served.socket) c.args.probe.now)
-          ∙ ap (λ steps. probe_after_steps steps c.args.probe.now) (sym served.recorded);
+          c.loop-index.invariant.restorable);
+      ran = ran.rack;
+      reference = ran.reference;
       left = λ op x holds.
-          remaining_more op x _ _ _ c.args.plan.now c.index-plan-index.result c.loop-index.index c.loop-index.cpu
+          remaining_more (row_of op) x (gets_all_at op x) (instruction_aim op x) _ c.before_last-before.result.now
+          c.index-before-index.result c.loop-index.index c.loop-index.cpu
           c.loop-index.probe _ c.loop-index.steps
-          c.drive-placed.result c.in-Ok.byte c.take.new.self c.bus_step.new.probe _ c.bus_step.new.steps within
-          c.index-plan-index.is c.drive-placed.ensures c.take.ensures served
+          c.drive-placed.result c.in-Ok.byte c.take.new.self c.bus_step.new.probe _ c.bus_step.new.steps codes.0
+          c.loop-index-test.true
+          c.index-before-index.is c.drive-placed.ensures c.take.ensures served
           (c.loop-index.invariant.left op x holds);
     }
 
-pub returns-clause-done : goal.returns-clause-done
-returns-clause-done g c = λ op x holds.
-    let past : length c.args.plan.now ≤ c.loop-index.index = search rules in
-    remaining_ends c.args.cpu.now c.loop-index.cpu c.loop-index.probe _ c.loop-index.steps op x c.args.plan.now
-    c.loop-index.index past (c.loop-index.invariant.left op x holds) holds.holds.free
+pub acknowledge_chosen-requires-clause-room : goal.acknowledge_chosen-requires-clause-room
+acknowledge_chosen-requires-clause-room g c =
+    omega (arith, c.loop-index.invariant.count, c.loop-index.invariant.short, c.loop-index.invariant.within)
 
-pub returns-clause-ran : goal.returns-clause-ran
-returns-clause-ran g c = c.loop-index.invariant.ran
+-- the place of the last step
+at_end : (index before planned len : ℕ) → index ≤ before → before ≤ index → before + 1 ≡ planned → len ≡ planned →
+    len - 1 ≡ index
+at_end index before planned len within past longer is = omega arith
 
-pub returns-clause-reference : goal.returns-clause-reference
-returns-clause-reference g c = c.loop-index.invariant.reference
+pub conclude-requires : goal.conclude-requires
+conclude-requires g c =
+    let past : length c.before_last-before.result.now ≤ c.loop-index.index = search rules in
+    rw (
+      c.loop-index.invariant.plan,
+      at_end c.loop-index.index _ _ c.len.result c.loop-index.invariant.within past
+          c.loop-index.invariant.longer (c.len.ensures.value ∙ ap length c.requires.plan),
+    )
+    (omega (arith, c.loop-index.invariant.longer, c.loop-index.invariant.within))
+
+last_is : (cpu : CpuState) (plan : List Step) (op : Op) (found : Option Step) (last : Step) → plan ≡ planned cpu →
+    decoded cpu.opcode ≡ Some op → found ≡ slice_get plan (length plan - 1) → found ≡ Some last →
+    last ≡ bus_step (last_fetch (row_of op))
+last_is cpu plan op found last is held got some =
+    let both : Some last ≡ Some (bus_step (last_fetch (row_of op))) =
+    sym some ∙ got ∙ ap (λ (l : List Step). slice_get l (length l - 1)) is ∙ last_planned cpu op held in
+    cc
+
+-- the fetch acknowledges nothing
+fetch_plain_by : (chosen : Option ℕ) (last : Step) (op : Op) → last ≡ bus_step (last_fetch (row_of op)) →
+    IsPlain (fetch_by chosen last).romc
+fetch_plain_by None last op is = rw is refl
+fetch_plain_by (Some socket) last op is = refl
+
+fetch_plain : (cpu : CpuState) (plan : List Step) (held : IsSome (decoded cpu.opcode)) (found : Option Step)
+    (last fetch : Step) (chosen : Option ℕ) → plan ≡ planned cpu → found ≡ slice_get plan (length plan - 1) →
+    found ≡ Some last → fetch ≡ fetch_by chosen last → IsPlain fetch.romc
+fetch_plain cpu plan held found last fetch chosen is got some fetch_is =
+    let op = some_of (decoded cpu.opcode) held in
+    subst (λ (s : Step). IsPlain s.romc) (sym fetch_is)
+    (fetch_plain_by chosen last op.0 (last_is cpu plan op.0 found last is op.1 got some))
+
+last_at : (index before planned last : ℕ) → index ≤ before → before ≤ index → before + 1 ≡ planned →
+    planned ≡ last + 1 → index ≡ last
+last_at index before planned last within past longer is = omega arith
+
+pub returns-in-Ok-bus_step-clause-done : goal.returns-in-Ok-bus_step-clause-done
+returns-in-Ok-bus_step-clause-done g c = λ op x holds.
+    let past : length c.before_last-before.result.now ≤ c.loop-index.index = search rules in
+    let ended = remaining_over (row_of op) x (gets_all_at op x) (instruction_aim op x) _
+    c.before_last-before.result.now c.loop-index.index c.loop-index.cpu c.loop-index.probe _ c.loop-index.steps past
+    (c.loop-index.invariant.left op x holds) in
+    let index_is = at_end c.loop-index.index _ _ c.len.result c.loop-index.invariant.within past
+    c.loop-index.invariant.longer (c.len.ensures.value ∙ ap length c.requires.plan) in
+    carried_out c.args.cpu.now c.loop-index.cpu c.args.chain.now op x c.loop-index.index c.loop-index.probe
+    c.acknowledge_chosen.new.probe c.bus_step-2.new.probe _ _ _ c.loop-index.steps c.acknowledge_chosen.new.steps
+    c.bus_step-2.new.steps c.choose-chosen.result c.fetch_by-fetch.result c.in-Some.last c.args.probe.now _ holds
+    c.loop-index.invariant.opcode
+    (last_at c.loop-index.index _ _ _ c.loop-index.invariant.within past c.loop-index.invariant.longer
+    (length-planned c.args.cpu.now op holds.instruction))
+    ended c.choose-chosen.ensures.chosen c.choose-chosen.ensures.asking c.acknowledge_chosen.ensures.acknowledged
+    c.fetch_by-fetch.ensures
+    (last_is c.args.cpu.now c.args.plan.now op _ c.in-Some.last c.requires.plan holds.instruction c.last.ensures
+    c.in-Some.is)
+    c.in-Ok-bus_step.opcode c.conclude.new.cpu c.in-Ok-bus_step.ensures.served
+    (c.conclude.ensures ∙ ap (λ (n : ℕ). vectored c.choose-chosen.result
+    (taken n c.in-Ok-bus_step.opcode c.loop-index.cpu)) index_is)
+
+-- only an instruction that doesn't shield its end is interrupted
+open_by : (op : Op) (icb : Bool) (states : List ChipState) (chain : List ℕ) →
+    IfSome (chosen_by (Some op) icb states chain) (λ socket. is_shielding op ≡ false)
+open_by op icb states chain = by (is_shielding op) icb refl
+  where
+    by : (shields icb : Bool) → is_shielding op ≡ shields →
+        IfSome (if not shields && icb then first_in states chain else None) (λ socket. is_shielding op ≡ false)
+    by true icb is = tt
+    by false true is = some (first_in states chain)
+      where
+        some : (o : Option ℕ) → IfSome o (λ socket. is_shielding op ≡ false)
+        some None = tt
+        some (Some socket) = is
+    by false false is = tt
+
+open_from : (op : Op) (code start : ℕ) (icb : Bool) (states : List ChipState) (chain : List ℕ) (chosen : Option ℕ) →
+    chosen ≡ chosen_by (decoded code) icb states chain → code ≡ start → decoded start ≡ Some op →
+    IfSome chosen (λ socket. is_shielding op ≡ false)
+open_from op code start icb states chain chosen e same held =
+    subst (λ (o : Option ℕ). IfSome o (λ socket. is_shielding op ≡ false))
+    (sym (e ∙ ap (λ (found : Option Op). chosen_by found icb states chain) (ap decoded same ∙ held)))
+    (open_by op icb states chain)
+
+pub returns-in-Ok-bus_step-clause-open : goal.returns-in-Ok-bus_step-clause-open
+returns-in-Ok-bus_step-clause-open g c = λ op held.
+    open_from op c.loop-index.cpu.opcode c.args.cpu.now.opcode c.loop-index.cpu.registers.status.icb _
+    c.args.chain.now c.choose-chosen.result c.choose-chosen.ensures.chosen c.loop-index.invariant.opcode held
+
+pub returns-in-Ok-bus_step-clause-ran : goal.returns-in-Ok-bus_step-clause-ran
+returns-in-Ok-bus_step-clause-ran g c =
+    (ran_more c.args.probe.now _ c.fetch_by-fetch.result 0 c.in-Ok-bus_step.opcode c.acknowledge_chosen.new.probe
+    c.bus_step-2.new.probe _ _ c.acknowledge_chosen.new.steps c.bus_step-2.new.steps
+    (fetch_plain c.args.cpu.now c.args.plan.now c.requires.instruction _ c.in-Some.last c.fetch_by-fetch.result
+    c.choose-chosen.result c.requires.plan c.last.ensures c.in-Some.is c.fetch_by-fetch.ensures)
+    (ran_chosen c.args.probe.now _ c.choose-chosen.result c.loop-index.probe c.acknowledge_chosen.new.probe _ _
+    c.loop-index.steps c.acknowledge_chosen.new.steps
+    (record { rack = c.loop-index.invariant.ran; reference = c.loop-index.invariant.reference })
+    c.acknowledge_chosen.ensures.acknowledged) c.in-Ok-bus_step.ensures.served).rack
+
+pub returns-in-Ok-bus_step-clause-reference : goal.returns-in-Ok-bus_step-clause-reference
+returns-in-Ok-bus_step-clause-reference g c =
+    (ran_more c.args.probe.now _ c.fetch_by-fetch.result 0 c.in-Ok-bus_step.opcode c.acknowledge_chosen.new.probe
+    c.bus_step-2.new.probe _ _ c.acknowledge_chosen.new.steps c.bus_step-2.new.steps
+    (fetch_plain c.args.cpu.now c.args.plan.now c.requires.instruction _ c.in-Some.last c.fetch_by-fetch.result
+    c.choose-chosen.result c.requires.plan c.last.ensures c.in-Some.is c.fetch_by-fetch.ensures)
+    (ran_chosen c.args.probe.now _ c.choose-chosen.result c.loop-index.probe c.acknowledge_chosen.new.probe _ _
+    c.loop-index.steps c.acknowledge_chosen.new.steps
+    (record { rack = c.loop-index.invariant.ran; reference = c.loop-index.invariant.reference })
+    c.acknowledge_chosen.ensures.acknowledged) c.in-Ok-bus_step.ensures.served).reference
+
+pub returns-in-Err-bus_step-clause-cut : goal.returns-in-Err-bus_step-clause-cut
+returns-in-Err-bus_step-clause-cut g c = λ op x holds.
+    let past : length c.before_last-before.result.now ≤ c.loop-index.index = search rules in
+    let ended = remaining_over (row_of op) x (gets_all_at op x) (instruction_aim op x) _
+    c.before_last-before.result.now c.loop-index.index c.loop-index.cpu c.loop-index.probe _ c.loop-index.steps past
+    (c.loop-index.invariant.left op x holds) in
+    cut_short c.args.cpu.now c.loop-index.cpu c.args.chain.now op x c.loop-index.index c.loop-index.probe
+    c.acknowledge_chosen.new.probe c.bus_step-2.new.probe _ _ _ c.loop-index.steps c.acknowledge_chosen.new.steps
+    c.bus_step-2.new.steps c.choose-chosen.result c.fetch_by-fetch.result c.in-Some.last c.args.probe.now _ holds
+    c.loop-index.invariant.opcode
+    (last_at c.loop-index.index _ _ _ c.loop-index.invariant.within past c.loop-index.invariant.longer
+    (length-planned c.args.cpu.now op holds.instruction))
+    ended c.choose-chosen.ensures.chosen c.choose-chosen.ensures.asking c.acknowledge_chosen.ensures.acknowledged
+    c.fetch_by-fetch.ensures
+    (last_is c.args.cpu.now c.args.plan.now op _ c.in-Some.last c.requires.plan holds.instruction c.last.ensures
+    c.in-Some.is)
+    c.in-Err-bus_step.fault c.fetch_by-fetch.result.long c.in-Err-bus_step.ensures.refused refl
+
+pub returns-in-Err-bus_step-clause-restorable : goal.returns-in-Err-bus_step-clause-restorable
+returns-in-Err-bus_step-clause-restorable g c = c.loop-index.invariant.restorable
+
+pub returns-in-Err-bus_step-clause-ran : goal.returns-in-Err-bus_step-clause-ran
+returns-in-Err-bus_step-clause-ran g c =
+    (ran_still c.args.probe.now _ c.fetch_by-fetch.result c.in-Err-bus_step.fault c.acknowledge_chosen.new.probe
+    c.bus_step-2.new.probe _ _ c.acknowledge_chosen.new.steps c.bus_step-2.new.steps
+    (ran_chosen c.args.probe.now _ c.choose-chosen.result c.loop-index.probe c.acknowledge_chosen.new.probe _ _
+    c.loop-index.steps c.acknowledge_chosen.new.steps
+    (record { rack = c.loop-index.invariant.ran; reference = c.loop-index.invariant.reference })
+    c.acknowledge_chosen.ensures.acknowledged) c.in-Err-bus_step.ensures.refused).rack
+
+pub returns-in-Err-bus_step-clause-reference : goal.returns-in-Err-bus_step-clause-reference
+returns-in-Err-bus_step-clause-reference g c =
+    (ran_still c.args.probe.now _ c.fetch_by-fetch.result c.in-Err-bus_step.fault c.acknowledge_chosen.new.probe
+    c.bus_step-2.new.probe _ _ c.acknowledge_chosen.new.steps c.bus_step-2.new.steps
+    (ran_chosen c.args.probe.now _ c.choose-chosen.result c.loop-index.probe c.acknowledge_chosen.new.probe _ _
+    c.loop-index.steps c.acknowledge_chosen.new.steps
+    (record { rack = c.loop-index.invariant.ran; reference = c.loop-index.invariant.reference })
+    c.acknowledge_chosen.ensures.acknowledged) c.in-Err-bus_step.ensures.refused).reference

@@ -1,8 +1,8 @@
 -- The rack has heard the steps told so far, and what is left of the instruction leads from here to its end.
-use Rattle.std.proofs.Common.{◌≡◌, ◌<◌, ◌≤◌, length, drop, map}
+use Rattle.std.proofs.Common.{◌≡◌, ◌+◌, ◌≤◌, length, drop, map}
+use Rattle.f8_spec.specs.Instructions.{row_of}
 use Rattle.f8_spec.specs.declared.instructions.Op.{Op}
-use Rattle.console_spec.specs.FlatMachine.{gets_all}
-use Rattle.console_spec.specs.Run.{Position, seats_of}
+use Rattle.console_spec.specs.Run.{Position, gets_all_at}
 use Rattle.cpu3850.specs.CpuSteps.{planned}
 use Rattle.cpu3850.specs.Keeping.{IsRestorable}
 use Rattle.cpu3850.specs.Reaching.{done}
@@ -16,19 +16,22 @@ use Rattle.f8_machine.proofs.carry.carry_out.Given as goal
 
 abbrev pub invariant-loop-index : goal.invariant-loop-index
 invariant-loop-index g l = record {
-  short : length l.plan ≤ 5;
+  short : length l.before ≤ 4;
   chips : length l.rack.items ≡ length l.fn.rack.items;
   count : length l.steps ≡ l.index;
-  plain : ArePlain (drop l.index l.plan);
-  plan : l.index < length l.plan → planned l.cpu ≡ l.plan;
-  restorable : l.index < length l.plan → IsRestorable l.fn.cpu l.cpu;
+  within : l.index ≤ length l.before;
+  plain : ArePlain (drop l.index l.before);
+  plan : planned l.cpu ≡ planned l.fn.cpu;
+  longer : length l.before + 1 ≡ length (planned l.fn.cpu);
+  opcode : l.cpu.opcode ≡ l.fn.cpu.opcode;
+  restorable : IsRestorable l.fn.cpu l.cpu;
   ran : RackRuns l.steps
       (map (λ b. (goal.Chip-dyn g (b.vtable, b.value)).state b.value) l.fn.rack.items)
       (map (λ b. (goal.Chip-dyn g (b.vtable, b.value)).state b.value) l.rack.items);
   reference : l.probe ≡ probe_after_steps l.steps l.fn.probe;
   left : (op : Op) (x : Position) → HoldsInstruction l.fn.cpu l.fn.probe
-      (map (λ b. (goal.Chip-dyn g (b.vtable, b.value)).state b.value) l.fn.rack.items) op x →
-      Remaining op x (gets_all op (seats_of x.copies) x.flat) (instruction_aim op x)
-      (done op (gets_all op (seats_of x.copies) x.flat) l.fn.cpu) l.plan l.index l.cpu l.probe
+      (map (λ b. (goal.Chip-dyn g (b.vtable, b.value)).state b.value) l.fn.rack.items) l.chain op x →
+      Remaining (row_of op) x (gets_all_at op x) (instruction_aim op x)
+      (done op (gets_all_at op x) l.fn.cpu) l.before l.index l.cpu l.probe
       (map (λ b. (goal.Chip-dyn g (b.vtable, b.value)).state b.value) l.rack.items) l.steps;
 }

@@ -10,10 +10,10 @@ pub returns-clause-fetched : goal.returns-clause-fetched
 returns-clause-fetched g c = λ x at.
     let first = rw (sym c.requires.none) at (reset_first x c.args.probe.now _ at) in
     let second = reset_more x (short_step 0x1C NoByte)
-    (long_step 0x08 NoByte ∷ short_step 0x00 Opcode ∷ []) _ _ _ _ _ _ _ refl c.in_ok-quiet_step.ensures.served first
+    (long_step 0x08 NoByte ∷ short_step 0x00 Opcode ∷ []) refl _ _ _ _ _ _ _ refl c.in_ok-quiet_step.ensures.served first
     in
     let third = reset_more x (long_step 0x08 NoByte)
-    (short_step 0x00 Opcode ∷ []) _ _ _ _ _ _ _ refl c.in_ok-quiet_step-2.ensures.served second in
+    (short_step 0x00 Opcode ∷ []) refl _ _ _ _ _ _ _ refl c.in_ok-quiet_step-2.ensures.served second in
     if_ok _ _ c.quiet_step-3.result (λ byte served. reset_last x _ _ _ _ _ _ byte served third)
     c.quiet_step-3.ensures.served
 
@@ -21,10 +21,10 @@ pub returns-clause-cut : goal.returns-clause-cut
 returns-clause-cut g c = λ x at.
     let first = rw (sym c.requires.none) at (reset_first x c.args.probe.now _ at) in
     let second = reset_more x (short_step 0x1C NoByte)
-    (long_step 0x08 NoByte ∷ short_step 0x00 Opcode ∷ []) _ _ _ _ _ _ _ refl c.in_ok-quiet_step.ensures.served first
+    (long_step 0x08 NoByte ∷ short_step 0x00 Opcode ∷ []) refl _ _ _ _ _ _ _ refl c.in_ok-quiet_step.ensures.served first
     in
     let third = reset_more x (long_step 0x08 NoByte)
-    (short_step 0x00 Opcode ∷ []) _ _ _ _ _ _ _ refl c.in_ok-quiet_step-2.ensures.served second in
+    (short_step 0x00 Opcode ∷ []) refl _ _ _ _ _ _ _ refl c.in_ok-quiet_step-2.ensures.served second in
     if_err_both _ _ _ c.quiet_step-3.result (λ unserved refused long. reset_stops x
     (short_step 0x00 Opcode) [] _ _ _ _ _ _ unserved.fault unserved.long refused long third)
     c.quiet_step-3.ensures.refused c.quiet_step-3.ensures.long
@@ -32,6 +32,6 @@ returns-clause-cut g c = λ x at.
 pub returns-clause-ran : goal.returns-clause-ran
 returns-clause-ran g c =
     let first = rack_runs_nothing c.args.steps.now _ c.requires.none in
-    let second = rack_served _ _ _ _ _ _ _ _ _ first c.in_ok-quiet_step.ensures.served in
-    let third = rack_served _ _ _ _ _ _ _ _ _ second c.in_ok-quiet_step-2.ensures.served in
-    rack_ran _ c.quiet_step-3.result _ _ _ _ _ _ _ third c.quiet_step-3.ensures.served c.quiet_step-3.ensures.refused
+    let second = rack_served _ refl _ _ _ _ _ _ _ _ first c.in_ok-quiet_step.ensures.served in
+    let third = rack_served _ refl _ _ _ _ _ _ _ _ second c.in_ok-quiet_step-2.ensures.served in
+    rack_ran _ refl c.quiet_step-3.result _ _ _ _ _ _ _ third c.quiet_step-3.ensures.served c.quiet_step-3.ensures.refused

@@ -1,0 +1,27 @@
+-- A pulse keeps what the machine and the rack stand for.
+use Rattle.std.proofs.Common.{◌≡◌, Some, None, refl, slice_get}
+use Rattle.std.proofs.lemmas.Option.{slice_get_read, slice_get_past}
+use Rattle.f8_machine.proofs.Pulsed.{represents_pulsed, powered_pulsed}
+use Rattle.f8_machine.proofs.machine.Machine.pulse.Goals as goal
+use Rattle.f8_machine.proofs.machine.Machine.pulse.Goals.{in-Some, in_default}
+
+pub returns-clause-pulsed : goal.returns-clause-pulsed
+returns-clause-pulsed g c = elim c.match-get.branch [
+  | in-Some w ↦
+      let read = w.in-Some.ensures.lookup in
+      let found : slice_get c.args.self.now.chain c.args.chip ≡ Some w.in-Some.field-0.now =
+      rw (← c.self.view_is, ← c.as_slice.ensures.value, ← c.from.ensures)
+      (slice_get_read c.as_slice.result.now _ c.from.result w.in-Some.field-0.now refl read.3.0 read.1) in
+      rw (w.rack-is, found) w.pulse_at.ensures.pulsed
+  | in_default w ↦
+      let none : slice_get c.args.self.now.chain c.args.chip ≡ None =
+      rw (← c.self.view_is, ← c.as_slice.ensures.value, ← c.from.ensures)
+      (slice_get_past c.as_slice.result.now c.from.result w.in_default.ensures.lookup.3) in
+      rw (w.rack-is, none) refl
+]
+
+pub returns-clause-powered : goal.returns-clause-powered
+returns-clause-powered g c = λ x p. powered_pulsed c.args.self.now _ _ x c.args.chip (returns-clause-pulsed g c) p
+
+pub returns-clause-running : goal.returns-clause-running
+returns-clause-running g c = λ x r. represents_pulsed c.args.self.now _ _ x c.args.chip (returns-clause-pulsed g c) r

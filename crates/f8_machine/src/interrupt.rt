@@ -1,0 +1,131 @@
+//! The bus steps of an interrupt (Fairchild F8 User's Guide; the list is this project's own).
+ghost use Rattle.std.specs.Prelude.{◌≡◌, ◌<◌, ◌≤◌, ◌+◌, ◌-◌, false, Some, length, map, IfSome};
+ghost use Rattle.f8_spec.specs.BusArbitration.{rule_of};
+ghost use Rattle.f8_spec.specs.MicroSteps.{NoByte, Opcode, VectorHigh, VectorLow, long_step, short_step};
+ghost use Rattle.console_spec.specs.BusTrace.{is_access};
+ghost use Rattle.cpu3850.specs.CpuSteps.{bus_step as step_of};
+ghost use Rattle.data_bus.specs.Racks.{ChosenAsks, NamesAsking};
+ghost use Rattle.f8_machine.specs.BusSteps.{IsServedBy};
+ghost use Rattle.f8_machine.specs.Vectoring.{Acknowledges, IsAcknowledged, clocks_by, fetch_by};
+
+use super::bus_step::bus_step_by;
+use super::record::{MOST_STEPS, Record};
+use chip_face::{Chip, MOST_CHIPS};
+use cpu3850::{Romc, Step, Steps};
+use data_bus::Rack;
+use f8_ops::INTERRUPT_PHI;
+use probe::Probe;
+use romc_table::Driver;
+
+/// The CPU frees the bus.
+const FREE: Step = Step {
+    romc: Romc::ACKNOWLEDGE,
+    long: true,
+    driver: Driver::Nobody,
+};
+
+/// It works by itself.
+const IDLE: Step = Step {
+    romc: Romc::IDLE,
+    long: false,
+    driver: Driver::Nobody,
+};
+
+/// The chip gives the low byte of its vector, and then the high one, with which its request ends.
+const LOW: Step = Step {
+    romc: Romc::VECTOR_LOW,
+    long: true,
+    driver: Driver::Vector,
+};
+
+const HIGH: Step = Step {
+    romc: Romc::VECTOR_HIGH,
+    long: true,
+    driver: Driver::Vector,
+};
+
+/// The opcode at the vector is fetched, by a short step after every instruction.
+const FETCH: Step = Step {
+    romc: Romc::FETCH,
+    long: false,
+    driver: Driver::Memory,
+};
+
+/// A bus step that no chip has to serve, so that it always is.
+#[tactic(auto, using(crate::proofs::VectorSteps::sure_served))]
+#[inline(never)]
+fn sure_step(
+    rack: &mut Rack,
+    probe: &mut Probe,
+    step: Step,
+    first: Option<u8>,
+    steps: &mut Record,
+) -> u8
+    requires few { length rack.old.items ≤ MOST_CHIPS }
+    requires room { length steps.old < MOST_STEPS }
+    requires chosen { ChosenAsks step.romc first (map state rack.old.items) }
+    requires sure { is_access (rule_of step.romc) ≡ false }
+    ensures served { IsServedBy first step 0 probe.old probe.new
+        (map state rack.old.items) (map state rack.new.items) steps.old steps.new result }
+    ensures longer { length steps.new ≡ length steps.old + 1 }
+    ensures chips { length rack.new.items ≡ length rack.old.items }
+{
+    match bus_step_by(rack, probe, step, 0, first, steps) {
+        Ok(byte) => byte,
+        Err(_) => unreachable!(),
+    }
+}
+
+/// The acknowledgement of the interrupt of the chip in a socket, which asks.
+fn acknowledge(rack: &mut Rack, probe: &mut Probe, socket: u8, steps: &mut Record)
+    requires few { length rack.old.items ≤ MOST_CHIPS }
+    requires room { length steps.old + 4 < MOST_STEPS }
+    requires asks { NamesAsking (Some socket) (map state rack.old.items) }
+    ensures acknowledged { IsAcknowledged socket probe.old probe.new
+        (map state rack.old.items) (map state rack.new.items) steps.old steps.new }
+    ensures longer { length steps.new ≡ length steps.old + 4 }
+    ensures chips { length rack.new.items ≡ length rack.old.items }
+{
+    sure_step(rack, probe, FREE, None, steps);
+    sure_step(rack, probe, IDLE, None, steps);
+    sure_step(rack, probe, LOW, Some(socket), steps);
+    sure_step(rack, probe, HIGH, Some(socket), steps);
+}
+
+/// The steps before the fetch of the next opcode where the interrupt of the chip in a socket is taken, and none where none is.
+pub(crate) fn acknowledge_chosen(
+    rack: &mut Rack,
+    probe: &mut Probe,
+    chosen: Option<u8>,
+    steps: &mut Record,
+)
+    requires few { length rack.old.items ≤ MOST_CHIPS }
+    requires room { length steps.old + 4 < MOST_STEPS }
+    requires asks { IfSome chosen (λ socket. NamesAsking (Some socket) (map state rack.old.items)) }
+    ensures acknowledged { Acknowledges chosen probe.old probe.new
+        (map state rack.old.items) (map state rack.new.items) steps.old steps.new }
+    ensures room { length steps.new < MOST_STEPS }
+    ensures chips { length rack.new.items ≡ length rack.old.items }
+{
+    if let Some(socket) = chosen {
+        acknowledge(rack, probe, socket, steps);
+    }
+}
+
+/// The clocks of an instruction with these steps and an interrupt at its end, or none, in Φ.
+pub(crate) fn clocks_by(chosen: Option<u8>, plan: &Steps) -> u64
+    ensures { result ≡ clocks_by chosen plan.now }
+{
+    if chosen.is_some() {
+        u64::from(plan.clocks_before_fetch()) + INTERRUPT_PHI
+    } else {
+        u64::from(plan.clocks())
+    }
+}
+
+/// The fetch of the next opcode: the last step of the instruction, or where an interrupt is taken a short one.
+pub(crate) fn fetch_by(chosen: Option<u8>, last: Step) -> Step
+    ensures { result ≡ fetch_by chosen last }
+{
+    if chosen.is_some() { FETCH } else { last }
+}
