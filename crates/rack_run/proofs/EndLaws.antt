@@ -1,14 +1,16 @@
 -- A run ends as its script asks.
 use Rattle.std.proofs.Common.{◌≡◌, ◌≢◌, ℕ, zero, suc, ◌+◌, ◌*◌, ◌≤◌, Bool, true, false, List, [], ◌∷◌, Option, Some}
 use Rattle.std.proofs.Common.{None, refl, ◌∙◌, arith}
+use Rattle.std.specs.Prelude.{slice_get}
 use Rattle.f8_spec.specs.Instructions.{decoded, row_of, row_clocks}
 use Rattle.f8_spec.specs.ChipState.{ChipView}
 use Rattle.f8_spec.specs.declared.instructions.Op.{Op}
 use Rattle.f8_spec.specs.declared.instructions.Row.{Row}
-use Rattle.console_spec.specs.Processor.{State, own_inputs}
+use Rattle.console_spec.specs.FlatStep.{clocks_by}
+use Rattle.console_spec.specs.Processor.{State}
 use Rattle.console_spec.specs.Run.{Position, Turn, Goes, Stops, Done, Unserved, Reserved, next, flat_next, decided}
 use Rattle.console_spec.specs.Run.{goes_unless, instruction_fault, position_after, opcode_at, power_position}
-use Rattle.console_spec.specs.Run.{chain_in_order, position_after_reset, reset_fault, seats_of}
+use Rattle.console_spec.specs.Run.{chain_in_order, position_after_reset, reset_fault, gets_at, pulse_in}
 use Rattle.console_spec.specs.Scripts.{Script, frame_clocks, events_at, most_instructions}
 use Rattle.console_spec.specs.Services.{Fault}
 use Rattle.console_spec.specs.Telling.{Way, Telling, is_over_at, is_over, with_event, with_events, events_behind}
@@ -25,16 +27,17 @@ record Counts (x y : Position) : Type 0 where
   one : y.flat.state.count ≡ x.flat.state.count + 1
   clocks : x.flat.state.phi + 1 ≤ y.flat.state.phi
 
-some_clocks : (row : Row) (taken : Bool) → 1 ≤ row_clocks row taken
-some_clocks row taken = grind arith
+row_takes_some : (row : Row) (taken : Bool) → 1 ≤ row_clocks row taken
+row_takes_some row taken = grind arith
+
+some_clocks : (chosen : Option ℕ) (op : Op) (taken : Bool) → 1 ≤ clocks_by chosen op taken
+some_clocks None op taken = row_takes_some (row_of op) taken
+some_clocks (Some socket) op taken = omega arith
 
 counts_after : (op : Op) (x : Position) → Counts x (position_after op x)
 counts_after op x =
-    record {
-      one = refl;
-      clocks =
-          omega (arith, some_clocks (row_of op) (own_inputs op x.flat.memory (seats_of x.copies) x.flat.state).taken);
-    }
+    let i = gets_at op x in
+    record { one = refl; clocks = omega (arith, some_clocks i.chosen op i.taken) }
 
 -- a turn that leads on counts, and one that stops the run isn't told as the end of its instructions
 abbrev IsFair : Position → Turn → Type 0
@@ -72,9 +75,13 @@ record Alike (x y : Position) : Type 0 where
   count : y.flat.state.count ≡ x.flat.state.count
   phi : y.flat.state.phi ≡ x.flat.state.phi
 
+pulse_alike : (socket : Option ℕ) (x : Position) → Alike x (pulse_in socket x)
+pulse_alike None x = record { count = refl; phi = refl }
+pulse_alike (Some socket) x = record { count = refl; phi = refl }
+
 event_alike : (e : Event) (x : Position) → Alike x (with_event e x)
 event_alike (Keys port byte) x = record { count = refl; phi = refl }
-event_alike (Pulse chip) x = record { count = refl; phi = refl }
+event_alike (Pulse chip) x = pulse_alike (slice_get x.chain chip) x
 
 events_alike : (es : List Event) (x : Position) → Alike x (with_events es x)
 events_alike [] x = record { count = refl; phi = refl }

@@ -1,10 +1,10 @@
 -- Events, one after another.
 use Rattle.std.proofs.Common.{◌≡◌, ℕ, ◌+◌, ◌<◌, ◌≤◌, Bool, true, false, List, [], ◌∷◌, ◌++◌, take, length, get_or, refl}
 use Rattle.std.proofs.Common.{sym, ap, ◌∙◌, subst}
-use Rattle.std.specs.Prelude.{◌==◌, if◌then◌else◌, Option, Some}
+use Rattle.std.specs.Prelude.{◌==◌, if◌then◌else◌, Option, Some, None, slice_get}
 use Rattle.std.proofs.lemmas.List.{take_more, take_all}
 use Rattle.f8_spec.specs.ChipState.{ChipState}
-use Rattle.console_spec.specs.Run.{Position, Goes, position_after_reset}
+use Rattle.console_spec.specs.Run.{Position, Goes, pulse_in}
 use Rattle.console_spec.specs.Scripts.{Script, events_at}
 use Rattle.console_spec.specs.Telling.{fallen as fallen_at, events_fallen, events_behind, with_event, with_events}
 use Rattle.console_spec.specs.declared.At.{At}
@@ -30,10 +30,34 @@ pub with-append : (es fs : List Event) (x : Position) → with_events (es ++ fs)
 with-append [] fs x = refl
 with-append (e ∷ es) fs x = with-append es fs (with_event e x)
 
-pub come_then : (es fs : List Event) (olds mids news : List ChipState) → Come es olds mids → Come fs mids news →
-    Come (es ++ fs) olds news
-come_then [] fs olds mids news same later = subst (λ (states : List ChipState). Come fs states news) same later
-come_then (e ∷ es) fs olds mids news came later = (came.0, came.1, come_then es fs came.0 mids news came.2 later)
+pub come_then : (chain : List ℕ) (es fs : List Event) (olds mids news : List ChipState) → Come chain es olds mids →
+    Come chain fs mids news → Come chain (es ++ fs) olds news
+come_then chain [] fs olds mids news same later =
+    subst (λ (states : List ChipState). Come chain fs states news) same later
+come_then chain (e ∷ es) fs olds mids news came later =
+    (came.0, came.1, come_then chain es fs came.0 mids news came.2 later)
+
+-- events leave the chain
+pulse_chain : (socket : Option ℕ) (x : Position) → (pulse_in socket x).chain ≡ x.chain
+pulse_chain None x = refl
+pulse_chain (Some socket) x = refl
+
+event_chain : (e : Event) (x : Position) → (with_event e x).chain ≡ x.chain
+event_chain (Keys port byte) x = refl
+event_chain (Pulse chip) x = pulse_chain (slice_get x.chain chip) x
+
+pub events_chain : (es : List Event) (x : Position) → (with_events es x).chain ≡ x.chain
+events_chain [] x = refl
+events_chain (e ∷ es) x = events_chain es (with_event e x) ∙ event_chain e x
+
+-- and what has been written
+pulse_writes : (socket : Option ℕ) (x : Position) → (pulse_in socket x).flat.state.writes ≡ x.flat.state.writes
+pulse_writes None x = refl
+pulse_writes (Some socket) x = refl
+
+pub event_writes : (e : Event) (x : Position) → (with_event e x).flat.state.writes ≡ x.flat.state.writes
+event_writes (Keys port byte) x = refl
+event_writes (Pulse chip) x = pulse_writes (slice_get x.chain chip) x
 
 -- the events up to the next of a list
 pub events_more : (frame : ℕ) (all : List At) (i : ℕ) (d : At) → i < length all →
@@ -48,12 +72,15 @@ with_more frame all i d x within =
     ap (λ (es : List Event). with_events es x) (events_more frame all i d within)
     ∙ with-append (events_at frame (take i all)) (events_at frame (get_or all i d ∷ [])) x
 
-pub come_next : (frame : ℕ) (all : List At) (i : ℕ) (d : At) (olds mids news : List ChipState) → i < length all →
-    Come (events_at frame (take i all)) olds mids →
-    Come (events_at frame (get_or all i d ∷ [])) mids news → Come (events_at frame (take (i + 1) all)) olds news
-come_next frame all i d olds mids news within came next =
+pub come_next : (frame : ℕ) (all : List At) (i : ℕ) (d : At) (x : Position) (olds mids news : List ChipState) →
+    i < length all → Come x.chain (events_at frame (take i all)) olds mids →
+    Come (with_events (events_at frame (take i all)) x).chain (events_at frame (get_or all i d ∷ [])) mids news →
+    Come x.chain (events_at frame (take (i + 1) all)) olds news
+come_next frame all i d x olds mids news within came next =
     rw (events_more frame all i d within)
-    (come_then (events_at frame (take i all)) (events_at frame (get_or all i d ∷ [])) olds mids news came next)
+    (come_then x.chain (events_at frame (take i all)) (events_at frame (get_or all i d ∷ [])) olds mids news came
+    (subst (λ (chain : List ℕ). Come chain (events_at frame (get_or all i d ∷ [])) mids news)
+    (events_chain (events_at frame (take i all)) x) next))
 
 pub at_next : (Holds : Position → Type 0) (frame : ℕ) (all : List At) (i : ℕ) (d : At) (x : Position) → i < length all →
     Holds (with_events (events_at frame (get_or all i d ∷ [])) (with_events (events_at frame (take i all)) x)) →
@@ -74,14 +101,3 @@ behind_some script p x y fallen frame is same keeps on =
     ap (λ (f : Option ℕ). events_fallen script f y) (sym same ∙ is)
     ∙ ap (λ (b : Bool). if b then [] else events_at frame script.events)
     (sym (over_is script.end p y.flat.state keeps) ∙ on)
-
--- a key byte doesn't hang on reset
-pub event_reset : (e : Event) (x : Position) →
-    with_event e (position_after_reset x) ≡ position_after_reset (with_event e x)
-event_reset (Keys port byte) x = refl
-event_reset (Pulse chip) x = refl
-
-pub events_reset : (es : List Event) (x : Position) →
-    with_events es (position_after_reset x) ≡ position_after_reset (with_events es x)
-events_reset [] x = refl
-events_reset (e ∷ es) x = ap (with_events es) (event_reset e x) ∙ events_reset es (with_event e x)

@@ -16,7 +16,9 @@ use Rattle.f8_machine.specs.Rounds.{RackRuns, heard_of}
 use Rattle.f8_machine.specs.declared.heard.Heard.{Heard}
 use Rattle.f8_machine.specs.declared.outcome.Outcome.{Outcome}
 use Rattle.outside.specs.SinkRules.{Output, Adds, AddsPart}
+use Rattle.console_spec.specs.declared.Event.{Event}
 use Rattle.rack_run.specs.Endings.{stop_of}
+use Rattle.rack_run.specs.Lives.{ComesTo}
 use Rattle.rack_run.specs.Machines.{machine_readout}
 use Rattle.rack_run.specs.Texts.{is_traced, text_in, outcome_told, Puts}
 use Rattle.rack_run.specs.Turns.{readout_of, steps_text, StepsDone, StepsHalt, StepsFail}
@@ -48,6 +50,31 @@ decided_count x y at code (Some op) e = goes_count x y (instruction_fault op x) 
 
 next_count : (x y : Position) → next x ≡ Goes y → y.flat.state.count ≡ x.flat.state.count + 1
 next_count x y e = decided_count x y x.flat.state.flow.p (opcode_at x) (decoded (opcode_at x)) e
+
+-- and stays on its chain
+goes_chain : (x y : Position) (fault : Option Fault) (op : Op) → goes_unless fault (position_after op x) ≡ Goes y →
+    y.chain ≡ x.chain
+goes_chain x y None op e =
+    let same : position_after op x ≡ y = cc in
+    ap (λ (z : Position). z.chain) (sym same)
+goes_chain x y (Some fault) op e = cc
+
+decided_chain : (x y : Position) (at code : ℕ) (found : Option Op) →
+    decided (λ op. goes_unless (instruction_fault op x) (position_after op x)) at code found ≡ Goes y →
+    y.chain ≡ x.chain
+decided_chain x y at code None e = cc
+decided_chain x y at code (Some op) e = goes_chain x y (instruction_fault op x) op e
+
+next_chain : (x y : Position) → next x ≡ Goes y → y.chain ≡ x.chain
+next_chain x y e = decided_chain x y x.flat.state.flow.p (opcode_at x) (decoded (opcode_at x)) e
+
+-- ---- an event
+
+-- it comes to the chips by the chain of the position
+pub machine_came : (m : MachineState) (event : Event) (olds news : List ChipState) (chain : List ℕ) → m.chain ≡ chain →
+    ComesTo m.chain event olds news → ComesTo chain event olds news
+machine_came m event olds news chain same came =
+    subst (λ (l : List ℕ). ComesTo l event olds news) same came
 
 -- ---- an instruction
 
@@ -84,6 +111,7 @@ module _ (detail : Detail) (x : Position) (outcome : Outcome) (before after : Ma
       there = done.after;
       turns = done.turns;
       at = done.represents;
+      same_chain = next_chain x done.after done.turns;
       counts = next_count x done.after done.turns;
       writes = done.written;
       heard = heard_steps;

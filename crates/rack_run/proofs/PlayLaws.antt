@@ -27,6 +27,7 @@ use Rattle.rack_run.specs.Machines.{machine_readout}
 use Rattle.rack_run.specs.Turns.{readout_of, RunsOut, RunsShort, rest_on}
 use Rattle.rack_run.specs.declared.detail.Detail.{Detail}
 use Rattle.rack_run.specs.declared.ending.Ending.{Ending}
+use Rattle.rack_run.proofs.EventLaws.{events_chain}
 use Rattle.rack_run.proofs.TurnLaws.{events_quiet}
 use Rattle.rack_run.proofs.ToldTexts.{text_in-nil, text_in-append, told_in-append}
 use Rattle.video.specs.ScreenState.{screen_after}
@@ -53,10 +54,10 @@ reset_leads (Some fault) x y e = cc
 
 -- ---- a run that is cut short put a first part of its lines
 
-pub cut_part : (detail : Detail) (ms : List Moment) (olds news : List ChipState) (a b : Output) →
-    CutShort detail ms olds news a b →
+pub cut_part : (detail : Detail) (chain : List ℕ) (ms : List Moment) (olds news : List ChipState) (a b : Output) →
+    CutShort detail chain ms olds news a b →
     AddsPart a b (text_in detail (told_in ms))
-cut_part detail ms olds news a b cut =
+cut_part detail chain ms olds news a b cut =
     let whole : text_in detail (told_in ms)
     ≡ text_in detail (told_in cut.before) ++ (text_in detail cut.at.told ++ text_in detail (told_in cut.behind)) =
     ap (λ (l : List Moment). text_in detail (told_in l)) cut.are
@@ -94,6 +95,13 @@ module _ (detail : Detail) (script : Script) (chain : List ℕ) (olds powered : 
       (λ (u : Turn). record { moments = power_moment script ∷ reset ∷ (later u).moments; ending = (later u).ending })
       turns
 
+  -- the run stays on its chain
+  chain_is : x.chain ≡ chain
+  chain_is = events_chain (events_at 0 script.events) (power_position (views olds) chain script.power)
+
+  chain_after : (y : Position) → turn ≡ Goes y → y.chain ≡ chain
+  chain_after y turns = sym (ap (λ (z : Position). z.chain) (reset_leads (reset_fault x) x y turns)) ∙ chain_is
+
   -- the position that the events of frame 0 leave
   pub quiet_writes : x.flat.state.writes ≡ []
   quiet_writes = (events_quiet (events_at 0 script.events) (power_position (views olds) chain script.power)).0
@@ -109,18 +117,19 @@ module _ (detail : Detail) (script : Script) (chain : List ℕ) (olds powered : 
   after_count y turns =
       sym (ap (λ (z : Position). z.flat.state.count) (reset_leads (reset_fault x) x y turns)) ∙ quiet_count
 
-  module _ (mids reset_states : List ChipState) (came : Come (events_at 0 script.events) powered mids) (hs : List Heard)
+  module _ (mids reset_states : List ChipState) (came : Come chain (events_at 0 script.events) powered mids)
+      (hs : List Heard)
       (heard : hs ≡ map heard_of (reset_course x).steps)
       (ran : RackRuns hs mids reset_states) (told : List Told)
       (is : told ≡ told_steps (is_traced detail) (reset_course x))
       (a b : Output) where
-    first_lived : LivesMoment (power_moment script) powered mids
+    first_lived : LivesMoment chain (power_moment script) powered mids
     first_lived = record { between = powered; heard = rack_runs_none 0 powered; came = came }
 
     ran_reset : RackRuns (map heard_of (reset_course x).steps) mids reset_states
     ran_reset = subst (λ (l : List Heard). RackRuns l mids reset_states) heard ran
 
-    reset_lived : LivesMoment reset mids reset_states
+    reset_lived : LivesMoment chain reset mids reset_states
     reset_lived = record { between = reset_states; heard = ran_reset; came = refl }
 
     -- what is told before the first instruction
@@ -134,7 +143,7 @@ module _ (detail : Detail) (script : Script) (chain : List ℕ) (olds powered : 
     pub plays_cut : text_in detail told ≢ [] → AddsPart a b (text_in detail told) →
         PlaysPart detail script chain olds reset_states a b
     plays_cut some part =
-        let cut : CutShort detail (run_on detail script chain olds).moments powered reset_states a b = record {
+        let cut : CutShort detail chain (run_on detail script chain olds).moments powered reset_states a b = record {
           before = power_moment script ∷ [];
           at = reset;
           behind = (later turn).moments;
@@ -151,7 +160,7 @@ module _ (detail : Detail) (script : Script) (chain : List ℕ) (olds powered : 
           powered = powered;
           powers = powers;
           cut = cut;
-          part = cut_part detail (run_on detail script chain olds).moments powered reset_states a b cut;
+          part = cut_part detail chain (run_on detail script chain olds).moments powered reset_states a b cut;
         }
 
     -- reset isn't served
@@ -164,7 +173,7 @@ module _ (detail : Detail) (script : Script) (chain : List ℕ) (olds powered : 
           powered = powered;
           powers = powers;
           lived =
-              subst (λ (t : Telling). Lives t.moments powered reset_states) (sym is_whole)
+              subst (λ (t : Telling). Lives chain t.moments powered reset_states) (sym is_whole)
               (mids, first_lived, (reset_states, reset_lived, refl));
           tells = subst (λ (t : Telling). TellsEnd ending t.ending) (sym is_whole) tells;
           lines = subst (λ (t : Telling). Adds a b (text_in detail (told_in t.moments))) (sym is_whole)
@@ -179,12 +188,14 @@ module _ (detail : Detail) (script : Script) (chain : List ℕ) (olds powered : 
           Plays detail script chain ending olds news a c
       plays_on ending out =
           let is_whole = whole (Goes y) turns in
+          let rest_lived = subst (λ (l : List ℕ). Lives l (rest_on (on_rack (is_traced detail)) script y).moments reset_states news)
+          (chain_after y turns) out.lived in
           record {
             powered = powered;
             powers = powers;
             lived =
-                subst (λ (t : Telling). Lives t.moments powered news) (sym is_whole)
-                (mids, first_lived, (reset_states, reset_lived, out.lived));
+                subst (λ (t : Telling). Lives chain t.moments powered news) (sym is_whole)
+                (mids, first_lived, (reset_states, reset_lived, rest_lived));
             tells = subst (λ (t : Telling). TellsEnd ending t.ending) (sym is_whole) out.tells;
             lines = subst (λ (t : Telling). Adds a c (text_in detail (told_in t.moments))) (sym is_whole)
                 (rw (told_first (rest_on (on_rack (is_traced detail)) script y).moments)
@@ -195,7 +206,7 @@ module _ (detail : Detail) (script : Script) (chain : List ℕ) (olds powered : 
       pub plays_short : RunsShort detail (on_rack (is_traced detail)) script reset_states news b c y →
           PlaysPart detail script chain olds news a c
       plays_short short =
-          let cut : CutShort detail (run_on detail script chain olds).moments powered news a c = record {
+          let cut : CutShort detail chain (run_on detail script chain olds).moments powered news a c = record {
             before = power_moment script ∷ reset ∷ short.before;
             at = short.at;
             behind = short.behind;
@@ -204,7 +215,15 @@ module _ (detail : Detail) (script : Script) (chain : List ℕ) (olds powered : 
                 ∙ ap (λ (ms : List Moment). power_moment script ∷ reset ∷ ms) short.are;
             some = short.some;
             mids = short.mids;
-            lived = (mids, first_lived, (reset_states, reset_lived, short.lived));
+            lived = (
+              mids,
+              first_lived,
+              (
+                reset_states,
+                reset_lived,
+                subst (λ (l : List ℕ). Lives l short.before reset_states short.mids) (chain_after y turns) short.lived,
+              ),
+            );
             heard = short.heard;
             between = short.between;
             lines =
@@ -216,7 +235,7 @@ module _ (detail : Detail) (script : Script) (chain : List ℕ) (olds powered : 
             powered = powered;
             powers = powers;
             cut = cut;
-            part = cut_part detail (run_on detail script chain olds).moments powered news a c cut;
+            part = cut_part detail chain (run_on detail script chain olds).moments powered news a c cut;
           }
 
 -- ---- what the calls answer
@@ -228,7 +247,7 @@ powered_reads m states x p = rw (p.stands.flow, p.stands.holds.registers, p.stan
 module _ {E : Type 0} (detail : Detail) (script : Script) (chain : List ℕ) (olds powered : List ChipState)
     (powers : RackPowers script.power olds powered)
     (mids reset_states : List ChipState)
-    (came : Come (events_at 0 script.events) powered mids) (hs : List Heard)
+    (came : Come chain (events_at 0 script.events) powered mids) (hs : List Heard)
     (heard : hs ≡ map heard_of (reset_course (x detail script chain olds powered powers)).steps)
     (ran : RackRuns hs mids reset_states)
     (told : List Told)

@@ -14,7 +14,7 @@ use Rattle.console_spec.specs.declared.End.TheVariants.{Frames, Steps}
 use Rattle.video.specs.ScreenState.{screen_after}
 use Rattle.video.proofs.ShownLaws.{after_write-screen_after}
 use Rattle.rack_run.specs.Endings.{bytes_written}
-use Rattle.rack_run.specs.Progressing.{ProgressState, Keeps, screen_with, writes_with, bytes_with, progress_with}
+use Rattle.rack_run.specs.Progressing.{ProgressState, Keeps, screen_with, writes_with, byte_sum_with, progress_with}
 use Rattle.rack_run.specs.Progressing.{frame_at, ends_at}
 use Rattle.rack_run.specs.Texts.{write_told, frame_told}
 
@@ -31,7 +31,7 @@ writes_more None ws = refl
 writes_more (Some w) ws = add-one (length ws)
 
 bytes_more : (wrote : Option PortWrite) (ws : List PortWrite) →
-    bytes_with wrote (bytes_written ws) ≡ bytes_written (with_write wrote ws)
+    byte_sum_with wrote (bytes_written ws) ≡ bytes_written (with_write wrote ws)
 bytes_more None ws = refl
 bytes_more (Some w) ws =
     let more : bytes_written (w ∷ ws) ≡ w.byte + bytes_written ws = sum_by-cons (λ (v : PortWrite). v.byte) w ws in
@@ -45,7 +45,7 @@ keeps_more wrote p s t keeps writes count = record {
   phi = refl;
   count = ap (λ (n : ℕ). n + 1) keeps.count ∙ sym count;
   writes = ap (writes_with wrote) keeps.writes ∙ writes_more wrote s.writes ∙ ap length (sym writes);
-  bytes = ap (bytes_with wrote) keeps.bytes ∙ bytes_more wrote s.writes ∙ ap bytes_written (sym writes);
+  bytes = ap (byte_sum_with wrote) keeps.bytes ∙ bytes_more wrote s.writes ∙ ap bytes_written (sym writes);
 }
 
 -- the frame that falls

@@ -6,11 +6,11 @@ use Rattle.f8_spec.specs.ChipState.{ChipState}
 use Rattle.console_spec.specs.Processor.{State}
 use Rattle.console_spec.specs.Run.{Position, Turn, Goes, Stops, Done, Ending as FlatEnding}
 use Rattle.console_spec.specs.Scripts.{Script, most_instructions}
-use Rattle.console_spec.specs.Telling.{Moment, Telling, Way, is_over, moment_of, telling, told_in}
+use Rattle.console_spec.specs.Telling.{Moment, Telling, Way, events_behind, is_over, moment_of, telling, told_in}
 use Rattle.outside.specs.SinkRules.{Output, Adds}
 use Rattle.outside.proofs.SinkLaws.{adds_none, adds_then}
 use Rattle.rack_run.specs.Endings.{Tells, TellsEnd, stop_of}
-use Rattle.rack_run.specs.Lives.{Lives}
+use Rattle.rack_run.specs.Lives.{Lives, LivesMoment}
 use Rattle.rack_run.specs.Progressing.{ProgressState, Keeps}
 use Rattle.rack_run.specs.Texts.{text_in}
 use Rattle.rack_run.specs.Turns.{position_behind, Readout, readout_of, GoesOn, StopsAt, FailsAt, RunsOut, RunsShort}
@@ -18,6 +18,7 @@ use Rattle.rack_run.specs.Turns.{rest_on}
 use Rattle.rack_run.specs.declared.detail.Detail.{Detail}
 use Rattle.rack_run.specs.declared.ending.Ending.{Ending}
 use Rattle.rack_run.specs.declared.ending.Halt.{Halt}
+use Rattle.rack_run.proofs.EventLaws.{events_chain}
 use Rattle.rack_run.proofs.LifeLaws.{lives_then}
 use Rattle.rack_run.proofs.TellingLaws.{over_at, telling-over, telling-none, telling-goes, telling-stops}
 use Rattle.rack_run.proofs.ToldTexts.{text_in-nil, text_in-append, told_in-append, told_in-one}
@@ -39,7 +40,8 @@ module _ (detail : Detail) (way : Way) (script : Script) (start : Position) wher
     pub before : List Moment
     pub are : (rest_on way script start).moments ≡ before ++ (rest i here).moments
     pub ending : (rest_on way script start).ending ≡ (rest i here).ending
-    pub lived : Lives before olds nows
+    pub same_chain : here.chain ≡ start.chain
+    pub lived : Lives start.chain before olds nows
     pub lines : Adds old now (text_in detail (told_in before))
 
   pub reached_first : (At : Position → Type 0) (p : ProgressState) (states : List ChipState) (a : Output) → At start →
@@ -51,6 +53,7 @@ module _ (detail : Detail) (way : Way) (script : Script) (start : Position) wher
     before = [];
     are = ap (λ (k : ℕ). (telling way script k start).moments) (sym (sub-zero most));
     ending = ap (λ (k : ℕ). (telling way script k start).ending) (sym (sub-zero most));
+    same_chain = refl;
     lived = refl;
     lines = rw (text_in-nil detail) (adds_none a);
   }
@@ -76,13 +79,16 @@ module _ (detail : Detail) (way : Way) (script : Script) (start : Position) wher
       record {
         here = position_behind script r.here goes.there;
         at = goes.at;
+        same_chain = events_chain (events_behind script r.here (Goes goes.there)) goes.there ∙ goes.same_chain
+            ∙ r.same_chain;
         keeps = goes.keeps;
         before = r.before ++ moment ∷ [];
         are =
             r.are ∙ ap (λ (t : Telling). r.before ++ t.moments) next
             ∙ moments_more r.before moment (rest (i + 1) (position_behind script r.here goes.there)).moments;
         ending = r.ending ∙ ap (λ (t : Telling). t.ending) next;
-        lived = lives_then r.before moment olds mids news r.lived goes.lived;
+        lived = lives_then start.chain r.before moment olds mids news r.lived
+            (subst (λ (chain : List ℕ). LivesMoment chain moment mids news) r.same_chain goes.lived);
         lines =
             rw (told_more r.before moment)
             (adds_then a b c (text_in detail (told_in r.before)) (text_in detail moment.told) r.lines goes.lines);
@@ -99,7 +105,7 @@ module _ (detail : Detail) (way : Way) (script : Script) (start : Position) wher
         record {
           tells =
               subst (λ (e : FlatEnding). TellsEnd told e) (sym (r.ending ∙ ap (λ (t : Telling). t.ending) over)) tells;
-          lived = subst (λ (ms : List Moment). Lives ms olds mids) (sym moments) r.lived;
+          lived = subst (λ (ms : List Moment). Lives start.chain ms olds mids) (sym moments) r.lived;
           lines = subst (λ (ms : List Moment). Adds a b (text_in detail (told_in ms))) (sym moments) r.lines;
         }
 
@@ -129,8 +135,9 @@ module _ (detail : Detail) (way : Way) (script : Script) (start : Position) wher
               subst (λ (e : FlatEnding). TellsEnd told e) (sym (r.ending ∙ ap (λ (t : Telling). t.ending) last))
               (tells r.here.flat.state stops.state stops.keeps);
           lived =
-              subst (λ (ms : List Moment). Lives ms olds news) (sym moments)
-              (lives_then r.before moment olds mids news r.lived stops.lived);
+              subst (λ (ms : List Moment). Lives start.chain ms olds news) (sym moments)
+              (lives_then start.chain r.before moment olds mids news r.lived
+              (subst (λ (chain : List ℕ). LivesMoment chain moment mids news) r.same_chain stops.lived));
           lines = subst (λ (ms : List Moment). Adds a c (text_in detail (told_in ms))) (sym moments)
               (rw (told_more r.before moment)
               (adds_then a b c (text_in detail (told_in r.before)) (text_in detail moment.told) r.lines stops.lines));

@@ -4,7 +4,7 @@ use Rattle.std.proofs.Common.{sym, subst}
 use Rattle.std.proofs.lemmas.List.Sums.{sum_by-cons}
 use Rattle.std.specs.Prelude.{if◌then◌else◌}
 use Rattle.f8_spec.specs.Instructions.{decoded, row_of}
-use Rattle.f8_spec.specs.MicroSteps.{Step, Operand, long_step, short_step, last_fetch, steps_of, reset_steps}
+use Rattle.f8_spec.specs.MicroSteps.{Step, Operand, long_step, short_step, reset_steps}
 use Rattle.f8_spec.specs.MicroSteps.{step_clocks, clocks_along}
 use Rattle.f8_spec.specs.BusArbitration.{Verdict, Served, Conflict, Undriven, Astray, rule_of}
 use Rattle.f8_spec.specs.declared.instructions.Op.{Op}
@@ -14,17 +14,17 @@ use Rattle.f8_spec.specs.declared.instructions.Row.TheVariants.{PortIn, PortOut,
 use Rattle.f8_spec.specs.declared.instructions.Row.TheVariants.{BranchIsar, ShortIn, ShortOut, Idle, StackFromK, CallK}
 use Rattle.f8_spec.specs.declared.instructions.Row.TheVariants.{JumpQ, DataFromQ, DataFromH, Return, Exchange, AddData}
 use Rattle.f8_spec.specs.declared.instructions.Row.TheVariants.{Plain, PlainLong}
-use Rattle.f8_spec.proofs.Tables.{clocks_along-steps_of}
 use Rattle.console_spec.specs.Processor.{Flow, Inputs}
-use Rattle.console_spec.specs.FlatMachine.{gets, gets_all}
 use Rattle.console_spec.specs.CounterCopies.{Copy}
 use Rattle.console_spec.specs.BusAccesses.{Access, ahead, accesses_before_fetch, last_access, accesses_of}
-use Rattle.console_spec.specs.BusTrace.{Course, traced, with_step, course_by, course_of, is_access}
+use Rattle.console_spec.specs.BusTrace.{Course, traced, with_step, course_by, course_of, is_access, unaccessed}
+use Rattle.console_spec.specs.BusTrace.{with_unaccessed, ending_steps, steps_with}
 use Rattle.console_spec.specs.Run.{Position, Turn, Goes, decided, goes_unless, instruction_fault, instruction_course}
-use Rattle.console_spec.specs.Run.{position_after, opcode_at, seats_of, course_as, reset_access, reset_gets}
+use Rattle.console_spec.specs.Run.{position_after, opcode_at, course_as, gets_at, gets_all_at, reset_access, reset_gets}
 use Rattle.console_spec.specs.Run.{reset_course, reset_fault}
 use Rattle.console_spec.specs.Services.{Fault, access_verdict, fault_by, first_fault, or_later}
 use Rattle.console_spec.proofs.InputLaws.{accesses-with_opcode}
+use Rattle.f8_machine.proofs.Rows.{clocks_with}
 use Rattle.rack_run.specs.TraceLaw.{TraceLaw, fault_in, fault_of_turn, clocks_heard}
 
 -- steps and accesses in one order: a step that chips serve has the next access with its code, and any other has none
@@ -45,7 +45,7 @@ record Agrees (course : Course) (fault : Option Fault) (steps : List Step) : Typ
 
 idle_course : (i : Inputs) (c : Flow) (copies : List Copy) (s : Step) (later : List Step) (accesses : List Access) →
     is_access (rule_of s.romc) ≡ false →
-    course_of i c copies (s ∷ later) accesses ≡ with_step (traced i s None) (course_of i c copies later accesses)
+    course_of i c copies (s ∷ later) accesses ≡ with_unaccessed i s (course_of i c copies later accesses)
 idle_course i c copies s later [] e = refl
 idle_course i c copies s later (a ∷ behind) e = rw e refl
 
@@ -93,7 +93,7 @@ agrees i c copies [] (a ∷ behind) pairs = elim pairs [ ]
 agrees i c copies (s ∷ later) accesses (idle e pairs) =
     subst (λ course. Agrees course (first_fault c copies accesses) (s ∷ later))
     (sym (idle_course i c copies s later accesses e))
-    (step_agrees i s None (course_of i c copies later accesses) (first_fault c copies accesses) later (agrees i c copies later accesses pairs))
+    (step_agrees i s (unaccessed (rule_of s.romc) i) (course_of i c copies later accesses) (first_fault c copies accesses) later (agrees i c copies later accesses pairs))
 agrees i c copies (s ∷ later) (a ∷ behind) (accessed e code pairs) =
     subst (λ course. Agrees course (first_fault c copies (a ∷ behind)) (s ∷ later))
     (sym (access_course i c copies s later a behind e))
@@ -102,17 +102,22 @@ agrees i c copies (s ∷ later) (a ∷ behind) (accessed e code pairs) =
 
 -- ---- the steps of an instruction
 
-fetch_pairs : (row : Row) (i : Inputs) → Pairs (last_fetch row ∷ []) (last_access row i ∷ [])
-fetch_pairs row i = accessed refl refl ended
+-- the last fetch, or the steps of an interrupt
+fetch_pairs : (row : Row) (i : Inputs) → Pairs (ending_steps row i.chosen) (last_access row i ∷ [])
+fetch_pairs row i = by i.chosen
+  where
+    by : (chosen : Option ℕ) → Pairs (ending_steps row chosen) (last_access row i ∷ [])
+    by None = accessed refl refl ended
+    by (Some socket) = idle refl (idle refl (idle refl (idle refl (accessed refl refl ended))))
 
 branch_pairs : (taken : Bool) (row : Row) (i : Inputs) →
-    Pairs ((if taken then long_step 0x01 Operand else short_step 0x03 Operand) ∷ last_fetch row ∷ [])
+    Pairs ((if taken then long_step 0x01 Operand else short_step 0x03 Operand) ∷ ending_steps row i.chosen)
     (ahead (if taken then 0x01 else 0x03) 1 ∷ last_access row i ∷ [])
 branch_pairs true row i = accessed refl refl (fetch_pairs row i)
 branch_pairs false row i = accessed refl refl (fetch_pairs row i)
 
 pairs_of : (row : Row) (i : Inputs) →
-    Pairs (steps_of row i.taken) (accesses_before_fetch row i ++ last_access row i ∷ [])
+    Pairs (steps_with row i) (accesses_before_fetch row i ++ last_access row i ∷ [])
 pairs_of Idle i = idle refl (fetch_pairs Idle i)
 pairs_of StackToK i = accessed refl refl (accessed refl refl (fetch_pairs StackToK i))
 pairs_of StackFromK i = idle refl (idle refl (fetch_pairs StackFromK i))
@@ -143,13 +148,14 @@ pairs_of PlainLong i = fetch_pairs PlainLong i
 -- an instruction by its opcode
 instruction_agrees : (op : Op) (x : Position) →
     Agrees (instruction_course op x) (instruction_fault op x)
-    (steps_of (row_of op) (gets_all op (seats_of x.copies) x.flat).taken)
+    (steps_with (row_of op) (gets_all_at op x))
 instruction_agrees op x =
-    let i = gets_all op (seats_of x.copies) x.flat in
+    let i = gets_all_at op x in
     subst
-    (λ accesses. Agrees (instruction_course op x) (first_fault x.flat.state.flow x.copies accesses) (steps_of (row_of op) i.taken))
-    (accesses-with_opcode (row_of op) i.opcode (gets op (seats_of x.copies) x.flat))
-    (agrees i x.flat.state.flow x.copies (steps_of (row_of op) i.taken) (accesses_of op i) (pairs_of (row_of op) i))
+    (λ accesses. Agrees (instruction_course op x) (first_fault x.flat.state.flow x.copies accesses)
+    (steps_with (row_of op) i))
+    (accesses-with_opcode (row_of op) i.opcode (gets_at op x))
+    (agrees i x.flat.state.flow x.copies (steps_with (row_of op) i) (accesses_of op i) (pairs_of (row_of op) i))
 
 -- ---- a turn
 
@@ -173,9 +179,9 @@ goes_where (Some fault) x y goes = cc
 instruction_clocks : (op : Op) (x : Position) → instruction_fault op x ≡ None →
     (position_after op x).flat.state.phi ≡ x.flat.state.phi + clocks_heard (instruction_course op x).steps
 instruction_clocks op x none =
-    let i = gets_all op (seats_of x.copies) x.flat in
+    let i = gets_all_at op x in
     ap (λ n. x.flat.state.phi + n)
-    (sym ((instruction_agrees op x).clocks none ∙ clocks_along-steps_of (row_of op) i.taken))
+    (sym ((instruction_agrees op x).clocks none ∙ clocks_with op i.taken i.chosen))
 
 turns_clocks : (x y : Position) (op : Option Op) → turn_as x op ≡ Goes y →
     y.flat.state.phi ≡ x.flat.state.phi + clocks_heard (course_as x op).steps

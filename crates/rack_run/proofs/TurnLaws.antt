@@ -1,9 +1,10 @@
 -- One instruction of a run, from what its parts say.
-use Rattle.std.proofs.Common.{◌≡◌, ◌≢◌, ℕ, ◌+◌, List, [], ◌∷◌, ◌++◌, length, map, Option, refl, sym, ap, ◌∙◌, subst}
+use Rattle.std.proofs.Common.{◌≡◌, ◌≢◌, ℕ, ◌+◌, List, [], ◌∷◌, ◌++◌, length, map, Option, Some, None, refl, sym, ap, ◌∙◌, subst}
+use Rattle.std.specs.Prelude.{slice_get}
 use Rattle.std.proofs.lemmas.List.{append-nil}
 use Rattle.f8_spec.specs.ChipState.{ChipState}
 use Rattle.console_spec.specs.Processor.{with_write}
-use Rattle.console_spec.specs.Run.{Position, Turn, Goes, Stops}
+use Rattle.console_spec.specs.Run.{Position, Turn, Goes, Stops, pulse_in}
 use Rattle.console_spec.specs.Scripts.{Script}
 use Rattle.console_spec.specs.Telling.{Way, Told, with_event, with_events, events_behind, told_turn, told_steps}
 use Rattle.console_spec.specs.Telling.{moment_of}
@@ -28,12 +29,19 @@ use Rattle.rack_run.proofs.Progressed.{keeps_more}
 use Rattle.rack_run.proofs.ToldTexts.{text_in-append, some_first, some_behind}
 
 -- events leave what is counted
+pulse_quiet : (socket : Option ℕ) (x : Position) →
+    ((pulse_in socket x).flat.state.writes ≡ x.flat.state.writes)
+    × ((pulse_in socket x).flat.state.count ≡ x.flat.state.count)
+    × ((pulse_in socket x).flat.state.phi ≡ x.flat.state.phi)
+pulse_quiet None x = (refl, refl, refl)
+pulse_quiet (Some socket) x = (refl, refl, refl)
+
 event_quiet : (e : Event) (x : Position) →
     ((with_event e x).flat.state.writes ≡ x.flat.state.writes)
     × ((with_event e x).flat.state.count ≡ x.flat.state.count)
     × ((with_event e x).flat.state.phi ≡ x.flat.state.phi)
 event_quiet (Keys port byte) x = (refl, refl, refl)
-event_quiet (Pulse chip) x = (refl, refl, refl)
+event_quiet (Pulse chip) x = pulse_quiet (slice_get x.chain chip) x
 
 pub events_quiet : (es : List Event) (x : Position) →
     ((with_events es x).flat.state.writes ≡ x.flat.state.writes)
@@ -80,11 +88,12 @@ module _ (detail : Detail) (way : Way) (script : Script) (x : Position) where
 
   lives : (turn : Turn) (olds mids news : List ChipState) → way.step x ≡ turn →
       RackRuns (map heard_of (way.course x).steps) olds mids →
-      Come (events_behind script x turn) mids news → LivesMoment (moment_of way script x (way.step x)) olds news
+      Come x.chain (events_behind script x turn) mids news →
+      LivesMoment x.chain (moment_of way script x (way.step x)) olds news
   lives turn olds mids news turns heard came = record {
     between = mids;
     heard = heard;
-    came = subst (λ (t : Turn). Come (events_behind script x t) mids news) (sym turns) came;
+    came = subst (λ (t : Turn). Come x.chain (events_behind script x t) mids news) (sym turns) came;
   }
 
   module _ (At : Position → Type 0) (wrote : Option PortWrite) (olds mids : List ChipState) (a b : Output)
@@ -100,8 +109,11 @@ module _ (detail : Detail) (way : Way) (script : Script) (x : Position) where
       there = done.there;
       turns = done.turns;
       at = happens.at;
+      same_chain = done.same_chain;
       keeps = keeps_events p (events_behind script x (Goes done.there)) done.there keeps;
-      lived = lives (Goes done.there) olds mids news done.turns done.heard happens.came;
+      lived = lives (Goes done.there) olds mids news done.turns done.heard
+          (subst (λ (chain : List ℕ). Come chain (events_behind script x (Goes done.there)) mids news) done.same_chain
+          happens.came);
       lines =
           rw (all_text (Goes done.there) done.turns)
           (adds_then a b c (steps_text detail way x) end_text done.lines ends);

@@ -9,6 +9,8 @@ use Rattle.f8_spec.specs.declared.chips.PageSort.TheVariants.{Ram}
 use Rattle.chip_face.specs.declared.specification.ChipSpec.{ChipSpec}
 use Rattle.chip_face.specs.declared.specification.ChipSpec.TheVariants.{Psu, Smi}
 use Rattle.console_spec.specs.FlatMemory.{first_memory}
+use Rattle.console_spec.specs.FlatStep.{chosen_at}
+use Rattle.f8_spec.specs.ShiftTimer.{steps_to_expiry}
 use Rattle.console_spec.specs.Processor.{own_inputs, effect}
 use Rattle.console_spec.specs.Run.{Ending, Done, Reserved}
 use Rattle.console_spec.specs.Telling.{telling, played_by}
@@ -54,27 +56,27 @@ abbrev with_inc : Ending
 with_inc = played (patched 0x0001 0x1F) 0 3
 
 with_inc_stop : with_inc.stop ≡ Done
-unfolding played_by telling own_inputs effect decoded first_memory
+unfolding played_by telling own_inputs chosen_at steps_to_expiry effect decoded first_memory
 with_inc_stop = refl
 
 with_inc_place : with_inc.position.flat.state.flow.p ≡ 1
-unfolding played_by telling own_inputs effect decoded first_memory
+unfolding played_by telling own_inputs chosen_at steps_to_expiry effect decoded first_memory
 with_inc_place = refl
 
 with_inc_accumulator : with_inc.position.flat.state.registers.accumulator ≡ 0x02
-unfolding played_by telling own_inputs effect decoded first_memory
+unfolding played_by telling own_inputs chosen_at steps_to_expiry effect decoded first_memory
 with_inc_accumulator = refl
 
 with_inc_status : status_byte with_inc.position.flat.state.registers.status ≡ 0x01
-unfolding played_by telling own_inputs effect decoded first_memory
+unfolding played_by telling own_inputs chosen_at steps_to_expiry effect decoded first_memory
 with_inc_status = refl
 
 with_inc_count : with_inc.position.flat.state.count ≡ 3
-unfolding played_by telling own_inputs effect decoded first_memory
+unfolding played_by telling own_inputs chosen_at steps_to_expiry effect decoded first_memory
 with_inc_count = refl
 
 with_inc_clocks : with_inc.position.flat.state.phi ≡ 36
-unfolding played_by telling own_inputs effect decoded first_memory
+unfolding played_by telling own_inputs chosen_at steps_to_expiry effect decoded first_memory
 with_inc_clocks = refl
 
 -- a reserved opcode in place of LIS 1
@@ -82,7 +84,7 @@ abbrev with_reserved : Ending
 with_reserved = played (patched 0x0000 0x2D) 0 3
 
 with_reserved_stop : with_reserved.stop ≡ Reserved 0 0x2D
-unfolding played_by telling own_inputs effect decoded first_memory
+unfolding played_by telling own_inputs chosen_at steps_to_expiry effect decoded first_memory
 with_reserved_stop = refl
 
 with_reserved_state : with_reserved.position.flat.state ≡ record {
@@ -90,10 +92,12 @@ with_reserved_state : with_reserved.position.flat.state ≡ record {
   registers = record { accumulator = 0; isar = 0; status = clear_status; scratchpad = replicate 64 0 };
   keys = replicate 256 0;
   writes = [];
+  acknowledged = [];
+  pulses = [];
   count = 0;
   phi = 14;
 }
-unfolding played_by telling own_inputs effect decoded first_memory
+unfolding played_by telling own_inputs chosen_at steps_to_expiry effect decoded first_memory
 with_reserved_state = refl
 
 -- ---- the chain of a description

@@ -59,20 +59,20 @@ pub record Plays (detail : Detail) (script : Script) (chain : List ℕ) (told : 
     (old new : Output) : Type 0 where
   pub powered : List ChipState
   pub powers : RackPowers script.power olds powered
-  pub lived : Lives (run_on detail script chain olds).moments powered news
+  pub lived : Lives chain (run_on detail script chain olds).moments powered news
   pub tells : TellsEnd told (run_on detail script chain olds).ending
   pub lines : Adds old new (text_in detail (told_in (run_on detail script chain olds).moments))
 
 -- The sink failed at a line of one of some moments: those before it were lived through and told, its bus steps were heard, and no event
 -- behind it came.
-pub record CutShort (detail : Detail) (ms : List Moment) (olds news : List ChipState) (old new : Output) : Type 0 where
+pub record CutShort (detail : Detail) (chain : List ℕ) (ms : List Moment) (olds news : List ChipState) (old new : Output) : Type 0 where
   pub before : List Moment
   pub at : Moment
   pub behind : List Moment
   pub are : ms ≡ before ++ at ∷ behind
   pub some : text_in detail at.told ≢ []
   pub mids : List ChipState
-  pub lived : Lives before olds mids
+  pub lived : Lives chain before olds mids
   pub heard : RackRuns (map heard_of at.heard) mids news
   pub between : Output
   pub lines : Adds old between (text_in detail (told_in before))
@@ -83,21 +83,21 @@ pub record PlaysPart (detail : Detail) (script : Script) (chain : List ℕ) (old
     (old new : Output) : Type 0 where
   pub powered : List ChipState
   pub powers : RackPowers script.power olds powered
-  pub cut : CutShort detail (run_on detail script chain olds).moments powered news old new
+  pub cut : CutShort detail chain (run_on detail script chain olds).moments powered news old new
   pub part : AddsPart old new (text_in detail (told_in (run_on detail script chain olds).moments))
 
 -- ---- without a chip
 
 -- the run of a description's chips, each fitted without a patch
-abbrev pub run_of : Script → List ChipSpec → Telling
-run_of script chips = referred_by (views_of chips) script
+abbrev pub flat_run : Script → List ChipSpec → Telling
+flat_run script chips = referred_by (views_of chips) script
 
 -- A whole run on the flat instruction set alone: the sink was given all that is told.
 pub record Refers (script : Script) (told : Ending) (chips : List ChipSpec) (old new : Output) : Type 0 where
-  pub tells : TellsEnd told (run_of script chips).ending
-  pub lines : Adds old new (text_in Writes (told_in (run_of script chips).moments))
+  pub tells : TellsEnd told (flat_run script chips).ending
+  pub lines : Adds old new (text_in Writes (told_in (flat_run script chips).moments))
 
 -- where it came to no end: nothing was put where memory was wanting, and a first part where the sink failed
 abbrev pub ReferFails : ReferFault → Script → List ChipSpec → (old new : Output) → Type 0
 ReferFails Memory script chips old new = new ≡ old
-ReferFails Sink script chips old new = AddsPart old new (text_in Writes (told_in (run_of script chips).moments))
+ReferFails Sink script chips old new = AddsPart old new (text_in Writes (told_in (flat_run script chips).moments))

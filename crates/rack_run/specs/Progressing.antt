@@ -32,9 +32,9 @@ abbrev pub writes_with : Option PortWrite → ℕ → ℕ
 writes_with None n = n
 writes_with (Some w) n = n + 1
 
-abbrev pub bytes_with : Option PortWrite → ℕ → ℕ
-bytes_with None n = n
-bytes_with (Some w) n = n + w.byte
+abbrev pub byte_sum_with : Option PortWrite → ℕ → ℕ
+byte_sum_with None n = n
+byte_sum_with (Some w) n = n + w.byte
 
 -- after one more instruction, with its write and the clocks at its end
 abbrev pub progress_with : Option PortWrite → ℕ → ProgressState → ProgressState
@@ -43,7 +43,7 @@ progress_with wrote phi p = record {
   phi = phi;
   count = p.count + 1;
   writes = writes_with wrote p.writes;
-  bytes = bytes_with wrote p.bytes;
+  bytes = byte_sum_with wrote p.bytes;
 }
 
 -- the frame that falls where the clocks come to these

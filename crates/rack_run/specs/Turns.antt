@@ -35,7 +35,16 @@ readout_of s = record { flow = s.flow; registers = s.registers; phi = s.phi }
 
 -- the registers as a run tells them
 abbrev pub regs_of : Readout → Regs
-regs_of r = told_regs (record { flow = r.flow; registers = r.registers; keys = []; writes = []; count = 0; phi = 0 })
+regs_of r = told_regs (record {
+  flow = r.flow;
+  registers = r.registers;
+  keys = [];
+  writes = [];
+  acknowledged = [];
+  pulses = [];
+  count = 0;
+  phi = 0;
+})
 
 -- ---- an instruction, up to its bus steps
 
@@ -49,6 +58,7 @@ pub record StepsDone (detail : Detail) (way : Way) (At : Position → Type 0) (w
   pub there : Position
   pub turns : way.step x ≡ Goes there
   pub at : At there
+  pub same_chain : there.chain ≡ x.chain
   pub counts : there.flat.state.count ≡ x.flat.state.count + 1
   pub writes : there.flat.state.writes ≡ with_write wrote x.flat.state.writes
   pub heard : RackRuns (map heard_of (way.course x).steps) olds news
@@ -85,7 +95,7 @@ position_behind script x y = with_events (events_behind script x (Goes y)) y
 pub record HappenBehind (script : Script) (At : Position → Type 0) (olds news : List ChipState)
     (x y : Position) : Type 0 where
   pub at : At (position_behind script x y)
-  pub came : Come (events_behind script x (Goes y)) olds news
+  pub came : Come y.chain (events_behind script x (Goes y)) olds news
 
 -- all that is told of it, as bytes
 abbrev pub moment_text : Detail → Way → Script → Position → List ℕ
@@ -97,8 +107,9 @@ pub record GoesOn (detail : Detail) (way : Way) (script : Script) (At : Position
   pub there : Position
   pub turns : way.step x ≡ Goes there
   pub at : At (position_behind script x there)
+  pub same_chain : there.chain ≡ x.chain
   pub keeps : Keeps p (position_behind script x there).flat.state
-  pub lived : LivesMoment (moment_of way script x (way.step x)) olds news
+  pub lived : LivesMoment x.chain (moment_of way script x (way.step x)) olds news
   pub lines : Adds old new (moment_text detail way script x)
 
 -- it stops the run: the player tells the state before it, and its moment was lived through and told
@@ -107,7 +118,7 @@ pub record StopsAt (detail : Detail) (way : Way) (script : Script) (readout : Re
   pub turns : way.step x ≡ Stops (stop_of halt)
   pub state : readout ≡ readout_of x.flat.state
   pub keeps : Keeps p x.flat.state
-  pub lived : LivesMoment (moment_of way script x (way.step x)) olds news
+  pub lived : LivesMoment x.chain (moment_of way script x (way.step x)) olds news
   pub lines : Adds old new (moment_text detail way script x)
 
 -- the sink failed at one of its lines: its served steps were heard
@@ -134,9 +145,10 @@ rest_on way script x = telling way script (most_instructions script.end) x
 pub record RunsOut (detail : Detail) (way : Way) (script : Script) (told : Ending) (olds news : List ChipState)
     (old new : Output) (x : Position) : Type 0 where
   pub tells : TellsEnd told (rest_on way script x).ending
-  pub lived : Lives (rest_on way script x).moments olds news
+  pub lived : Lives x.chain (rest_on way script x).moments olds news
   pub lines : Adds old new (text_in detail (told_in (rest_on way script x).moments))
 
 -- the same, cut short
 abbrev pub RunsShort : Detail → Way → Script → (olds news : List ChipState) → (old new : Output) → Position → Type 0
-RunsShort detail way script olds news old new x = CutShort detail (rest_on way script x).moments olds news old new
+RunsShort detail way script olds news old new x =
+    CutShort detail x.chain (rest_on way script x).moments olds news old new

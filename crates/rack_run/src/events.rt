@@ -24,7 +24,11 @@ fn happen_if<P: Player>(player: &mut P, rack: &mut Rack, event: Event, due: bool
     ensures at { (x : Position) → P.at player.old (map state rack.old.items) x
         → P.at player.new (map state rack.new.items)
         (with_events (if due then event ∷ [] else []) x) }
-    ensures came { Come (if due then event ∷ [] else [])
+    ensures came_first { (x : Position) → P.begins player.old (map state rack.old.items) x
+        → Come x.chain (if due then event ∷ [] else [])
+        (map state rack.old.items) (map state rack.new.items) }
+    ensures came { (x : Position) → P.at player.old (map state rack.old.items) x
+        → Come x.chain (if due then event ∷ [] else [])
         (map state rack.old.items) (map state rack.new.items) }
     ensures ready { P.ready player.old → P.ready player.new }
     ensures phi { (P.readout player.new).phi ≡ (P.readout player.old).phi }
@@ -43,7 +47,11 @@ pub(crate) fn happen_at<P: Player>(player: &mut P, rack: &mut Rack, events: &[At
         (with_events (events_at frame events.now) x) }
     ensures at { (x : Position) → P.at player.old (map state rack.old.items) x
         → P.at player.new (map state rack.new.items) (with_events (events_at frame events.now) x) }
-    ensures came { Come (events_at frame events.now)
+    ensures came_first { (x : Position) → P.begins player.old (map state rack.old.items) x
+        → Come x.chain (events_at frame events.now)
+        (map state rack.old.items) (map state rack.new.items) }
+    ensures came { (x : Position) → P.at player.old (map state rack.old.items) x
+        → Come x.chain (events_at frame events.now)
         (map state rack.old.items) (map state rack.new.items) }
     ensures ready { P.ready player.old → P.ready player.new }
     ensures phi { (P.readout player.new).phi ≡ (P.readout player.old).phi }

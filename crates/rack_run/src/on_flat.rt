@@ -28,16 +28,16 @@ use thiserror::Error;
 impl Player for Isa {
     ghost use Rattle.std.specs.Prelude.{◌≡◌, ℕ, List};
     ghost use Rattle.f8_spec.specs.ChipState.{ChipState};
-    ghost use Rattle.console_spec.specs.Run.{Position, position_after_reset};
+    ghost use Rattle.console_spec.specs.Run.{Position};
     ghost use Rattle.console_spec.specs.Telling.{on_flat};
     ghost use Rattle.f8_isa.specs.IsaState.{IsaState, StandsAt};
-    ghost use Rattle.rack_run.specs.Machines.{flat_readout, flat_reads};
+    ghost use Rattle.rack_run.specs.Machines.{BeginsAt, flat_readout, flat_reads};
 
     ghost most_chips = { 0 };
 
     ghost way = { λ detail. on_flat };
 
-    ghost begins = { λ isa states x. StandsAt isa 0 (position_after_reset x) };
+    ghost begins = { λ isa states x. BeginsAt isa x };
 
     ghost at = { λ isa states x. StandsAt isa x.flat.state.count x };
 
@@ -61,7 +61,7 @@ impl Player for Isa {
     fn happen(&mut self, _rack: &mut Rack, event: Event) {
         match event {
             Event::Keys { port, byte } => self.keys(port, byte),
-            Event::Pulse { .. } => {}
+            Event::Pulse { chip } => self.pulse(chip),
         }
     }
 

@@ -39,6 +39,7 @@ fn code_of(fault: &BusFault) -> Romc
 }
 
 /// The bus steps of an outcome, where they are told.
+#[inline(always)]
 fn tell_outcome<K: Sink>(sink: &mut K, detail: Detail, outcome: &Outcome) -> Result<(), SinkFault>
     ensures { Puts result (K.output sink.old) (K.output sink.new)
         (text_in detail (outcome_told detail outcome.now)) }
@@ -96,7 +97,7 @@ impl Player for Machine {
     fn happen(&mut self, rack: &mut Rack, event: Event) {
         match event {
             Event::Keys { port, byte } => self.keys(rack, port, byte),
-            Event::Pulse { .. } => {}
+            Event::Pulse { chip } => self.pulse(rack, chip),
         }
     }
 

@@ -13,7 +13,7 @@ use chip_face::Chip;
 use console_board::PortWrite;
 use console_spec::{Event, Regs};
 use f8_machine::Rack;
-use f8_ops::MOST_PHI;
+use f8_ops::MOST_INTERRUPTED_PHI;
 use outside::Sink;
 
 /// What carries out a run's instructions. It is lent a rack in each call, of so many chips at most: the flat instruction set alone has none.
@@ -52,7 +52,7 @@ pub(crate) trait Player {
             → IfErr result (λ cut. StepsCut detail (way detail) (readout self.new)
             (map state rack.old.items) (map state rack.new.items)
             (K.output sink.old) (K.output sink.new) x cut) }
-        ensures clocks { (readout self.new).phi ≤ (readout self.old).phi + MOST_PHI }
+        ensures clocks { (readout self.new).phi ≤ (readout self.old).phi + MOST_INTERRUPTED_PHI }
         ensures onward { (readout self.old).phi ≤ (readout self.new).phi }
         ensures ready { ready self.new }
         ensures chips { length rack.new.items ≡ length rack.old.items };
@@ -64,7 +64,10 @@ pub(crate) trait Player {
             → begins self.new (map state rack.new.items) (with_event event x) }
         ensures at { (x : Position) → at self.old (map state rack.old.items) x
             → at self.new (map state rack.new.items) (with_event event x) }
-        ensures came { ComesTo event (map state rack.old.items) (map state rack.new.items) }
+        ensures came_first { (x : Position) → begins self.old (map state rack.old.items) x
+            → ComesTo x.chain event (map state rack.old.items) (map state rack.new.items) }
+        ensures came { (x : Position) → at self.old (map state rack.old.items) x
+            → ComesTo x.chain event (map state rack.old.items) (map state rack.new.items) }
         ensures ready { ready self.old → ready self.new }
         ensures phi { (readout self.new).phi ≡ (readout self.old).phi }
         ensures chips { length rack.new.items ≡ length rack.old.items };

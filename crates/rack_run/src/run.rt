@@ -17,7 +17,7 @@ use super::progress::Progress;
 use super::telling::tell_end;
 use chip_face::Chip;
 use f8_machine::Rack;
-use f8_ops::{MOST_PHI, RESET_PHI};
+use f8_ops::{MOST_INTERRUPTED_PHI, RESET_PHI};
 use outside::{Sink, SinkFault};
 use pad_script::Script;
 
@@ -47,7 +47,7 @@ fn turn<P: Player, K: Sink>(
 ) -> Result<(), Cut>
     requires few { length rack.old.items ≤ P.most_chips }
     requires ready { P.ready player.old }
-    requires bounded { (P.readout player.old).phi + MOST_PHI < 2 ^ 46 }
+    requires bounded { (P.readout player.old).phi + MOST_INTERRUPTED_PHI < 2 ^ 46 }
     requires phi { progress.old.phi ≡ (P.readout player.old).phi }
     requires count { progress.old.count + 1 < 2 ^ 32 }
     ensures goes { (x : Position) → P.at player.old (map state rack.old.items) x
@@ -62,7 +62,7 @@ fn turn<P: Player, K: Sink>(
         (P.readout player.new) progress.new
         (map state rack.old.items) (map state rack.new.items)
         (K.output sink.old) (K.output sink.new) x cut) }
-    ensures clocks { (P.readout player.new).phi ≤ (P.readout player.old).phi + MOST_PHI }
+    ensures clocks { (P.readout player.new).phi ≤ (P.readout player.old).phi + MOST_INTERRUPTED_PHI }
     ensures phi { OnOk result (progress.new.phi ≡ (P.readout player.new).phi) }
     ensures count { OnOk result (progress.new.count ≡ progress.old.count + 1) }
     ensures ready { P.ready player.new }

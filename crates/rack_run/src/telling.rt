@@ -1,9 +1,9 @@
 // What is told of a run on its way. Each line is one put.
-ghost use Rattle.std.specs.Prelude.{◌≡◌, ◌≤◌, ◌<◌, ◌+◌, ◌^◌, ◌++◌, List, map, option_map, IfOk};
+ghost use Rattle.std.specs.Prelude.{◌≡◌, ◌≤◌, ◌<◌, ◌+◌, ◌^◌, [], ◌∷◌, ◌++◌, List, map, option_map, IfOk};
 ghost use Rattle.console_spec.specs.Processor.{with_write};
 ghost use Rattle.console_spec.specs.Run.{Position, Goes};
 ghost use Rattle.console_spec.specs.RunText.{frame_lines, text_of};
-ghost use Rattle.console_spec.specs.Telling.{Traced, told_turn};
+ghost use Rattle.console_spec.specs.Telling.{Traced, Wrote, told_turn};
 ghost use Rattle.console_spec.specs.declared.PortWrite.{PortWrite};
 ghost use Rattle.video.specs.ScreenState.{screen_after};
 ghost use Rattle.f8_machine.specs.HeardSteps.{step_of};
@@ -16,7 +16,7 @@ use super::detail::Detail;
 use super::progress::Progress;
 use console_board::{PortWrite, Screen};
 use f8_machine::Heard;
-use f8_ops::MOST_PHI;
+use f8_ops::MOST_INTERRUPTED_PHI;
 use outside::{Sink, SinkFault};
 use pad_script::Script;
 use report::{bus_fault_line, bus_line, frame_line, out_line, row_line};
@@ -25,6 +25,9 @@ use romc_table::Romc;
 /// The rows of a picture.
 const ROWS: u8 = 64;
 
+// What puts lines isn't inlined, and what asks whether there are any is: most instructions put none, and nothing is then left of these
+// calls but the questions.
+#[inline(never)]
 fn put_steps<K: Sink>(sink: &mut K, steps: &[Heard]) -> Result<(), SinkFault>
     ensures { Puts result (K.output sink.old) (K.output sink.new)
         (text_told (map (λ h. Traced (step_of h)) steps.now)) }
@@ -36,6 +39,7 @@ fn put_steps<K: Sink>(sink: &mut K, steps: &[Heard]) -> Result<(), SinkFault>
 }
 
 /// The served steps of reset or an instruction, where they are told.
+#[inline(always)]
 pub(crate) fn tell_steps<K: Sink>(
     sink: &mut K,
     detail: Detail,
@@ -66,7 +70,17 @@ pub(crate) fn tell_fault<K: Sink>(
     sink.put(bus_fault_line(romc, long).as_bytes())
 }
 
-/// A write that was taken.
+/// A write that was taken, as its line.
+#[inline(never)]
+fn put_write<K: Sink>(sink: &mut K, write: &PortWrite) -> Result<(), SinkFault>
+    ensures { Puts result (K.output sink.old) (K.output sink.new)
+        (text_told (Wrote write.now ∷ [])) }
+{
+    sink.put(out_line(write).as_bytes())
+}
+
+/// A write that was taken, where writes are told.
+#[inline(always)]
 fn tell_write<K: Sink>(
     sink: &mut K,
     detail: Detail,
@@ -81,7 +95,7 @@ fn tell_write<K: Sink>(
     if !detail.is_told() {
         return Ok(());
     }
-    sink.put(out_line(&write).as_bytes())
+    put_write(sink, &write)
 }
 
 fn put_rows<K: Sink>(sink: &mut K, screen: &Screen) -> Result<(), SinkFault>
@@ -96,6 +110,7 @@ fn put_rows<K: Sink>(sink: &mut K, screen: &Screen) -> Result<(), SinkFault>
 }
 
 /// A frame, with the clocks at its end.
+#[inline(never)]
 fn put_frame<K: Sink>(sink: &mut K, screen: &Screen, frame: u32, phi: u64) -> Result<(), SinkFault>
     ensures { (ws : List PortWrite) → screen.now ≡ screen_after ws
         → Puts result (K.output sink.old) (K.output sink.new)
@@ -106,6 +121,7 @@ fn put_frame<K: Sink>(sink: &mut K, screen: &Screen, frame: u32, phi: u64) -> Re
 }
 
 /// A frame that falls, with the clocks at its end, where it is shown.
+#[inline(always)]
 fn tell_frame<K: Sink>(
     sink: &mut K,
     detail: Detail,
@@ -131,6 +147,7 @@ fn tell_frame<K: Sink>(
 }
 
 /// What is told at the end of an instruction that is done: its write, and the frame that falls there.
+#[inline(always)]
 fn tell_turn<K: Sink>(
     sink: &mut K,
     detail: Detail,
@@ -149,6 +166,7 @@ fn tell_turn<K: Sink>(
 }
 
 /// The end of an instruction that is done, told: its write, with the clocks then, and the frame that falls there, which is given.
+#[inline(always)]
 pub(crate) fn tell_end<K: Sink>(
     sink: &mut K,
     progress: &mut Progress,
@@ -158,7 +176,7 @@ pub(crate) fn tell_end<K: Sink>(
     phi: u64,
 ) -> Result<Option<u32>, SinkFault>
     requires onward { progress.old.phi ≤ phi }
-    requires near { phi ≤ progress.old.phi + MOST_PHI }
+    requires near { phi ≤ progress.old.phi + MOST_INTERRUPTED_PHI }
     requires bounded { phi < 2 ^ 46 }
     requires few { progress.old.count + 1 < 2 ^ 32 }
     ensures puts { (x y : Position) → Keeps progress.old x.flat.state → y.flat.state.phi ≡ phi

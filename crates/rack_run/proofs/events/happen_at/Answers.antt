@@ -15,10 +15,14 @@ loop-at-preserved g c =
           λ x a. at_next (λ y. g.P.Player.at c.happen_if.new.player nows y) c.args.frame c.args.events.now
           c.loop-at.at-index _ x
           c.loop-at-test.true (c.happen_if.ensures.at _ (c.loop-at.invariant.at x a));
+      came_first =
+          λ x b. come_next c.args.frame c.args.events.now c.loop-at.at-index _ x _ _ _ c.loop-at-test.true
+          (c.loop-at.invariant.came_first x b)
+          (c.happen_if.ensures.came_first _ (c.loop-at.invariant.begins x b));
       came =
-          come_next c.args.frame c.args.events.now c.loop-at.at-index _ _ _ _ c.loop-at-test.true
-          c.loop-at.invariant.came
-          c.happen_if.ensures.came;
+          λ x a. come_next c.args.frame c.args.events.now c.loop-at.at-index _ x _ _ _ c.loop-at-test.true
+          (c.loop-at.invariant.came x a)
+          (c.happen_if.ensures.came _ (c.loop-at.invariant.at x a));
       ready = λ was. c.happen_if.ensures.ready (c.loop-at.invariant.ready was);
       phi = c.happen_if.ensures.phi ∙ c.loop-at.invariant.phi;
       chips = c.happen_if.ensures.chips ∙ c.loop-at.invariant.chips;

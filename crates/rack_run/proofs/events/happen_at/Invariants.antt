@@ -15,7 +15,8 @@ invariant-loop-at g l =
       begins : (x : Position) → g.P.Player.begins l.fn.player olds x →
           g.P.Player.begins l.player nows (with_events events x);
       at : (x : Position) → g.P.Player.at l.fn.player olds x → g.P.Player.at l.player nows (with_events events x);
-      came : Come events olds nows;
+      came_first : (x : Position) → g.P.Player.begins l.fn.player olds x → Come x.chain events olds nows;
+      came : (x : Position) → g.P.Player.at l.fn.player olds x → Come x.chain events olds nows;
       ready : g.P.Player.ready l.fn.player → g.P.Player.ready l.player;
       phi : (g.P.Player.readout l.player).phi ≡ (g.P.Player.readout l.fn.player).phi;
       chips : length l.rack.items ≡ length l.fn.rack.items;

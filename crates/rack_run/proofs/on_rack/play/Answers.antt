@@ -19,7 +19,8 @@ returns-in_err-tell_outcome-clause-failed g c =
     let refines = c.reset-outcome.ensures.refines _ (rw c.as_slice.ensures.events at powered) in
     rw p.1
     (plays_cut c.args.detail (seen c.args.script.now) c.args.chain _ _ c.power-machine.ensures.powered _ _
-    (rw c.as_slice.ensures.events at c.happen_at.ensures.came) _
+    (rw c.as_slice.ensures.events
+    at (c.happen_at.ensures.came_first _ (c.power-machine.ensures.pair c.requires.whole c.requires.ports))) _
     (reset_heard c.reset-outcome.result _ _ _ _ refines) c.reset-outcome.ensures.follows.ran _
     (reset_is c.args.detail c.reset-outcome.result _ _ _ _ refines) _ _
     c.in_err-tell_outcome.ensures.some c.in_err-tell_outcome.ensures.err)
@@ -36,7 +37,8 @@ returns-in-Done-clause-plays g c =
     (after_count c.args.detail script c.args.chain _ _ c.power-machine.ensures.powered done.after done.turns)
     (c.phi.ensures ∙ done.represents.stands.phi) in
     plays_ok c.args.detail script c.args.chain _ _ c.power-machine.ensures.powered _ _
-    (rw c.as_slice.ensures.events at c.happen_at.ensures.came) _
+    (rw c.as_slice.ensures.events
+    at (c.happen_at.ensures.came_first _ (c.power-machine.ensures.pair c.requires.whole c.requires.ports))) _
     (reset_heard c.reset-outcome.result _ _ _ _ refines) c.reset-outcome.ensures.follows.ran _
     (reset_is c.args.detail c.reset-outcome.result _ _ _ _ refines) _ _ c.in_ok-tell_outcome.ensures.ok
     done.after done.turns _ _ c.run.result
@@ -54,7 +56,8 @@ returns-in-Done-clause-failed g c =
     (after_count c.args.detail script c.args.chain _ _ c.power-machine.ensures.powered done.after done.turns)
     (c.phi.ensures ∙ done.represents.stands.phi) in
     plays_err c.args.detail script c.args.chain _ _ c.power-machine.ensures.powered _ _
-    (rw c.as_slice.ensures.events at c.happen_at.ensures.came) _
+    (rw c.as_slice.ensures.events
+    at (c.happen_at.ensures.came_first _ (c.power-machine.ensures.pair c.requires.whole c.requires.ports))) _
     (reset_heard c.reset-outcome.result _ _ _ _ refines) c.reset-outcome.ensures.follows.ran _
     (reset_is c.args.detail c.reset-outcome.result _ _ _ _ refines) _ _ c.in_ok-tell_outcome.ensures.ok
     done.after done.turns _ _ c.run.result
@@ -77,7 +80,8 @@ returns-in-Fault-clause-plays g c =
     (quiet_count c.args.detail script c.args.chain _ _ c.power-machine.ensures.powered)
     (c.phi.ensures ∙ ap (λ r. r.phi) reads) in
     plays_not c.args.detail script c.args.chain _ _ c.power-machine.ensures.powered _ _
-    (rw c.as_slice.ensures.events at c.happen_at.ensures.came) _
+    (rw c.as_slice.ensures.events
+    at (c.happen_at.ensures.came_first _ (c.power-machine.ensures.pair c.requires.whole c.requires.ports))) _
     (reset_heard c.reset-outcome.result _ _ _ _ refines) c.reset-outcome.ensures.follows.ran _
     (reset_is c.args.detail c.reset-outcome.result _ _ _ _ refines) _ _
     c.ending.result _ faulted.turns (c.ending.ensures _ reads (rw c.new-progress.ensures keeps))

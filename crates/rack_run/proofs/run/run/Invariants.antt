@@ -1,7 +1,7 @@
 -- What is left of the run leads from here to its end.
 use Rattle.std.proofs.Common.{◌≡◌, ◌+◌, ◌*◌, ◌≤◌, length, map}
 use Rattle.console_spec.specs.Run.{Position}
-use Rattle.f8_ops.specs.declared.table.TheConstants.{MOST_PHI, RESET_PHI}
+use Rattle.f8_ops.specs.declared.table.TheConstants.{MOST_INTERRUPTED_PHI, RESET_PHI}
 use Rattle.pad_script.specs.Reading.{seen}
 use Rattle.rack_run.specs.Progressing.{Keeps}
 use Rattle.rack_run.proofs.RunLaws.{Reached}
@@ -20,5 +20,5 @@ invariant-loop g l =
       chips : length l.rack.items ≡ length l.fn.rack.items;
       count : l.progress.count ≡ l.counter;
       phi : l.progress.phi ≡ (g.P.Player.readout l.player).phi;
-      clocks : (g.P.Player.readout l.player).phi ≤ RESET_PHI + MOST_PHI * l.counter;
+      clocks : (g.P.Player.readout l.player).phi ≤ RESET_PHI + MOST_INTERRUPTED_PHI * l.counter;
     }
