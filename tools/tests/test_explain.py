@@ -115,7 +115,6 @@ class Explain(unittest.TestCase):
             self.assertIn(hint, told, text)
             self.assertIn(f'Cause {cause}, ', told)
         self.assertIn('Cause 6, NoEnd', self.explained('error script line 1 cause 6'))
-        self.assertIn('script, line 2\n    at 1 pulse 0', self.explained('error script unbuilt', script='frames 2\nat 1 pulse 0\n'))
 
     def test_files_of_digits(self):
         self.assertIn('file, line 2, column 3\n    2B,90', self.explained('error hex', file='2B\n2B,90\n'))

@@ -4,6 +4,7 @@ use Rattle.std.specs.Prelude.{All, nat_le}
 use Rattle.std.proofs.lemmas.Bool.{leb-true}
 use Rattle.std.proofs.lemmas.List.Elements.{All-nil, All-cons}
 use Rattle.toml.specs.Data.{Data, Members, as_array, as_table}
+use Rattle.chip_face.specs.declared.sizes.TheConstants.{MOST_CHIPS}
 use Rattle.cartridge.specs.declared.keys.Key.TheVariants.{Format, Split, Chip}
 use Rattle.cartridge.specs.declared.refusal.CartCause.TheVariants.{TooMany}
 use Rattle.cartridge.specs.declared.refusal.KeyFault.{KeyFault}
@@ -46,27 +47,27 @@ chips-whole i (table ∷ tables) chips h =
     (subst (λ (n : ℕ). ArePlanned n (map planned_chip (chip ∷ more))) longer
     (cons_planned (length tables) (planned_chip chip) (map planned_chip more) one (chips-whole (i + 1) tables more at_more)))))
 
--- ---- at most 16
+-- ---- at most `MOST_CHIPS`
 
-tables-few : (d : Data) (tables : List Members) → tables_in d ≡ Ok tables → length tables ≤ 16
+tables-few : (d : Data) (tables : List Members) → tables_in d ≡ Ok tables → length tables ≤ MOST_CHIPS
 tables-few d tables h =
-    bind-ok (length tables ≤ 16) (value_of_type (as_array d)) _ tables h (λ ds at_ds h.
-    bind-ok (length tables ≤ 16) (value_of_type (each as_table ds)) few_tables tables h (λ all at_all h.
-    let (t, e) = if-ok (nat_le (length all) 16) all tables TooMany h in
-    subst (λ (ts : List Members). length ts ≤ 16) e (leb-true (length all) 16 t)))
+    bind-ok (length tables ≤ MOST_CHIPS) (value_of_type (as_array d)) _ tables h (λ ds at_ds h.
+    bind-ok (length tables ≤ MOST_CHIPS) (value_of_type (each as_table ds)) few_tables tables h (λ all at_all h.
+    let (t, e) = if-ok (nat_le (length all) MOST_CHIPS) all tables TooMany h in
+    subst (λ (ts : List Members). length ts ≤ MOST_CHIPS) e (leb-true (length all) MOST_CHIPS t)))
 
-top-few : (table : Members) (top : Top) → top_of table ≡ Ok top → length top.tables ≤ 16
+top-few : (table : Members) (top : Top) → top_of table ≡ Ok top → length top.tables ≤ MOST_CHIPS
 unfolding top_of
 top-few table top h =
-    bind-ok (length top.tables ≤ 16) (known top_keys table) _ top h (λ _ at_known h.
-    bind-ok (length top.tables ≤ 16) (value_needed Format (number_in 1 1) table) _ top h (λ format at_format h.
-    bind-ok (length top.tables ≤ 16) (usually Split [] split_in table) _ top h (λ split at_split h.
-    bind-ok (length top.tables ≤ 16) (usually Chip [] tables_in table) _ top h (λ tables at_tables h.
+    bind-ok (length top.tables ≤ MOST_CHIPS) (known top_keys table) _ top h (λ _ at_known h.
+    bind-ok (length top.tables ≤ MOST_CHIPS) (value_needed Format (number_in 1 1) table) _ top h (λ format at_format h.
+    bind-ok (length top.tables ≤ MOST_CHIPS) (usually Split [] split_in table) _ top h (λ split at_split h.
+    bind-ok (length top.tables ≤ MOST_CHIPS) (usually Chip [] tables_in table) _ top h (λ tables at_tables h.
     let e : tables ≡ top.tables = cc h in
-    subst (λ (ts : List Members). length ts ≤ 16) e
-    (optional-ok (length tables ≤ 16) [] tables_in (value_at Chip table) tables
+    subst (λ (ts : List Members). length ts ≤ MOST_CHIPS) e
+    (optional-ok (length tables ≤ MOST_CHIPS) [] tables_in (value_at Chip table) tables
     (at_key-ok Chip (optional [] tables_in (value_at Chip table)) tables at_tables)
-    (λ none. subst (λ (ts : List Members). length ts ≤ 16) none (omega arith))
+    (λ none. subst (λ (ts : List Members). length ts ≤ MOST_CHIPS) none (omega arith))
     (λ d at_list. tables-few d tables at_list))))))
 
 pub described_whole : (table : Members) (cart : Described) → description_in table ≡ Ok cart → IsPlan (plan_without_images cart).chips

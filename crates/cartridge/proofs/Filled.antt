@@ -7,14 +7,14 @@ use Rattle.std.proofs.lemmas.Grind.{get_or-set_at}
 use Rattle.std.proofs.lemmas.List.Elements.{All-head, All-tail}
 use Rattle.f8_asm.specs.declared.answers.Room.{Room}
 use Rattle.cartridge.specs.Filled.{or_else, image_byte, HasImage, IsFilledChip, IsFilled}
-use Rattle.cartridge.specs.Filling.{PlannedSource, PlannedChip, Planned, HasRoomFor, bytes_with, filled_source, filled_chip, with_change_at, filled_plan}
+use Rattle.cartridge.specs.Filling.{PlannedSource, PlannedChip, Planned, HasRoomFor, rom_with, filled_source, filled_chip, with_change_at, filled_plan}
 use Rattle.cartridge.specs.Rooms.{LiesIn}
 
 -- ---- the bytes of a ROM
 
-length-bytes_with : (first : ℕ) (bs : List (ℕ × ℕ)) (rom : List ℕ) → length (bytes_with first bs rom) ≡ length rom
-length-bytes_with first [] rom = refl
-length-bytes_with first (b ∷ bs) rom = length-bytes_with first bs (set rom (b.0 - first) b.1) ∙ length-set rom (b.0 - first) b.1
+length-rom_with : (first : ℕ) (bs : List (ℕ × ℕ)) (rom : List ℕ) → length (rom_with first bs rom) ≡ length rom
+length-rom_with first [] rom = refl
+length-rom_with first (b ∷ bs) rom = length-rom_with first bs (set rom (b.0 - first) b.1) ∙ length-set rom (b.0 - first) b.1
 
 -- one byte is put before others
 byte_before : (own : Bool) (later : Option ℕ) (rom : List ℕ) (place at v : ℕ) → (own ≡ true → at ≡ place) → (own ≡ false → at ≢ place) → at < length rom
@@ -25,13 +25,13 @@ byte_before true None rom place at v same other within =
     get_or-set_at rom place at v 0 e (omega arith)
 byte_before false None rom place at v same other within = get_or-set_other rom place at v 0 (other refl)
 
-byte-bytes_with : (room : Room) (bs : List (ℕ × ℕ)) (rom : List ℕ) (address : ℕ) → LiesIn room bs → room.first ≤ address → address < room.first + length rom
-    → slice_index (bytes_with room.first bs rom) (address - room.first) ≡ unwrap_or (image_byte bs address) (slice_index rom (address - room.first))
-byte-bytes_with room [] rom address inside above below = refl
-byte-bytes_with room (b ∷ bs) rom address inside above below =
+byte-rom_with : (room : Room) (bs : List (ℕ × ℕ)) (rom : List ℕ) (address : ℕ) → LiesIn room bs → room.first ≤ address → address < room.first + length rom
+    → slice_index (rom_with room.first bs rom) (address - room.first) ≡ unwrap_or (image_byte bs address) (slice_index rom (address - room.first))
+byte-rom_with room [] rom address inside above below = refl
+byte-rom_with room (b ∷ bs) rom address inside above below =
     let head = All-head (λ (b : ℕ × ℕ). (room.first ≤ b.0) × (b.0 ≤ room.last)) b bs inside in
     let size = length-set rom (b.0 - room.first) b.1 in
-    byte-bytes_with room bs (set rom (b.0 - room.first) b.1) address
+    byte-rom_with room bs (set rom (b.0 - room.first) b.1) address
     (All-tail (λ (b : ℕ × ℕ). (room.first ≤ b.0) × (b.0 ≤ room.last)) b bs inside) above
     (omega (arith, size, below))
     ∙ byte_before (b.0 == address) (image_byte bs address) rom (b.0 - room.first) (address - room.first) b.1
@@ -47,8 +47,8 @@ source_filled : (bytes : List (ℕ × ℕ)) (s : PlannedSource) → LiesIn s.sou
 source_filled bytes s inside = record {
   source = refl;
   filled = refl;
-  size = length-bytes_with s.source.room.first bytes s.bytes;
-  each = λ address above below. byte-bytes_with s.source.room bytes s.bytes address inside above below;
+  size = length-rom_with s.source.room.first bytes s.bytes;
+  each = λ address above below. byte-rom_with s.source.room bytes s.bytes address inside above below;
 }
 
 -- ---- the chips of a plan

@@ -10,7 +10,7 @@ use Rattle.chip_face.specs.declared.specification.ChipSpec.TheVariants.{Blank, P
 use Rattle.cartridge.specs.declared.chip_table.ChipPlan.{ChipPlan}
 use Rattle.cartridge.specs.declared.rom_source.SourceRom.{SourceRom}
 use Rattle.cartridge.specs.ChipTables.{DescribedSource}
-use Rattle.cartridge.specs.Filling.{PlannedSource, PlannedChip, IsPlannedChip, IsPlan, IsRomOf, HasRom, bytes_with}
+use Rattle.cartridge.specs.Filling.{PlannedSource, PlannedChip, IsPlannedChip, IsPlan, IsRomOf, HasRom, rom_with}
 use Rattle.cartridge.specs.Filling.{filled_source, filled_chip, with_change_at, planned_chip, without_image}
 use Rattle.cartridge.specs.Carts.{with_rom, spec_from, specification_of}
 use Rattle.cartridge.specs.Plans.{seen_chip, seen_rom, seen_chips, seen_source}
@@ -122,9 +122,9 @@ rom_fits (s ∷ specs) (r ∷ roms) (suc i) rom all same within at =
 
 -- ---- bytes are put
 
-pub length-bytes_with : (first : ℕ) (bytes : List (ℕ × ℕ)) (rom : List ℕ) → length (bytes_with first bytes rom) ≡ length rom
-length-bytes_with first [] rom = refl
-length-bytes_with first (b ∷ bs) rom = length-bytes_with first bs (set rom (b.0 - first) b.1) ∙ length-set rom (b.0 - first) b.1
+pub length-rom_with : (first : ℕ) (bytes : List (ℕ × ℕ)) (rom : List ℕ) → length (rom_with first bytes rom) ≡ length rom
+length-rom_with first [] rom = refl
+length-rom_with first (b ∷ bs) rom = length-rom_with first bs (set rom (b.0 - first) b.1) ∙ length-set rom (b.0 - first) b.1
 
 filled-plan_without_images : (bytes : List (ℕ × ℕ)) (chip : PlannedChip) → IsPlannedChip chip → IsPlannedChip (filled_chip bytes chip)
 filled-plan_without_images bytes chip is = record { specified = is.specified; no_blank = is.no_blank; has_rom = kept chip.source is.has_rom }
@@ -132,7 +132,7 @@ filled-plan_without_images bytes chip is = record { specified = is.specified; no
     kept : (source : Option PlannedSource) → HasRom chip.spec source → HasRom chip.spec (option_map (filled_source bytes) source)
     kept None has = tt
     kept (Some s) has =
-        let size = length-bytes_with s.source.room.first bytes s.bytes in
+        let size = length-rom_with s.source.room.first bytes s.bytes in
         record { rom = size ∙ has.rom; room = ap (λ (n : ℕ). s.source.room.first + n) size ∙ has.room }
 
 changed-all : (bytes : List (ℕ × ℕ)) (i : ℕ) (chips : List PlannedChip) → All IsPlannedChip chips →

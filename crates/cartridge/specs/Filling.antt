@@ -5,6 +5,7 @@ use Rattle.std.specs.Prelude.{replicate, slice_get, slice_set, Option, Some, Non
 use Rattle.std.specs.Prelude.{IsSomeAnd, Result, Ok}
 use Rattle.toml.specs.Data.{Members}
 use Rattle.chip_face.specs.Fitting.{IsSpec, is_blank, rom_of}
+use Rattle.chip_face.specs.declared.sizes.TheConstants.{MOST_CHIPS}
 use Rattle.chip_face.specs.declared.specification.ChipSpec.{ChipSpec}
 use Rattle.cartridge.specs.ChipTables.{DescribedSource, DescribedChip}
 use Rattle.cartridge.specs.declared.refusal.CartFault.{CartFault}
@@ -53,12 +54,12 @@ abbrev pub HasRoomFor : Planned → ℕ → List (ℕ × ℕ) → Type 0
 HasRoomFor plan chip bytes = IsSomeAnd (source_at plan chip) (λ s. LiesIn s.room bytes)
 
 -- bytes are put at their addresses, one after another, into a ROM that has this first address
-abbrev pub bytes_with : ℕ → List (ℕ × ℕ) → List ℕ → List ℕ
-bytes_with first [] rom = rom
-bytes_with first (b ∷ bs) rom = bytes_with first bs (slice_set rom (b.0 - first) b.1)
+abbrev pub rom_with : ℕ → List (ℕ × ℕ) → List ℕ → List ℕ
+rom_with first [] rom = rom
+rom_with first (b ∷ bs) rom = rom_with first bs (slice_set rom (b.0 - first) b.1)
 
 abbrev pub filled_source : List (ℕ × ℕ) → PlannedSource → PlannedSource
-filled_source bytes s = record { source = s.source; bytes = bytes_with s.source.room.first bytes s.bytes; filled = true }
+filled_source bytes s = record { source = s.source; bytes = rom_with s.source.room.first bytes s.bytes; filled = true }
 
 abbrev pub filled_chip : List (ℕ × ℕ) → PlannedChip → PlannedChip
 filled_chip bytes chip = record { spec = chip.spec; source = option_map (filled_source bytes) chip.source }
@@ -89,7 +90,7 @@ pub record IsPlannedChip (chip : PlannedChip) : Type 0 where
   pub no_blank : is_blank chip.spec ≡ false
   pub has_rom : HasRom chip.spec chip.source
 
--- at most 16 chips, each as a specification has to be, none blank, and each source with as many bytes as there is room for
+-- at most `MOST_CHIPS` chips, each as a specification has to be, none blank, and each source with as many bytes as there is room for
 pub record IsPlan (chips : List PlannedChip) : Type 0 where
-  pub few : length chips ≤ 16
+  pub few : length chips ≤ MOST_CHIPS
   pub each : All IsPlannedChip chips

@@ -10,6 +10,7 @@ use Rattle.hex.specs.declared.error.FromHexError.{FromHexError}
 use Rattle.toml.specs.Data.{Data, Items, no_items, item, Members, as_integer, as_str, as_bool, as_array, as_table}
 use Rattle.f8_spec.specs.declared.chips.ChipKind.{ChipKind}
 use Rattle.f8_spec.specs.declared.chips.ChipKind.TheVariants.{Psu, Smi}
+use Rattle.chip_face.specs.declared.sizes.TheConstants.{MOST_CHIPS}
 use Rattle.text_lines.specs.Printable.{is_printable}
 use Rattle.cartridge.specs.declared.keys.Key.{Key}
 use Rattle.cartridge.specs.declared.refusal.CartCause.{CartCause}
@@ -134,9 +135,9 @@ split_of ds = if nat_le (count_of ds) 8 then registers (each register ds) else E
 abbrev pub split_in : Data → Result (List ℕ) CartCause
 split_in d = value_of_type (as_array d) >>= split_of
 
--- a list of at most 16 tables; an entry of a wrong type goes before too many
+-- a list of at most `MOST_CHIPS` tables; an entry of a wrong type goes before too many
 abbrev pub few_tables : List Members → Result (List Members) CartCause
-few_tables tables = if nat_le (length tables) 16 then Ok tables else Err TooMany
+few_tables tables = if nat_le (length tables) MOST_CHIPS then Ok tables else Err TooMany
 
 abbrev pub tables_in : Data → Result (List Members) CartCause
 tables_in d = value_of_type (as_array d) >>= λ ds. value_of_type (each as_table ds) >>= few_tables

@@ -1,6 +1,6 @@
 // Where the bytes of a ROM come from, and the bytes as they stand.
 ghost use Rattle.std.specs.Prelude.{◌≡◌, ◌+◌, ◌≤◌, ◌<◌, All, IfOk, length, option_map};
-ghost use Rattle.cartridge.specs.Filling.{without_image, filled_source, bytes_with};
+ghost use Rattle.cartridge.specs.Filling.{without_image, filled_source, rom_with};
 ghost use Rattle.cartridge.specs.Rooms.{LiesIn};
 ghost use Rattle.cartridge.specs.Plans.{seen_source, seen_rom};
 
@@ -25,7 +25,7 @@ pub struct SourceRom {
 /// Puts bytes at their addresses, one after another, into a ROM that has this first address.
 fn put(rom: &mut [u8], first: u16, bytes: &[(u16, u8)])
     requires { All (λ b. (first ≤ b.0) × (b.0 < first + length rom.old)) bytes.now }
-    ensures { rom.new ≡ bytes_with first bytes.now rom.old }
+    ensures { rom.new ≡ rom_with first bytes.now rom.old }
 {
     for (address, byte) in bytes {
         rom[usize::from(*address - first)] = *byte;

@@ -1,7 +1,5 @@
 -- The script of a run, and the one file of a command.
-use Rattle.std.proofs.Common.{◌≡◌, ℕ, Bool, true, false, List, Option, None, Result, Ok, Err, subst, arith, ◌≤◌}
-use Rattle.std.specs.Prelude.{if◌then◌else◌}
-use Rattle.std.specs.List.{list_any}
+use Rattle.std.proofs.Common.{◌≡◌, ℕ, List, None, Result, Ok, Err, arith, ◌≤◌}
 use Rattle.outside.specs.StoreRules.{Input}
 use Rattle.console_spec.specs.Scripts.{Script as RunScript}
 use Rattle.f8_asm.specs.Image.{Picture, everywhere}
@@ -12,22 +10,16 @@ use Rattle.loader.specs.declared.refusals.Refusal.{Refusal}
 use Rattle.loader.specs.declared.refusals.Refusal.TheVariants as refusal
 use Rattle.loader.specs.declared.refusals.Stop.{Stop}
 use Rattle.loader.specs.declared.refusals.Stop.TheVariants.{Refused, Store, Memory}
-use Rattle.loader.specs.Readings.{Says, ◌&>=◌, is_pulse, without_pulses, script_told, script_in, image_in, bytes_in}
+use Rattle.loader.specs.Readings.{Says, script_told, script_in, image_in, bytes_in}
 use Rattle.loader.specs.Games.{script_by, image_by, bytes_by}
 use Rattle.loader.specs.Work.{ask, reads, ◌>>=◌}
 use Rattle.loader.specs.Works.{order_of, file_of, RefusesFrom, outcome_as, Works}
 use Rattle.loader.proofs.WorkLaws.{works_stop, works_text, works_seen, from_first}
 
 -- the script is what is refused
-unbuilt_order : (built : Bool) (script : RunScript) (r : Refusal) →
-    (if built then Err refusal.Unbuilt else Ok script) ≡ Err r →
+script_order_of : (read : Result RunScript ScriptFault) (r : Refusal) → script_told read ≡ Err r →
     order_of Script ≤ order_of (file_of r)
-unbuilt_order true script r e = let same : refusal.Unbuilt ≡ r = cc e in rw (← same) (omega arith)
-unbuilt_order false script r e = cc e
-
-script_order_of : (read : Result RunScript ScriptFault) (r : Refusal) → (script_told read &>= without_pulses) ≡ Err r →
-    order_of Script ≤ order_of (file_of r)
-script_order_of (Ok script) r e = unbuilt_order (list_any is_pulse script.events) script r e
+script_order_of (Ok script) r e = cc e
 script_order_of (Err fault) r e = let same : refusal.Script fault ≡ r = cc e in rw (← same) (omega arith)
 
 pub script_order : {A : Type 0} (text : List ℕ) (seen : A → RunScript) (outcome : Result A Stop) →

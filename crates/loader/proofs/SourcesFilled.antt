@@ -6,7 +6,7 @@ use Rattle.std.specs.Prelude.{◌⊎◌, nat_le, nat_lt, option_map, option_and_
 use Rattle.std.specs.List.{position_or_len}
 use Rattle.std.proofs.lemmas.Bool.Decides.{leb_tells}
 use Rattle.std.proofs.lemmas.Option.{slice_get_within}
-use Rattle.outside.specs.StoreRules.{NamedBytes, Input}
+use Rattle.outside.specs.StoreRules.{Input}
 use Rattle.cartridge.specs.Carts.{wants_image}
 use Rattle.cartridge.specs.ChipTables.{DescribedSource}
 use Rattle.cartridge.specs.Filling.{PlannedSource, PlannedChip, Planned, source_at, HasRoomFor, filled_source}

@@ -16,7 +16,7 @@ use Rattle.loader.specs.declared.refusals.Stop.{Stop}
 use Rattle.loader.specs.declared.refusals.Stop.TheVariants.{Refused, Store, Memory}
 use Rattle.loader.specs.Work.{Ask, End, Gives, Refuses, Lacks, Course, Work, gives, reads, end_of, end_for, ask}
 use Rattle.loader.specs.Work.{course_behind, ◌>>=◌}
-use Rattle.loader.specs.Works.{more, AsksFew, FailsAt, Follows, StoreFails, order_of, file_of, RefusesFrom, Misses}
+use Rattle.loader.specs.Works.{more, IsOutcomeOf, StoreFails, order_of, file_of, RefusesFrom, Misses}
 use Rattle.loader.specs.Works.{RefusesBy}
 use Rattle.loader.specs.Works.{HasFiles, Works, outcome_as}
 use Rattle.loader.specs.Readings.{Says}
@@ -318,8 +318,8 @@ all_behind a b c asks later count all =
     ∙ ap (more a.fetches) (sym (length-append asks later))
 
 follows_behind : {B : Type 0} (a b c : Input) (asks : List Ask) (course : Course B) (outcome : Result B Stop) →
-    b.fetches ≡ more a.fetches (length asks) → Follows b c course outcome →
-    Follows a c (record { asks = asks ++ course.asks; end = course.end }) outcome
+    b.fetches ≡ more a.fetches (length asks) → IsOutcomeOf b c course outcome →
+    IsOutcomeOf a c (record { asks = asks ++ course.asks; end = course.end }) outcome
 follows_behind a b c asks course (Ok x) count follows =
     (follows.0, all_behind a b c asks course.asks count follows.1)
 follows_behind a b c asks course (Err (Refused refusal)) count follows =
@@ -435,8 +435,8 @@ works_done a b work x f first =
 
 -- a first work that stops
 stops_first : {A B : Type 0} (old new : Input) (asks : List Ask) (end : End A) (f : A → Course B) (stop : Stop) →
-    Follows old new (record { asks = asks; end = end }) (Err stop) →
-    Follows old new (course_behind asks end f) (Err stop)
+    IsOutcomeOf old new (record { asks = asks; end = end }) (Err stop) →
+    IsOutcomeOf old new (course_behind asks end f) (Err stop)
 stops_first old new asks end f (Refused refusal) follows = rw follows.0 (refl, follows.1)
 stops_first old new asks (Gives x) f (Store purpose) follows = record {
   place = follows.place;

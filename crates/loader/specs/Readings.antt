@@ -1,6 +1,5 @@
 -- What is read of the bytes of a file, or why it is refused.
-use Rattle.std.specs.Prelude.{◌≡◌, ℕ, Bool, true, false, if◌then◌else◌, List, Option, Some, None, Result, Ok, Err}
-use Rattle.std.specs.List.{list_any}
+use Rattle.std.specs.Prelude.{◌≡◌, ℕ, if◌then◌else◌, List, Option, Some, None, Result, Ok, Err}
 use Rattle.std.specs.Str.{is_utf8}
 use Rattle.toml.specs.Data.{Members}
 use Rattle.toml.specs.Parse.{parse_document}
@@ -11,9 +10,6 @@ use Rattle.f8_asm.specs.declared.answers.Room.{Room}
 use Rattle.f8_asm.specs.Image.{Picture, image_of}
 use Rattle.pad_script.specs.declared.answers.ScriptFault.{ScriptFault}
 use Rattle.console_spec.specs.Scripts.{Script}
-use Rattle.console_spec.specs.declared.At.{At}
-use Rattle.console_spec.specs.declared.Event.{Event}
-use Rattle.console_spec.specs.declared.Event.TheVariants.{Keys, Pulse}
 use Rattle.pad_script.specs.Reading.{script_of}
 use Rattle.hex_file.specs.DigitText.{HexFault, bytes_of_text}
 use Rattle.hex_file.specs.DigitText as hex
@@ -21,7 +17,7 @@ use Rattle.loader.specs.declared.purposes.Purpose.TheVariants.{File}
 use Rattle.loader.specs.declared.refusals.Refusal.{Refusal}
 use Rattle.loader.specs.declared.refusals.Stop.{Stop}
 use Rattle.loader.specs.declared.refusals.Stop.TheVariants.{Refused, Store, Memory}
-use Rattle.loader.specs.declared.refusals.Refusal.TheVariants.{Document, Cart, Assembly, Script as AtScript, Unbuilt}
+use Rattle.loader.specs.declared.refusals.Refusal.TheVariants.{Document, Cart, Assembly, Script as AtScript}
 use Rattle.loader.specs.declared.refusals.Refusal.TheVariants.{Digits, Long}
 
 -- an answer, as it is seen, is what is read of bytes; want of memory says nothing of them
@@ -67,23 +63,13 @@ image_in source room text = image_told source (image_of text room)
 
 -- ---- scripts
 
-abbrev pub is_pulse_event : Event → Bool
-is_pulse_event (Keys port byte) = false
-is_pulse_event (Pulse chip) = true
-
-abbrev pub is_pulse : At → Bool
-is_pulse at = is_pulse_event at.event
-
--- pulses are not built yet
-abbrev pub without_pulses : Script → Result Script Refusal
-without_pulses script = if list_any is_pulse script.events then Err Unbuilt else Ok script
-
 abbrev pub script_told : Result Script ScriptFault → Result Script Refusal
 script_told (Ok script) = Ok script
 script_told (Err fault) = Err (AtScript fault)
 
+-- the script of a text
 unfoldable pub script_in : List ℕ → Result Script Refusal
-script_in text = script_told (script_of text) &>= without_pulses
+script_in text = script_told (script_of text)
 
 -- ---- digits
 

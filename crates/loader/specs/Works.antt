@@ -43,11 +43,11 @@ outcome_as seen (Ok x) = Ok (seen x)
 outcome_as seen (Err stop) = Err stop
 
 -- An outcome is that of the course: all its files were fetched, and it ended so. The store may have failed before, or memory been wanting.
-abbrev pub Follows : {A : Type 0} → Input → Input → Course A → Result A Stop → Type 0
-Follows old new course (Ok x) = (course.end ≡ Gives x) × AsksAll old new course.asks
-Follows old new course (Err (Refused refusal)) = (course.end ≡ Refuses refusal) × AsksAll old new course.asks
-Follows old new course (Err (Store purpose)) = FailsAt old new course.asks purpose
-Follows old new course (Err Memory) = AsksFew old new course.asks
+abbrev pub IsOutcomeOf : {A : Type 0} → Input → Input → Course A → Result A Stop → Type 0
+IsOutcomeOf old new course (Ok x) = (course.end ≡ Gives x) × AsksAll old new course.asks
+IsOutcomeOf old new course (Err (Refused refusal)) = (course.end ≡ Refuses refusal) × AsksAll old new course.asks
+IsOutcomeOf old new course (Err (Store purpose)) = FailsAt old new course.asks purpose
+IsOutcomeOf old new course (Err Memory) = AsksFew old new course.asks
 
 -- the store failed where its count of faults rose, and nowhere else
 abbrev pub StoreFails : {A : Type 0} → Input → Input → Result A Stop → Type 0
@@ -76,7 +76,6 @@ file_of refusal.Document = purpose.Cart
 file_of (refusal.Cart fault) = purpose.Cart
 file_of (refusal.Assembly source fault) = purpose_of_text source
 file_of (refusal.Script fault) = purpose.Script
-file_of refusal.Unbuilt = purpose.Script
 file_of refusal.Digits = purpose.File
 file_of (refusal.Long purpose) = purpose
 
@@ -114,7 +113,7 @@ HasFiles Lacks = ⊥
 pub record Works {A : Type 0} (old new : Input) (work : Work A) (outcome : Result A Stop) : Type 0 where
   -- Where the store tells its files after the call, they are those that it told before it, and the outcome is that of the work over them.
   pub same : (files : List NamedBytes) → new.files ≡ Some files → old.files ≡ Some files
-  pub follows : (files : List NamedBytes) → new.files ≡ Some files → Follows old new (work files) outcome
+  pub follows : (files : List NamedBytes) → new.files ≡ Some files → IsOutcomeOf old new (work files) outcome
   -- where no file is missing, it still tells them
   pub telling : (files : List NamedBytes) → old.files ≡ Some files → HasFiles (work files).end →
       new.files ≡ Some files

@@ -1,19 +1,18 @@
 // What is read of the bytes of a file.
 ghost use Rattle.std.specs.Prelude.{◌≡◌, ◌≤◌, IfOk, length};
-ghost use Rattle.std.specs.List.{list_any};
 ghost use Rattle.toml.specs.View.{table_view};
 ghost use Rattle.cartridge.specs.Filling.{IsPlan};
 ghost use Rattle.cartridge.specs.Rooms.{LiesIn};
 ghost use Rattle.pad_script.specs.Limits.{HasLimits};
 ghost use Rattle.pad_script.specs.Reading.{seen};
-ghost use Rattle.loader.specs.Readings.{Says, bytes_in, is_pulse, table_of, description_of, image_in, script_in};
+ghost use Rattle.loader.specs.Readings.{Says, bytes_in, table_of, description_of, image_in, script_in};
 
 use super::purposes::Purpose;
 use super::refusals::{Refusal, Stop};
 use cartridge::{CartAnswer, Plan, read_cart};
 use f8_asm::{AsmAnswer, Image, Room, assemble};
 use hex_file::{HexAnswer, read_hex};
-use pad_script::{At, Event, Script, ScriptAnswer, read_script};
+use pad_script::{Script, ScriptAnswer, read_script};
 use std::alloc::Global;
 use toml::Table;
 
@@ -57,21 +56,7 @@ pub fn read_image(alloc: Global, source: Option<u8>, text: &[u8], room: Room) ->
     }
 }
 
-/// The event is a pulse.
-fn is_pulse(at: &At) -> bool
-    ensures { result ≡ is_pulse at.now }
-{
-    matches!(at.event, Event::Pulse { .. })
-}
-
-/// The script has a pulse.
-fn has_pulse(script: &Script) -> bool
-    ensures { result ≡ list_any is_pulse script.now.events }
-{
-    script.events.as_slice().iter().any(|at| is_pulse(at))
-}
-
-/// The script of a text. Pulses aren't built yet.
+/// The script of a text.
 #[tactic(auto, unfolding(crate::specs::Readings::script_in))]
 pub fn read_run(alloc: Global, text: &[u8]) -> Result<Script, Stop>
     requires { length text.now ≤ 65536 }
@@ -79,7 +64,6 @@ pub fn read_run(alloc: Global, text: &[u8]) -> Result<Script, Stop>
     ensures limits { IfOk result (λ script. HasLimits script.end) }
 {
     match read_script(alloc, text) {
-        Ok(script) if has_pulse(&script) => Err(Stop::Refused(Refusal::Unbuilt)),
         Ok(script) => Ok(script),
         Err(ScriptAnswer::Fault(fault)) => Err(Stop::Refused(Refusal::Script(fault))),
         Err(ScriptAnswer::Memory) => Err(Stop::Memory),

@@ -20,9 +20,6 @@ pub enum Refusal {
     /// The script is at fault.
     #[error("the script is at fault")]
     Script(ScriptFault),
-    /// The script asks for what isn't built yet.
-    #[error("the script asks for what isn't built")]
-    Unbuilt,
     /// The file isn't pairs of hexadecimal digits.
     #[error("the file is no hexadecimal digits")]
     Digits,

@@ -1,5 +1,6 @@
 use super::*;
 use outside::{FileList, NamedFile, SureStore};
+use pad_script::{At, Event};
 use std::alloc::Global;
 use std::test::Fail;
 
@@ -9,7 +10,7 @@ const FILES: [(&str, &str); 4] = [
         "format = 1\n[[chip]]\nkind = '3851'\nbase = 0x400\nports = 4\nsource = 'code'\n",
     ),
     ("code", " ORG $0400\nBYTES: DB 1, 2\n"),
-    ("script", "power 5A\nsteps 7\n"),
+    ("script", "power 5A\nat 1 pulse 0\nsteps 7\n"),
     ("digits", "7 12B\t90\r\nfe"),
 ];
 
@@ -34,6 +35,11 @@ fn loads_a_game(rt: HostRuntime) -> Result<(), Fail> {
     assert_eq!(rt; game.chips.len(), 1);
     assert_eq!(rt; game.script.power, 0x5A);
     assert_eq!(rt; game.script.shows.len(), 0);
+    let pulse = At {
+        frame: 1,
+        event: Event::Pulse { chip: 0 },
+    };
+    assert_eq!(rt; game.script.events.as_slice(), [pulse].as_slice());
     Ok(())
 }
 

@@ -18,7 +18,7 @@ use Rattle.pad_script.specs.declared.script.Script.{Script as KeptScript}
 use Rattle.pad_script.specs.declared.statement.Statement.{Statement}
 use Rattle.pad_script.specs.declared.statement.Statement.TheVariants.{Power, Ends, Comes, Shows}
 use Rattle.pad_script.specs.Answers.{answer_as, OnMemory}
-use Rattle.pad_script.specs.FirstFault.{HasNoFault, IsFirstFault, AtLine, BehindLast, IsLineFault, TakesMemory}
+use Rattle.pad_script.specs.FirstFault.{HasNoFault, IsFirstFault, AtLine, BehindLast, IsLineFault}
 use Rattle.pad_script.specs.FirstFault.{TellsFault}
 use Rattle.pad_script.specs.FirstFault.{counted_lines}
 use Rattle.text_lines.specs.Lines.{lines}

@@ -13,7 +13,7 @@ use text_lines::all_printable;
 const LAST_FRAME: u32 = 600;
 
 /// The greatest number of instructions.
-const MOST_STEPS: u32 = 1_000_000;
+const MOST_INSTRUCTIONS: u32 = 1_000_000;
 
 /// The last chip of a description.
 const LAST_CHIP: u32 = 15;
@@ -115,7 +115,7 @@ fn frames(count: &[u8]) -> Result<Statement, ScriptCause>
 fn steps(count: &[u8]) -> Result<Statement, ScriptCause>
     ensures { result ≡ steps count.now }
 {
-    let count = number_within(count, 0, MOST_STEPS)?;
+    let count = number_within(count, 0, MOST_INSTRUCTIONS)?;
     Ok(Statement::Ends(End::Steps(count)))
 }
 

@@ -1,7 +1,7 @@
 -- The script is fetched, and then read.
 use Rattle.std.proofs.lemmas.Result.{err_from_is_err_and}
 use Rattle.pad_script.specs.Reading.{seen}
-use Rattle.loader.proofs.ScriptsLoaded.{script_read, script_stop, script_order}
+use Rattle.loader.proofs.ScriptsLoaded.{script_read, script_stop}
 use Rattle.loader.proofs.loading.load_script.Goals as goal
 
 pub returns-in_err-text-clause-works : goal.returns-in_err-text-clause-works

@@ -1,7 +1,5 @@
 -- The lines so far are read into the draft, and each takes a byte.
-use Rattle.std.proofs.Common.{◌≡◌, ◌+◌, ◌≤◌, List, ◌++◌, ℕ, length}
-use Rattle.text_lines.specs.Lines.{lines}
-use Rattle.pad_script.specs.Reading.{Draft}
+use Rattle.std.proofs.Common.{◌+◌, ◌≤◌, length}
 use Rattle.pad_script.proofs.LineSteps.{Reads}
 use Rattle.pad_script.proofs.read.read_script.Given as goal
 
