@@ -13,7 +13,7 @@ use Rattle.console_spec.specs.declared.VerdictWord.TheVariants.{Unchecked}
 use Rattle.generator.specs.SummaryLines.{gen_line}
 use Rattle.outside.specs.SinkRules.{Output, Adds, AddsPart}
 use Rattle.outside.proofs.SinkLaws.{adds_none, adds_then, adds_part_behind, adds_part_first}
-use Rattle.rack_run.specs.Endings.{Tells, Plays as RackPlays, PlaysPart, Refers, stop_at, run_on}
+use Rattle.rack_run.specs.Endings.{Tells, Plays as RackPlays, PlaysPart, Refers, stop_at}
 use Rattle.rack_run.specs.Seating.{seated, fitted_views, RackFits, RackFitsInPart}
 use Rattle.rack_run.specs.Texts.{text_in, text_told}
 use Rattle.rack_run.specs.declared.detail.Detail.TheVariants.{Writes}
@@ -26,7 +26,7 @@ use Rattle.channel_f.specs.Answers.{Answer, status_of, refusal, ref_run, game_ru
 use Rattle.channel_f.specs.Manners.{detail_of, run_by, run_fitted, opening_lines, closing_lines, lines_by, told_summary}
 use Rattle.channel_f.specs.Manners.{summary_lines}
 use Rattle.channel_f.specs.Manners.{ending_told, summary_told, closing_told}
-use Rattle.channel_f.specs.RackAfter.{RanOn, FailedBefore, FailedDuring, FailedAfter, OnFitted, Plays, PlaysUnless}
+use Rattle.channel_f.specs.RackAfter.{RanOn, OnFitted, Plays, PlaysUnless}
 use Rattle.channel_f.specs.RackAfter.{PlaysGame}
 use Rattle.channel_f.specs.Reports.{Answers, Reports}
 use Rattle.channel_f.specs.declared.manner.Manner.{Manner}
@@ -165,7 +165,7 @@ module _ (manner : Manner) (game : Game) (chain : List ℕ) (fitted : List ChipS
   reports_not_begun a b due part =
       reports_part a b due opening (told ++ closing) (lines_by manner run) part (text_by manner run)
 
-  pub on_not_begun : (a b : Output) → AddsPart a b opening → OnFitted a b 5 manner game.script.power run fitted fitted
+  pub on_not_begun : (a b : Output) → AddsPart a b opening → OnFitted a b 5 manner game.script.power chain run fitted fitted
   on_not_begun a b part = record {
     ran = λ five. absurd (five refl);
     failed = λ five. inl (record { same = refl; part = part });
@@ -180,7 +180,7 @@ module _ (manner : Manner) (game : Game) (chain : List ℕ) (fitted : List ChipS
 
   pub on_cut : (news : List ChipState) (a b c : Output) → Adds a b opening →
       PlaysPart (detail_of manner) game.script chain fitted news b c →
-      OnFitted a c 5 manner game.script.power run fitted news
+      OnFitted a c 5 manner game.script.power chain run fitted news
   on_cut news a b c first plays = record {
     ran = λ five. absurd (five refl);
     failed = λ five. inr (inl (record {
@@ -196,7 +196,7 @@ module _ (manner : Manner) (game : Game) (chain : List ℕ) (fitted : List ChipS
   module _ (ending : Ending) (news : List ChipState) (a b c d : Output) (said : ℕ) (first : Adds a b opening)
       (plays : RackPlays (detail_of manner) game.script chain ending fitted news b c)
       (r : Reports c d said (status_of (stop_at ending.halt)) (closing_told manner ending)) where
-    ran_on : RanOn game.script.power run fitted news
+    ran_on : RanOn game.script.power chain run fitted news
     ran_on = record { powered = plays.powered; powers = plays.powers; lived = plays.lived }
 
     told_all : Adds a c (opening ++ told)
@@ -213,7 +213,7 @@ module _ (manner : Manner) (game : Game) (chain : List ℕ) (fitted : List ChipS
         reports_behind a c d said (status_of run.ending.stop) (opening ++ told) (closing_lines manner run.ending)
         (lines_by manner run) told_all closing_reports opened
 
-    pub on_run : OnFitted a d said manner game.script.power run fitted news
+    pub on_run : OnFitted a d said manner game.script.power chain run fitted news
     on_run = record {
       ran = λ five. ran_on;
       failed = λ five. inr (inr (record {
@@ -244,14 +244,17 @@ module _ (a b : Output) (said : ℕ) (manner : Manner) (game : Game) (rack fitte
       (subst (λ (t : Telling). Reports a b said (status_of t.ending.stop) (lines_by manner t)) run_same r)
 
   pub plays_fitted : (news : List ChipState) → RackFits (seated game.chips rack) rack fitted → said ≢ 6 →
-      OnFitted a b said manner game.script.power (run_fitted manner game chain fitted) fitted news →
+      OnFitted a b said manner game.script.power chain (run_fitted manner game chain fitted) fitted news →
       Plays a b said manner game rack news
   plays_fitted news fits six on = record {
     wanting = λ e. absurd (six e);
     played = λ other. record {
       fitted = fitted;
       fits = fits;
-      on = subst (λ (t : Telling). OnFitted a b said manner game.script.power t fitted news) run_same on;
+      on =
+          subst (λ (sockets : List ℕ).
+          OnFitted a b said manner game.script.power sockets (game_run manner game rack) fitted news) linked
+          (subst (λ (t : Telling). OnFitted a b said manner game.script.power chain t fitted news) run_same on);
     };
   }
 

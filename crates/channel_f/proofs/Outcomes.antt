@@ -2,7 +2,6 @@
 use Rattle.std.proofs.Common.{◌≡◌, ℕ, Bool, true, false, ◌⊎◌, inl, inr, List, [], ◌∷◌, Option, Some, None, Ok, Err}
 use Rattle.std.proofs.Common.{refl}
 use Rattle.std.specs.Prelude.{◌||◌, if◌then◌else◌, IsTrue, bytes_eq, codes, option_map, option_and_then}
-use Rattle.f8_spec.specs.ChipState.{ChipState}
 use Rattle.outside.specs.SinkRules.{Output}
 use Rattle.outside.specs.StoreRules.{Input}
 use Rattle.outside.proofs.SinkLaws.{adds_none}
@@ -16,7 +15,7 @@ use Rattle.loader.specs.Works.{Works}
 use Rattle.loader.proofs.WorkLaws.{works_memory}
 use Rattle.channel_f.specs.Answers.{Answer, generated_game, gen_answer, play_answer, ref_answer, asm_answer, dis_answer}
 use Rattle.channel_f.specs.Answers.{words_answer}
-use Rattle.channel_f.specs.Commands.{Around, around, Told, Tells, TellsGame, TellsGenerated, Says}
+use Rattle.channel_f.specs.Commands.{Around, Told, Tells, TellsGame, Says}
 use Rattle.channel_f.specs.RackAfter.{PlaysGame, RackAfter}
 use Rattle.channel_f.specs.Reports.{Answers, Reports, Stops}
 use Rattle.channel_f.specs.declared.manner.Manner.TheVariants.{Whole, Summary}

@@ -11,18 +11,19 @@ use Rattle.rack_run.specs.Seating.{seated, RackFits, RackFitsInPart}
 use Rattle.rack_run.specs.Texts.{text_in}
 use Rattle.loader.specs.declared.refusals.Stop.{Stop}
 use Rattle.loader.specs.Games.{Game}
-use Rattle.channel_f.specs.Answers.{refusal, game_run}
+use Rattle.channel_f.specs.Answers.{refusal, game_chain, game_run}
 use Rattle.channel_f.specs.Manners.{detail_of, opening_lines, closing_lines}
 use Rattle.channel_f.specs.declared.manner.Manner.{Manner}
 
 -- ---- a run on chips that are fitted
 
--- Every chip is powered with this byte, and lives through the moments of the run on these chips: so it stands where the bus steps and the
--- keys lead, and a chip that tells what it heard heard these steps and nothing else.
-pub record RanOn (power : ℕ) (run : Telling) (fitted news : List ChipState) : Type 0 where
+-- Every chip is powered with this byte, and lives through the moments of the run on these chips, whose pulses go by these sockets of the
+-- chips described: so it stands where the bus steps, the keys and the pulses lead, and a chip that tells what it heard heard these steps
+-- and nothing else.
+pub record RanOn (power : ℕ) (chain : List ℕ) (run : Telling) (fitted news : List ChipState) : Type 0 where
   pub powered : List ChipState
   pub powers : RackPowers power fitted powered
-  pub lived : Lives run.moments powered news
+  pub lived : Lives chain run.moments powered news
 
 -- the sink failed at a line before the run began
 pub record FailedBefore (old new : Output) (manner : Manner) (fitted news : List ChipState) : Type 0 where
@@ -30,30 +31,30 @@ pub record FailedBefore (old new : Output) (manner : Manner) (fitted news : List
   pub part : AddsPart old new (text_of (opening_lines manner))
 
 -- it failed at a line of the run, at whose instruction, or at whose reset, the chips stand
-pub record FailedDuring (old new : Output) (manner : Manner) (power : ℕ) (run : Telling)
+pub record FailedDuring (old new : Output) (manner : Manner) (power : ℕ) (chain : List ℕ) (run : Telling)
     (fitted news : List ChipState) : Type 0 where
   pub powered : List ChipState
   pub powers : RackPowers power fitted powered
   pub between : Output
   pub opening : Adds old between (text_of (opening_lines manner))
-  pub cut : CutShort (detail_of manner) run.moments powered news between new
+  pub cut : CutShort (detail_of manner) chain run.moments powered news between new
 
 -- it failed at a line behind the run
-pub record FailedAfter (old new : Output) (manner : Manner) (power : ℕ) (run : Telling)
+pub record FailedAfter (old new : Output) (manner : Manner) (power : ℕ) (chain : List ℕ) (run : Telling)
     (fitted news : List ChipState) : Type 0 where
-  pub ran : RanOn power run fitted news
+  pub ran : RanOn power chain run fitted news
   pub between : Output
   pub told : Adds old between (text_of (opening_lines manner) ++ text_in (detail_of manner) (told_in run.moments))
   pub part : AddsPart between new (text_of (closing_lines manner run.ending))
 
 -- What a run on chips that are fitted makes of them.
-pub record OnFitted (old new : Output) (said : ℕ) (manner : Manner) (power : ℕ) (run : Telling)
+pub record OnFitted (old new : Output) (said : ℕ) (manner : Manner) (power : ℕ) (chain : List ℕ) (run : Telling)
     (fitted news : List ChipState) : Type 0 where
-  pub ran : said ≢ 5 → RanOn power run fitted news
+  pub ran : said ≢ 5 → RanOn power chain run fitted news
   pub failed : said ≡ 5 →
       FailedBefore old new manner fitted news
-      ⊎ FailedDuring old new manner power run fitted news
-      ⊎ FailedAfter old new manner power run fitted news
+      ⊎ FailedDuring old new manner power chain run fitted news
+      ⊎ FailedAfter old new manner power chain run fitted news
 
 -- ---- a game on a rack
 
@@ -62,7 +63,8 @@ pub record PlayedOn (old new : Output) (said : ℕ) (manner : Manner) (game : Ga
     (rack news : List ChipState) : Type 0 where
   pub fitted : List ChipState
   pub fits : RackFits (seated game.chips rack) rack fitted
-  pub on : OnFitted old new said manner game.script.power (game_run manner game rack) fitted news
+  pub on : OnFitted old new said manner game.script.power (game_chain game rack) (game_run manner game rack)
+      fitted news
 
 -- What a call that plays a game says of the rack. Where memory was wanting, the first chips may have been fitted, or all of them, and
 -- no more became of them.

@@ -24,16 +24,11 @@ purpose_number purpose.Script = None
 purpose_number purpose.File = None
 purpose_number (purpose.Source chip) = Some chip
 
--- pulses are not built yet
-unfoldable pub unbuilt_line : List ℕ
-unbuilt_line = codes "error script unbuilt\n"
-
 abbrev pub refusal_line : Refusal → List ℕ
 refusal_line refusal.Document = toml_line
 refusal_line (refusal.Cart fault) = cart_line fault.chip (key_word fault.key) (cart_cause fault.cause)
 refusal_line (refusal.Assembly source fault) = asm_line source fault.line fault.column (asm_cause fault.cause)
 refusal_line (refusal.Script fault) = reader_line reader.Script fault.line (script_cause fault.cause)
-refusal_line refusal.Unbuilt = unbuilt_line
 refusal_line refusal.Digits = hex_line
 refusal_line (refusal.Long p) = long_line (purpose_word p) (purpose_number p)
 

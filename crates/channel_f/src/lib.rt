@@ -13,4 +13,6 @@ pub use status::Status;
 pub use top::console;
 
 #[cfg(test)]
+mod interrupt_tests;
+#[cfg(test)]
 mod tests;

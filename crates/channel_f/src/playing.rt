@@ -56,7 +56,7 @@ fn play_fitted<K: Sink>(
         (lines_by manner
         (run_fitted manner (seen_game game.now) chain (map state rack.old.items))) }
     ensures rack { OnFitted (K.output sink.old) (K.output sink.new) (exit_code result)
-        manner game.now.script.power
+        manner game.now.script.power chain
         (run_fitted manner (seen_game game.now) chain (map state rack.old.items))
         (map state rack.old.items) (map state rack.new.items) }
 {

@@ -3,8 +3,7 @@ ghost use Rattle.std.specs.Prelude.{◌≡◌, ◌≤◌, IsTrue, length};
 ghost use Rattle.std.specs.List.{list_all};
 ghost use Rattle.text_lines.specs.Printable.{is_printable};
 ghost use Rattle.channel_f.specs.Refusals.{purpose_word as spelled_word, purpose_number as told_number};
-ghost use Rattle.channel_f.specs.Refusals.{unbuilt_line as spelled_unbuilt, refusal_line as spelled_refusal};
-ghost use Rattle.channel_f.specs.Refusals.{missing_line as spelled_missing};
+ghost use Rattle.channel_f.specs.Refusals.{refusal_line as spelled_refusal, missing_line as spelled_missing};
 ghost use Rattle.channel_f.specs.Reports.{Stops};
 ghost use Rattle.channel_f.specs.Statuses.{exit_code};
 
@@ -38,16 +37,6 @@ fn purpose_number(purpose: Purpose) -> Option<u8>
     }
 }
 
-/// `error script unbuilt`: the script asks for what isn't built yet.
-#[tactic(auto, unfolding(crate::specs::Refusals::unbuilt_line))]
-fn unbuilt_line() -> Line
-    ensures { result ≡ spelled_unbuilt }
-{
-    let mut line = Line::new();
-    line.text(b"error script unbuilt\n");
-    line
-}
-
 /// The line of a file that is refused.
 #[tactic(auto, using(crate::proofs::KeyWords::word_short, crate::proofs::KeyWords::word_printable))]
 fn refusal_line(refusal: Refusal) -> Line
@@ -71,7 +60,6 @@ fn refusal_line(refusal: Refusal) -> Line
             fault.line,
             fault.cause.number(),
         ),
-        Refusal::Unbuilt => unbuilt_line(),
         Refusal::Digits => report::error_hex(),
         Refusal::Long(purpose) => report::error_long(
             purpose_word(purpose),

@@ -187,7 +187,7 @@ const ANSWERS: [Row; 10] = [
 ];
 
 /// What is refused, with the one line that says so.
-const REFUSALS: [Row; 11] = [
+const REFUSALS: [Row; 10] = [
     (&[], &["play", "a"], 1, "error words\n"),
     (
         &[("cart", "format = ")],
@@ -227,12 +227,6 @@ const REFUSALS: [Row; 11] = [
         &["play", "cart", "script"],
         2,
         "error script line 1 cause 2\n",
-    ),
-    (
-        &[("cart", LOOP_CART), ("script", "at 0 pulse 0\nframes 1\n")],
-        &["ref", "cart", "script"],
-        2,
-        "error script unbuilt\n",
     ),
     (&[("bytes", "712")], &["dis", "bytes"], 2, "error hex\n"),
     (
@@ -294,9 +288,20 @@ fn answered(
     words: &[&str],
     rack: &mut Rack,
 ) -> Result<(u8, SureSink), Fail> {
+    answered_in_room(alloc, 4096, files, words, rack)
+}
+
+/// The same over a sink with room for so many bytes.
+pub(crate) fn answered_in_room(
+    alloc: Global,
+    room: u32,
+    files: &[File],
+    words: &[&str],
+    rack: &mut Rack,
+) -> Result<(u8, SureSink), Fail> {
     let words = words_of(alloc, words)?;
     let mut store = SureStore::new(files_of(alloc, files)?);
-    let mut sink = SureSink::new(alloc, 4096)?;
+    let mut sink = SureSink::new(alloc, room)?;
     let status = console(alloc, words.as_slice(), &mut store, &mut sink, rack);
     Ok((status, sink))
 }
