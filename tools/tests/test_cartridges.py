@@ -41,6 +41,20 @@ RUNS = [
         'frame 40 phi 1193204 tone 0',
         'frame 43 phi 1282700 tone 2',
         'stop done']),
+    (['play'], 'heartbeat', 0, [
+        'frame 12 phi 357972 tone 2',
+        'frame 33 phi 984402 tone 0',
+        'stop done',
+        'regs P=0019 P1=0019 D0=0200 D1=0000 A=20 IS=00 W=17',
+        's00 83 16 00 1F 00 00 00 00 00 00 00 00 00 00 00 00',
+        'total 72345 instructions 984402 phi']),
+    (['ref'], 'heartbeat', 0, [
+        'frame 12 phi 357972 tone 2',
+        'frame 33 phi 984402 tone 0',
+        'stop done',
+        'regs P=0019 P1=0019 D0=0200 D1=0000 A=20 IS=00 W=17',
+        's00 83 16 00 1F 00 00 00 00 00 00 00 00 00 00 00 00',
+        'total 72345 instructions 984402 phi']),
 ]
 
 # Without chips the copy of `parted` is done: four bytes are gone over, the last of them is 11, and r0 is 0.
