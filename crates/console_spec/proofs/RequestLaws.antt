@@ -9,10 +9,21 @@ use Rattle.f8_spec.proofs.TimerCycle.{steps-within_cycle}
 use Rattle.f8_spec.proofs.TimerPeriod.{next-after, next-stays}
 use Rattle.console_spec.specs.Writes.{latch_of}
 use Rattle.console_spec.specs.InterruptRequests.{Mark, History, time_of, last_write_time, last_load, last_mark_time}
-use Rattle.console_spec.specs.InterruptRequests.{after_write, after_acknowledgement, after_pulse, ArePastWrites, ArePastMarks}
+use Rattle.console_spec.specs.InterruptRequests.{with_mark, ArePastWrites, ArePastMarks}
 use Rattle.console_spec.specs.InterruptRequests.{IsPast, has_expiry, has_mark, control_port, timer_port, since_of}
 use Rattle.console_spec.specs.InterruptRequests.{request_by, has_request}
 use Rattle.console_spec.specs.declared.PortWrite.{PortWrite}
+
+-- ---- what is added to a history
+
+abbrev pub after_write : PortWrite → History → History
+after_write w h = record h { writes = w ∷ h.writes }
+
+abbrev pub after_acknowledgement : ℕ → ℕ → History → History
+after_acknowledgement chip phi h = record h { acknowledged = with_mark chip phi h.acknowledged }
+
+abbrev pub after_pulse : ℕ → ℕ → History → History
+after_pulse chip phi h = record h { pulses = with_mark chip phi h.pulses }
 
 -- ---- expiries
 
@@ -142,11 +153,11 @@ since-past first chip time h past =
     let marked = last_mark-past chip time h.acknowledged past.acknowledged in
     omega (arith, written, marked)
 
-writes_later : (time later : ℕ) (ws : List PortWrite) → time ≤ later → ArePastWrites time ws → ArePastWrites later ws
+pub writes_later : (time later : ℕ) (ws : List PortWrite) → time ≤ later → ArePastWrites time ws → ArePastWrites later ws
 writes_later time later [] order past = tt
 writes_later time later (w ∷ ws) order past = let here = past.0 in (omega arith, writes_later time later ws order past.1)
 
-marks_later : (time later : ℕ) (ms : List Mark) → time ≤ later → ArePastMarks time ms → ArePastMarks later ms
+pub marks_later : (time later : ℕ) (ms : List Mark) → time ≤ later → ArePastMarks time ms → ArePastMarks later ms
 marks_later time later [] order past = tt
 marks_later time later (m ∷ ms) order past = let here = past.0 in (omega arith, marks_later time later ms order past.1)
 

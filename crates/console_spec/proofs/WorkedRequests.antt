@@ -74,3 +74,37 @@ pulse_too_early = refl
 
 pulse_not_let_in : has_request 4 0 (pulse_at 3 34) 34 ≡ false
 pulse_not_let_in = refl
+
+-- the low two bits of control count, and the others don't: 07 admits expiries, FD pulses, and 00 and 02 neither
+abbrev expired_under : ℕ → History
+expired_under control = record {
+  writes = record { phi = 60; port = 7; byte = 0x7F } ∷ record { phi = 34; port = 6; byte = control } ∷ [];
+  acknowledged = [];
+  pulses = record { chip = 0; phi = 87 } ∷ [];
+}
+
+expiry_under_07 : has_request 4 0 (expired_under 0x07) 87 ≡ true
+unfolding steps_to_expiry
+expiry_under_07 = refl
+
+pulse_under_FD : has_request 4 0 (expired_under 0xFD) 87 ≡ true
+pulse_under_FD = refl
+
+nothing_under_00 : has_request 4 0 (expired_under 0x00) 87 ≡ false
+nothing_under_00 = refl
+
+nothing_under_02 : has_request 4 0 (expired_under 0x02) 87 ≡ false
+nothing_under_02 = refl
+
+-- an expiry at 87 Φ, and at the same time a control write, an acknowledgement or another load: the first two end it, the last doesn't
+ended_by_control_at_once : has_request 4 0 (record unacknowledged { writes = record { phi = 91; port = 6; byte = 3 } ∷ two_writes }) 7000 ≡ false
+unfolding steps_to_expiry
+ended_by_control_at_once = refl
+
+ended_by_acknowledgement_at_once : has_request 4 0 (acknowledged_at 0 87) 7000 ≡ false
+unfolding steps_to_expiry
+ended_by_acknowledgement_at_once = refl
+
+kept_by_load_at_once : has_request 4 0 (record unacknowledged { writes = record { phi = 91; port = 7; byte = 0xFF } ∷ two_writes }) 7000 ≡ true
+unfolding steps_to_expiry
+kept_by_load_at_once = refl

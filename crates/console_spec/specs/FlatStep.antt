@@ -4,7 +4,7 @@ use Rattle.std.specs.Prelude.{ℕ, ◌+◌, ◌-◌, ◌/◌, ◌%◌, Bool, tru
 use Rattle.f8_spec.specs.Instructions.{row_of, clocks_of, clocks_before_fetch, interrupt_clocks, is_shielding}
 use Rattle.f8_spec.specs.BusArbitration.{Seat}
 use Rattle.f8_spec.specs.declared.instructions.Op.{Op}
-use Rattle.console_spec.specs.InterruptRequests.{Mark, History, with_mark}
+use Rattle.console_spec.specs.InterruptRequests.{Mark, History, with_mark, effect_time}
 use Rattle.console_spec.specs.InterruptChoice.{first_asking, vector_of}
 use Rattle.console_spec.specs.Processor.{State, Inputs, history_of, own_inputs, result_of, counters_after, registers_after}
 use Rattle.console_spec.specs.Processor.{write_of, with_write}
@@ -39,10 +39,10 @@ abbrev pub clocks_by : Option ℕ → Op → Bool → ℕ
 clocks_by None op taken = clocks_of op taken
 clocks_by (Some socket) op taken = clocks_before_fetch op taken + interrupt_clocks
 
--- an acknowledgement, which comes 4 Φ before the end
+-- the acknowledgement in an instruction that ends at some clocks
 abbrev pub with_acknowledged : Option ℕ → ℕ → List Mark → List Mark
-with_acknowledged None phi marks = marks
-with_acknowledged (Some socket) phi marks = with_mark socket (phi - 4) marks
+with_acknowledged None ending marks = marks
+with_acknowledged (Some socket) ending marks = with_mark socket (effect_time ending) marks
 
 -- the state after an instruction
 abbrev pub after_instruction : Op → List ℕ → List Seat → List ℕ → State → State

@@ -3,6 +3,7 @@
 use Rattle.std.specs.Prelude.{ℕ, ◌+◌, ◌-◌, ◌%◌, ◌≤◌, Bool, false, ◌&&◌, ◌||◌, ◌==◌, nat_lt, nat_le, max, if◌then◌else◌}
 use Rattle.std.specs.Prelude.{List, [], ◌∷◌}
 use Rattle.f8_spec.specs.ShiftTimer.{expires_between}
+use Rattle.f8_spec.specs.ChipState.{admits_pulses, admits_expiries}
 use Rattle.console_spec.specs.Writes.{latch_of}
 use Rattle.console_spec.specs.declared.PortWrite.{PortWrite}
 
@@ -25,9 +26,13 @@ no_history = record { writes = []; acknowledged = []; pulses = [] }
 abbrev pub with_mark : ℕ → ℕ → List Mark → List Mark
 with_mark chip phi marks = record { chip = chip; phi = phi } ∷ marks
 
--- a write has the clocks at its instruction's end, and its port takes it 4 Φ before
+-- A port takes a write, and an interrupt is acknowledged, 4 Φ before the end of the instruction: with its last fetch still to come.
+abbrev pub effect_time : ℕ → ℕ
+effect_time ending = ending - 4
+
+-- a write has the clocks at its instruction's end
 abbrev pub time_of : PortWrite → ℕ
-time_of w = w.phi - 4
+time_of w = effect_time w.phi
 
 -- the time of the last write to a port, and 0 before the first
 abbrev pub last_write_time : ℕ → List PortWrite → ℕ
@@ -44,18 +49,7 @@ abbrev pub last_mark_time : ℕ → List Mark → ℕ
 last_mark_time chip [] = 0
 last_mark_time chip (m ∷ ms) = if m.chip == chip then m.phi else last_mark_time chip ms
 
--- ---- what is added to a history
-
-abbrev pub after_write : PortWrite → History → History
-after_write w h = record h { writes = w ∷ h.writes }
-
-abbrev pub after_acknowledgement : ℕ → ℕ → History → History
-after_acknowledgement chip phi h = record h { acknowledged = with_mark chip phi h.acknowledged }
-
-abbrev pub after_pulse : ℕ → ℕ → History → History
-after_pulse chip phi h = record h { pulses = with_mark chip phi h.pulses }
-
--- nothing of it lies after a time
+-- nothing of a history lies after a time
 abbrev pub ArePastWrites : ℕ → List PortWrite → Type 0
 ArePastWrites time [] = Unit {0}
 ArePastWrites time (w ∷ ws) = (time_of w ≤ time) × ArePastWrites time ws
@@ -97,9 +91,12 @@ timer_port first = first + 3
 abbrev pub since_of : ℕ → ℕ → History → ℕ
 since_of first chip h = max (last_write_time (control_port first) h.writes) (last_mark_time chip h.acknowledged)
 
--- The low two bits of control say what a chip asks for: with 3 for an expiry of its timer, with 1 for a pulse, and else for nothing.
+-- By its control a chip asks for an expiry of its timer, for a pulse, or for nothing.
 abbrev pub request_by : ℕ → Bool → Bool → Bool
-request_by control expired pulsed = if control % 4 == 3 then expired else if control % 4 == 1 then pulsed else false
+request_by control expired pulsed =
+    if admits_expiries control then expired else
+    if admits_pulses control then pulsed else
+    false
 
 -- the chip in a socket, with its first port, has a request at a time
 abbrev pub has_request : ℕ → ℕ → History → ℕ → Bool

@@ -1,8 +1,8 @@
 // The bus steps of each instruction.
 ghost use Rattle.std.specs.Prelude.{◌≡◌, ◌==◌, ◌<◌, ◌≤◌, ◌++◌, [], ◌∷◌, ◌-◌, ◌*◌, true, false, if◌then◌else◌, map, sum_by, length, take, slice_get};
-ghost use Rattle.f8_spec.specs.MicroSteps.{step_clocks, steps_before_fetch};
+ghost use Rattle.f8_spec.specs.MicroSteps.{steps_before_fetch};
 ghost use Rattle.f8_spec.specs.BusCodes.{driver_of as driver_by_table};
-ghost use Rattle.f8_spec.specs.Instructions.{clocks_of};
+ghost use Rattle.f8_spec.specs.Instructions.{clocks_of, step_clocks};
 ghost use Rattle.cpu3850.specs.CpuSteps.{bus_step, listed};
 
 use f8_ops::{Op, Row, row_of};

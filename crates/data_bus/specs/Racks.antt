@@ -4,7 +4,7 @@ use Rattle.std.specs.Prelude.{ℕ, ◌+◌, ◌≡◌, Bool, true, ◌==◌, ◌
 use Rattle.std.specs.List.{enumerate_from}
 use Rattle.f8_spec.specs.ChipState.{ChipView, ChipState, MayHear, Settles, is_asking}
 use Rattle.f8_spec.specs.BusArbitration.{is_first}
-use Rattle.f8_spec.specs.MicroSteps.{step_clocks}
+use Rattle.f8_spec.specs.Instructions.{step_clocks}
 
 -- two lists in step, each pair with its place
 abbrev pub NumberedZip : {A B : Type 0} → (ℕ → A → B → Type 0) → ℕ → List A → List B → Type 0

@@ -2,7 +2,7 @@
 ghost use Rattle.std.specs.Prelude.{◌≡◌, ◌≤◌, length, map};
 ghost use Rattle.f8_spec.specs.BusArbitration.{is_first as is_first_socket};
 ghost use Rattle.f8_spec.specs.ChipState.{MayHear};
-ghost use Rattle.f8_spec.specs.MicroSteps.{step_clocks};
+ghost use Rattle.f8_spec.specs.Instructions.{step_clocks};
 ghost use Rattle.data_bus.specs.Racks.{AllMayHear, RackSettles, SettlesStep};
 
 use super::ask::is_first;

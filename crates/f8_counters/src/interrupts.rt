@@ -1,13 +1,19 @@
 // Control, timer and request of a storage chip.
 ghost use Rattle.std.specs.Prelude.{◌≡◌, ◌<◌, ◌+◌, ◌*◌, ◌/◌, ◌%◌, ◌==◌, ◌&&◌, ◌||◌, true, false, if◌then◌else◌};
+ghost use Rattle.f8_spec.specs.ChipState.{admits_pulses, admits_expiries, vector_under};
 ghost use Rattle.f8_spec.specs.ShiftTimer.{idle_timer, timer_loaded, timer_after, expires_within, step_period};
 
 use f8_timer::Timer;
 
+/// The low two bits of control that let pulses in, and those that let the timer's expiries in (Mostek 3851 data sheet in outline).
+const PULSES: u8 = 1;
+
+const EXPIRIES: u8 = 3;
+
 /// Control, timer and request of a storage chip (Mostek 3851 and 3853 data sheets; the rules of requests are this project's own).
 #[derive(Clone, Copy, Debug, PartialEq, Eq)]
 pub struct Interrupts {
-    /// The last byte written to the control port. Its low two bits are 1 to let pulses in, and 3 to let the timer's expiries in.
+    /// The last byte written to the control port.
     control: u8,
 
     timer: Timer,
@@ -74,10 +80,10 @@ impl Interrupts {
         ensures { self.new ≡ record self.old {
           timer = timer_after phi self.old.timer;
           request = self.old.request ||
-              ((self.old.control % 4 == 3) && expires_within phi self.old.timer);
+              (admits_expiries self.old.control && expires_within phi self.old.timer);
         } }
     {
-        if self.timer.pass(phi) && self.control % 4 == 3 {
+        if self.timer.pass(phi) && self.control % 4 == EXPIRIES {
             self.request = true;
         }
     }
@@ -85,10 +91,10 @@ impl Interrupts {
     /// An external pulse: a request is latched where the low two bits of control are 1, and else nothing changes.
     #[inline]
     pub fn pulse(&mut self)
-        ensures { self.new ≡ (if self.old.control %
-            4 == 1 then record self.old { request = true } else self.old) }
+        ensures { self.new ≡ (if admits_pulses self.old.control
+            then record self.old { request = true } else self.old) }
     {
-        if self.control % 4 == 1 {
+        if self.control % 4 == PULSES {
             self.request = true;
         }
     }
@@ -112,10 +118,9 @@ impl Interrupts {
     /// The vector given for a request: bit 7 of its low byte is clear for the timer, and set for a pulse.
     #[inline]
     pub fn given_vector(&self, vector: u16) -> u16
-        ensures { result ≡ vector / 256 * 256 + (if self.now.control % 4 == 3 then 0 else 128)
-            + vector % 128 }
+        ensures { result ≡ vector_under self.now.control vector }
     {
-        let source = if self.control % 4 == 3 { 0 } else { 128 };
+        let source = if self.control % 4 == EXPIRIES { 0 } else { 128 };
         vector / 256 * 256 + source + vector % 128
     }
 }

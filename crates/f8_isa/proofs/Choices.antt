@@ -1,5 +1,5 @@
 -- The chip that is chosen is the flat machine's, and so is its vector.
-use Rattle.std.proofs.Common.{◌≡◌, ◌≢◌, ℕ, suc, ◌+◌, ◌-◌, ◌<◌, ◌≤◌, Bool, true, false, inl, inr, List, [], ◌∷◌, length, map, refl, ap, arith}
+use Rattle.std.proofs.Common.{◌≡◌, ◌≢◌, ℕ, suc, ◌+◌, ◌-◌, ◌<◌, ◌≤◌, Bool, true, false, inl, inr, List, [], ◌∷◌, length, map, refl, ap, ◌∙◌, arith}
 use Rattle.std.specs.Prelude.{not, ◌||◌, if◌then◌else◌, nat_lt, nat_le, ◌⊎◌, position, slice_get, slice_index, Option, Some, None, option_map, is_some, cond}
 use Rattle.std.specs.List.{position_or_len}
 use Rattle.std.proofs.lemmas.Bool.Decides.{nat_tests}
@@ -56,12 +56,17 @@ position_behind n size m long e f =
     inside true = refl
     inside false = refl
 
-position_more : (b : Bool) (bs : List Bool) →
-    position (λ asking. asking) (b ∷ bs) ≡ (if b then Some 0 else option_map suc (position (λ asking. asking) bs))
-position_more true bs = let first : nat_lt 0 (length (true ∷ bs)) ≡ true = grind (nat_tests, arith) in rw first refl
-position_more false bs =
-    position_behind (position_or_len (λ asking. asking) bs) (length bs) (position_or_len (λ asking. asking) (false ∷ bs)) (length (false ∷ bs))
-    (omega arith) (omega arith)
+position_more : {A : Type 0} (test : A → Bool) (x : A) (xs : List A) →
+    position test (x ∷ xs) ≡ (if test x then Some 0 else option_map suc (position test xs))
+position_more test x xs = by (test x) refl
+  where
+    by : (b : Bool) → test x ≡ b → position test (x ∷ xs) ≡ (if b then Some 0 else option_map suc (position test xs))
+    by true e =
+        let at : position_or_len test (x ∷ xs) ≡ 0 = rw e refl in
+        let first : nat_lt 0 (length (x ∷ xs)) ≡ true = grind (nat_tests, arith) in rw (at, first) refl
+    by false e =
+        let at : position_or_len test (x ∷ xs) ≡ 1 + position_or_len test xs = rw e refl in
+        position_behind (position_or_len test xs) (length xs) (position_or_len test (x ∷ xs)) (length (x ∷ xs)) (at ∙ omega arith) (omega arith)
 
 asks_alike : (seats : List Seat) (h : History) (known time : ℕ) (k : ChipRequests) (socket : ℕ) → IsPast known h → known ≤ time →
     KnowsChip seats h known k socket → is_asking_at seats h time socket ≡ is_asking time k
@@ -84,7 +89,7 @@ first_alike seats h known time [] [] past order each = tt
 first_alike seats h known time [] (socket ∷ chain) past order each = absurd each
 first_alike seats h known time (k ∷ ks) [] past order each = absurd each
 first_alike seats h known time (k ∷ ks) (socket ∷ chain) past order each =
-    rw (position_more (is_asking time k) (map (is_asking time) ks), asks_alike seats h known time k socket past order each.0)
+    rw (position_more (is_asking time) k ks, asks_alike seats h known time k socket past order each.0)
     (chosen_more seats h known ks chain k socket (is_asking time k) (asking_place time ks) (first_asking seats h time chain) each.0
     (first_alike seats h known time ks chain past order each.1))
 

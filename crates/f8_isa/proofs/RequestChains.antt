@@ -5,13 +5,14 @@ use Rattle.std.specs.List.{range_with_len}
 use Rattle.std.proofs.lemmas.Option.{get_or_from_slice_get, slice_get_within}
 use Rattle.std.proofs.lemmas.List.FromFn.{get_or-range_with_len, length-range_with_len}
 use Rattle.f8_spec.specs.BusArbitration.{Seat, seat_of}
-use Rattle.console_spec.specs.InterruptRequests.{History, IsPast, no_history, control_port, timer_port, after_write, after_acknowledgement}
-use Rattle.console_spec.specs.InterruptRequests.{after_pulse, time_of}
+use Rattle.console_spec.specs.InterruptRequests.{History, IsPast, no_history, control_port, timer_port}
+use Rattle.console_spec.specs.InterruptRequests.{time_of}
 use Rattle.console_spec.specs.Processor.{write_at, with_write}
 use Rattle.console_spec.specs.declared.PortWrite.{PortWrite}
 use Rattle.console_spec.proofs.RequestLaws.{past-later, past-written, past-acknowledged, past-pulsed}
-use Rattle.f8_isa.specs.Requests.{KnowsRequests, FitsSeat, KnowsEach, KnowsChain, after_port_write, all_after_write, pulse_from, pulse_at}
-use Rattle.f8_isa.specs.Requests.{ended_from, ended_at, acknowledged_at}
+use Rattle.console_spec.proofs.RequestLaws.{after_write, after_acknowledgement, after_pulse}
+use Rattle.f8_isa.specs.Requests.{KnowsRequests, FitsSeat, KnowsEach, KnowsChain, after_port_write, all_after_write, pulse_from, pulse_at_place}
+use Rattle.f8_isa.specs.Requests.{ended_from, ended_at, acknowledged_at_place}
 use Rattle.chip_face.specs.Fitting.{IsChipList, is_blank, fitted}
 use Rattle.chip_face.specs.declared.specification.ChipSpec.{ChipSpec}
 use Rattle.chip_face.specs.declared.specification.ChipSpec.TheVariants.{Blank, Psu, Smi}
@@ -123,7 +124,7 @@ ended_behind (Some q) at chip k ks = refl
 
 each_acknowledged : (seats : List Seat) (chip socket at : ℕ) (h : History) (time : ℕ) (ks : List ChipRequests) (chain : List ℕ) → at < time →
     IsPast at h → IsPast time h → slice_get chain chip ≡ Some socket → AllPairs (λ one other. one ≢ other) chain → KnowsEach seats h time ks chain →
-    KnowsEach seats (after_acknowledgement socket at h) time (acknowledged_at at chip ks) chain
+    KnowsEach seats (after_acknowledgement socket at h) time (acknowledged_at_place at chip ks) chain
 each_acknowledged seats chip socket at h time [] [] order past past_now e distinct each = tt
 each_acknowledged seats chip socket at h time [] (first ∷ chain) order past past_now e distinct each = absurd each
 each_acknowledged seats chip socket at h time (k ∷ ks) [] order past past_now e distinct each = absurd each
@@ -156,7 +157,7 @@ each_acknowledged seats (suc chip) socket at h time (k ∷ ks) (first ∷ chain)
 -- of the chip in a place, at a time at which the whole history lies behind
 pub chain-acknowledged : (seats : List Seat) (chip socket at : ℕ) (h : History) (time : ℕ) (ks : List ChipRequests) (chain : List ℕ) → at < time →
     IsPast at h → slice_get chain chip ≡ Some socket → KnowsChain seats h time ks chain →
-    KnowsChain seats (after_acknowledgement socket at h) time (acknowledged_at at chip ks) chain
+    KnowsChain seats (after_acknowledgement socket at h) time (acknowledged_at_place at chip ks) chain
 chain-acknowledged seats chip socket at h time ks chain order past e knows = record {
   past = past-acknowledged socket at time h (omega arith) knows.past;
   distinct = knows.distinct;
@@ -188,7 +189,7 @@ pulse_behind (Some q) chip k ks = refl
 
 each_pulsed : (seats : List Seat) (chip socket : ℕ) (h : History) (time : ℕ) (ks : List ChipRequests) (chain : List ℕ) → slice_get chain chip ≡ Some socket →
     AllPairs (λ one other. one ≢ other) chain → KnowsEach seats h time ks chain →
-    KnowsEach seats (after_pulse socket time h) time (pulse_at chip ks) chain
+    KnowsEach seats (after_pulse socket time h) time (pulse_at_place chip ks) chain
 each_pulsed seats chip socket h time [] [] e distinct each = tt
 each_pulsed seats chip socket h time [] (first ∷ chain) e distinct each = absurd each
 each_pulsed seats chip socket h time (k ∷ ks) [] e distinct each = absurd each
@@ -224,7 +225,7 @@ none_there seats zero h time (k ∷ ks) (first ∷ chain) e each = cc
 none_there seats (suc chip) h time (k ∷ ks) (first ∷ chain) e each = none_there seats chip h time ks chain e each.1
 
 pub chain-pulsed : (seats : List Seat) (chip : ℕ) (h : History) (time : ℕ) (ks : List ChipRequests) (chain : List ℕ) (found : Option ℕ) →
-    slice_get chain chip ≡ found → KnowsChain seats h time ks chain → KnowsChain seats (with_pulse_in found time h) time (pulse_at chip ks) chain
+    slice_get chain chip ≡ found → KnowsChain seats h time ks chain → KnowsChain seats (with_pulse_in found time h) time (pulse_at_place chip ks) chain
 chain-pulsed seats chip h time ks chain None e knows = rw (none_there seats chip h time ks chain e knows.each) knows
 chain-pulsed seats chip h time ks chain (Some socket) e knows = record {
   past = past-pulsed socket time time h (omega arith) knows.past;
@@ -250,7 +251,7 @@ early_each seats other phi h time (k ∷ ks) (first ∷ chain) none each = (
 )
 
 early_pulsed : (seats : List Seat) (chip other phi : ℕ) (h : History) (time : ℕ) (ks : List ChipRequests) (chain : List ℕ) → h.writes ≡ [] →
-    KnowsEach seats h time ks chain → KnowsEach seats (after_pulse other phi h) time (pulse_at chip ks) chain
+    KnowsEach seats h time ks chain → KnowsEach seats (after_pulse other phi h) time (pulse_at_place chip ks) chain
 early_pulsed seats chip other phi h time [] [] none each = tt
 early_pulsed seats chip other phi h time [] (first ∷ chain) none each = absurd each
 early_pulsed seats chip other phi h time (k ∷ ks) [] none each = absurd each
@@ -276,7 +277,7 @@ early_pulsed seats (suc chip) other phi h time (k ∷ ks) (first ∷ chain) none
 
 pub chain-early : (seats : List Seat) (chip phi : ℕ) (h : History) (time : ℕ) (ks : List ChipRequests) (chain : List ℕ) (found : Option ℕ) →
     slice_get chain chip ≡ found → phi ≤ time → h.writes ≡ [] → KnowsChain seats h time ks chain →
-    KnowsChain seats (with_pulse_in found phi h) time (pulse_at chip ks) chain
+    KnowsChain seats (with_pulse_in found phi h) time (pulse_at_place chip ks) chain
 chain-early seats chip phi h time ks chain None e order none knows = rw (none_there seats chip h time ks chain e knows.each) knows
 chain-early seats chip phi h time ks chain (Some socket) e order none knows = record {
   past = past-pulsed socket phi time h order knows.past;

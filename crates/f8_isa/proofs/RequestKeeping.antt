@@ -6,11 +6,12 @@ use Rattle.std.proofs.lemmas.Bool.{cases_lt, cases_eq, ne_eqb}
 use Rattle.std.proofs.lemmas.Bool.Decides.{nat_tests}
 use Rattle.f8_spec.specs.ShiftTimer.{step_period, steps_to_expiry, next_in_cycle, expires_between, timer_loaded, clocks_to_expiry}
 use Rattle.console_spec.specs.Writes.{latch_of}
-use Rattle.console_spec.specs.InterruptRequests.{Mark, History, IsPast, ArePastWrites, ArePastMarks, after_write, after_acknowledgement}
-use Rattle.console_spec.specs.InterruptRequests.{after_pulse, time_of, last_load, last_write_time, has_expiry, has_mark}
+use Rattle.console_spec.specs.InterruptRequests.{Mark, History, IsPast, ArePastWrites, ArePastMarks}
+use Rattle.console_spec.specs.InterruptRequests.{time_of, last_load, last_write_time, has_expiry, has_mark}
 use Rattle.console_spec.specs.InterruptRequests.{control_port, timer_port, since_of, request_by, has_request}
 use Rattle.console_spec.specs.declared.PortWrite.{PortWrite}
 use Rattle.console_spec.proofs.RequestLaws.{between-none, expiry-more, expiry-none, mark-more, mark-none, last_write-past, last_mark-past}
+use Rattle.console_spec.proofs.RequestLaws.{after_write, after_acknowledgement, after_pulse}
 use Rattle.f8_isa.specs.Requests.{expires_by, has_expired, asks_at, after_control, after_load, after_port_write, ended_at, with_pulse}
 use Rattle.f8_isa.specs.Requests.{KnowsRequests}
 use Rattle.f8_isa.specs.declared.requests.ChipRequests.{ChipRequests}

@@ -34,7 +34,7 @@ use Rattle.memory_map.specs.MapOf.{MapTable, IsMapOf, views_of, seats_of as seat
 use Rattle.f8_isa.specs.Ports.{PortState, AreLatches, KnowsPorts, kept_value, chip_value, value_read, if_writable, port_taking, ports_after}
 use Rattle.f8_isa.specs.IsaState.{IsaState, KnowsRam, StandsAt, LeadsTo, GoesTo, InReach, state_of, flat_of, memory_by, kept_inputs, kept_write}
 use Rattle.f8_isa.specs.IsaState.{phi_after, isa_after}
-use Rattle.f8_isa.specs.IsaState.{sample_time, chosen_place, with_interrupt, finished, with_clocks, wrote_by, finished_write, HasVector, TellsInterrupt}
+use Rattle.f8_isa.specs.IsaState.{sample_time, chosen_place, with_interrupt, finished, with_clocks, wrote_by, finished_write, VectorFits, TellsInterrupt}
 use Rattle.f8_isa.specs.Requests.{KnowsChain, first_requests, asking_place, place_vector}
 use Rattle.chip_face.specs.Fitting.{IsChipList}
 use Rattle.f8_isa.proofs.RequestChains.{chain-written, chain-acknowledged, chain-first}
@@ -417,13 +417,13 @@ module _ (op : Op) (isa : IsaState) (count : ℕ) (h : History) (copies : List C
         (past-later isa.phi (ending - 4) h (omega (arith, sampled)) before.requests.past))
         one.at written))
 
-  leads_to : HasVector (chosen_place op (isa_after op isa)) (isa_after op isa) →
+  leads_to : VectorFits (chosen_place op (isa_after op isa)) (isa_after op isa) →
       LeadsTo (record { flat = flat_of isa count h; copies = copies; chain = chain }) (finished op (isa_after op isa)) (count + 1)
       (finished_write op (isa_after op isa) (kept_write op isa (phi_after op isa)))
   leads_to small = by (chosen_place op (isa_after op isa)) (chosen_by op isa (seats_of copies) chain h) refl refl chosen small
     where
       by : (place socket : Option ℕ) → chosen_place op (isa_after op isa) ≡ place → chosen_by op isa (seats_of copies) chain h ≡ socket →
-          AreChosen (seats_of copies) h isa.phi isa.requests chain place socket → HasVector place (isa_after op isa) →
+          AreChosen (seats_of copies) h isa.phi isa.requests chain place socket → VectorFits place (isa_after op isa) →
           LeadsTo (record { flat = flat_of isa count h; copies = copies; chain = chain })
           (with_interrupt place (sample_time op (isa_after op isa)) (isa_after op isa)) (count + 1)
           (wrote_by place (sample_time op (isa_after op isa)) (kept_write op isa (phi_after op isa)))
@@ -455,7 +455,7 @@ before_at op isa count x found range reach stands = record {
 
 pub goes_to : (op : Op) (isa done after : IsaState) (wrote told : Option PortWrite) → decoded (byte_at isa.memory isa.flow.p) ≡ Some op → InRange op →
     InReach op isa → done ≡ isa_after op isa → wrote ≡ kept_write op isa (phi_after op isa) → after ≡ finished op done →
-    told ≡ finished_write op done wrote → HasVector (chosen_place op done) done → GoesTo isa after told
+    told ≡ finished_write op done wrote → VectorFits (chosen_place op done) done → GoesTo isa after told
 goes_to op isa done after wrote told found range reach state writes ended tells_it small = λ count x stands.
     rw (ended, tells_it, writes, state) (
     subst (λ (f : FlatState). LeadsTo (record { flat = f; copies = x.copies; chain = x.chain }) (finished op (isa_after op isa)) (count + 1)

@@ -2,21 +2,21 @@
 -- of writes, which it doesn't keep, and with the latches of the ports and what the chips make of each page and each port.
 use Rattle.std.specs.Prelude.{◌≡◌, ℕ, ◌+◌, ◌-◌, ◌/◌, ◌<◌, Bool, true, false, not, ◌||◌, if◌then◌else◌, List, [], slice_index_or, slice_set}
 use Rattle.std.specs.Prelude.{Option, Some, None, is_some}
-use Rattle.f8_spec.specs.Instructions.{decoded, row_of, clocks_of, has_long_fetch, interrupt_clocks, is_shielding}
+use Rattle.f8_spec.specs.Instructions.{decoded, row_of, clocks_of, fetch_clocks, interrupt_clocks, is_shielding}
 use Rattle.f8_spec.specs.Words.{places_on}
 use Rattle.f8_spec.specs.BusArbitration.{Seat}
 use Rattle.f8_spec.specs.declared.instructions.Op.{Op}
 use Rattle.f8_spec.specs.declared.instructions.Row.{Row}
 use Rattle.f8_spec.specs.declared.instructions.Row.TheVariants.{StoreData, PortIn, PortOut}
 use Rattle.console_spec.specs.AddressSpace.{byte_at}
-use Rattle.console_spec.specs.InterruptRequests.{History, no_history}
+use Rattle.console_spec.specs.InterruptRequests.{History, no_history, effect_time}
 use Rattle.console_spec.specs.Processor.{Flow, Registers, Inputs, State, own_inputs, flow_after, result_of, write_at, with_write, with_key}
 use Rattle.console_spec.specs.Processor.{history_of}
 use Rattle.console_spec.specs.FlatMachine.{FlatState}
 use Rattle.console_spec.specs.FlatMemory.{sort_of, is_ram_sort}
 use Rattle.console_spec.specs.Run.{Position, Stop, Goes, Stops, flat_next, gets_at, opcode_at, seats_of, position_after_reset, with_pulse_at}
 use Rattle.console_spec.specs.declared.PortWrite.{PortWrite}
-use Rattle.f8_isa.specs.Requests.{KnowsChain, all_after_write, asking_place, place_vector, acknowledged_at}
+use Rattle.f8_isa.specs.Requests.{KnowsChain, all_after_write, asking_place, place_vector, acknowledged_at_place}
 use Rattle.f8_isa.specs.declared.requests.ChipRequests.{ChipRequests}
 use Rattle.f8_isa.specs.Ports.{PortState, AreLatches, KnowsPorts, value_read, port_taking, ports_after}
 
@@ -103,12 +103,9 @@ isa_after op isa = record {
 
 -- ---- the interrupt at the end of an instruction that is done but for it
 
-abbrev pub fetch_clocks : Op → ℕ
-fetch_clocks op = if has_long_fetch (row_of op) then 6 else 4
-
 -- requests are sampled before the last fetch
 abbrev pub sample_time : Op → IsaState → ℕ
-sample_time op done = done.phi - fetch_clocks op
+sample_time op done = done.phi - fetch_clocks (row_of op)
 
 -- the place of the chip whose interrupt is taken
 abbrev pub chosen_place : Op → IsaState → Option ℕ
@@ -123,7 +120,7 @@ with_interrupt (Some place) time done = record done {
   flow = record done.flow { p = place_vector place done.ports.latches done.requests; p1 = done.flow.p };
   registers = record done.registers { status = record done.registers.status { icb = false } };
   phi = time + interrupt_clocks;
-  requests = acknowledged_at (time + interrupt_clocks - 4) place done.requests;
+  requests = acknowledged_at_place (effect_time (time + interrupt_clocks)) place done.requests;
 }
 
 abbrev pub finished : Op → IsaState → IsaState
@@ -142,9 +139,9 @@ abbrev pub finished_write : Op → IsaState → Option PortWrite → Option Port
 finished_write op done wrote = wrote_by (chosen_place op done) (sample_time op done) wrote
 
 -- the vector of an interrupt that is taken is a number that an address can be
-abbrev pub HasVector : Option ℕ → IsaState → Type 0
-HasVector None done = Unit {0}
-HasVector (Some place) done = place_vector place done.ports.latches done.requests < 65536
+abbrev pub VectorFits : Option ℕ → IsaState → Type 0
+VectorFits None done = Unit {0}
+VectorFits (Some place) done = place_vector place done.ports.latches done.requests < 65536
 
 -- ---- beside the flat machine's instruction
 

@@ -70,7 +70,7 @@ is_asking time k = k.wired && asks_at time k
 
 -- the place of the first chip that asks
 abbrev pub asking_place : ℕ → List ChipRequests → Option ℕ
-asking_place time ks = position (λ asking. asking) (map (is_asking time) ks)
+asking_place time ks = position (is_asking time) ks
 
 -- ---- the vector
 
@@ -83,13 +83,13 @@ kept_vector latches None = word (slice_index latches 0x0C) (slice_index latches 
 abbrev pub chip_vector : List ℕ → ChipRequests → ℕ
 chip_vector latches k = vector_under k.control (kept_vector latches k.fixed_vector)
 
-abbrev pub vector_in : Option ChipRequests → List ℕ → ℕ
-vector_in None latches = 0
-vector_in (Some k) latches = chip_vector latches k
+abbrev pub vector_from : Option ChipRequests → List ℕ → ℕ
+vector_from None latches = 0
+vector_from (Some k) latches = chip_vector latches k
 
 -- the vector that the chip in a place gives
 abbrev pub place_vector : ℕ → List ℕ → List ChipRequests → ℕ
-place_vector place latches ks = vector_in (slice_get ks place) latches
+place_vector place latches ks = vector_from (slice_get ks place) latches
 
 -- ---- what comes to a chip
 
@@ -128,16 +128,16 @@ pulse_from None chip ks = ks
 pulse_from (Some k) chip ks = slice_set ks chip (with_pulse k)
 
 -- a pulse at the chip in a place of the description, and none where there is no such chip
-abbrev pub pulse_at : ℕ → List ChipRequests → List ChipRequests
-pulse_at chip ks = pulse_from (slice_get ks chip) chip ks
+abbrev pub pulse_at_place : ℕ → List ChipRequests → List ChipRequests
+pulse_at_place chip ks = pulse_from (slice_get ks chip) chip ks
 
 abbrev pub ended_from : Option ChipRequests → ℕ → ℕ → List ChipRequests → List ChipRequests
 ended_from None time place ks = ks
 ended_from (Some k) time place ks = slice_set ks place (ended_at time k)
 
 -- an interrupt of the chip in a place that is acknowledged
-abbrev pub acknowledged_at : ℕ → ℕ → List ChipRequests → List ChipRequests
-acknowledged_at time place ks = ended_from (slice_get ks place) time place ks
+abbrev pub acknowledged_at_place : ℕ → ℕ → List ChipRequests → List ChipRequests
+acknowledged_at_place time place ks = ended_from (slice_get ks place) time place ks
 
 -- ---- beside the history
 

@@ -16,14 +16,13 @@ pub struct Instruction {
 
 impl Instruction {
     ghost use Rattle.std.specs.Prelude.{◌≡◌};
-    ghost use Rattle.f8_spec.specs.Instructions.{InRange};
+    ghost use Rattle.f8_spec.specs.Instructions.{InRange, row_of, fetch_clocks};
     ghost use Rattle.f8_isa.specs.InstructionRows.{IsInstruction};
-    ghost use Rattle.f8_isa.specs.IsaState.{fetch_clocks};
 
     /// The clocks of its last fetch, in Φ.
     pub fn fetch_phi(&self) -> u64
         requires { IsInstruction self.now }
-        ensures { result ≡ fetch_clocks self.now.op }
+        ensures { result ≡ fetch_clocks (row_of self.now.op) }
     {
         if self.row == Row::PlainLong { 6 } else { 4 }
     }

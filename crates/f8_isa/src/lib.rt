@@ -5,7 +5,6 @@
 mod counters;
 mod flat_memory;
 mod instruction_table;
-mod interrupt;
 mod machine;
 mod ports;
 mod register_file;

@@ -5,7 +5,6 @@ ghost use Rattle.f8_isa.specs.IsaState.{with_clocks};
 use super::counters::Flow;
 use super::flat_memory::FlatMemory;
 use super::instruction_table::{Instruction, InstructionTable};
-use super::interrupt::first_asking;
 use super::ports::Ports;
 use super::register_file::RegisterFile;
 use super::requests::Requests;
@@ -77,9 +76,9 @@ impl Isa {
     ghost use Rattle.f8_isa.specs.Counters.{flow_of};
     ghost use Rattle.f8_isa.specs.InstructionRows.{IsInstruction};
     ghost use Rattle.f8_isa.specs.Ports.{value_read, with_key_byte};
-    ghost use Rattle.f8_isa.specs.Requests.{pulse_at, place_vector};
+    ghost use Rattle.f8_isa.specs.Requests.{pulse_at_place, place_vector};
     ghost use Rattle.f8_isa.specs.IsaState.{state_of, kept_inputs, kept_write, isa_after, phi_after};
-    ghost use Rattle.f8_isa.specs.IsaState.{fetch_clocks, sample_time, chosen_place, with_interrupt, finished, finished_write, HasVector};
+    ghost use Rattle.f8_isa.specs.IsaState.{sample_time, chosen_place, with_interrupt, finished, finished_write, VectorFits};
     ghost use Rattle.f8_isa.specs.IsaState.{GoesTo, TellsInterrupt, StopsBy, StandsAt, InReach, TakesKey, TakesPulse, TakesEarlyPulse};
 
     /// A program on some chips, after power-on with a byte and reset, or want of memory. The map is that of the chips; what it tells is
@@ -142,7 +141,7 @@ impl Isa {
     pub fn pulse(&mut self, chip: u8)
         ensures stands { TakesPulse chip self.old self.new }
         ensures early { TakesEarlyPulse chip self.old self.new }
-        ensures kept { self.new ≡ record self.old { requests = pulse_at chip self.old.requests } }
+        ensures kept { self.new ≡ record self.old { requests = pulse_at_place chip self.old.requests } }
     {
         self.requests.pulse(chip);
     }
@@ -156,41 +155,38 @@ impl Isa {
         ensures state { self.new ≡ finished instruction.op self.old }
         ensures wrote { result.wrote ≡ finished_write instruction.op self.old wrote }
         ensures vectored { result.vectored ≡ is_some (chosen_place instruction.op self.old) }
-        ensures reach { HasVector (chosen_place instruction.op self.old) self.old }
+        ensures reach { VectorFits (chosen_place instruction.op self.old) self.old }
     {
-        if self.registers.icb() && !shields(instruction.op) {
-            return self.finish_open(instruction, wrote);
-        }
-        Done {
-            wrote,
-            vectored: false,
-        }
+        let vectored = self.registers.icb()
+            && !shields(instruction.op)
+            && self.take_interrupt(instruction);
+        let wrote = if vectored {
+            with_clocks(wrote, self.phi)
+        } else {
+            wrote
+        };
+        Done { wrote, vectored }
     }
 
-    /// The same at an end where the chips are asked.
+    /// The interrupt at an end where the chips are asked, and whether there is one.
     // Not inlined, so that the end of every other instruction stays a test.
     #[inline(never)]
-    fn finish_open(&mut self, instruction: Instruction, wrote: Option<PortWrite>) -> Done
+    fn take_interrupt(&mut self, instruction: Instruction) -> bool
         requires right { IsInstruction instruction }
         requires phi { self.old.phi < 2 ^ 63 }
         requires enabled { self.old.registers.status.icb ≡ true }
         requires open { is_shielding instruction.op ≡ false }
         ensures state { self.new ≡ finished instruction.op self.old }
-        ensures wrote { result.wrote ≡ finished_write instruction.op self.old wrote }
-        ensures vectored { result.vectored ≡ is_some (chosen_place instruction.op self.old) }
-        ensures reach { HasVector (chosen_place instruction.op self.old) self.old }
+        ensures taken { result ≡ is_some (chosen_place instruction.op self.old) }
+        ensures reach { VectorFits (chosen_place instruction.op self.old) self.old }
     {
         let time = self.sample_time(instruction);
-        let Some(place) = first_asking(self.requests.as_slice(), time) else {
-            return Done {
-                wrote,
-                vectored: false,
-            };
-        };
-        self.interrupt(place, time);
-        Done {
-            wrote: with_clocks(wrote, self.phi),
-            vectored: true,
+        match self.requests.first_asking(time) {
+            Some(place) => {
+                self.interrupt(place, time);
+                true
+            },
+            None => false,
         }
     }
 
@@ -204,27 +200,16 @@ impl Isa {
     }
 
     /// The interrupt of the chip in a place of the description, in place of the fetch that began at a time.
-    fn interrupt(&mut self, place: u8, time: u64)
+    fn interrupt(&mut self, place: usize, time: u64)
         requires { time < 2 ^ 63 }
         ensures state { self.new ≡ with_interrupt (Some place) time self.old }
-        ensures reach { HasVector (Some place) self.old }
+        ensures reach { VectorFits (Some place) self.old }
     {
-        let vector = self.vector(place);
+        let vector = self.requests.vector(place, &self.ports);
         self.flow = self.flow.with_stack(self.flow.p).with_next(vector);
         self.registers.clear_icb();
         self.phi = time + INTERRUPT_PHI;
         self.requests.acknowledge(place, self.phi);
-    }
-
-    /// The vector of the chip in a place of the description.
-    fn vector(&self, place: u8) -> u16
-        ensures is { result ≡ place_vector place self.now.ports.latches self.now.requests }
-        ensures range { result < 65536 }
-    {
-        match self.requests.as_slice().get(usize::from(place)) {
-            Some(chip) => chip.vector(&self.ports),
-            None => 0,
-        }
     }
 
     /// A whole instruction, with its write.

@@ -242,9 +242,11 @@ impl Model for Requests {
 }
 
 impl Requests {
-    ghost use Rattle.std.specs.Prelude.{◌≡◌, ◌≤◌, ◌-◌, length, map, IfOk};
+    ghost use Rattle.std.specs.Prelude.{◌≡◌, ◌<◌, ◌≤◌, length, map, IfOk};
+    ghost use Rattle.console_spec.specs.InterruptRequests.{effect_time};
     ghost use Rattle.chip_face.specs.Fitting.{IsChipList};
-    ghost use Rattle.f8_isa.specs.Requests.{first_requests, all_after_write, pulse_at, acknowledged_at};
+    ghost use Rattle.f8_isa.specs.Requests.{first_requests, asking_place, place_vector};
+    ghost use Rattle.f8_isa.specs.Requests.{all_after_write, pulse_at_place, acknowledged_at_place};
 
     /// The chips at power-on, or want of memory.
     pub fn new(alloc: Global, chips: &ChipList) -> Result<Requests, AllocError>
@@ -259,11 +261,22 @@ impl Requests {
         Ok(Requests { chips })
     }
 
-    pub fn as_slice(&self) -> &[ChipRequests]
-        ensures value { result.now ≡ self.now }
-        ensures few { length self.now ≤ 16 }
+    /// The place of the first chip that asks at a time.
+    pub fn first_asking(&self, time: u64) -> Option<usize>
+        ensures { result ≡ asking_place time self.now }
     {
-        self.chips.as_slice()
+        self.chips.iter().position(|chip| chip.is_asking(time))
+    }
+
+    /// The vector of the chip in a place of the description, and 0 where there is no such chip.
+    pub fn vector(&self, place: usize, ports: &Ports) -> u16
+        ensures is { result ≡ place_vector place ports.now.latches self.now }
+        ensures range { result < 65536 }
+    {
+        match self.chips.get(place) {
+            Some(chip) => chip.vector(ports),
+            None => 0,
+        }
     }
 
     /// Keeps what a write that was taken does to each chip.
@@ -277,10 +290,9 @@ impl Requests {
     }
 
     /// The interrupt of the chip in a place of the description is acknowledged, at an instruction that ends at these clocks.
-    pub fn acknowledge(&mut self, chip: u8, phi: u64)
-        ensures { self.new ≡ acknowledged_at (phi - 4) chip self.old }
+    pub fn acknowledge(&mut self, place: usize, phi: u64)
+        ensures { self.new ≡ acknowledged_at_place (effect_time phi) place self.old }
     {
-        let place = usize::from(chip);
         if let Some(&requests) = self.chips.get(place) {
             self.chips[place] = requests.ended_at(phi.saturating_sub(WRITE_PHI));
         }
@@ -288,7 +300,7 @@ impl Requests {
 
     /// A pulse at the pin of the chip in a place of the description. Where there is no such chip nothing changes.
     pub fn pulse(&mut self, chip: u8)
-        ensures { self.new ≡ pulse_at chip self.old }
+        ensures { self.new ≡ pulse_at_place chip self.old }
     {
         let place = usize::from(chip);
         if let Some(&requests) = self.chips.get(place) {

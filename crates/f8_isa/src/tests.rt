@@ -353,15 +353,17 @@ fn interrupt_of_a_timer(rt: HostRuntime) -> Result<(), Fail> {
     Ok(())
 }
 
-// whether the first chip asks at each of these times
-fn asks(requests: &Requests, times: [u64; 2]) -> Option<[bool; 2]> {
-    let chip = requests.as_slice().first()?;
-    Some([chip.asks(times[0]), chip.asks(times[1])])
+// the place of the first chip that asks at each of these times
+fn asking(requests: &Requests, times: [u64; 2]) -> [Option<usize>; 2] {
+    [
+        requests.first_asking(times[0]),
+        requests.first_asking(times[1]),
+    ]
 }
 
 // what a 3851 with ports 4 to 7 asks for after a write at each of these clocks
 fn requests_after(alloc: Global, writes: &[(u64, u8, u8)]) -> Result<Requests, Fail> {
-    let chips = listed(alloc, psu(alloc, 0x0000, &[])?, smi(alloc)?)?;
+    let chips = listed(alloc, psu_wired(alloc, 0x0000, &[], 0x0000, true)?, smi(alloc)?)?;
     let mut requests = Requests::new(alloc, &chips)?;
     for &(phi, port, byte) in writes {
         requests.take(Some(PortWrite { phi, port, byte }));
@@ -373,7 +375,7 @@ fn requests_after(alloc: Global, writes: &[(u64, u8, u8)]) -> Result<Requests, F
 #[test]
 fn asks_from_the_expiry_on(rt: HostRuntime) -> Result<(), Fail> {
     let requests = requests_after(rt.alloc(), &[(34, 6, 0x03), (60, 7, 0x7F)])?;
-    assert_eq!(rt; asks(&requests, [86, 87]), Some([false, true]));
+    assert_eq!(rt; asking(&requests, [86, 87]), [None, Some(0)]);
     Ok(())
 }
 
@@ -383,9 +385,9 @@ fn asks_from_a_pulse_on(rt: HostRuntime) -> Result<(), Fail> {
     let mut requests = requests_after(rt.alloc(), &[(34, 6, 0x01)])?;
     requests.pulse(1);
     requests.pulse(2);
-    assert_eq!(rt; asks(&requests, [34, 7000]), Some([false, false]));
+    assert_eq!(rt; asking(&requests, [34, 7000]), [None, None]);
     requests.pulse(0);
-    assert_eq!(rt; asks(&requests, [34, 7000]), Some([true, true]));
+    assert_eq!(rt; asking(&requests, [34, 7000]), [Some(0), Some(0)]);
     Ok(())
 }
 

@@ -8,13 +8,13 @@ use Rattle.f8_spec.specs.BusCodes.{Count}
 use Rattle.f8_spec.specs.ShiftTimer.{step_period}
 use Rattle.f8_spec.specs.ChipState.{ChipView, ChipState, after_step, timer_passed, holds, held_byte, data_port, has_fixed_vector}
 use Rattle.f8_spec.specs.BusArbitration.{Seat, seat_of, is_first}
-use Rattle.f8_spec.specs.MicroSteps.{step_clocks}
+use Rattle.f8_spec.specs.Instructions.{step_clocks}
 use Rattle.console_spec.specs.AddressSpace.{byte_at}
 use Rattle.console_spec.specs.Processor.{Flow}
 use Rattle.console_spec.specs.CounterCopies.{Copy}
-use Rattle.console_spec.specs.InterruptRequests.{History, IsPast, after_acknowledgement}
+use Rattle.console_spec.specs.InterruptRequests.{History, IsPast}
 use Rattle.console_spec.specs.declared.PortWrite.{PortWrite}
-use Rattle.console_spec.proofs.RequestLaws.{past-later, past-acknowledged}
+use Rattle.console_spec.proofs.RequestLaws.{past-later, past-acknowledged, after_acknowledgement}
 use Rattle.data_bus.specs.Racks.{NumberedZip, SettlesStep, RackSettles, views}
 use Rattle.f8_machine.specs.RackViews.{IsCopy, AreCopies, HoldsFlat, IsPort, HoldsPorts}
 use Rattle.f8_machine.specs.Requests.{IsDevice, device_of, device_passed, device_ended}

@@ -4,9 +4,9 @@ use Rattle.std.proofs.Common.{subst, arith}
 use Rattle.std.specs.Prelude.{not, nat_lt, ◌&&◌, ◌||◌, if◌then◌else◌, Option, Some, None}
 use Rattle.f8_spec.specs.BusArbitration.{Seat}
 use Rattle.f8_spec.specs.ChipState.{ChipState}
-use Rattle.f8_spec.specs.Instructions.{decoded, row_of, row_clocks, has_long_fetch, is_shielding}
+use Rattle.f8_spec.specs.Instructions.{decoded, row_of, row_clocks, has_long_fetch, is_shielding, step_clocks}
 use Rattle.f8_spec.specs.Instructions.{clocks_before_fetch}
-use Rattle.f8_spec.specs.MicroSteps.{clocks_along, step_clocks}
+use Rattle.f8_spec.specs.MicroSteps.{clocks_along}
 use Rattle.f8_spec.specs.declared.instructions.Op.{Op}
 use Rattle.f8_spec.specs.declared.instructions.Op.TheVariants.{Outs, Ins, LrWJ}
 use Rattle.f8_spec.specs.declared.instructions.Row.{Row}

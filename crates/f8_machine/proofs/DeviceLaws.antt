@@ -3,15 +3,16 @@ use Rattle.std.proofs.Common.{◌≡◌, ◌==◌, ◌&&◌, ◌||◌, ℕ, ◌+
 use Rattle.std.proofs.lemmas.Bool.{ne_eqb}
 use Rattle.std.specs.Prelude.{if◌then◌else◌}
 use Rattle.f8_spec.specs.ShiftTimer.{TimerState, step_period, expires_between, ExpiresAsLoaded}
-use Rattle.f8_spec.specs.ChipState.{ChipView, pulsed, takes_pulses}
+use Rattle.f8_spec.specs.ChipState.{ChipView, pulsed, admits_pulses}
 use Rattle.f8_spec.proofs.TimerExpiry.{expires-idle, expires-loaded, keeps-expiries}
 use Rattle.console_spec.specs.Writes.{latch_of}
-use Rattle.console_spec.specs.InterruptRequests.{History, IsPast, no_history, after_write, after_acknowledgement, after_pulse, time_of}
+use Rattle.console_spec.specs.InterruptRequests.{History, IsPast, no_history, time_of}
 use Rattle.console_spec.specs.InterruptRequests.{control_port, timer_port, last_load, last_write_time, since_of, has_request}
 use Rattle.console_spec.specs.declared.PortWrite.{PortWrite}
 use Rattle.console_spec.proofs.RequestLaws.{request-more, request-apart, request-controlled, request-loaded}
+use Rattle.console_spec.proofs.RequestLaws.{after_write, after_acknowledgement, after_pulse}
 use Rattle.console_spec.proofs.RequestLaws.{request-acknowledged, request-kept, request-pulsed, request-unpulsed}
-use Rattle.f8_machine.specs.Requests.{Device, IsDevice, device_of, timer_of, idle_device, device_passed, device_controlled}
+use Rattle.f8_machine.specs.Requests.{Device, IsDevice, device_of, device_timer, idle_device, device_passed, device_controlled}
 use Rattle.f8_machine.specs.Requests.{device_loaded, device_ended, device_pulsed}
 
 -- ---- the chip's side
@@ -30,7 +31,7 @@ pulse_by false v = ap (λ (b : Bool). record (device_of v) { request = b }) (sam
     same false = refl
 
 pub device_of-pulsed : (v : ChipView) → device_of (pulsed v) ≡ device_pulsed (device_of v)
-device_of-pulsed v = pulse_by (takes_pulses v) v
+device_of-pulsed v = pulse_by (admits_pulses v.control) v
 
 -- ---- power-on and time
 
@@ -42,7 +43,7 @@ pub device_more : (first chip clocks time : ℕ) (h : History) (d : Device) → 
 device_more first chip clocks time h d few past is =
     let byte = last_load (timer_port first) h.writes in
     let loaded = last_write_time (timer_port first) h.writes in
-    let keeps = keeps-expiries clocks (timer_of d) few byte loaded time is.timed in
+    let keeps = keeps-expiries clocks (device_timer d) few byte loaded time is.timed in
     record {
       control_byte = is.control_byte;
       asks =
@@ -65,12 +66,12 @@ pub device_control : (first chip time : ℕ) (w : PortWrite) (h : History) (d : 
 device_control first chip time w h d port now past is = record {
   control_byte = rw (eq-eqb w.port (control_port first) port) refl;
   asks = sym (request-controlled first chip w h time port now past);
-  timed = timed_other (timer_port first) time w h (timer_of d) (λ same. omega (arith, same, port)) is.timed;
+  timed = timed_other (timer_port first) time w h (device_timer d) (λ same. omega (arith, same, port)) is.timed;
 }
 
-pub device_timer : (first chip time : ℕ) (w : PortWrite) (h : History) (d : Device) → w.port ≡ timer_port first → time_of w ≡ time → w.byte < 256 →
+pub device_loaded_timer : (first chip time : ℕ) (w : PortWrite) (h : History) (d : Device) → w.port ≡ timer_port first → time_of w ≡ time → w.byte < 256 →
     IsDevice first chip h time d → IsDevice first chip (after_write w h) time (device_loaded w.byte d)
-device_timer first chip time w h d port now is_byte is = record {
+device_loaded_timer first chip time w h d port now is_byte is = record {
   control_byte = rw (ne_eqb w.port (control_port first) (λ same. omega (arith, same, port))) is.control_byte;
   asks = is.asks ∙ sym (request-loaded first chip w h time port now is_byte);
   timed = rw (eq-eqb w.port (timer_port first) port, now) (expires-loaded w.byte time is_byte);
@@ -82,7 +83,7 @@ pub device_apart : (first chip time : ℕ) (w : PortWrite) (h : History) (d : De
 device_apart first chip time w h d no_control no_timer is = record {
   control_byte = rw (ne_eqb w.port (control_port first) no_control) is.control_byte;
   asks = is.asks ∙ sym (request-apart first chip w h time no_control no_timer);
-  timed = timed_other (timer_port first) time w h (timer_of d) no_timer is.timed;
+  timed = timed_other (timer_port first) time w h (device_timer d) no_timer is.timed;
 }
 
 -- ---- an acknowledgement and a pulse, at their own time

@@ -4,15 +4,14 @@ use Rattle.std.proofs.Common.{refl, sym, ap, ◌∙◌, subst, arith}
 use Rattle.std.specs.Prelude.{IfSome, IsSome, nat_lt, sum_by, if◌then◌else◌, slice_index, slice_set}
 use Rattle.f8_spec.specs.BusArbitration.{Seat}
 use Rattle.f8_spec.specs.ChipState.{ChipState}
-use Rattle.f8_spec.specs.Instructions.{decoded, row_of, row_clocks, has_long_fetch, is_shielding, interrupt_clocks}
-use Rattle.f8_spec.specs.MicroSteps.{step_clocks}
+use Rattle.f8_spec.specs.Instructions.{decoded, row_of, row_clocks, has_long_fetch, is_shielding, interrupt_clocks, step_clocks}
 use Rattle.f8_spec.specs.declared.instructions.Op.{Op}
 use Rattle.f8_spec.specs.declared.instructions.Op.TheVariants.{Bf, Br7, Bt, Ins, Outs, Pi}
 use Rattle.f8_spec.specs.declared.instructions.Row.{Row}
 use Rattle.f8_spec.specs.declared.instructions.Row.TheVariants.{Branch, BranchIsar, Idle, ShortIn, ShortOut, StoreData}
 use Rattle.console_spec.specs.Processor.{Flow, Registers, Inputs, is_taken, result_of, own_inputs, with_write, write_of}
 use Rattle.console_spec.specs.Processor.{vectored_by, written_port, write_at, history_of}
-use Rattle.console_spec.specs.FlatStep.{clocks_by as flat_clocks, with_acknowledged}
+use Rattle.console_spec.specs.FlatStep.{clocks_by, with_acknowledged}
 use Rattle.console_spec.specs.InterruptRequests.{History}
 use Rattle.cpu3850.specs.CpuPorts.{PortBytes, put_by, with_latch}
 use Rattle.cpu3850.proofs.PortLaws.{own_ports-after_instruction}
@@ -37,7 +36,7 @@ use Rattle.probe.specs.ProbeState.{ProbeState}
 use Rattle.data_bus.specs.declared.fault.BusFault.{BusFault}
 use Rattle.f8_machine.specs.Carrying.{HoldsInstruction, IsCarriedOut, IsCutShort, planned_before_as}
 use Rattle.f8_machine.specs.RequestsHeld.{IsSettledBy}
-use Rattle.f8_machine.specs.Vectoring.{clocks_by}
+use Rattle.f8_machine.specs.Vectoring.{clocks_of_plan}
 use Rattle.f8_machine.specs.Faults.{fault_of}
 use Rattle.f8_machine.specs.MachineState.{MachineState, flow_before_fetch, outcome_again, steps_in}
 use Rattle.f8_machine.specs.Refinement.{AreAddresses, IsMemory, IsSettled, Represents, IsDone, IsFaulted}
@@ -77,7 +76,7 @@ course_with x code found opcode held =
 
 -- the clocks of the steps that are planned, with the interrupt at their end
 pub clocks_planned : (cpu : CpuState) (op : Op) (chosen : Option ℕ) → decoded cpu.opcode ≡ Some op →
-    clocks_by chosen (planned cpu) ≡ flat_clocks chosen op (is_taken op cpu.registers)
+    clocks_of_plan chosen (planned cpu) ≡ clocks_by chosen op (is_taken op cpu.registers)
 clocks_planned cpu op None held =
     ap (λ (found : Option Op). sum_by (λ (step : Step). step_clocks step.long) (planned_as found cpu.registers)) held
     ∙ clocks_listed (row_of op) (is_taken op cpu.registers)
@@ -117,7 +116,7 @@ before_few (Outs n) taken other = port_few (nat_lt n 2) Idle ShortOut taken (ome
 before_few op taken other = omega arith
 
 pub few_clocks : (op : Op) (taken : Bool) (chosen : Option ℕ) → IfSome chosen (λ socket. is_shielding op ≡ false) →
-    flat_clocks chosen op taken ≤ 46
+    clocks_by chosen op taken ≤ 46
 few_clocks op taken None unshielded = let few = row_few (row_of op) taken in omega (arith, few)
 few_clocks op taken (Some socket) unshielded = let few = before_few op taken unshielded in omega (arith, few)
 
@@ -232,7 +231,7 @@ module _ (m : MachineState) (states news : List ChipState) (op : Op) (x : Positi
   pub done_of : (cpu : CpuState) (probe : ProbeState) (flow : Flow) (clocks : ℕ) (wrote : Option PortWrite)
       (steps : List Heard) (chosen : Option ℕ) → AreInRange m.cpu.registers →
       IsCarriedOut m.cpu cpu probe news steps chosen op x → flow ≡ flow_before_fetch probe.count →
-      clocks ≡ flat_clocks chosen op (is_taken op m.cpu.registers) →
+      clocks ≡ clocks_by chosen op (is_taken op m.cpu.registers) →
       wrote ≡ done_write (Some op) (m.phi + clocks) cpu.ports.latches steps →
       IsDone (record m { probe = probe; cpu = cpu; flow = flow; phi = m.phi + clocks }) news (next x)
       (turn_course x) x.flat.state.writes wrote steps
@@ -256,9 +255,9 @@ module _ (m : MachineState) (states news : List ChipState) (op : Op) (x : Positi
       let same_clocks : m.phi + clocks ≡ y.flat.state.phi =
       ap (λ (n : ℕ). n + clocks) r.stands.phi
       ∙ ap (λ (n : ℕ). x.flat.state.phi + n) (spent
-      ∙ ap (λ (o : Option ℕ). flat_clocks o op (is_taken op m.cpu.registers)) carried.chosen_is
-      ∙ ap (λ (regs : Registers). flat_clocks i.chosen op (is_taken op regs)) there.registers
-      ∙ ap (flat_clocks i.chosen op) (sym (taken-gets op x))) in
+      ∙ ap (λ (o : Option ℕ). clocks_by o op (is_taken op m.cpu.registers)) carried.chosen_is
+      ∙ ap (λ (regs : Registers). clocks_by i.chosen op (is_taken op regs)) there.registers
+      ∙ ap (clocks_by i.chosen op) (sym (taken-gets op x))) in
       let trace = course_with x m.cpu.opcode (Some op) r.opcode held ∙ carried.trace in
       record {
         after = y;
@@ -313,7 +312,7 @@ pub done_from : (m k : MachineState) → k ≡ m → (states news : List ChipSta
     (cpu : CpuState) (probe : ProbeState) (flow : Flow) (clocks : ℕ) (wrote : Option PortWrite) (steps : List Heard)
     (chosen : Option ℕ) → k.cpu.opcode < 256 → AreInRange k.cpu.registers →
     (HoldsInstruction k.cpu k.probe states k.chain op x → IsCarriedOut k.cpu cpu probe news steps chosen op x) →
-    flow ≡ flow_before_fetch probe.count → clocks ≡ flat_clocks chosen op (is_taken op k.cpu.registers) →
+    flow ≡ flow_before_fetch probe.count → clocks ≡ clocks_by chosen op (is_taken op k.cpu.registers) →
     wrote ≡ done_write (Some op) (k.phi + clocks) cpu.ports.latches steps →
     IsDone (record k { probe = probe; cpu = cpu; flow = flow; phi = k.phi + clocks }) news (next x)
     (turn_course x) x.flat.state.writes wrote steps

@@ -2,7 +2,7 @@
 use Rattle.std.proofs.Common.{◌≡◌, ℕ, ◌-◌, ◌<◌, true, List, [], sym, ap, subst, ◌∙◌, arith}
 use Rattle.std.specs.Prelude.{◌%◌, ◌==◌, Option, Some, None, slice_get}
 use Rattle.f8_spec.specs.BusCodes.{Count}
-use Rattle.f8_spec.specs.ChipState.{ChipView, ChipState, takes_pulses}
+use Rattle.f8_spec.specs.ChipState.{ChipView, ChipState, admits_pulses}
 use Rattle.console_spec.specs.InterruptRequests.{control_port, since_of}
 use Rattle.console_spec.specs.Processor.{Flow, State, history_of}
 use Rattle.console_spec.specs.Run.{Position, pulse_in}
@@ -21,7 +21,7 @@ use Rattle.f8_machine.proofs.Settling.{settled_pulsed, since_before}
 -- a pulse that the chip in a socket takes comes after the last control write and acknowledgement of that chip
 abbrev ComesLater : ℕ → List ChipState → State → Type 0
 ComesLater socket states s =
-    (v : ChipView) (first : ℕ) → slice_get (views states) socket ≡ Some v → v.ports ≡ Some first → takes_pulses v ≡ true →
+    (v : ChipView) (first : ℕ) → slice_get (views states) socket ≡ Some v → v.ports ≡ Some first → admits_pulses v.control ≡ true →
     since_of first socket (history_of s) < s.phi
 
 stands_pulsed : (now : Flow → Count) (m : MachineState) (olds news : List ChipState) (x : Position) (socket : ℕ) →
@@ -79,7 +79,7 @@ represents_pulsed m olds news x chip all r =
 -- ---- before reset: no port is written, so no chip takes a pulse
 
 deaf : (ports : Option ℕ) (socket first : ℕ) (s : State) (v : ChipView) → s.writes ≡ [] → ports ≡ Some first →
-    HasRequests ports socket (history_of s) s.phi v → takes_pulses v ≡ true → ⊥
+    HasRequests ports socket (history_of s) s.phi v → admits_pulses v.control ≡ true → ⊥
 deaf None socket first s v unwritten same is takes = cc
 deaf (Some own) socket first s v unwritten same is takes =
     let control : v.control ≡ 0 =

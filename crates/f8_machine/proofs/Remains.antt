@@ -4,8 +4,8 @@ use Rattle.std.proofs.Common.{Option, Some, None, sym, ap, ◌∙◌, subst}
 use Rattle.std.proofs.lemmas.List.{drop_more, map-append}
 use Rattle.f8_spec.specs.BusCodes.{driver_of}
 use Rattle.f8_spec.specs.ChipState.{ChipView, ChipState}
-use Rattle.f8_spec.specs.Instructions.{decoded, row_of}
-use Rattle.f8_spec.specs.MicroSteps.{Step as MicroStep, steps_before_fetch, last_fetch, step_clocks}
+use Rattle.f8_spec.specs.Instructions.{decoded, row_of, step_clocks}
+use Rattle.f8_spec.specs.MicroSteps.{Step as MicroStep, steps_before_fetch, last_fetch}
 use Rattle.f8_spec.specs.declared.instructions.Row.{Row}
 use Rattle.f8_spec.specs.declared.instructions.Op.{Op}
 use Rattle.console_spec.specs.Processor.{Inputs, Registers, byte_of, is_taken}

@@ -3,9 +3,9 @@ use Rattle.std.proofs.Common.{◌≡◌, ℕ, zero, suc, ◌+◌, Bool, true, fa
 use Rattle.std.specs.Prelude.{◌==◌, ◌&&◌, ◌||◌, if◌then◌else◌, Option, Some, None, option_map, slice_get}
 use Rattle.std.proofs.lemmas.Option.{slice_get-map}
 use Rattle.f8_spec.specs.BusArbitration.{Seat, seat_of, is_first}
-use Rattle.f8_spec.specs.ChipState.{ChipView, ChipState, has_fixed_vector, vector_under, given_vector, is_asking, takes_expiries, timer_of}
+use Rattle.f8_spec.specs.ChipState.{ChipView, ChipState, has_fixed_vector, vector_under, given_vector, is_asking, admits_expiries, timer_of}
 use Rattle.f8_spec.specs.ChipState.{has_ram_at, bytes_with, stored, effect, timer_passed, after_step}
-use Rattle.f8_spec.specs.MicroSteps.{step_clocks}
+use Rattle.f8_spec.specs.Instructions.{step_clocks}
 use Rattle.f8_spec.specs.ShiftTimer.{expires_within}
 use Rattle.console_spec.specs.InterruptRequests.{History}
 use Rattle.console_spec.specs.InterruptChoice.{has_request_by, is_asking_in, is_asking_at, control_of, written_vector, seat_vector}
@@ -65,7 +65,7 @@ asks_effect romc byte marked v ends put = rw (ends, put) (by (romc == 0x05))
     by false = refl
 
 asks_passed : (clocks : ℕ) (v : ChipView) → is_asking v ≡ true → is_asking (timer_passed clocks v) ≡ true
-asks_passed clocks v asks = by v.wired v.request (takes_expiries v && expires_within clocks (timer_of v)) asks
+asks_passed clocks v asks = by v.wired v.request (admits_expiries v.control && expires_within clocks (timer_of v)) asks
   where
     by : (wired request expires : Bool) → (wired && request) ≡ true → (wired && (request || expires)) ≡ true
     by true true expires e = refl

@@ -5,16 +5,16 @@ use Rattle.std.specs.Prelude.{◌==◌, if◌then◌else◌, Option, Some, None,
 use Rattle.std.proofs.lemmas.Bool.{le-leb, lt-ltb}
 use Rattle.std.proofs.lemmas.Option.{slice_get-map}
 use Rattle.f8_spec.specs.BusArbitration.{seat_of, seat_has_port}
-use Rattle.f8_spec.specs.ChipState.{ChipView, ChipState, data_port, has_fixed_vector, keyed_at, keyed, powered, pulsed, takes_pulses}
+use Rattle.f8_spec.specs.ChipState.{ChipView, ChipState, data_port, has_fixed_vector, keyed_at, keyed, powered, pulsed, admits_pulses}
 use Rattle.f8_spec.specs.ChipState.{offset_from, role_at}
 use Rattle.f8_spec.specs.declared.chips.ChipKind.{ChipKind}
 use Rattle.f8_spec.specs.declared.chips.ChipKind.TheVariants.{Psu, Smi}
 use Rattle.console_spec.specs.CounterCopies.{power_start}
-use Rattle.console_spec.specs.InterruptRequests.{History, no_history, after_write, after_pulse, time_of, since_of, control_port}
+use Rattle.console_spec.specs.InterruptRequests.{History, no_history, time_of, since_of, control_port}
 use Rattle.console_spec.specs.InterruptRequests.{timer_port, request_by, has_expiry, has_mark}
 use Rattle.console_spec.specs.Writes.{latch_of, takers}
 use Rattle.console_spec.specs.declared.PortWrite.{PortWrite}
-use Rattle.console_spec.proofs.RequestLaws.{past-written, past-pulsed}
+use Rattle.console_spec.proofs.RequestLaws.{past-written, past-pulsed, after_write, after_pulse}
 use Rattle.data_bus.specs.Racks.{NumberedZip, views}
 use Rattle.f8_machine.specs.Requests.{Device, IsDevice, device_of}
 use Rattle.f8_machine.specs.RequestsHeld.{IsIdle, HasVector, HasRequests, HoldRequests, IsInTime}
@@ -142,7 +142,7 @@ pulsed_ports true v = refl
 pulsed_ports false v = refl
 
 -- the chip that has it
-pulsed_device : (lets_in : Bool) (first socket time : ℕ) (h : History) (v : ChipView) → takes_pulses v ≡ lets_in →
+pulsed_device : (lets_in : Bool) (first socket time : ℕ) (h : History) (v : ChipView) → admits_pulses v.control ≡ lets_in →
     (lets_in ≡ true → since_of first socket h < time) → IsDevice first socket h time (device_of v) →
     IsDevice first socket (after_pulse socket time h) time (device_of (if lets_in then record v { request = true } else v))
 pulsed_device true first socket time h v lets later is =
@@ -152,15 +152,15 @@ pulsed_device true first socket time h v lets later is =
 pulsed_device false first socket time h v lets later is = device_unlet first socket time h (device_of v) lets is
 
 pulsed_requests : (ports : Option ℕ) (socket time : ℕ) (h : History) (v : ChipView) →
-    ((first : ℕ) → ports ≡ Some first → takes_pulses v ≡ true → since_of first socket h < time) → HasRequests ports socket h time v →
+    ((first : ℕ) → ports ≡ Some first → admits_pulses v.control ≡ true → since_of first socket h < time) → HasRequests ports socket h time v →
     HasRequests ports socket (after_pulse socket time h) time (pulsed v)
 pulsed_requests None socket time h v later is =
-    let closed : takes_pulses v ≡ false = ap (λ (c : ℕ). c % 4 == 1) is.control_byte in
+    let closed : admits_pulses v.control ≡ false = ap (λ (c : ℕ). c % 4 == 1) is.control_byte in
     subst (λ (b : Bool). IsIdle (if b then record v { request = true } else v)) (sym closed) is
 pulsed_requests (Some first) socket time h v later is = record {
-  device = pulsed_device (takes_pulses v) first socket time h v refl (later first refl) is.device;
-  vector = subst (λ (k : ChipKind). HasVector (has_fixed_vector k) first h.writes (pulsed v)) (sym (pulsed_kind (takes_pulses v) v))
-      (vector_same (has_fixed_vector v.kind) first h.writes v (pulsed v) (pulsed_vector (takes_pulses v) v) is.vector);
+  device = pulsed_device (admits_pulses v.control) first socket time h v refl (later first refl) is.device;
+  vector = subst (λ (k : ChipKind). HasVector (has_fixed_vector k) first h.writes (pulsed v)) (sym (pulsed_kind (admits_pulses v.control) v))
+      (vector_same (has_fixed_vector v.kind) first h.writes v (pulsed v) (pulsed_vector (admits_pulses v.control) v) is.vector);
 }
 
 -- and the others
@@ -174,7 +174,7 @@ unpulsed_requests (Some first) chosen socket time h v apart is = record {
 
 -- the chip in a socket after a pulse at the chosen one
 pulse_seated : (marked : Bool) (chosen socket time : ℕ) (h : History) (old new : ChipState) → (chosen == socket) ≡ marked →
-    ((first : ℕ) → socket ≡ chosen → old.view.ports ≡ Some first → takes_pulses old.view ≡ true → since_of first chosen h < time) →
+    ((first : ℕ) → socket ≡ chosen → old.view.ports ≡ Some first → admits_pulses old.view.control ≡ true → since_of first chosen h < time) →
     PulsesIf marked old new → HasRequests old.view.ports socket h time old.view →
     HasRequests new.view.ports socket (after_pulse chosen time h) time new.view
 pulse_seated true chosen socket time h old new mark later pulse is =
@@ -185,7 +185,7 @@ pulse_seated true chosen socket time h old new mark later pulse is =
     (later first same ports lets)) is in
     subst (λ (k : ℕ). HasRequests new.view.ports socket (after_pulse k time h) time new.view) same
     (subst (λ (u : ChipView). HasRequests u.ports socket (after_pulse socket time h) time u) (sym pulse.view)
-    (subst (λ (p : Option ℕ). HasRequests p socket (after_pulse socket time h) time (pulsed v)) (sym (pulsed_ports (takes_pulses v) v)) done))
+    (subst (λ (p : Option ℕ). HasRequests p socket (after_pulse socket time h) time (pulsed v)) (sym (pulsed_ports (admits_pulses v.control) v)) done))
 pulse_seated false chosen socket time h old new mark later pulse is =
     subst (λ (s : ChipState). HasRequests s.view.ports socket (after_pulse chosen time h) time s.view) (sym pulse)
     (unpulsed_requests old.view.ports chosen socket time h old.view
@@ -193,7 +193,7 @@ pulse_seated false chosen socket time h old new mark later pulse is =
 
 -- nothing changes but the request
 pulse_leaves : (marked : Bool) (old new : ChipState) → PulsesIf marked old new → unasked new.view ≡ unasked old.view
-pulse_leaves true old new pulse = ap unasked pulse.view ∙ by (takes_pulses old.view)
+pulse_leaves true old new pulse = ap unasked pulse.view ∙ by (admits_pulses old.view.control)
   where
     by : (lets_in : Bool) → unasked (if lets_in then record old.view { request = true } else old.view) ≡ unasked old.view
     by true = refl
@@ -213,7 +213,7 @@ views_pulsed chosen olds news all = pulses_from chosen 0 olds news all
 
 -- A pulse at the chip in a socket. Where control lets it in, it comes after the last control write and acknowledgement of that chip.
 pub in_time_pulsed : (chosen time : ℕ) (h : History) (olds news : List ChipState) →
-    ((v : ChipView) (first : ℕ) → slice_get (views olds) chosen ≡ Some v → v.ports ≡ Some first → takes_pulses v ≡ true →
+    ((v : ChipView) (first : ℕ) → slice_get (views olds) chosen ≡ Some v → v.ports ≡ Some first → admits_pulses v.control ≡ true →
     since_of first chosen h < time) →
     RackPulses chosen olds news → IsInTime time h (views olds) → IsInTime time (after_pulse chosen time h) (views news)
 in_time_pulsed chosen time h olds news later all is =

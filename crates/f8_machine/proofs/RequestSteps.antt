@@ -16,16 +16,16 @@ use Rattle.f8_spec.specs.declared.chips.ChipKind.{ChipKind}
 use Rattle.f8_spec.specs.declared.chips.ChipKind.TheVariants.{Psu, Smi}
 use Rattle.console_spec.specs.Processor.{Flow, if_taken, write_at, with_write}
 use Rattle.console_spec.specs.CounterCopies.{Copy}
-use Rattle.console_spec.specs.InterruptRequests.{History, IsPast, after_write, time_of, control_port, timer_port}
+use Rattle.console_spec.specs.InterruptRequests.{History, IsPast, time_of, control_port, timer_port}
 use Rattle.console_spec.specs.Writes.{takers}
 use Rattle.console_spec.specs.declared.PortWrite.{PortWrite}
 use Rattle.console_spec.specs.Run.{seats_of}
-use Rattle.console_spec.proofs.RequestLaws.{past-later, past-written}
+use Rattle.console_spec.proofs.RequestLaws.{past-later, past-written, after_write}
 use Rattle.f8_machine.specs.RackViews.{AreCopies}
 use Rattle.f8_machine.specs.Requests.{Device, IsDevice, device_of}
 use Rattle.f8_machine.specs.RequestsHeld.{IsIdle, HasVector, IsRequesting, HasRequests, HoldRequests, IsInTime}
 use Rattle.f8_machine.proofs.Copies.{seats_same, all_heard}
-use Rattle.f8_machine.proofs.DeviceLaws.{device_more, device_control, device_timer, device_apart}
+use Rattle.f8_machine.proofs.DeviceLaws.{device_more, device_control, device_loaded_timer, device_apart}
 use Rattle.f8_machine.proofs.Kept.{Comes, comes}
 use Rattle.f8_machine.proofs.PortSteps.{one_takes}
 use Rattle.f8_machine.proofs.PortValues.{writes_by}
@@ -159,7 +159,7 @@ written_here ControlPort first socket time w h v stands now small past is = reco
       (vector_apart (has_fixed_vector v.kind) first w h.writes v (λ same. omega (arith, same, stands)) (λ same. omega (arith, same, stands)) is.vector);
 }
 written_here TimerPort first socket time w h v stands now small past is = record {
-  device = device_timer first socket time w h (device_of v) stands now small is.device;
+  device = device_loaded_timer first socket time w h (device_of v) stands now small is.device;
   vector = vector_same (has_fixed_vector v.kind) first (w ∷ h.writes) v (port_written TimerPort w.byte v) refl
       (vector_apart (has_fixed_vector v.kind) first w h.writes v (λ same. omega (arith, same, stands)) (λ same. omega (arith, same, stands)) is.vector);
 }

@@ -5,10 +5,10 @@ use Rattle.std.proofs.Common.{sym, arith}
 use Rattle.std.specs.Prelude.{sum_by, ◌+◌, ◌-◌, if◌then◌else◌}
 use Rattle.std.specs.List.{list_all}
 use Rattle.f8_spec.specs.BusArbitration.{Seat}
-use Rattle.f8_spec.specs.Instructions.{row_of, row_clocks, has_long_fetch, interrupt_clocks}
+use Rattle.f8_spec.specs.Instructions.{row_of, row_clocks, has_long_fetch, interrupt_clocks, step_clocks}
 use Rattle.f8_spec.specs.declared.instructions.Op.{Op}
 use Rattle.console_spec.specs.FlatStep.{clocks_by}
-use Rattle.f8_spec.specs.MicroSteps.{Accumulator, Operand, PortNumber, step_clocks, long_step, clocks_along}
+use Rattle.f8_spec.specs.MicroSteps.{Accumulator, Operand, PortNumber, long_step, clocks_along}
 use Rattle.f8_spec.specs.MicroSteps.{steps_before_fetch, steps_of}
 use Rattle.f8_spec.specs.declared.instructions.Row.{Row}
 use Rattle.f8_spec.specs.declared.instructions.Row.TheVariants.{Plain, PlainLong, Idle, StackToK, StackFromK, CallK}

@@ -1,21 +1,13 @@
 -- Where no write and no acknowledgement of a history lies after a time, a later pulse comes after both.
-use Rattle.std.proofs.Common.{ℕ, ◌<◌, ◌≤◌, List, [], ◌∷◌, arith}
-use Rattle.console_spec.specs.InterruptRequests.{History, Mark, ArePastWrites, ArePastMarks, since_of, control_port, no_history}
-use Rattle.console_spec.specs.InterruptRequests.{after_write, after_acknowledgement, after_pulse, time_of}
+use Rattle.std.proofs.Common.{ℕ, ◌<◌, ◌≤◌, arith}
+use Rattle.console_spec.specs.InterruptRequests.{History, time_of, since_of, control_port, no_history}
 use Rattle.console_spec.specs.declared.PortWrite.{PortWrite}
-use Rattle.console_spec.proofs.RequestLaws.{last_write-past, last_mark-past}
+use Rattle.console_spec.proofs.RequestLaws.{last_write-past, last_mark-past, writes_later, marks_later}
+use Rattle.console_spec.proofs.RequestLaws.{after_write, after_acknowledgement, after_pulse}
 use Rattle.f8_machine.specs.RequestsHeld.{IsSettledBy}
 
 pub settled_none : (time : ℕ) → IsSettledBy time no_history
 settled_none time = record { writes = tt; acknowledged = tt }
-
-writes_later : (time later : ℕ) (ws : List PortWrite) → time ≤ later → ArePastWrites time ws → ArePastWrites later ws
-writes_later time later [] order past = tt
-writes_later time later (w ∷ ws) order past = let here = past.0 in (omega arith, writes_later time later ws order past.1)
-
-marks_later : (time later : ℕ) (ms : List Mark) → time ≤ later → ArePastMarks time ms → ArePastMarks later ms
-marks_later time later [] order past = tt
-marks_later time later (m ∷ ms) order past = let here = past.0 in (omega arith, marks_later time later ms order past.1)
 
 pub settled_later : (time later : ℕ) (h : History) → time ≤ later → IsSettledBy time h → IsSettledBy later h
 settled_later time later h order by = record {

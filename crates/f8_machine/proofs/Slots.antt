@@ -9,7 +9,7 @@ use Rattle.f8_spec.specs.ChipState.{ControlPort, TimerPort, has_counters, has_se
 use Rattle.f8_spec.specs.ChipState.{bytes_with_at, bytes_with, stored, port_role, port_written, port_written_if, effect}
 use Rattle.f8_spec.specs.ChipState.{after_step, timer_passed, has_fixed_vector, role_at, offset_from}
 use Rattle.f8_spec.specs.BusArbitration.{Seat, seat_of}
-use Rattle.f8_spec.specs.MicroSteps.{step_clocks}
+use Rattle.f8_spec.specs.Instructions.{step_clocks}
 use Rattle.f8_spec.specs.declared.chips.ChipKind.{ChipKind}
 use Rattle.f8_spec.specs.declared.chips.ChipKind.TheVariants.{Psu, Smi}
 use Rattle.f8_spec.specs.declared.chips.Page.{Page}

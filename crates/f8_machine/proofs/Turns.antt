@@ -7,7 +7,8 @@ use Rattle.std.proofs.lemmas.List.Sums.{sum_by-cons}
 use Rattle.f8_spec.specs.BusCodes.{Count, driver_of, moved_by}
 use Rattle.f8_spec.specs.ChipState.{ChipView, after_step}
 use Rattle.f8_spec.specs.BusArbitration.{Verdict, Served, place_in, rule_of, view_verdict, bus_byte}
-use Rattle.f8_spec.specs.MicroSteps.{Step, step_clocks, clocks_along}
+use Rattle.f8_spec.specs.Instructions.{step_clocks}
+use Rattle.f8_spec.specs.MicroSteps.{Step, clocks_along}
 use Rattle.f8_spec.specs.ShiftTimer.{step_period}
 use Rattle.console_spec.specs.Processor.{Flow, Inputs, byte_of}
 use Rattle.console_spec.specs.FlatMemory.{stored_at}

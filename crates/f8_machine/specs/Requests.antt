@@ -1,7 +1,7 @@
 -- A chip's timer and latched request beside the history of a run, by which it has or hasn't a request.
 use Rattle.std.specs.Prelude.{◌≡◌, ℕ, ◌%◌, Bool, false, ◌==◌, ◌&&◌, ◌||◌}
 use Rattle.f8_spec.specs.ShiftTimer.{TimerState, timer_after, expires_within, ExpiresAsLoaded}
-use Rattle.f8_spec.specs.ChipState.{ChipView}
+use Rattle.f8_spec.specs.ChipState.{ChipView, admits_pulses, admits_expiries}
 use Rattle.console_spec.specs.Writes.{latch_of}
 use Rattle.console_spec.specs.InterruptRequests.{History, control_port, timer_port, last_load, last_write_time, has_request}
 
@@ -16,8 +16,8 @@ pub record Device : Type 0 where
 abbrev pub device_of : ChipView → Device
 device_of v = record { control = v.control; timer = v.timer; phase = v.phase; request = v.request }
 
-abbrev pub timer_of : Device → TimerState
-timer_of d = record { state = d.timer; phase = d.phase }
+abbrev pub device_timer : Device → TimerState
+device_timer d = record { state = d.timer; phase = d.phase }
 
 -- at power-on
 abbrev pub idle_device : Device
@@ -27,9 +27,9 @@ idle_device = record { control = 0; timer = 255; phase = 0; request = false }
 abbrev pub device_passed : ℕ → Device → Device
 device_passed clocks d = record {
   control = d.control;
-  timer = (timer_after clocks (timer_of d)).state;
-  phase = (timer_after clocks (timer_of d)).phase;
-  request = d.request || ((d.control % 4 == 3) && expires_within clocks (timer_of d));
+  timer = (timer_after clocks (device_timer d)).state;
+  phase = (timer_after clocks (device_timer d)).phase;
+  request = d.request || (admits_expiries d.control && expires_within clocks (device_timer d));
 }
 
 -- after a control write, a load of the timer, an acknowledgement and a pulse
@@ -43,7 +43,7 @@ abbrev pub device_ended : Device → Device
 device_ended d = record d { request = false }
 
 abbrev pub device_pulsed : Device → Device
-device_pulsed d = record d { request = d.request || (d.control % 4 == 1) }
+device_pulsed d = record d { request = d.request || admits_pulses d.control }
 
 -- ---- beside the history
 
@@ -51,4 +51,4 @@ device_pulsed d = record d { request = d.request || (d.control % 4 == 1) }
 pub record IsDevice (first chip : ℕ) (h : History) (time : ℕ) (d : Device) : Type 0 where
   pub control_byte : d.control ≡ latch_of (control_port first) h.writes
   pub asks : d.request ≡ has_request first chip h time
-  pub timed : ExpiresAsLoaded (last_load (timer_port first) h.writes) (last_write_time (timer_port first) h.writes) time (timer_of d)
+  pub timed : ExpiresAsLoaded (last_load (timer_port first) h.writes) (last_write_time (timer_port first) h.writes) time (device_timer d)

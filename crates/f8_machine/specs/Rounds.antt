@@ -1,7 +1,7 @@
 -- What the chips of a rack are after the bus steps of a record, and what those that tell it heard.
 use Rattle.std.specs.Prelude.{◌≡◌, ℕ, Bool, false, ◌==◌, ◌&&◌, ◌||◌, List, [], ◌∷◌, ◌++◌, map, Option, Some}
 use Rattle.f8_spec.specs.ChipState.{ChipView, ChipState, HeardStep, PowersOn, after_step, told_step}
-use Rattle.f8_spec.specs.MicroSteps.{step_clocks}
+use Rattle.f8_spec.specs.Instructions.{step_clocks}
 use Rattle.data_bus.specs.Racks.{NumberedZip}
 use Rattle.console_spec.specs.CounterCopies.{power_start}
 use Rattle.console_spec.specs.BusTrace.{TracedStep}

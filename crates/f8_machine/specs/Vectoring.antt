@@ -1,8 +1,8 @@
 -- The bus steps by which an interrupt is acknowledged, before the fetch at its vector.
 use Rattle.std.specs.Prelude.{◌≡◌, ℕ, ◌+◌, ◌-◌, ◌<◌, List, length, sum_by, take, Option, Some, None}
-use Rattle.f8_ops.specs.declared.table.TheConstants.{INTERRUPT_PHI}
 use Rattle.f8_spec.specs.ChipState.{ChipState}
-use Rattle.f8_spec.specs.MicroSteps.{Opcode, NoByte, VectorHigh, VectorLow, short_step, long_step, step_clocks}
+use Rattle.f8_spec.specs.Instructions.{step_clocks, interrupt_clocks}
+use Rattle.f8_spec.specs.MicroSteps.{Opcode, NoByte, VectorHigh, VectorLow, short_step, long_step}
 use Rattle.cpu3850.specs.declared.steps.Step.{Step}
 use Rattle.cpu3850.specs.CpuSteps.{bus_step}
 use Rattle.probe.specs.ProbeState.{ProbeState}
@@ -48,9 +48,9 @@ Acknowledges (Some socket) before after olds news earlier now =
     IsAcknowledged socket before after olds news earlier now
 
 -- the clocks of steps with those of an interrupt in place of the last, or none
-abbrev pub clocks_by : Option ℕ → List Step → ℕ
-clocks_by None plan = sum_by (λ step. step_clocks step.long) plan
-clocks_by (Some socket) plan = sum_by (λ step. step_clocks step.long) (take (length plan - 1) plan) + INTERRUPT_PHI
+abbrev pub clocks_of_plan : Option ℕ → List Step → ℕ
+clocks_of_plan None plan = sum_by (λ step. step_clocks step.long) plan
+clocks_of_plan (Some socket) plan = sum_by (λ step. step_clocks step.long) (take (length plan - 1) plan) + interrupt_clocks
 
 -- the fetch of the next opcode: the last step of the instruction, or the short one of an interrupt
 abbrev pub fetch_by : Option ℕ → Step → Step

@@ -6,7 +6,7 @@ ghost use Rattle.console_spec.specs.BusTrace.{is_access};
 ghost use Rattle.cpu3850.specs.CpuSteps.{bus_step as step_of};
 ghost use Rattle.data_bus.specs.Racks.{ChosenAsks, NamesAsking};
 ghost use Rattle.f8_machine.specs.BusSteps.{IsServedBy};
-ghost use Rattle.f8_machine.specs.Vectoring.{Acknowledges, IsAcknowledged, clocks_by, fetch_by};
+ghost use Rattle.f8_machine.specs.Vectoring.{Acknowledges, IsAcknowledged, clocks_of_plan, fetch_by};
 
 use super::bus_step::bus_step_by;
 use super::record::{MOST_STEPS, Record};
@@ -113,8 +113,8 @@ pub(crate) fn acknowledge_chosen(
 }
 
 /// The clocks of an instruction with these steps and an interrupt at its end, or none, in Φ.
-pub(crate) fn clocks_by(chosen: Option<u8>, plan: &Steps) -> u64
-    ensures { result ≡ clocks_by chosen plan.now }
+pub(crate) fn clocks_of_plan(chosen: Option<u8>, plan: &Steps) -> u64
+    ensures { result ≡ clocks_of_plan chosen plan.now }
 {
     if chosen.is_some() {
         u64::from(plan.clocks_before_fetch()) + INTERRUPT_PHI

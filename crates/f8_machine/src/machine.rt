@@ -3,7 +3,7 @@ use super::all_chips::{key_all, power_all};
 use super::carry::{Unserved, carry_out};
 use super::chain::Chain;
 use super::flow::Flow;
-use super::interrupt::clocks_by;
+use super::interrupt::clocks_of_plan;
 use super::outcome::{Mode, Outcome, StoppedBy};
 use super::pulse::pulse_at;
 use super::record::Record;
@@ -202,7 +202,7 @@ impl Machine {
         match carried {
             Ok(chosen) => {
                 self.flow = Flow::of(self.probe.counters());
-                self.phi += clocks_by(chosen, &plan);
+                self.phi += clocks_of_plan(chosen, &plan);
                 let wrote = done_write(code, self.phi, self.cpu.ports(), steps.as_slice());
                 Outcome::Done { wrote, steps }
             }
@@ -234,8 +234,8 @@ impl Machine {
         }
     }
 
-    /// An external pulse at the chip described at this place. Its chip latches a request where the low two bits of its control are 1. A
-    /// place at which no chip is described changes nothing.
+    /// An external pulse at `chip`, by its place in the description: the chip latches a request where the low two bits of its control are
+    /// 1 (Mostek 3851 data sheet in outline). Where there is no such chip nothing changes.
     pub fn pulse(&mut self, rack: &mut Rack, chip: u8)
         requires few { length rack.old.items ≤ MOST_CHIPS }
         ensures machine { self.new ≡ self.old }

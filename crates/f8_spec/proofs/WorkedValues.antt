@@ -1,11 +1,13 @@
 -- Values worked out by hand, computed from the definitions.
-use Rattle.std.proofs.Common.{◌≡◌, ◌*◌, true, false, refl, pos, negsuc}
+use Rattle.std.proofs.Common.{◌≡◌, ◌*◌, ℕ, true, false, refl, pos, negsuc}
 use Rattle.std.specs.Prelude.{None, Some}
 use Rattle.f8_spec.specs.Words.{decimal_value, wrapped, displaced, with_high, with_low}
 use Rattle.f8_spec.specs.Flags.{clear_status, status_byte, after_sum}
 use Rattle.f8_spec.specs.Instructions.{decoded, clocks_of}
 use Rattle.f8_spec.specs.ShiftTimer.{shifted_timer, steps_to_expiry, idle_timer, timer_loaded, timer_after}
 use Rattle.f8_spec.specs.ShiftTimer.{expires_within, clocks_to_expiry, next_expiry, expires_between}
+use Rattle.f8_spec.specs.ChipState.{ChipView, blank_view, vector_under, timer_passed}
+use Rattle.f8_spec.specs.declared.chips.ChipKind.TheVariants.{Psu}
 use Rattle.f8_spec.specs.declared.instructions.Op.TheVariants.{Lis, Bf, Ds, Ins, Pi}
 
 -- a branch at 0001 by -3 leads below 0, and wraps
@@ -133,6 +135,27 @@ clocks_after_7F = refl
 
 clocks_of_idle : clocks_to_expiry idle_timer ≡ None
 clocks_of_idle = refl
+
+-- A view's timer that was loaded with 7F at 56 Φ, by a step from 84 to 88 Φ. The expiry at 87 is latched at the end of the step, and under
+-- control 3 alone.
+abbrev view_at_84 : ℕ → ChipView
+view_at_84 control = record (blank_view Psu) { control = control; timer = 0x7F; phase = 28 }
+
+latched_at_88 : timer_passed 4 (view_at_84 3) ≡ record (view_at_84 3) { timer = 0xFE; phase = 1; request = true }
+latched_at_88 = refl
+
+not_latched_for_pulses : timer_passed 4 (view_at_84 1) ≡ record (view_at_84 1) { timer = 0xFE; phase = 1 }
+not_latched_for_pulses = refl
+
+-- bit 7 of a vector's low byte is clear for the timer and set for a pulse, whatever it was
+vector_of_expiry : vector_under 3 0x0180 ≡ 0x0100
+vector_of_expiry = refl
+
+vector_of_pulse : vector_under 1 0x0100 ≡ 0x0180
+vector_of_pulse = refl
+
+vector_of_pulse_set : vector_under 1 0x01FF ≡ 0x01FF
+vector_of_pulse_set = refl
 
 -- the first and the last code of each range of opcodes that is cut
 decode_ranges : decoded 0x7F ≡ Some (Lis 15)

@@ -236,12 +236,12 @@ port_written_if (Some role) byte v = port_written role byte v
 
 -- ---- requests
 
--- the low two bits of control: 1 lets external pulses in, 3 the timer
-abbrev pub takes_pulses : ChipView → Bool
-takes_pulses v = v.control % 4 == 1
+-- the low two bits of control say what it admits: 1 external pulses, and 3 expiries of the timer
+abbrev pub admits_pulses : ℕ → Bool
+admits_pulses control = control % 4 == 1
 
-abbrev pub takes_expiries : ChipView → Bool
-takes_expiries v = v.control % 4 == 3
+abbrev pub admits_expiries : ℕ → Bool
+admits_expiries control = control % 4 == 3
 
 -- the chip asks for an interrupt
 abbrev pub is_asking : ChipView → Bool
@@ -253,7 +253,7 @@ fixed_vector v = if has_fixed_vector v.kind then v.vector else 0
 
 -- a vector as it is given under a control: bit 7 of its low byte is clear for the timer and set for a pulse
 abbrev pub vector_under : ℕ → ℕ → ℕ
-vector_under control vector = vector / 256 * 256 + (if control % 4 == 3 then 0 else 128) + vector % 128
+vector_under control vector = vector / 256 * 256 + (if admits_expiries control then 0 else 128) + vector % 128
 
 -- the vector given for a request
 abbrev pub given_vector : ChipView → ℕ
@@ -298,7 +298,7 @@ abbrev pub timer_passed : ℕ → ChipView → ChipView
 timer_passed clocks v = record v {
   timer = (timer_after clocks (timer_of v)).state;
   phase = (timer_after clocks (timer_of v)).phase;
-  request = v.request || (takes_expiries v && expires_within clocks (timer_of v));
+  request = v.request || (admits_expiries v.control && expires_within clocks (timer_of v));
 }
 
 -- a byte stored at an address: it is lost where the chip has no RAM there
@@ -381,7 +381,7 @@ keyed port byte v = keyed_at (data_port v port) byte v
 
 -- an external pulse: lost unless control lets it in
 abbrev pub pulsed : ChipView → ChipView
-pulsed v = if takes_pulses v then record v { request = true } else v
+pulsed v = if admits_pulses v.control then record v { request = true } else v
 
 -- a chip after a key byte; the steps that it tells and its patch stay
 pub record TakesKeys (port byte : ℕ) (old new : ChipState) : Type 0 where

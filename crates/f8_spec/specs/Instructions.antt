@@ -284,9 +284,16 @@ length_of op = row_length (row_of op)
 abbrev pub clocks_of : Op → Bool → ℕ
 clocks_of op taken = row_clocks (row_of op) taken
 
--- the clocks of the bus steps before the last fetch
+-- a short bus step takes 4 Φ, and a long one 6
+abbrev pub step_clocks : Bool → ℕ
+step_clocks long = if long then 6 else 4
+
+-- the clocks of the last fetch, and of the bus steps before it
+abbrev pub fetch_clocks : Row → ℕ
+fetch_clocks row = step_clocks (has_long_fetch row)
+
 abbrev pub clocks_before_fetch : Op → Bool → ℕ
-clocks_before_fetch op taken = clocks_of op taken - (if has_long_fetch (row_of op) then 6 else 4)
+clocks_before_fetch op taken = clocks_of op taken - fetch_clocks (row_of op)
 
 -- the clocks of an interrupt, which takes the place of the last fetch
 abbrev pub interrupt_clocks : ℕ

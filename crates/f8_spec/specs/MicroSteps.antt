@@ -1,7 +1,7 @@
 -- The bus steps of an instruction, of an interrupt and of reset. The lists are this project's own choice, after the Fairchild F8
 -- User's Guide. Every list of an instruction ends with the fetch of the next opcode.
 use Rattle.std.specs.Prelude.{ℕ, Bool, true, false, if◌then◌else◌, List, [], ◌∷◌, ◌++◌, sum_by}
-use Rattle.f8_spec.specs.Instructions.{has_long_fetch}
+use Rattle.f8_spec.specs.Instructions.{has_long_fetch, step_clocks}
 use Rattle.f8_spec.specs.declared.instructions.Row.{Row}
 use Rattle.f8_spec.specs.declared.instructions.Row.TheVariants.{Plain, PlainLong, Idle, StackToK, StackFromK, CallK}
 use Rattle.f8_spec.specs.declared.instructions.Row.TheVariants.{JumpQ, DataToPair, DataFromQ, DataFromH, ReadData}
@@ -45,10 +45,6 @@ pub record Step : Type 0 where
   pub romc : ℕ
   pub long : Bool
   pub source : Source
-
--- a short step takes 4 Φ, and a long one 6
-abbrev pub step_clocks : Bool → ℕ
-step_clocks long = if long then 6 else 4
 
 abbrev pub long_step : ℕ → Source → Step
 long_step romc source = record { romc = romc; long = true; source = source }

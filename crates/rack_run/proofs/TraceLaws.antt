@@ -3,9 +3,9 @@ use Rattle.std.proofs.Common.{◌≡◌, ℕ, ◌+◌, Bool, true, false, List, 
 use Rattle.std.proofs.Common.{sym, subst}
 use Rattle.std.proofs.lemmas.List.Sums.{sum_by-cons}
 use Rattle.std.specs.Prelude.{if◌then◌else◌}
-use Rattle.f8_spec.specs.Instructions.{decoded, row_of}
+use Rattle.f8_spec.specs.Instructions.{decoded, row_of, step_clocks}
 use Rattle.f8_spec.specs.MicroSteps.{Step, Operand, long_step, short_step, reset_steps}
-use Rattle.f8_spec.specs.MicroSteps.{step_clocks, clocks_along}
+use Rattle.f8_spec.specs.MicroSteps.{clocks_along}
 use Rattle.f8_spec.specs.BusArbitration.{Verdict, Served, Conflict, Undriven, Astray, rule_of}
 use Rattle.f8_spec.specs.declared.instructions.Op.{Op}
 use Rattle.f8_spec.specs.declared.instructions.Row.{Row}

@@ -1,7 +1,7 @@
 -- What a trace tells agrees with how the run goes on. The definitions of a run and of its bus steps are apart from each other: a run stops
 -- by the accesses of an instruction, and its clocks are those of a table, while a trace goes along the steps.
 use Rattle.std.specs.Prelude.{◌≡◌, ℕ, ◌+◌, Bool, List, sum_by, Option, Some, None}
-use Rattle.f8_spec.specs.MicroSteps.{step_clocks}
+use Rattle.f8_spec.specs.Instructions.{step_clocks}
 use Rattle.console_spec.specs.BusTrace.{TracedStep}
 use Rattle.console_spec.specs.Run.{Position, Turn, Goes, Stops, Done, Unserved, Reserved, next, turn_course}
 use Rattle.console_spec.specs.Run.{reset_course, reset_fault, position_after_reset}

@@ -3,7 +3,7 @@ use Rattle.std.proofs.Common.{◌≡◌, ℕ, ◌+◌, ◌≤◌, ap, sym, subst
 use Rattle.f8_spec.specs.Instructions.{decoded}
 use Rattle.console_spec.specs.Processor.{is_taken}
 use Rattle.f8_machine.specs.MachineState.{MachineState}
-use Rattle.f8_machine.specs.Vectoring.{clocks_by}
+use Rattle.f8_machine.specs.Vectoring.{clocks_of_plan}
 use Rattle.f8_machine.proofs.Instructions.{some_of, clocks_planned, few_clocks, write_as_told, done_from, faulted_from}
 use Rattle.f8_machine.proofs.machine.Machine.carry_plan.Goals as goal
 
@@ -13,20 +13,20 @@ spent_few before phi clocks same few = omega arith
 pub returns-in-Ok-clause-advances : goal.returns-in-Ok-clause-advances
 returns-in-Ok-clause-advances g c =
     let found = some_of (decoded c.self.inside.cpu.opcode) (rw (← c.self.view_is) at c.requires.instruction) in
-    let clocks = c.clocks_by.ensures
-    ∙ ap (clocks_by c.in-Ok.chosen) (rw (← c.self.view_is) at c.requires.plan)
+    let clocks = c.clocks_of_plan.ensures
+    ∙ ap (clocks_of_plan c.in-Ok.chosen) (rw (← c.self.view_is) at c.requires.plan)
     ∙ clocks_planned c.self.inside.cpu found.0 c.in-Ok.chosen found.1 in
     record {
       refines = λ x r.
           done_from c.args.self.now _ c.self.view_is _ _ found.0 x found.1 r
-          c.carry_out-carried.new.cpu c.carry_out-carried.new.probe _ c.clocks_by.result c.done_write-wrote.result
+          c.carry_out-carried.new.cpu c.carry_out-carried.new.probe _ c.clocks_of_plan.result c.done_write-wrote.result
           c.carry_out-carried.new.steps c.in-Ok.chosen
           (rw c.opcode-code.ensures at c.opcode-code.type_inv)
           c.kept-kept.ensures.ranges (λ holds. c.in-Ok.ensures.done found.0 x holds)
           (c.of-self-inside.ensures c.carry_out-carried.new.probe c.counters.ensures) clocks
           (write_as_told _ _ found.0 _ _ _ _ _ c.done_write-wrote.ensures (ap decoded c.opcode-code.ensures ∙ found.1)
           c.ports.ensures c.as_slice.ensures.value);
-      clocks = spent_few c.args.self.now.phi _ c.clocks_by.result
+      clocks = spent_few c.args.self.now.phi _ c.clocks_of_plan.result
           (ap (λ (m : MachineState). m.phi) c.self.view_is)
           (subst (λ (n : ℕ). n ≤ 46) (sym clocks) (few_clocks found.0
           (is_taken found.0 c.self.inside.cpu.registers) c.in-Ok.chosen (c.in-Ok.ensures.open found.0 found.1)));
