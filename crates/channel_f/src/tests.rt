@@ -1,3 +1,4 @@
+// Each command on its happy path and at its refusals, on stores and sinks in memory.
 use super::console;
 use chip_fakes::{Listener, Patched};
 use f8_machine::Rack;

@@ -1,3 +1,4 @@
+// Each call on files in memory, on its happy path and at its refusals.
 use super::*;
 use outside::{FileList, NamedFile, SureStore};
 use pad_script::{At, Event};
