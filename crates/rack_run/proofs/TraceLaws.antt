@@ -93,7 +93,8 @@ agrees i c copies [] (a ∷ behind) pairs = elim pairs [ ]
 agrees i c copies (s ∷ later) accesses (idle e pairs) =
     subst (λ course. Agrees course (first_fault c copies accesses) (s ∷ later))
     (sym (idle_course i c copies s later accesses e))
-    (step_agrees i s (unaccessed (rule_of s.romc) i) (course_of i c copies later accesses) (first_fault c copies accesses) later (agrees i c copies later accesses pairs))
+    (step_agrees i s (unaccessed (rule_of s.romc) i) (course_of i c copies later accesses) (first_fault c copies accesses) later
+    (agrees i c copies later accesses pairs))
 agrees i c copies (s ∷ later) (a ∷ behind) (accessed e code pairs) =
     subst (λ course. Agrees course (first_fault c copies (a ∷ behind)) (s ∷ later))
     (sym (access_course i c copies s later a behind e))
