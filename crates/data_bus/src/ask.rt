@@ -1,7 +1,8 @@
 // The question that a bus step puts to one chip, and its answer.
 ghost use Rattle.std.specs.Prelude.{◌≡◌};
 ghost use Rattle.f8_spec.specs.BusArbitration.{is_first as is_first_socket, seat_of, would_answer};
-ghost use Rattle.f8_spec.specs.ChipState.{MayHear};
+ghost use Rattle.f8_spec.specs.BusCodes.{counter_of as counter_of_code};
+ghost use Rattle.f8_spec.specs.ChipState.{MayHear, told_counters};
 ghost use Rattle.data_bus.specs.Polling.{told_place as place_told, is_asked as is_asked_by, answer_of};
 
 use chip_face::{Chip, Offer};
@@ -79,6 +80,15 @@ fn is_there(chip: &Box<dyn Chip>, rule: BusRule, reference: u16) -> bool
     }
 }
 
+/// The address in a chip's own counter of a step.
+// Not inlined, since nearly no step comes here.
+#[inline(never)]
+fn own_place(chip: &Box<dyn Chip>, romc: Romc) -> u16
+    ensures { result ≡ place_told (counter_of_code romc) (told_counters (state chip.now).view) }
+{
+    told_place(chip.counters(), counter_of(romc))
+}
+
 /// Asks the chip in a socket: what it offers, and where it offers nothing whether it holds the probe's address, and then where its own
 /// counter is.
 #[inline(always)]
@@ -96,8 +106,7 @@ pub(crate) fn ask(chip: &Box<dyn Chip>, socket: u8, question: &Question) -> Answ
         Some(offer) => Answer::TakesPart(offer),
         None => {
             if is_there(chip, question.rule, question.reference) {
-                let at = told_place(chip.counters(), counter_of(question.romc));
-                Answer::StandsBy(at)
+                Answer::StandsBy(own_place(chip, question.romc))
             } else {
                 Answer::Passes
             }

@@ -29,13 +29,13 @@ pub struct Done {
     pub vectored: bool,
 }
 
-/// A write with other clocks.
-fn with_clocks(wrote: Option<PortWrite>, phi: u64) -> Option<PortWrite>
-    ensures { result ≡ with_clocks phi wrote }
+/// Sets the clocks of a write, where there is one.
+#[inline]
+fn set_clocks(wrote: &mut Option<PortWrite>, phi: u64)
+    ensures { wrote.new ≡ with_clocks phi wrote.old }
 {
-    match wrote {
-        Some(write) => Some(PortWrite { phi, ..write }),
-        None => None,
+    if let Some(write) = wrote {
+        write.phi = phi;
     }
 }
 
@@ -122,8 +122,9 @@ impl Isa {
         let Some(instruction) = self.instructions.instruction(code) else {
             return Err(Reserved { code });
         };
-        let wrote = self.carry_out(instruction);
-        Ok(self.finish(instruction, wrote))
+        let mut wrote = self.carry_out(instruction);
+        let vectored = self.finish(instruction, &mut wrote);
+        Ok(Done { wrote, vectored })
     }
 
     /// Sets the key byte of a port. It is read there together with what was last written to the port.
@@ -146,26 +147,25 @@ impl Isa {
         self.requests.pulse(chip);
     }
 
-    /// The interrupt at the end of an instruction that is done but for it, if one is taken. Where the interrupt control bit is clear, or
-    /// the instruction shields its end, no chip is asked.
+    /// The interrupt at the end of an instruction that is done but for it, if one is taken, and whether one is: then the instruction's
+    /// write gets the clocks at the end of both. Where the interrupt control bit is clear, or the instruction shields its end, no chip is
+    /// asked.
     #[inline]
-    fn finish(&mut self, instruction: Instruction, wrote: Option<PortWrite>) -> Done
+    fn finish(&mut self, instruction: Instruction, wrote: &mut Option<PortWrite>) -> bool
         requires right { IsInstruction instruction }
         requires phi { self.old.phi < 2 ^ 63 }
         ensures state { self.new ≡ finished instruction.op self.old }
-        ensures wrote { result.wrote ≡ finished_write instruction.op self.old wrote }
-        ensures vectored { result.vectored ≡ is_some (chosen_place instruction.op self.old) }
+        ensures wrote { wrote.new ≡ finished_write instruction.op self.old wrote.old }
+        ensures vectored { result ≡ is_some (chosen_place instruction.op self.old) }
         ensures reach { VectorFits (chosen_place instruction.op self.old) self.old }
     {
         let vectored = self.registers.icb()
             && !shields(instruction.op)
             && self.take_interrupt(instruction);
-        let wrote = if vectored {
-            with_clocks(wrote, self.phi)
-        } else {
-            wrote
-        };
-        Done { wrote, vectored }
+        if vectored {
+            set_clocks(wrote, self.phi);
+        }
+        vectored
     }
 
     /// The interrupt at an end where the chips are asked, and whether there is one.

@@ -363,7 +363,11 @@ fn asking(requests: &Requests, times: [u64; 2]) -> [Option<usize>; 2] {
 
 // what a 3851 with ports 4 to 7 asks for after a write at each of these clocks
 fn requests_after(alloc: Global, writes: &[(u64, u8, u8)]) -> Result<Requests, Fail> {
-    let chips = listed(alloc, psu_wired(alloc, 0x0000, &[], 0x0000, true)?, smi(alloc)?)?;
+    let chips = listed(
+        alloc,
+        psu_wired(alloc, 0x0000, &[], 0x0000, true)?,
+        smi(alloc)?,
+    )?;
     let mut requests = Requests::new(alloc, &chips)?;
     for &(phi, port, byte) in writes {
         requests.take(Some(PortWrite { phi, port, byte }));

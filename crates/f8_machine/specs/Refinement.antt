@@ -113,7 +113,7 @@ pub record IsFaulted (before after : MachineState) (turn : Turn) (course : Cours
   pub kept : after ≡ record before { probe = after.probe; mode = Stopped (ByFault fault long) }
 
 -- an opcode that stops the run: nothing is done
-pub record IsReserved (before after : MachineState) (turn : Turn) (at code : ℕ) : Type 0 where
+pub record StopsAtReserved (before after : MachineState) (turn : Turn) (at code : ℕ) : Type 0 where
   pub turns : turn ≡ Stops (ReservedStop at code)
   pub kept : after ≡ record before { mode = Stopped (ByOpcode at code) }
 
@@ -123,7 +123,7 @@ Refines (Done wrote steps) before after states x =
     IsDone after states (next x) (turn_course x) x.flat.state.writes wrote steps
 Refines (FaultOutcome fault long steps) before after states x =
     IsFaulted before after (next x) (turn_course x) fault long steps
-Refines (Reserved at code) before after states x = IsReserved before after (next x) at code
+Refines (Reserved at code) before after states x = StopsAtReserved before after (next x) at code
 
 -- what reset answers, on a machine that is powered
 abbrev pub ResetRefines : Outcome → MachineState → MachineState → List ChipState → Position → Type 0

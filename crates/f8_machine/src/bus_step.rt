@@ -4,7 +4,7 @@ ghost use Rattle.data_bus.specs.Racks.{ChosenAsks};
 ghost use Rattle.f8_machine.specs.BusSteps.{IsPlain, IsServed, IsServedBy, IsRefused, IsRefusedBy};
 
 use super::heard::{Heard, taker, who_drove};
-use super::record::{MOST_STEPS, Record};
+use super::record::{MOST_HEARD, Record};
 use chip_face::{Chip, MOST_CHIPS};
 use cpu3850::Step;
 use data_bus::{BusFault, Cycle, Rack, step as bus};
@@ -23,7 +23,7 @@ pub(crate) fn bus_step(
     steps: &mut Record,
 ) -> Result<u8, BusFault>
     requires few { length rack.old.items ≤ MOST_CHIPS }
-    requires room { length steps.old < MOST_STEPS }
+    requires room { length steps.old < MOST_HEARD }
     requires plain { IsPlain step.romc }
     ensures served { IfOk result (λ byte. IsServed step placed probe.old probe.new
         (map state rack.old.items) (map state rack.new.items) steps.old steps.new byte) }
@@ -47,7 +47,7 @@ pub(crate) fn bus_step_by(
     steps: &mut Record,
 ) -> Result<u8, BusFault>
     requires few { length rack.old.items ≤ MOST_CHIPS }
-    requires room { length steps.old < MOST_STEPS }
+    requires room { length steps.old < MOST_HEARD }
     requires chosen { ChosenAsks step.romc first (map state rack.old.items) }
     ensures served { IfOk result (λ byte. IsServedBy first step placed probe.old probe.new
         (map state rack.old.items) (map state rack.new.items) steps.old steps.new byte) }

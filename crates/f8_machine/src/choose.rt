@@ -42,6 +42,8 @@ fn asks_of(rack: &Rack, sockets: &[u8]) -> [bool; MOST_CHIPS]
 }
 
 /// The socket of the first chip of the chain that asks.
+// Not inlined, since nearly no end of an instruction comes here.
+#[inline(never)]
 fn first_in(rack: &Rack, chain: &Chain) -> Option<u8>
     ensures first { result ≡ first_in (map state rack.now.items) chain.now }
     ensures asking { IfSome result (λ socket. NamesAsking (Some socket) (map state rack.now.items)) }

@@ -9,7 +9,7 @@ ghost use Rattle.f8_machine.specs.BusSteps.{IsServedBy};
 ghost use Rattle.f8_machine.specs.Vectoring.{Acknowledges, IsAcknowledged, clocks_of_plan, fetch_by};
 
 use super::bus_step::bus_step_by;
-use super::record::{MOST_STEPS, Record};
+use super::record::{MOST_HEARD, Record};
 use chip_face::{Chip, MOST_CHIPS};
 use cpu3850::{Romc, Step, Steps};
 use data_bus::Rack;
@@ -62,7 +62,7 @@ fn sure_step(
     steps: &mut Record,
 ) -> u8
     requires few { length rack.old.items ≤ MOST_CHIPS }
-    requires room { length steps.old < MOST_STEPS }
+    requires room { length steps.old < MOST_HEARD }
     requires chosen { ChosenAsks step.romc first (map state rack.old.items) }
     requires sure { is_access (rule_of step.romc) ≡ false }
     ensures served { IsServedBy first step 0 probe.old probe.new
@@ -77,9 +77,11 @@ fn sure_step(
 }
 
 /// The acknowledgement of the interrupt of the chip in a socket, which asks.
+// Not inlined, since nearly no end of an instruction comes here.
+#[inline(never)]
 fn acknowledge(rack: &mut Rack, probe: &mut Probe, socket: u8, steps: &mut Record)
     requires few { length rack.old.items ≤ MOST_CHIPS }
-    requires room { length steps.old + 4 < MOST_STEPS }
+    requires room { length steps.old + 4 < MOST_HEARD }
     requires asks { NamesAsking (Some socket) (map state rack.old.items) }
     ensures acknowledged { IsAcknowledged socket probe.old probe.new
         (map state rack.old.items) (map state rack.new.items) steps.old steps.new }
@@ -100,11 +102,11 @@ pub(crate) fn acknowledge_chosen(
     steps: &mut Record,
 )
     requires few { length rack.old.items ≤ MOST_CHIPS }
-    requires room { length steps.old + 4 < MOST_STEPS }
+    requires room { length steps.old + 4 < MOST_HEARD }
     requires asks { IfSome chosen (λ socket. NamesAsking (Some socket) (map state rack.old.items)) }
     ensures acknowledged { Acknowledges chosen probe.old probe.new
         (map state rack.old.items) (map state rack.new.items) steps.old steps.new }
-    ensures room { length steps.new < MOST_STEPS }
+    ensures room { length steps.new < MOST_HEARD }
     ensures chips { length rack.new.items ≡ length rack.old.items }
 {
     if let Some(socket) = chosen {

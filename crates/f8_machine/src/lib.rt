@@ -23,4 +23,4 @@ pub use data_bus::{BusFault, Rack};
 pub use heard::Heard;
 pub use machine::Machine;
 pub use outcome::Outcome;
-pub use record::{MOST_STEPS, Record};
+pub use record::{MOST_HEARD, Record};

@@ -7,25 +7,25 @@ use romc_table::Romc;
 use std::marker::Model;
 
 /// The most bus steps of an instruction: four, and the five of an interrupt (this project's own, after the Fairchild F8 User's Guide).
-pub const MOST_STEPS: usize = 9;
+pub const MOST_HEARD: usize = 9;
 
 /// The served bus steps of an instruction or of reset, at most nine, in order. Contracts see the list.
 #[derive(Debug, Drop)]
 pub struct Record {
-    items: [Heard; MOST_STEPS],
+    items: [Heard; MOST_HEARD],
     len: usize,
 }
 
 impl Model for Record {
     ghost use Rattle.std.specs.Prelude.{List, ◌≤◌, ◌≡◌, length, take};
     ghost use Rattle.f8_machine.specs.declared.heard.Heard.{Heard};
-    ghost use Rattle.f8_machine.specs.declared.record.TheConstants.{MOST_STEPS};
+    ghost use Rattle.f8_machine.specs.declared.record.TheConstants.{MOST_HEARD};
 
     ghost Value = { List Heard };
 
     ghost view = { λ r. take r.len r.items };
 
-    ghost invariant = { λ r. (r.len ≤ MOST_STEPS) × (length r.items ≡ MOST_STEPS) };
+    ghost invariant = { λ r. (r.len ≤ MOST_HEARD) × (length r.items ≡ MOST_HEARD) };
 }
 
 impl Record {
@@ -40,14 +40,14 @@ impl Record {
                 byte: 0,
                 who: Who::Cpu,
                 taker: None,
-            }; MOST_STEPS],
+            }; MOST_HEARD],
             len: 0,
         }
     }
 
     /// Adds a step behind the others.
     pub fn push(&mut self, step: Heard)
-        requires { length self.old < MOST_STEPS }
+        requires { length self.old < MOST_HEARD }
         ensures { self.new ≡ self.old ++ step ∷ [] }
     {
         let len = self.len;
@@ -58,7 +58,7 @@ impl Record {
     /// All of them.
     pub fn as_slice(&self) -> &[Heard]
         ensures value { result.now ≡ self.now }
-        ensures few { length result.now ≤ MOST_STEPS }
+        ensures few { length result.now ≤ MOST_HEARD }
     {
         let len = self.len;
         &self.items[..len]
@@ -67,7 +67,7 @@ impl Record {
     /// How many there are.
     pub fn len(&self) -> usize
         ensures value { result ≡ length self.now }
-        ensures few { result ≤ MOST_STEPS }
+        ensures few { result ≤ MOST_HEARD }
     {
         self.len
     }

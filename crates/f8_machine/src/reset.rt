@@ -8,7 +8,7 @@ ghost use Rattle.f8_machine.specs.Rounds.{RackRuns};
 
 use super::bus_step::bus_step;
 use super::carry::Unserved;
-use super::record::{MOST_STEPS, Record};
+use super::record::{MOST_HEARD, Record};
 use chip_face::{Chip, MOST_CHIPS};
 use cpu3850::{Romc, Step};
 use data_bus::Rack;
@@ -42,7 +42,7 @@ fn quiet_step(
     steps: &mut Record,
 ) -> Result<u8, Unserved>
     requires few { length rack.old.items ≤ MOST_CHIPS }
-    requires room { length steps.old < MOST_STEPS }
+    requires room { length steps.old < MOST_HEARD }
     requires plain { IsPlain step.romc }
     ensures served { IfOk result (λ byte. IsServed step 0 probe.old probe.new
         (map state rack.old.items) (map state rack.new.items) steps.old steps.new byte) }

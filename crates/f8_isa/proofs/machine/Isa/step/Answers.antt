@@ -7,23 +7,23 @@ pub returns-clause-goes : goal.returns-clause-goes
 returns-clause-goes c =
     let code : c.byte-code.result ≡ byte_at c.args.self.now.memory c.args.self.now.flow.p = rw (← c.self.view_is) c.byte-code.ensures in
     let row = rw code at c.in-Some.ensures in
-    goes_to c.in-Some.instruction.op c.args.self.now c.carry_out-wrote.new.self c.finish.new.self c.carry_out-wrote.result c.finish.result.wrote
-    row.0 row.1.in_range c.carry_out-wrote.ensures.ranges c.carry_out-wrote.ensures.state c.carry_out-wrote.ensures.wrote c.finish.ensures.state
-    c.finish.ensures.wrote c.finish.ensures.reach
+    goes_to c.in-Some.instruction.op c.args.self.now c.carry_out-wrote.new.self c.finish-vectored.new.self c.carry_out-wrote.result c.finish-vectored.new.wrote
+    row.0 row.1.in_range c.carry_out-wrote.ensures.ranges c.carry_out-wrote.ensures.state c.carry_out-wrote.ensures.wrote c.finish-vectored.ensures.state
+    c.finish-vectored.ensures.wrote c.finish-vectored.ensures.reach
 
 pub returns-clause-interrupt : goal.returns-clause-interrupt
 returns-clause-interrupt c =
     let code : c.byte-code.result ≡ byte_at c.args.self.now.memory c.args.self.now.flow.p = rw (← c.self.view_is) c.byte-code.ensures in
     let row = rw code at c.in-Some.ensures in
-    tells_interrupt c.in-Some.instruction.op c.args.self.now c.carry_out-wrote.new.self c.finish.result.vectored
-    row.0 row.1.in_range c.carry_out-wrote.ensures.ranges c.carry_out-wrote.ensures.state c.finish.ensures.vectored
+    tells_interrupt c.in-Some.instruction.op c.args.self.now c.carry_out-wrote.new.self c.finish-vectored.result
+    row.0 row.1.in_range c.carry_out-wrote.ensures.ranges c.carry_out-wrote.ensures.state c.finish-vectored.ensures.vectored
 
 pub returns-clause-clocks : goal.returns-clause-clocks
 returns-clause-clocks c =
-    (finished_phi c.in-Some.instruction.op c.args.self.now c.carry_out-wrote.new.self c.finish.new.self c.carry_out-wrote.ensures.state
-    c.finish.ensures.state c.carry_out-wrote.ensures.clocks).1
+    (finished_phi c.in-Some.instruction.op c.args.self.now c.carry_out-wrote.new.self c.finish-vectored.new.self c.carry_out-wrote.ensures.state
+    c.finish-vectored.ensures.state c.carry_out-wrote.ensures.clocks).1
 
 pub returns-clause-onward : goal.returns-clause-onward
 returns-clause-onward c =
-    (finished_phi c.in-Some.instruction.op c.args.self.now c.carry_out-wrote.new.self c.finish.new.self c.carry_out-wrote.ensures.state
-    c.finish.ensures.state c.carry_out-wrote.ensures.clocks).0
+    (finished_phi c.in-Some.instruction.op c.args.self.now c.carry_out-wrote.new.self c.finish-vectored.new.self c.carry_out-wrote.ensures.state
+    c.finish-vectored.ensures.state c.carry_out-wrote.ensures.clocks).0
