@@ -53,7 +53,8 @@ copies_part_text = refl
 
 -- ROM and RAM answer one read
 both_answer_text : text_of (ending_lines (played (psu_and_ram rom_and_ram) 0 9)) ≡
-    codes "stop conflict romc 02 socket 0 at 0010 socket 12 at 2800\nregs P=0008 P1=0000 D0=2800 D1=0010 A=00 IS=00 W=00\n" ++ no_scratch ++ codes "total 4 instructions 78 phi\n"
+    codes "stop conflict romc 02 socket 0 at 0010 socket 12 at 2800\nregs P=0008 P1=0000 D0=2800 D1=0010 A=00 IS=00 W=00\n" ++ no_scratch
+    ++ codes "total 4 instructions 78 phi\n"
 unfolding running printing
 both_answer_text = refl
 

@@ -14,5 +14,6 @@ pub mod FlatMachine
 pub mod Run
 pub mod Scripts
 pub mod Telling
+pub mod FreeRuns
 pub mod RunText
 pub mod Generator
