@@ -1,0 +1,2 @@
+pub mod WorkedResults
+pub mod WorkedFlow

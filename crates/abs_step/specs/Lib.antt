@@ -1,0 +1,10 @@
+pub mod Known
+pub mod RegisterWrites
+pub mod KnownResults
+pub mod KnownFlow
+pub mod MapView
+pub mod Successors
+pub mod Safety
+pub mod Concretization
+pub mod FreeRuns
+pub mod Soundness

@@ -1,0 +1,52 @@
+-- What the checker knows of the chips: what a map tells of addresses, ports and kinds of chip, and that it is so of some chips.
+use Rattle.std.specs.Prelude.{◌≡◌, ℕ, ◌<◌, ◌*◌, Bool, true, false, List, Option, Some}
+use Rattle.std.specs.List.{list_any, list_all, range_with_len}
+use Rattle.f8_spec.specs.BusArbitration.{Seat}
+use Rattle.f8_spec.specs.declared.chips.ChipKind.{ChipKind}
+use Rattle.console_spec.specs.FlatMemory.{sort_of, is_ram_sort}
+use Rattle.console_spec.specs.Writes.{readers, takers}
+use Rattle.console_spec.specs.declared.Sort.{Sort}
+use Rattle.console_spec.specs.declared.Sort.TheVariants.{Rom, Ram, Void, Nothing, Shared}
+use Rattle.memory_map.specs.MapKinds.{kind_holds, kind_has_pages}
+
+-- by address what it is, the byte that stays there, and whether a chip of a kind holds it; how many chips have a port as a data port, and
+-- how many have it at all; whether some chip of a kind has pages; whether two chips hold an address; and whether some chip can interrupt
+pub record MapView : Type 0 where
+  pub sort : ℕ → Sort
+  pub byte : ℕ → Option ℕ
+  pub held : ℕ → ChipKind → Bool
+  pub readers : ℕ → ℕ
+  pub takers : ℕ → ℕ
+  pub any : ChipKind → Bool
+  pub overlaps : Bool
+  pub wired : Bool
+
+abbrev pub is_shared : Sort → Bool
+is_shared Rom = false
+is_shared Ram = false
+is_shared Void = false
+is_shared Nothing = false
+is_shared Shared = true
+
+-- one chip or more holds an address
+abbrev pub is_held : Sort → Bool
+is_held Rom = true
+is_held Ram = true
+is_held Void = true
+is_held Nothing = false
+is_held Shared = true
+
+-- every address is held: the first of each page is
+unfoldable pub holds_every_address : MapView → Bool
+holds_every_address m = list_all (λ number. is_held (m.sort (number * 256))) (range_with_len 0 256)
+
+-- The map is right of some chips. Where it tells a byte, no store changes what is there.
+pub record IsViewOf (m : MapView) (seats : List Seat) : Type 0 where
+  pub sort : (at : ℕ) → at < 65536 → m.sort at ≡ sort_of seats at
+  pub stays : (at byte : ℕ) → at < 65536 → m.byte at ≡ Some byte → is_ram_sort (sort_of seats at) ≡ false
+  pub held : (at : ℕ) → at < 65536 → (kind : ChipKind) → m.held at kind ≡ kind_holds kind seats at
+  pub readers : (port : ℕ) → port < 256 → m.readers port ≡ readers port seats
+  pub takers : (port : ℕ) → port < 256 → m.takers port ≡ takers port seats
+  pub any : (kind : ChipKind) → m.any kind ≡ kind_has_pages kind seats
+  pub overlaps : (at : ℕ) → at < 65536 → sort_of seats at ≡ Shared → m.overlaps ≡ true
+  pub wired : list_any (λ s. s.wired) seats ≡ m.wired
