@@ -1,2 +1,3 @@
 pub mod WorkedResults
 pub mod WorkedFlow
+pub mod WorkedSteps
