@@ -23,9 +23,8 @@ chosen_flag chosen flag = if chosen then flag else Some false
 -- one of the flags that the bits of t choose is set
 abbrev pub known_any_chosen : ℕ → KnownStatus → Option Bool
 known_any_chosen t w =
-    known_or (chosen_flag (t % 2 == 1) w.sign)
-    (known_or (chosen_flag (t / 2 % 2 == 1) w.carry)
-    (known_or (chosen_flag (t / 4 % 2 == 1) w.zero) (chosen_flag (t / 8 % 2 == 1) w.overflow)))
+    known_or (known_or (known_or (chosen_flag (t % 2 == 1) w.sign) (chosen_flag (t / 2 % 2 == 1) w.carry))
+    (chosen_flag (t / 4 % 2 == 1) w.zero)) (chosen_flag (t / 8 % 2 == 1) w.overflow)
 
 abbrev pub known_taken : Op → KnownRegisters → Option Bool
 known_taken (Bt t) k = known_any_chosen t k.status
