@@ -6,3 +6,7 @@ pub mod Scratchpads
 pub mod Effects
 pub mod Exact
 pub mod InputLaws
+pub mod CounterLaws
+pub mod ExitLaws
+pub mod Members
+pub mod Accesses

@@ -1,8 +1,9 @@
 -- What the checker knows of the chips: what a map tells of addresses, ports and kinds of chip, and that it is so of some chips.
 use Rattle.std.specs.Prelude.{◌≡◌, ℕ, ◌<◌, ◌*◌, Bool, true, false, List, Option, Some}
-use Rattle.std.specs.List.{list_any, list_all, range_with_len}
-use Rattle.f8_spec.specs.BusArbitration.{Seat}
+use Rattle.std.specs.List.{AllByRecursion, list_any, list_all, range_with_len}
+use Rattle.f8_spec.specs.BusArbitration.{Seat, seat_has_ram}
 use Rattle.f8_spec.specs.declared.chips.ChipKind.{ChipKind}
+use Rattle.f8_spec.specs.declared.chips.ChipKind.TheVariants.{Smi}
 use Rattle.console_spec.specs.FlatMemory.{sort_of, is_ram_sort}
 use Rattle.console_spec.specs.Writes.{readers, takers}
 use Rattle.console_spec.specs.declared.Sort.{Sort}
@@ -40,7 +41,11 @@ is_held Shared = true
 unfoldable pub holds_every_address : MapView → Bool
 holds_every_address m = list_all (λ number. is_held (m.sort (number * 256))) (range_with_len 0 256)
 
--- The map is right of some chips. Where it tells a byte, no store changes what is there.
+-- a chip with RAM is a 3853
+abbrev pub HasOwnRam : Seat → Type 0
+HasOwnRam s = (at : ℕ) → seat_has_ram s at ≡ true → s.kind ≡ Smi
+
+-- The map is right of some chips. Where it tells a byte, no store changes what is there. Only 3853s have RAM.
 pub record IsViewOf (m : MapView) (seats : List Seat) : Type 0 where
   pub sort : (at : ℕ) → at < 65536 → m.sort at ≡ sort_of seats at
   pub stays : (at byte : ℕ) → at < 65536 → m.byte at ≡ Some byte → is_ram_sort (sort_of seats at) ≡ false
@@ -49,4 +54,5 @@ pub record IsViewOf (m : MapView) (seats : List Seat) : Type 0 where
   pub takers : (port : ℕ) → port < 256 → m.takers port ≡ takers port seats
   pub any : (kind : ChipKind) → m.any kind ≡ kind_has_pages kind seats
   pub overlaps : (at : ℕ) → at < 65536 → sort_of seats at ≡ Shared → m.overlaps ≡ true
-  pub wired : list_any (λ s. s.wired) seats ≡ m.wired
+  pub wired : m.wired ≡ list_any (λ s. s.wired) seats
+  pub ram : AllByRecursion HasOwnRam seats
