@@ -10,3 +10,5 @@ pub mod CounterLaws
 pub mod ExitLaws
 pub mod Members
 pub mod Accesses
+pub mod Holders
+pub mod MapLaws
