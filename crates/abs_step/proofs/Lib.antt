@@ -12,3 +12,4 @@ pub mod Members
 pub mod Accesses
 pub mod Holders
 pub mod MapLaws
+pub mod Services

@@ -1,5 +1,5 @@
 -- What the checker knows of the chips: what a map tells of addresses, ports and kinds of chip, and that it is so of some chips.
-use Rattle.std.specs.Prelude.{◌≡◌, ℕ, ◌<◌, ◌*◌, Bool, true, false, List, Option, Some}
+use Rattle.std.specs.Prelude.{◌≡◌, ℕ, ◌<◌, ◌*◌, Bool, true, false, List, Option, Some, is_some}
 use Rattle.std.specs.List.{AllByRecursion, list_any, list_all, range_with_len}
 use Rattle.f8_spec.specs.BusArbitration.{Seat, seat_has_ram}
 use Rattle.f8_spec.specs.declared.chips.ChipKind.{ChipKind}
@@ -8,7 +8,7 @@ use Rattle.console_spec.specs.FlatMemory.{sort_of, is_ram_sort}
 use Rattle.console_spec.specs.Writes.{readers, takers}
 use Rattle.console_spec.specs.declared.Sort.{Sort}
 use Rattle.console_spec.specs.declared.Sort.TheVariants.{Rom, Ram, Void, Nothing, Shared}
-use Rattle.memory_map.specs.MapKinds.{kind_holds, kind_has_pages}
+use Rattle.memory_map.specs.MapKinds.{is_held_once, kind_holds, kind_has_pages}
 
 -- by address what it is, the byte that stays there, and whether a chip of a kind holds it; how many chips have a port as a data port, and
 -- how many have it at all; whether some chip of a kind has pages; whether two chips hold an address; and whether some chip can interrupt
@@ -45,10 +45,12 @@ holds_every_address m = list_all (λ number. is_held (m.sort (number * 256))) (r
 abbrev pub HasOwnRam : Seat → Type 0
 HasOwnRam s = (at : ℕ) → seat_has_ram s at ≡ true → s.kind ≡ Smi
 
--- The map is right of some chips. Where it tells a byte, no store changes what is there. Only 3853s have RAM.
+-- The map is right of some chips. It tells the byte of each address that one chip alone holds and no store changes, and none that a store
+-- changes. Only 3853s have RAM.
 pub record IsViewOf (m : MapView) (seats : List Seat) : Type 0 where
   pub sort : (at : ℕ) → at < 65536 → m.sort at ≡ sort_of seats at
   pub stays : (at byte : ℕ) → at < 65536 → m.byte at ≡ Some byte → is_ram_sort (sort_of seats at) ≡ false
+  pub told : (at : ℕ) → at < 65536 → is_held_once (m.sort at) ≡ true → is_ram_sort (m.sort at) ≡ false → is_some (m.byte at) ≡ true
   pub held : (at : ℕ) → at < 65536 → (kind : ChipKind) → m.held at kind ≡ kind_holds kind seats at
   pub readers : (port : ℕ) → port < 256 → m.readers port ≡ readers port seats
   pub takers : (port : ℕ) → port < 256 → m.takers port ≡ takers port seats
