@@ -13,3 +13,4 @@ pub mod Accesses
 pub mod Holders
 pub mod MapLaws
 pub mod Services
+pub mod SafeRows
