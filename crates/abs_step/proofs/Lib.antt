@@ -14,3 +14,5 @@ pub mod Holders
 pub mod MapLaws
 pub mod Services
 pub mod SafeRows
+pub mod Opcodes
+pub mod Reasons
