@@ -1,5 +1,5 @@
 -- What an instruction gets of what is known: the order is kept, and where all is known it is what the flat machine gets.
-use Rattle.std.proofs.Common.{◌≡◌, ℕ, ◌/◌, ◌%◌, Bool, true, false, ◌&&◌, ◌||◌, refl}
+use Rattle.std.proofs.Common.{sym, ◌≡◌, ℕ, ◌/◌, ◌%◌, Bool, true, false, ◌&&◌, ◌||◌, refl}
 use Rattle.std.specs.Prelude.{Option, Some, ◌==◌}
 use Rattle.f8_spec.specs.Words.{places_on}
 use Rattle.f8_spec.specs.Flags.{Status}
@@ -139,3 +139,7 @@ used_tells Call i j h = h.operand
 used_tells Jump i j h = h.operand
 used_tells ReadData i j h = h.data_byte
 used_tells row i j h = tt
+
+-- whether a branch is taken, by what is known above
+pub taken_tells : (op : Op) (m : Registers) (k : KnownRegisters) → RegistersBelow (whole_registers m) k → Below (Some (is_taken op m)) (known_taken op k)
+taken_tells op m k h = rw (sym (taken_whole op m)) (taken_below op (whole_registers m) k h)

@@ -16,3 +16,4 @@ pub mod Services
 pub mod SafeRows
 pub mod Opcodes
 pub mod Reasons
+pub mod Standing
