@@ -17,3 +17,4 @@ pub mod SafeRows
 pub mod Opcodes
 pub mod Reasons
 pub mod Standing
+pub mod SafeSteps
