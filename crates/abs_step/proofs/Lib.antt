@@ -18,3 +18,4 @@ pub mod Opcodes
 pub mod Reasons
 pub mod Standing
 pub mod SafeSteps
+pub mod Leads

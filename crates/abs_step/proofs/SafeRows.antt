@@ -65,7 +65,7 @@ is_not : (b : Bool) → not b ≡ false → b ≡ true
 is_not true e = refl
 is_not false e = absurd (cc)
 
-holds_if_known : {P : Type 0} (o : Option ℕ) → is_none o ≡ false → Holds (is_some o) P → P
+pub holds_if_known : {P : Type 0} (o : Option ℕ) → is_none o ≡ false → Holds (is_some o) P → P
 holds_if_known None e h = absurd (cc)
 holds_if_known (Some v) e h = h
 

@@ -1,0 +1,203 @@
+-- Where a safe instruction goes: to one of its exits, and what is known after it stands for the position there.
+use Rattle.std.proofs.Common.{◌≡◌, ℕ, Bool, true, false, List, [], ◌∷◌, ◌++◌, refl, ap, sym, ◌∙◌, subst, inl, inr, arith}
+use Rattle.std.specs.Prelude.{Option, Some, None, is_some, is_none}
+use Rattle.std.specs.List.{AllByRecursion}
+use Rattle.f8_spec.specs.Words.{places_on}
+use Rattle.f8_spec.specs.ChipState.{has_second_counter}
+use Rattle.f8_spec.specs.Instructions.{row_of, row_length}
+use Rattle.f8_spec.specs.declared.instructions.Op.{Op}
+use Rattle.f8_spec.specs.declared.instructions.Row.{Row}
+use Rattle.f8_spec.specs.declared.instructions.Row.TheVariants.{StackFromK, CallK, JumpQ, Return, Call, Jump, Branch, BranchIsar, Exchange}
+use Rattle.console_spec.specs.Processor.{Registers, registers_after, Flow, Inputs, flow_after, counters_after, result_of}
+use Rattle.console_spec.specs.CounterCopies.{Copy, copy_after}
+use Rattle.console_spec.specs.Run.{Position, gets_at, position_after}
+use Rattle.abs_domain.specs.Lattice.{Below}
+use Rattle.abs_domain.specs.AbstractState.{KnownCounters, RegistersBelow}
+use Rattle.abs_step.specs.Known.{known_word}
+use Rattle.abs_step.specs.KnownFlow.{KnownInputs, Exit, exit_to, branch_exits, branch_target, exits}
+use Rattle.abs_step.specs.MapView.{MapView}
+use Rattle.abs_step.specs.Safety.{operand_reasons, code_reasons, jump_is_lost, return_is_lost, return_is_unset}
+use Rattle.abs_step.specs.Successors.{Invariant, inputs_at, state_after, exits_of, at_exit}
+use Rattle.abs_step.specs.Concretization.{DataTells, Holds, CopyTells, StandsFor, whole_registers}
+use Rattle.abs_step.proofs.Members.{all_mapped, IsIn, from_all, all_map}
+use Rattle.abs_step.proofs.Exact.{results_tell}
+use Rattle.abs_step.proofs.InputLaws.{whole_inputs, InputsBelow, used_tells}
+use Rattle.abs_step.proofs.CounterLaws.{data_tells, chip_tells}
+use Rattle.abs_step.proofs.ExitLaws.{HasMatch, Matched, ExitBelow, is_ready, exits_below, exits_whole, same_next}
+use Rattle.abs_step.proofs.Reasons.{IsCode, code_of}
+use Rattle.abs_step.proofs.SafeRows.{holds_if_known, NoneHold, uninterrupted}
+use Rattle.abs_step.proofs.SafeSteps.{IsSafeHere, gets_tell, chosen_none}
+
+-- ---- the stack registers at an exit
+
+holds_of : {P : Type 0} (b : Bool) → P → Holds b P
+holds_of true h = h
+holds_of false h = tt
+
+-- where the return is set there, a copy's stack register is the flat machine's
+abbrev IsBackAt : Flow → Flow → Exit → Type 0
+IsBackAt r c e = Holds (is_some e.ret) (c.p1 ≡ r.p1)
+
+each_to : (r c : Flow) (x ret : Option ℕ) → Holds (is_some ret) (c.p1 ≡ r.p1) → AllByRecursion (IsBackAt r c) (exit_to x ret)
+each_to r c None ret h = tt
+each_to r c (Some at) ret h = (h, tt)
+
+each_of_both : (r c : Flow) (es fs : List Exit) → AllByRecursion (IsBackAt r c) es → AllByRecursion (IsBackAt r c) fs →
+    AllByRecursion (IsBackAt r c) (es ++ fs)
+each_of_both r c [] fs p q = q
+each_of_both r c (e ∷ es) fs p q = (p.0, each_of_both r c es fs p.1 q)
+
+each_branch : (r c : Flow) (taken : Option Bool) (x : Option ℕ) (next : ℕ) (ret : Option ℕ) → Holds (is_some ret) (c.p1 ≡ r.p1) →
+    AllByRecursion (IsBackAt r c) (branch_exits taken x next ret)
+each_branch r c (Some true) x next ret h = each_to r c x ret h
+each_branch r c (Some false) x next ret h = each_to r c (Some next) ret h
+each_branch r c None x next ret h = each_of_both r c (exit_to x ret) _ (each_to r c x ret h) (each_to r c (Some next) ret h)
+
+backs : (row : Row) (i : Inputs) (j : KnownInputs) (at : ℕ) (ret : Option ℕ) (second : Bool) (r c : Flow) → c.p ≡ r.p →
+    Holds (is_some ret) (c.p1 ≡ r.p1) →
+    AllByRecursion (IsBackAt (flow_after row i true r) (flow_after row i second c)) (exits row j at ret)
+backs StackFromK i j at ret second r c p back = each_to (flow_after StackFromK i true r) (flow_after StackFromK i second c) (Some (places_on at 1)) _ (holds_of _ refl)
+backs CallK i j at ret second r c p back = each_to (flow_after CallK i true r) (flow_after CallK i second c) (known_word j.k_high j.k_low) _ (ap (λ a. places_on a 1) p)
+backs JumpQ i j at ret second r c p back = each_to (flow_after JumpQ i true r) (flow_after JumpQ i second c) (known_word j.q_high j.q_low) ret back
+backs Return i j at ret second r c p back = each_to (flow_after Return i true r) (flow_after Return i second c) ret ret back
+backs Call i j at ret second r c p back = each_to (flow_after Call i true r) (flow_after Call i second c) (known_word j.operand j.second) _ (ap (λ a. places_on a 3) p)
+backs Jump i j at ret second r c p back = each_to (flow_after Jump i true r) (flow_after Jump i second c) (known_word j.operand j.second) ret back
+backs Branch i j at ret second r c p back = each_branch (flow_after Branch i true r) (flow_after Branch i second c) j.taken (branch_target at j) (places_on at 2) ret back
+backs BranchIsar i j at ret second r c p back = each_branch (flow_after BranchIsar i true r) (flow_after BranchIsar i second c) j.taken (branch_target at j) (places_on at 2) ret back
+backs Exchange i j at ret second r c p back = by second
+  where
+    by : (s : Bool) → AllByRecursion (IsBackAt (flow_after Exchange i true r) (flow_after Exchange i s c)) (exits Exchange j at ret)
+    by true = (back, tt)
+    by false = (back, tt)
+backs row i j at ret second r c p back = (back, tt)
+
+-- ---- all that the exits need is known
+
+known_of : (o : Option ℕ) → is_none o ≡ false → is_some o ≡ true
+known_of None e = absurd (cc)
+known_of (Some v) e = refl
+
+both_known : (x y : Option ℕ) → is_some x ≡ true → is_some y ≡ true → is_some (known_word x y) ≡ true
+both_known None y p q = absurd (cc)
+both_known (Some a) None p q = absurd (cc)
+both_known (Some a) (Some b) p q = refl
+
+-- ---- without an interrupt
+
+unvectored : (op : Op) (i : Inputs) (m : Registers) → i.chosen ≡ None → registers_after op i m ≡ result_of op i m
+unvectored op i m none = rw none refl
+
+copies_uninterrupted : (row : Row) (i : Inputs) (ret : Option ℕ) (k : KnownCounters) (r : Flow) (c : Copy) → i.chosen ≡ None →
+    CopyTells ret k (flow_after row i true r) (record c { flow = flow_after row i (has_second_counter c.seat.kind) c.flow }) →
+    CopyTells ret k (counters_after row i true r) (copy_after row i c)
+copies_uninterrupted row i ret k r c none h =
+    let first = uninterrupted row i true r none in
+    let own = uninterrupted row i (has_second_counter c.seat.kind) c.flow none in
+    subst (λ (f : Flow). CopyTells ret k f (copy_after row i c)) (sym first)
+    (subst (λ (f : Flow). CopyTells ret k (flow_after row i true r) (record c { flow = f })) (sym own) h)
+
+-- ---- the exit that is taken
+
+found : (p p1 : ℕ) (es : List Exit) → HasMatch (ExitBelow Below (λ v. refl)) (record { at = p; ret = Some p1 }) es →
+    (e : Exit) × IsIn e es × (p ≡ e.at) × Below (Some p1) e.ret
+found p p1 [] h = absurd h
+found p p1 (e ∷ es) (inl here) = (e, inl refl, here.at, here.ret)
+found p p1 (e ∷ es) (inr later) = let rest = found p p1 es later in (rest.0, inr rest.1, rest.2, rest.3)
+
+-- the flat machine goes to one of those known
+taken_by : (row : Row) (i : Inputs) (j : KnownInputs) (r : Flow) (at : ℕ) (ret : Option ℕ) → InputsBelow (whole_inputs i) j →
+    Below (Some r.p1) ret → is_ready row j ret ≡ true → r.p ≡ at →
+    (e : Exit) × IsIn e (exits row j at ret) × ((flow_after row i true r).p ≡ e.at) × Below (Some (flow_after row i true r).p1) e.ret
+taken_by row i j r at ret tell back ready here =
+    let matched = exits_below Below (λ v. refl) row (whole_inputs i) j r.p (Some r.p1) ret tell back back ready in
+    let exact : Matched (ExitBelow Below (λ v. refl)) (exit_to (Some (flow_after row i true r).p) (Some (flow_after row i true r).p1))
+        (exits row j r.p ret) = rw (exits_whole row i r) at matched in
+    subst (λ (a : ℕ). (e : Exit) × IsIn e (exits row j a ret) × ((flow_after row i true r).p ≡ e.at) × Below (Some (flow_after row i true r).p1) e.ret)
+    here (found _ _ (exits row j r.p ret) exact.0)
+
+module _ (m : MapView) (tracked : List ℕ) (x : Invariant) (op : Op) (here : Position) (safe : IsSafeHere m tracked x op here) where
+  told : (n : ℕ) → NoneHold (code_reasons m (places_on x.point.at n)) → is_some (m.byte (places_on x.point.at n)) ≡ true
+  told n none =
+      let code : IsCode m (places_on x.point.at n) = code_of m (places_on x.point.at n) none in
+      safe.beside.view.told (places_on x.point.at n) (omega arith) code.once code.stays
+
+  ready : is_ready (row_of op) (inputs_at op m x) x.point.ret ≡ true
+  ready = by (row_of op) safe.state.operands safe.state.later.0 safe.state.later.1.0 safe.state.later.1.1.0
+    where
+      by : (row : Row) → NoneHold (operand_reasons (row_length row) m x.point.at) → jump_is_lost row x.state.registers ≡ false →
+          return_is_lost row x.state.registers ≡ false → return_is_unset row x.point.ret ≡ false →
+          is_ready row (inputs_at op m x) x.point.ret ≡ true
+      by StackFromK operands jump return unset = known_of _ return
+      by CallK operands jump return unset = known_of _ jump
+      by JumpQ operands jump return unset = known_of _ jump
+      by Return operands jump return unset = known_of _ unset
+      by Call operands jump return unset = both_known _ _ (told 1 (operands.0, (operands.1.0, tt))) (told 2 operands.1.1)
+      by Jump operands jump return unset = both_known _ _ (told 1 (operands.0, (operands.1.0, tt))) (told 2 operands.1.1)
+      by Branch operands jump return unset = told 1 operands
+      by BranchIsar operands jump return unset = told 1 operands
+      by row operands jump return unset = refl
+
+  -- ---- the exit that is taken
+
+  -- it is one of those known
+  pub record Taken : Type 0 where
+    pub exit : Exit
+    pub is : IsIn exit (exits_of op m x)
+    pub at : (flow_after (row_of op) (gets_at op here) true here.flat.state.flow).p ≡ exit.at
+    pub ret : Below (Some (flow_after (row_of op) (gets_at op here) true here.flat.state.flow).p1) exit.ret
+
+  pub taken : Taken
+  taken =
+      let way = taken_by (row_of op) (gets_at op here) (inputs_at op m x) here.flat.state.flow x.point.at x.point.ret
+          (gets_tell m tracked x op here safe) safe.beside.tells.ret ready safe.beside.tells.at in
+      record { exit = way.0; is = way.1; at = way.2; ret = way.3 }
+
+  -- ---- what is known after the instruction stands for the position there
+
+  registers_stand : RegistersBelow (whole_registers (position_after op here).flat.state.registers) (state_after op m x).registers
+  registers_stand =
+      let i = gets_at op here in
+      let own = gets_tell m tracked x op here safe in
+      let result : RegistersBelow (whole_registers (result_of op i here.flat.state.registers)) (state_after op m x).registers =
+          results_tell op i here.flat.state.registers _ _ _ x.state.registers safe.range
+          (used_tells (row_of op) i (inputs_at op m x) own) own.stack_bytes own.counter_bytes safe.beside.tells.registers in
+      subst (λ (z : Registers). RegistersBelow (whole_registers z) (state_after op m x).registers)
+      (sym (unvectored op i here.flat.state.registers (chosen_none m tracked x op here safe))) result
+
+  -- a copy of the counters, at an exit
+  copy_stands : (e : Exit) → IsIn e (exits_of op m x) → (c : Copy) → CopyTells x.point.ret x.state.counters here.flat.state.flow c →
+      CopyTells e.ret (state_after op m x).counters (flow_after (row_of op) (gets_at op here) true here.flat.state.flow)
+      (record c { flow = flow_after (row_of op) (gets_at op here) (has_second_counter c.seat.kind) c.flow })
+  copy_stands e is c h =
+      let i = gets_at op here in
+      let row = row_of op in
+      let own = gets_tell m tracked x op here safe in
+      record {
+        at = same_next row i true (has_second_counter c.seat.kind) here.flat.state.flow c.flow h.at (back_by row h.back safe.state.later.1.1.0);
+        back = from_all _ (exits_of op m x) e
+            (backs row i (inputs_at op m x) x.point.at x.point.ret (has_second_counter c.seat.kind) here.flat.state.flow c.flow h.at h.back) is;
+        chip = chip_tells c.seat.kind row i (inputs_at op m x) x.state.counters here.flat.state.flow c.flow own safe.beside.tells.counters h.chip;
+      }
+    where
+      back_by : (row : Row) → Holds (is_some x.point.ret) (c.flow.p1 ≡ here.flat.state.flow.p1) → return_is_unset row x.point.ret ≡ false →
+          row ≡ Return → c.flow.p1 ≡ here.flat.state.flow.p1
+      back_by row back set is_return =
+          let here_set : return_is_unset Return x.point.ret ≡ false = rw is_return at set in
+          holds_if_known x.point.ret here_set back
+
+  pub stands : (way : Taken) → StandsFor (at_exit tracked (state_after op m x) way.exit) (position_after op here)
+  stands way =
+      let i = gets_at op here in
+      let row = row_of op in
+      let none = chosen_none m tracked x op here safe in
+      let flow = uninterrupted row i true here.flat.state.flow none in
+      record {
+        at = ap (λ (f : Flow). f.p) flow ∙ way.at;
+        ret = rw (ap (λ (f : Flow). f.p1) flow) way.ret;
+        registers = registers_stand;
+        counters = subst (λ (f : Flow). DataTells (state_after op m x).counters f) (sym flow)
+            (data_tells row i (inputs_at op m x) x.state.counters here.flat.state.flow (gets_tell m tracked x op here safe) safe.beside.tells.counters);
+        copies = all_mapped (copy_after row i) _ here.copies (all_map _ _ here.copies
+            (λ c h. copies_uninterrupted row i way.exit.ret (state_after op m x).counters here.flat.state.flow c none (copy_stands way.exit way.is c h))
+            safe.beside.tells.copies);
+      }
