@@ -19,3 +19,4 @@ pub mod Reasons
 pub mod Standing
 pub mod SafeSteps
 pub mod Leads
+pub mod Covering
