@@ -20,3 +20,4 @@ pub mod Standing
 pub mod SafeSteps
 pub mod Leads
 pub mod Covering
+pub mod Ranges
