@@ -84,7 +84,7 @@ both_known (Some a) (Some b) p q = refl
 
 -- ---- without an interrupt
 
-unvectored : (op : Op) (i : Inputs) (m : Registers) → i.chosen ≡ None → registers_after op i m ≡ result_of op i m
+pub unvectored : (op : Op) (i : Inputs) (m : Registers) → i.chosen ≡ None → registers_after op i m ≡ result_of op i m
 unvectored op i m none = rw none refl
 
 copies_uninterrupted : (row : Row) (i : Inputs) (ret : Option ℕ) (k : KnownCounters) (r : Flow) (c : Copy) → i.chosen ≡ None →

@@ -21,3 +21,5 @@ pub mod SafeSteps
 pub mod Leads
 pub mod Covering
 pub mod Ranges
+pub mod RunRanges
+pub mod Runs

@@ -71,7 +71,7 @@ used_small row i h = omega arith
 and_small : (a b : ℕ) → a < 256 → bit_and a b < 256
 and_small a b small = let below : bit_and a b ≤ a = and_le_l a b in omega arith
 
-or_small : (a b : ℕ) → a < 256 → b < 256 → bit_or a b < 256
+pub or_small : (a b : ℕ) → a < 256 → b < 256 → bit_or a b < 256
 or_small a b p q = or_lt 8 a b p q
 
 xor_small : (a b : ℕ) → a < 256 → b < 256 → bit_xor a b < 256

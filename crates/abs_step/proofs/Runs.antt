@@ -1,0 +1,213 @@
+-- Runs with free inputs over a closed and safe invariant map: at every position some invariant of the map stands for it.
+use Rattle.std.proofs.Common.{◌≡◌, ℕ, zero, suc, List, [], ◌∷◌, length, map, replicate, refl, ap, sym, ◌∙◌, subst}
+use Rattle.std.specs.Prelude.{Option, Some, None, slice_get}
+use Rattle.std.specs.List.{AllByRecursion, AllZip}
+use Rattle.f8_spec.specs.Instructions.{decoded, row_of}
+use Rattle.f8_spec.specs.Flags.{clear_status}
+use Rattle.f8_spec.specs.BusArbitration.{Seat}
+use Rattle.f8_spec.specs.declared.chips.ChipKind.{ChipKind}
+use Rattle.f8_spec.specs.declared.chips.ChipKind.TheVariants.{Psu, Smi}
+use Rattle.f8_spec.specs.declared.instructions.Op.{Op}
+use Rattle.console_spec.specs.Processor.{Flow}
+use Rattle.console_spec.specs.CounterCopies.{Copy}
+use Rattle.console_spec.specs.Run.{Position, seats_of, opcode_at, gets_at, position_after, pulse_in}
+use Rattle.console_spec.specs.Telling.{with_event, with_events}
+use Rattle.console_spec.specs.declared.Event.{Event}
+use Rattle.console_spec.specs.declared.Event.TheVariants.{Keys, Pulse}
+use Rattle.abs_domain.specs.Lattice.{Below}
+use Rattle.abs_domain.proofs.Orders.{status_refl}
+use Rattle.abs_step.specs.MapView.{MapView, IsViewOf}
+use Rattle.abs_step.specs.Successors.{Invariant, start_invariant, start_state, state_after, at_exit, successors}
+use Rattle.abs_step.specs.Safety.{unsafe_reason}
+use Rattle.abs_step.specs.Concretization.{ChipTells, StandsFor, whole_status}
+use Rattle.abs_step.specs.FreeRuns.{IsFreeStart, HasByte, IsReached}
+use Rattle.abs_step.specs.Soundness.{Covers, LeadsInto, IsSafeMap}
+use Rattle.abs_step.proofs.Members.{IsIn, from_all, all_map}
+use Rattle.abs_step.proofs.Opcodes.{decoded_in_range}
+use Rattle.abs_step.proofs.Reasons.{safe_state}
+use Rattle.abs_step.proofs.Standing.{IsBeside, opcode_told}
+use Rattle.abs_step.proofs.SafeSteps.{IsSafeHere, chosen_none}
+use Rattle.abs_step.proofs.Leads.{Taken, taken, stands}
+use Rattle.abs_step.proofs.Covering.{found_cover, cover_through, exit_covered, pad_of, pad_after, stands_above}
+use Rattle.abs_step.proofs.Ranges.{set_bytes}
+use Rattle.abs_step.proofs.RunRanges.{range_after, memory_keeps, seats_after}
+
+-- ---- the start
+
+nothing_told : (xs : List ℕ) → AllZip Below (map Some xs) (replicate (length xs) None)
+nothing_told [] = tt
+nothing_told (x ∷ xs) = (tt, nothing_told xs)
+
+start_chip : (kind : ChipKind) (r c : Flow) → ChipTells kind start_state.counters r c
+start_chip Psu r c = record { value = tt; first = tt; second = tt }
+start_chip Smi r c = record { first = tt; second = tt }
+
+start_stands : (bytes : ℕ → Option ℕ) (seats : List Seat) (here : Position) → IsFreeStart bytes seats here → StandsFor start_invariant here
+start_stands bytes seats here h = record {
+  at = ap (λ (f : Flow). f.p) h.counters;
+  ret = tt;
+  registers = record {
+    accumulator = tt;
+    high = tt;
+    low = tt;
+    status = rw (h.status) (status_refl (whole_status clear_status));
+    scratchpad = subst (λ (n : ℕ). AllZip Below (map Some here.flat.state.registers.scratchpad) (replicate n None)) h.range.registers.size
+        (nothing_told here.flat.state.registers.scratchpad);
+  };
+  counters = record { d0 = ap (λ (f : Flow). Some f.d0) h.counters; d1 = ap (λ (f : Flow). Some f.d1) h.counters };
+  copies = all_map (λ (c : Copy). c.flow.p ≡ 0) _ here.copies (λ (c : Copy) at. record {
+    at = at ∙ sym (ap (λ (f : Flow). f.p) h.counters);
+    back = tt;
+    chip = start_chip c.seat.kind here.flat.state.flow c.flow;
+  }) h.copies;
+}
+
+-- ---- events change nothing that an invariant or a map tells
+
+module _ (m : MapView) (x : Invariant) where
+  pulse_beside : (o : Option ℕ) (here : Position) → IsBeside m x here → IsBeside m x (pulse_in o here)
+  pulse_beside None here h = h
+  pulse_beside (Some socket) here h = record {
+    view = h.view;
+    tells = record { at = h.tells.at; ret = h.tells.ret; registers = h.tells.registers; counters = h.tells.counters; copies = h.tells.copies };
+    range = record {
+      registers = h.range.registers;
+      keys = h.range.keys;
+      writes = h.range.writes;
+      memory = h.range.memory;
+      counters = h.range.counters;
+      copies = h.range.copies;
+    };
+    fixed = h.fixed;
+  }
+
+  event_beside : (e : Event) (here : Position) → HasByte e → IsBeside m x here → IsBeside m x (with_event e here)
+  event_beside (Keys port byte) here small h = record {
+    view = h.view;
+    tells = record { at = h.tells.at; ret = h.tells.ret; registers = h.tells.registers; counters = h.tells.counters; copies = h.tells.copies };
+    range = record {
+      registers = h.range.registers;
+      keys = set_bytes here.flat.state.keys port byte h.range.keys small;
+      writes = h.range.writes;
+      memory = h.range.memory;
+      counters = h.range.counters;
+      copies = h.range.copies;
+    };
+    fixed = h.fixed;
+  }
+  event_beside (Pulse chip) here small h = pulse_beside (slice_get here.chain chip) here h
+
+  events_beside : (es : List Event) (here : Position) → AllByRecursion HasByte es → IsBeside m x here → IsBeside m x (with_events es here)
+  events_beside [] here small h = h
+  events_beside (e ∷ es) here small h = events_beside es (with_event e here) small.1 (event_beside e here small.0 h)
+
+-- the chips stay as they are
+pulse_seats : (o : Option ℕ) (here : Position) → seats_of (pulse_in o here).copies ≡ seats_of here.copies
+pulse_seats None here = refl
+pulse_seats (Some socket) here = refl
+
+event_seats : (e : Event) (here : Position) → seats_of (with_event e here).copies ≡ seats_of here.copies
+event_seats (Keys port byte) here = refl
+event_seats (Pulse chip) here = pulse_seats (slice_get here.chain chip) here
+
+events_seats : (es : List Event) (here : Position) → seats_of (with_events es here).copies ≡ seats_of here.copies
+events_seats [] here = refl
+events_seats (e ∷ es) here = events_seats es (with_event e here) ∙ event_seats e here
+
+-- ---- a position of a run
+
+-- an invariant of the map stands for it, and no reason holds against it
+pub record Stands (m : MapView) (seats : List Seat) (tracked : List ℕ) (notes : List Invariant) (here : Position) : Type 0 where
+  pub note : Invariant
+  pub is : IsIn note notes
+  pub op : Op
+  pub safe : IsSafeHere m tracked note op here
+  pub chips : seats_of here.copies ≡ seats
+
+-- an invariant of the map that is beside a position is safe there
+safe_here : (m : MapView) (tracked : List ℕ) (x : Invariant) (here : Position) → unsafe_reason m tracked x ≡ None → IsBeside m x here →
+    (op : Op) × IsSafeHere m tracked x op here
+safe_here m tracked x here none beside =
+    let state = safe_state m tracked x none in
+    let opcode = opcode_told m x here state.0 beside state.1.is in
+    (state.0, record {
+      beside = beside;
+      state = state.1;
+      range = decoded_in_range (opcode_at here) state.0 (beside.range.memory here.flat.state.flow.p) opcode;
+    })
+
+module _ (m : MapView) (seats : List Seat) (tracked : List ℕ) (notes : List Invariant) (map_safe : IsSafeMap m seats tracked notes) where
+  -- one that covers what stands for a position
+  stands_by : (x : Invariant) (here : Position) → Covers notes x → IsBeside m x here → seats_of here.copies ≡ seats → Stands m seats tracked notes here
+  stands_by x here covers beside chips =
+      let above = found_cover notes x covers in
+      let higher : IsBeside m above.0 here = record {
+        view = beside.view;
+        tells = stands_above x above.0 here beside.tells above.2 above.3;
+        range = beside.range;
+        fixed = beside.fixed;
+      } in
+      let safe = safe_here m tracked above.0 here (from_all (λ (y : Invariant). unsafe_reason m tracked y ≡ None) notes above.0 map_safe.safe above.1) higher in
+      record { note = above.0; is = above.1; op = safe.0; safe = safe.1; chips = chips }
+
+  at_start : (here : Position) → IsFreeStart m.byte seats here → Stands m seats tracked notes here
+  at_start here h = stands_by start_invariant here map_safe.closed.start (record {
+    view = subst (IsViewOf m) (sym h.chips) map_safe.view;
+    tells = start_stands m.byte seats here h;
+    range = h.range;
+    fixed = λ at byte small is. h.fixed at byte small is;
+  }) h.chips
+
+  -- ---- an instruction
+
+  -- what holds at the exit that is taken is beside the position there
+  exit_beside : (x : Invariant) (op : Op) (here : Position) → (safe : IsSafeHere m tracked x op here) → (way : Taken m tracked x op here safe) →
+      IsBeside m (at_exit tracked (state_after op m x) way.exit) (position_after op here)
+  exit_beside x op here safe way =
+      let i = gets_at op here in
+      record {
+        view = subst (IsViewOf m) (sym (seats_after (row_of op) i here.copies)) safe.beside.view;
+        tells = stands m tracked x op here safe way;
+        range = range_after op here safe.range (chosen_none m tracked x op here safe) safe.beside.range;
+        fixed = λ at byte small is.
+            memory_keeps (row_of op) (seats_of here.copies) i here.flat.state.flow at here.flat.memory (safe.beside.view.stays at byte small is)
+            ∙ safe.beside.fixed at byte small is;
+      }
+
+  exit_is_covered : (here : Position) (s : Stands m seats tracked notes here) → (way : Taken m tracked s.note s.op here s.safe) →
+      Covers notes (at_exit tracked (state_after s.op m s.note) way.exit)
+  exit_is_covered here s way =
+      let pad = pad_after s.op m s.note (pad_of s.note here s.safe.beside.tells s.safe.beside.range.registers.size) in
+      let leads = from_all (LeadsInto m tracked notes) notes s.note map_safe.closed.each s.is in
+      cover_through notes (successors s.op m tracked s.note) _ (leads s.op s.safe.state.is) (exit_covered s.op m tracked s.note way.exit pad way.is)
+
+  -- some invariant stands for the position after it, and so before the events behind it
+  pub after_stands : (here : Position) → (s : Stands m seats tracked notes here) → Stands m seats tracked notes (position_after s.op here)
+  after_stands here s =
+      let way = taken m tracked s.note s.op here s.safe in
+      stands_by _ (position_after s.op here) (exit_is_covered here s way) (exit_beside s.note s.op here s.safe way)
+      (seats_after (row_of s.op) (gets_at s.op here) here.copies ∙ s.chips)
+
+  next_stands : (here : Position) → (s : Stands m seats tracked notes here) → (es : List Event) → AllByRecursion HasByte es →
+      Stands m seats tracked notes (with_events es (position_after s.op here))
+  next_stands here s es small =
+      let way = taken m tracked s.note s.op here s.safe in
+      let there = position_after s.op here in
+      stands_by _ (with_events es there) (exit_is_covered here s way)
+      (events_beside m _ es there small (exit_beside s.note s.op here s.safe way))
+      (events_seats es there ∙ seats_after (row_of s.op) (gets_at s.op here) here.copies ∙ s.chips)
+
+  -- an instruction is the one of its opcode
+  same_op : (here : Position) (op other : Op) → decoded (opcode_at here) ≡ Some op → decoded (opcode_at here) ≡ Some other → op ≡ other
+  same_op here op other p q = cc
+
+  pub reached_stands : (n : ℕ) (here : Position) → IsReached m.byte seats n here → Stands m seats tracked notes here
+  reached_stands zero here h = at_start here h
+  reached_stands (suc n) here h =
+      let before = h.0 in
+      let s = reached_stands n before h.3 in
+      let told = opcode_told m s.note before s.op s.safe.beside s.safe.state.is in
+      let same = same_op before s.op h.1 told h.4 in
+      let stands = next_stands before s h.2 h.6 in
+      subst (λ (z : Position). Stands m seats tracked notes z) (sym h.7)
+      (subst (λ (op : Op). Stands m seats tracked notes (with_events h.2 (position_after op before))) same stands)
