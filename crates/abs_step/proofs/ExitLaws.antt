@@ -154,4 +154,3 @@ same_next Exchange i first second r c p back = by first second
 same_next Branch i first second r c p back = ap (λ a. if i.taken then displaced (places_on a 1) i.operand else places_on a 2) p
 same_next BranchIsar i first second r c p back = ap (λ a. if i.taken then displaced (places_on a 1) i.operand else places_on a 2) p
 same_next row i first second r c p back = ap (λ a. places_on a (row_length row)) p
-

@@ -111,7 +111,7 @@ taken_by : (row : Row) (i : Inputs) (j : KnownInputs) (r : Flow) (at : ℕ) (ret
 taken_by row i j r at ret tell back ready here =
     let matched = exits_below Below (λ v. refl) row (whole_inputs i) j r.p (Some r.p1) ret tell back back ready in
     let exact : Matched (ExitBelow Below (λ v. refl)) (exit_to (Some (flow_after row i true r).p) (Some (flow_after row i true r).p1))
-        (exits row j r.p ret) = rw (exits_whole row i r) at matched in
+    (exits row j r.p ret) = rw (exits_whole row i r) at matched in
     subst (λ (a : ℕ). (e : Exit) × IsIn e (exits row j a ret) × ((flow_after row i true r).p ≡ e.at) × Below (Some (flow_after row i true r).p1) e.ret)
     here (found _ _ (exits row j r.p ret) exact.0)
 
@@ -149,7 +149,7 @@ module _ (m : MapView) (tracked : List ℕ) (x : Invariant) (op : Op) (here : Po
   pub taken : Taken
   taken =
       let way = taken_by (row_of op) (gets_at op here) (inputs_at op m x) here.flat.state.flow x.point.at x.point.ret
-          (gets_tell m tracked x op here safe) safe.beside.tells.ret ready safe.beside.tells.at in
+      (gets_tell m tracked x op here safe) safe.beside.tells.ret ready safe.beside.tells.at in
       record { exit = way.0; is = way.1; at = way.2; ret = way.3 }
 
   -- ---- what is known after the instruction stands for the position there
@@ -159,8 +159,8 @@ module _ (m : MapView) (tracked : List ℕ) (x : Invariant) (op : Op) (here : Po
       let i = gets_at op here in
       let own = gets_tell m tracked x op here safe in
       let result : RegistersBelow (whole_registers (result_of op i here.flat.state.registers)) (state_after op m x).registers =
-          results_tell op i here.flat.state.registers _ _ _ x.state.registers safe.range
-          (used_tells (row_of op) i (inputs_at op m x) own) own.stack_bytes own.counter_bytes safe.beside.tells.registers in
+      results_tell op i here.flat.state.registers _ _ _ x.state.registers safe.range
+      (used_tells (row_of op) i (inputs_at op m x) own) own.stack_bytes own.counter_bytes safe.beside.tells.registers in
       subst (λ (z : Registers). RegistersBelow (whole_registers z) (state_after op m x).registers)
       (sym (unvectored op i here.flat.state.registers (chosen_none m tracked x op here safe))) result
 

@@ -23,3 +23,5 @@ pub mod Covering
 pub mod Ranges
 pub mod RunRanges
 pub mod Runs
+pub mod Answered
+pub mod SoundRuns

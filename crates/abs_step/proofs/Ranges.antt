@@ -96,6 +96,7 @@ status_small w = by w.sign w.carry w.zero w.overflow w.icb
     bit : (b : Bool) → bit_of b ≤ 1
     bit true = omega arith
     bit false = omega arith
+
     by : (a b c d e : Bool) → bit_of a + 2 * bit_of b + 4 * bit_of c + 8 * bit_of d + 16 * bit_of e < 256
     by a b c d e = omega (arith, bit a, bit b, bit c, bit d, bit e)
 

@@ -129,12 +129,14 @@ safe_here : (m : MapView) (tracked : List ℕ) (x : Invariant) (here : Position)
     (op : Op) × IsSafeHere m tracked x op here
 safe_here m tracked x here none beside =
     let state = safe_state m tracked x none in
-    let opcode = opcode_told m x here state.0 beside state.1.is in
-    (state.0, record {
-      beside = beside;
-      state = state.1;
-      range = decoded_in_range (opcode_at here) state.0 (beside.range.memory here.flat.state.flow.p) opcode;
-    })
+    let opcode = opcode_told m x here state.0 beside state.1.is in (
+      state.0,
+      record {
+        beside = beside;
+        state = state.1;
+        range = decoded_in_range (opcode_at here) state.0 (beside.range.memory here.flat.state.flow.p) opcode;
+      },
+    )
 
 module _ (m : MapView) (seats : List Seat) (tracked : List ℕ) (notes : List Invariant) (map_safe : IsSafeMap m seats tracked notes) where
   -- one that covers what stands for a position
@@ -150,7 +152,7 @@ module _ (m : MapView) (seats : List Seat) (tracked : List ℕ) (notes : List In
       let safe = safe_here m tracked above.0 here (from_all (λ (y : Invariant). unsafe_reason m tracked y ≡ None) notes above.0 map_safe.safe above.1) higher in
       record { note = above.0; is = above.1; op = safe.0; safe = safe.1; chips = chips }
 
-  at_start : (here : Position) → IsFreeStart m.byte seats here → Stands m seats tracked notes here
+  pub at_start : (here : Position) → IsFreeStart m.byte seats here → Stands m seats tracked notes here
   at_start here h = stands_by start_invariant here map_safe.closed.start (record {
     view = subst (IsViewOf m) (sym h.chips) map_safe.view;
     tells = start_stands m.byte seats here h;

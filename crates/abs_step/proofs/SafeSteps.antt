@@ -54,7 +54,7 @@ psu_fact false true true false false e r a m = absurd (cc)
 pub stores_alike : (row : Row) (m : MapView) (k : KnownCounters) → may_part row m k ≡ false → goes_by_data row ≡ true → StoresAlike m k
 stores_alike row m k safe goes = record { smi = λ any. smi_fact (goes_by_data row) (m.any Smi) k.s0 _ safe goes any }
 
-reads_go : (row : Row) → reads_at_data row ≡ true → goes_by_data row ≡ true
+pub reads_go : (row : Row) → reads_at_data row ≡ true → goes_by_data row ≡ true
 reads_go StoreData reads = refl
 reads_go row reads = reads
 
@@ -65,7 +65,7 @@ reads_alike row m k safe reads = record {
       safe reads any may;
 }
 
-unshared_by : (m : MapView) (cs : List Copy) (at : ℕ) (o : Option ℕ) → IsViewOf m (seats_of cs) → at < 65536 → Below (Some at) o →
+pub unshared_by : (m : MapView) (cs : List Copy) (at : ℕ) (o : Option ℕ) → IsViewOf m (seats_of cs) → at < 65536 → Below (Some at) o →
     may_be_shared m o ≡ false → sort_of (seats_of cs) at ≡ Shared → ⊥
 unshared_by m cs at None view small p safe shared = let overlap = view.overlaps at small shared in absurd (cc)
 unshared_by m cs at (Some v) view small p safe shared =
@@ -73,7 +73,7 @@ unshared_by m cs at (Some v) view small p safe shared =
     let sort : m.sort at ≡ Shared = view.sort at small ∙ shared in
     absurd (cc (rw (same, sort) at safe))
 
-second : (a b : Bool) → (a && b) ≡ false → a ≡ true → b ≡ false
+pub second : (a b : Bool) → (a && b) ≡ false → a ≡ true → b ≡ false
 second true b e a = e
 second false b e a = absurd (cc)
 
@@ -122,7 +122,7 @@ module _ (m : MapView) (tracked : List ℕ) (x : Invariant) (op : Op) (here : Po
   pub gets_tell : InputsBelow (whole_inputs (gets_at op here)) (inputs_at op m x)
   gets_tell = inputs_tell op m x here safe.beside
 
-  told_copies : AllByRecursion (IsTold m x.point.ret x.state.counters here.flat.state.flow) here.copies
+  pub told_copies : AllByRecursion (IsTold m x.point.ret x.state.counters here.flat.state.flow) here.copies
   told_copies =
       let beside = safe.beside in
       let mapped = all_unmapped (λ (c : Copy). c.seat) (IsMapped m) here.copies (all_mapped_seats m (seats_of here.copies) beside.view) in
@@ -135,7 +135,7 @@ module _ (m : MapView) (tracked : List ℕ) (x : Invariant) (op : Op) (here : Po
   chosen_none =
       let own = inputs_tell op m x here safe.beside in
       let registers = results_tell op (own_at op here) here.flat.state.registers _ _ _ x.state.registers safe.range
-          (used_tells (row_of op) (own_at op here) (inputs_at op m x) own) own.stack_bytes own.counter_bytes safe.beside.tells.registers in
+      (used_tells (row_of op) (own_at op here) (inputs_at op m x) own) own.stack_bytes own.counter_bytes safe.beside.tells.registers in
       not_chosen op m (state_after op m x) _ (seats_of here.copies) here.chain _ _
       safe.state.later.1.1.1.1.1.1.0 registers.status.icb safe.beside.view.wired
 

@@ -78,7 +78,7 @@ pub record IsTold (m : MapView) (ret : Option ℕ) (k : KnownCounters) (r : Flow
   pub addresses : AreAddresses c.flow
   pub tells : CopyTells ret k r c
 
-holds_if : {P : Type 0} (b : Bool) → b ≡ true → Holds b P → P
+pub holds_if : {P : Type 0} (b : Bool) → b ≡ true → Holds b P → P
 holds_if true e h = h
 holds_if false e h = absurd (cc)
 
@@ -145,9 +145,9 @@ pub data_store_served : (m : MapView) (ret : Option ℕ) (k : KnownCounters) (r 
     access_fault r cs (at_data 0x05) ≡ None
 data_store_served m ret k r cs alike told unshared =
     let v = store_served r.d0 0 (map (placed_copy (at_data 0x05)) cs)
-        (all_mapped _ _ cs (all_map _ _ cs
-        (λ c h ram. ram_by c.seat.kind m k r c.flow c.seat c.flow.d0 refl h.mapped alike h.tells.chip ram) told))
-        (all_mapped _ _ cs (all_map _ _ cs
-        (λ c h ram. ram_by c.seat.kind m k r c.flow c.seat r.d0 refl h.mapped alike h.tells.chip ram) told))
-        (one_would_store (at_data 0x05) r.d0 cs (held_by_one r.d0 (seats_of cs) unshared)) in
+    (all_mapped _ _ cs (all_map _ _ cs
+    (λ c h ram. ram_by c.seat.kind m k r c.flow c.seat c.flow.d0 refl h.mapped alike h.tells.chip ram) told))
+    (all_mapped _ _ cs (all_map _ _ cs
+    (λ c h ram. ram_by c.seat.kind m k r c.flow c.seat r.d0 refl h.mapped alike h.tells.chip ram) told))
+    (one_would_store (at_data 0x05) r.d0 cs (held_by_one r.d0 (seats_of cs) unshared)) in
     rw v.1 refl

@@ -1,3 +1,7 @@
-//! One step of the cartridge checker: what is known after an instruction, and whether an abstract state is safe. The definitions are in
-//! `specs/`; there is no code here yet.
+//! One step of the cartridge checker: what is known after an instruction, where it may lead, and whether a state is safe. These are
+//! definitions, in `specs/`; the calls here have the laws of them as contracts.
 #![tactic(auto)]
+
+mod laws;
+
+pub use laws::soundness_law;

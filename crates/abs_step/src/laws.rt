@@ -1,0 +1,11 @@
+// The laws of the checker's step.
+ghost use Rattle.abs_step.specs.Soundness.{SoundnessLaw};
+
+/// Where an invariant map is closed and safe, no run meets a reserved opcode, takes an interrupt, or has a bus step that isn't served, but
+/// for reads at D0 that no chip answers; and where it is free of faults as well, none at all. A run begins with any accumulator,
+/// scratchpad, ISAR, RAM and counters of chips, and takes any key bytes and pulses (this project's own). This call does nothing; its
+/// contract is the law.
+#[tactic(auto, using(crate::proofs::SoundRuns::soundness))]
+pub fn soundness_law()
+    ensures { SoundnessLaw }
+{}
