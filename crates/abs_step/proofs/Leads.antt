@@ -1,10 +1,10 @@
 -- Where a safe instruction goes: to one of its exits, and what is known after it stands for the position there.
-use Rattle.std.proofs.Common.{◌≡◌, ℕ, Bool, true, false, List, [], ◌∷◌, ◌++◌, refl, ap, sym, ◌∙◌, subst, inl, inr, arith}
-use Rattle.std.specs.Prelude.{Option, Some, None, is_some, is_none}
+use Rattle.std.proofs.Common.{◌≡◌, ℕ, Bool, true, false, List, [], ◌∷◌, ◌++◌, refl, ap, sym, ◌∙◌, subst, inl, inr}
+use Rattle.std.specs.Prelude.{Option, Some, None, is_some}
 use Rattle.std.specs.List.{AllByRecursion}
 use Rattle.f8_spec.specs.Words.{places_on}
 use Rattle.f8_spec.specs.ChipState.{has_second_counter}
-use Rattle.f8_spec.specs.Instructions.{row_of, row_length}
+use Rattle.f8_spec.specs.Instructions.{row_of}
 use Rattle.f8_spec.specs.declared.instructions.Op.{Op}
 use Rattle.f8_spec.specs.declared.instructions.Row.{Row}
 use Rattle.f8_spec.specs.declared.instructions.Row.TheVariants.{StackFromK, CallK, JumpQ, Return, Call, Jump, Branch, BranchIsar, Exchange}
@@ -16,7 +16,7 @@ use Rattle.abs_domain.specs.AbstractState.{KnownCounters, RegistersBelow}
 use Rattle.abs_step.specs.Known.{known_word}
 use Rattle.abs_step.specs.KnownFlow.{KnownInputs, Exit, exit_to, branch_exits, branch_target, exits}
 use Rattle.abs_step.specs.MapView.{MapView}
-use Rattle.abs_step.specs.Safety.{operand_reasons, code_reasons, jump_is_lost, return_is_lost, return_is_unset}
+use Rattle.abs_step.specs.Safety.{return_is_unset}
 use Rattle.abs_step.specs.Successors.{Invariant, inputs_at, state_after, exits_of, at_exit}
 use Rattle.abs_step.specs.Concretization.{DataTells, Holds, CopyTells, StandsFor, whole_registers}
 use Rattle.abs_step.proofs.Members.{all_mapped, IsIn, from_all, all_map}
@@ -24,8 +24,8 @@ use Rattle.abs_step.proofs.Exact.{results_tell}
 use Rattle.abs_step.proofs.InputLaws.{whole_inputs, InputsBelow, used_tells}
 use Rattle.abs_step.proofs.CounterLaws.{data_tells, chip_tells}
 use Rattle.abs_step.proofs.ExitLaws.{HasMatch, Matched, ExitBelow, is_ready, exits_below, exits_whole, same_next}
-use Rattle.abs_step.proofs.Reasons.{IsCode, code_of}
-use Rattle.abs_step.proofs.SafeRows.{holds_if_known, NoneHold, uninterrupted}
+use Rattle.abs_step.proofs.SafeRows.{holds_if_known, uninterrupted}
+use Rattle.abs_step.proofs.Ready.{ready}
 use Rattle.abs_step.proofs.SafeSteps.{IsSafeHere, gets_tell, chosen_none}
 
 -- ---- the stack registers at an exit
@@ -71,17 +71,6 @@ backs Exchange i j at ret second r c p back = by second
     by false = (back, tt)
 backs row i j at ret second r c p back = (back, tt)
 
--- ---- all that the exits need is known
-
-known_of : (o : Option ℕ) → is_none o ≡ false → is_some o ≡ true
-known_of None e = absurd (cc)
-known_of (Some v) e = refl
-
-both_known : (x y : Option ℕ) → is_some x ≡ true → is_some y ≡ true → is_some (known_word x y) ≡ true
-both_known None y p q = absurd (cc)
-both_known (Some a) None p q = absurd (cc)
-both_known (Some a) (Some b) p q = refl
-
 -- ---- without an interrupt
 
 pub unvectored : (op : Op) (i : Inputs) (m : Registers) → i.chosen ≡ None → registers_after op i m ≡ result_of op i m
@@ -116,27 +105,6 @@ taken_by row i j r at ret tell back ready here =
     here (found _ _ (exits row j r.p ret) exact.0)
 
 module _ (m : MapView) (tracked : List ℕ) (x : Invariant) (op : Op) (here : Position) (safe : IsSafeHere m tracked x op here) where
-  told : (n : ℕ) → NoneHold (code_reasons m (places_on x.point.at n)) → is_some (m.byte (places_on x.point.at n)) ≡ true
-  told n none =
-      let code : IsCode m (places_on x.point.at n) = code_of m (places_on x.point.at n) none in
-      safe.beside.view.told (places_on x.point.at n) (omega arith) code.once code.stays
-
-  ready : is_ready (row_of op) (inputs_at op m x) x.point.ret ≡ true
-  ready = by (row_of op) safe.state.operands safe.state.later.0 safe.state.later.1.0 safe.state.later.1.1.0
-    where
-      by : (row : Row) → NoneHold (operand_reasons (row_length row) m x.point.at) → jump_is_lost row x.state.registers ≡ false →
-          return_is_lost row x.state.registers ≡ false → return_is_unset row x.point.ret ≡ false →
-          is_ready row (inputs_at op m x) x.point.ret ≡ true
-      by StackFromK operands jump return unset = known_of _ return
-      by CallK operands jump return unset = known_of _ jump
-      by JumpQ operands jump return unset = known_of _ jump
-      by Return operands jump return unset = known_of _ unset
-      by Call operands jump return unset = both_known _ _ (told 1 (operands.0, (operands.1.0, tt))) (told 2 operands.1.1)
-      by Jump operands jump return unset = both_known _ _ (told 1 (operands.0, (operands.1.0, tt))) (told 2 operands.1.1)
-      by Branch operands jump return unset = told 1 operands
-      by BranchIsar operands jump return unset = told 1 operands
-      by row operands jump return unset = refl
-
   -- ---- the exit that is taken
 
   -- it is one of those known
@@ -149,7 +117,7 @@ module _ (m : MapView) (tracked : List ℕ) (x : Invariant) (op : Op) (here : Po
   pub taken : Taken
   taken =
       let way = taken_by (row_of op) (gets_at op here) (inputs_at op m x) here.flat.state.flow x.point.at x.point.ret
-      (gets_tell m tracked x op here safe) safe.beside.tells.ret ready safe.beside.tells.at in
+      (gets_tell m tracked x op here safe) safe.beside.tells.ret (ready m _ safe.beside.view tracked x op safe.state) safe.beside.tells.at in
       record { exit = way.0; is = way.1; at = way.2; ret = way.3 }
 
   -- ---- what is known after the instruction stands for the position there

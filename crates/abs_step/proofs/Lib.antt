@@ -25,3 +25,5 @@ pub mod RunRanges
 pub mod Runs
 pub mod Answered
 pub mod SoundRuns
+pub mod Ready
+pub mod Blurs

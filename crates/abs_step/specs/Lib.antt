@@ -8,3 +8,4 @@ pub mod Safety
 pub mod Concretization
 pub mod FreeRuns
 pub mod Soundness
+pub mod StepOrder
