@@ -53,7 +53,7 @@ same_page : (seats : List Seat) (a b : ℕ) → a / 256 ≡ b / 256 → sort_of 
 same_page seats a b same = ap (λ (number : ℕ). sort_among (filter_map (λ (s : Seat). option_and_then
     (λ place. option_map (λ (p : Page). p.sort) (slice_get s.pages place)) (place_of s.pages number)) seats)) same
 
-held_everywhere : (m : MapView) (seats : List Seat) (at : ℕ) → IsViewOf m seats → at < 65536 → holds_every_address m ≡ true →
+pub held_everywhere : (m : MapView) (seats : List Seat) (at : ℕ) → IsViewOf m seats → at < 65536 → holds_every_address m ≡ true →
     is_held (sort_of seats at) ≡ true
 unfolding holds_every_address
 held_everywhere m seats at view small all =

@@ -27,3 +27,4 @@ pub mod Answered
 pub mod SoundRuns
 pub mod Ready
 pub mod Blurs
+pub mod SafeBelow
