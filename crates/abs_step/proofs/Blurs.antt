@@ -45,6 +45,7 @@ same_written v w r old older p same clear = by (target_allows w.target r) refl
     no_lower : target_allows w.target r ≡ false → (b : Bool) → target_allows v.target r ≡ b → b ≡ false
     no_lower upper true e = absurd (cc (allows_below v.target w.target r p.target e))
     no_lower upper false e = refl
+
     by : (a : Bool) → target_allows w.target r ≡ a → written_to v r old ≡ written_to w r older
     by false upper = rw (upper, no_lower upper (target_allows v.target r) refl) same
     by true upper =

@@ -52,15 +52,15 @@ cover_through notes (y ∷ ys) x all (inr later) = cover_through notes ys x all.
 
 -- ---- each point once
 
-abbrev HasPad : Invariant → Type 0
+abbrev pub HasPad : Invariant → Type 0
 HasPad x = HasScratchpad x.state
 
-same_by : (p q : Point) (o : Ordering) → point_cmp p q ≡ o → is_equal o ≡ true → p ≡ q
+pub same_by : (p q : Point) (o : Ordering) → point_cmp p q ≡ o → is_equal o ≡ true → p ≡ q
 same_by p q Less e same = absurd (cc)
 same_by p q Equal e same = point_laws.exact p q e
 same_by p q Greater e same = absurd (cc)
 
-pads_kept : (x : Invariant) (done : List Invariant) → HasPad x → AllByRecursion HasPad done → AllByRecursion HasPad (with_invariant x done)
+pub pads_kept : (x : Invariant) (done : List Invariant) → HasPad x → AllByRecursion HasPad done → AllByRecursion HasPad (with_invariant x done)
 pads_kept x [] pad pads = (pad, tt)
 pads_kept x (d ∷ ds) pad pads = by (same_point x.point d.point) (pads_kept x ds pad pads.1)
   where
@@ -108,12 +108,12 @@ all_added (y ∷ ys) done x more pads (inr later) =
 
 -- ---- successors
 
-in_along : (tracked : List ℕ) (s : AbstractState) (e : Exit) (es : List Exit) → IsIn e es → IsIn (at_exit tracked s e) (flat_map (along tracked s) es)
+pub in_along : (tracked : List ℕ) (s : AbstractState) (e : Exit) (es : List Exit) → IsIn e es → IsIn (at_exit tracked s e) (flat_map (along tracked s) es)
 in_along tracked s e [] is = absurd is
 in_along tracked s e (f ∷ fs) (inl here) = inl (ap (at_exit tracked s) here)
 in_along tracked s e (f ∷ fs) (inr later) = inr (in_along tracked s e fs later)
 
-pads_along : (tracked : List ℕ) (s : AbstractState) (es : List Exit) → HasScratchpad s → AllByRecursion HasPad (flat_map (along tracked s) es)
+pub pads_along : (tracked : List ℕ) (s : AbstractState) (es : List Exit) → HasScratchpad s → AllByRecursion HasPad (flat_map (along tracked s) es)
 pads_along tracked s [] pad = tt
 pads_along tracked s (e ∷ es) pad = (pad, pads_along tracked s es pad)
 

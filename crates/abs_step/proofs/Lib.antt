@@ -28,3 +28,4 @@ pub mod SoundRuns
 pub mod Ready
 pub mod Blurs
 pub mod SafeBelow
+pub mod SuccessorOrder

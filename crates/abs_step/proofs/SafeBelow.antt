@@ -64,7 +64,7 @@ none_falls x (Some y) p e = rw p refl
 
 -- ---- the state after an instruction keeps the order
 
-abbrev at_point : Point → AbstractState → Invariant
+abbrev pub at_point : Point → AbstractState → Invariant
 at_point p s = record { point = p; state = s }
 
 module _ (m : MapView) (p : Point) (s t : AbstractState) (below : StateBelow s t) (op : Op) where
@@ -154,7 +154,7 @@ safe_of : (m : MapView) (tracked : List ℕ) (x : Invariant) (op : Op) → IsSaf
 unfolding unsafe_reason reasons
 safe_of m tracked x op h =
     let code : first_reason (code_reasons m x.point.at) ≡ None =
-        first_none (code_reasons m x.point.at) (not_true _ h.code.once, (h.code.stays, tt)) in
+    first_none (code_reasons m x.point.at) (not_true _ h.code.once, (h.code.stays, tt)) in
     let later : first_reason (reasons op m tracked x) ≡ None = first_none _ (none_both _ _ h.operands h.later) in
     rw (code, h.is) later
 
@@ -168,16 +168,32 @@ safe_below m seats tracked p s t op view h small safe =
       operands = safe.operands;
       later = (
         jump_falls (row_of op) s.registers t.registers h.registers l.0,
-        (return_falls (row_of op) s.registers t.registers h.registers l.1.0,
-        (l.1.1.0,
-        (part_falls (row_of op) m s.counters t.counters h.counters l.1.1.1.0,
-        (l.1.1.1.1.0,
-        (l.1.1.1.1.1.0,
-        (interrupted_falls op m _ _ (after_ordered m p s t h op) l.1.1.1.1.1.1.0,
-        (and_falls _ _ _ _ (same_falls (goes_by_data (row_of op)))
-            (shared_falls m seats s.counters.d0 t.counters.d0 view small h.counters.d0) l.1.1.1.1.1.1.1.0,
-        (blurred_below _ _ tracked (writes_ordered m p s t h op) l.1.1.1.1.1.1.1.1.0,
-        tt))))))))
+        (
+          return_falls (row_of op) s.registers t.registers h.registers l.1.0,
+          (
+            l.1.1.0,
+            (
+              part_falls (row_of op) m s.counters t.counters h.counters l.1.1.1.0,
+              (
+                l.1.1.1.1.0,
+                (
+                  l.1.1.1.1.1.0,
+                  (
+                    interrupted_falls op m _ _ (after_ordered m p s t h op) l.1.1.1.1.1.1.0,
+                    (
+                      and_falls _ _ _ _ (same_falls (goes_by_data (row_of op)))
+                          (shared_falls m seats s.counters.d0 t.counters.d0 view small h.counters.d0) l.1.1.1.1.1.1.1.0,
+                      (
+                        blurred_below _ _ tracked (writes_ordered m p s t h op) l.1.1.1.1.1.1.1.1.0,
+                        tt,
+                      ),
+                    ),
+                  ),
+                ),
+              ),
+            ),
+          ),
+        ),
       );
     }
 

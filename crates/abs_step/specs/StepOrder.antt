@@ -11,14 +11,13 @@ use Rattle.abs_step.specs.Successors.{Fits, successors}
 use Rattle.abs_step.specs.Safety.{unsafe_reason, is_fault_free}
 use Rattle.abs_step.specs.Soundness.{op_at, Covers}
 
--- Two states at one point, of which the lower says more: both know as much of the tracked registers as the point does, and have whole
--- scratchpads, and the lower one's D0 is an address.
+-- Two states at one point, of which the lower says more: both know as much of the tracked registers as the point does, the scratchpad is
+-- whole, and what is known of D0 is an address.
 pub record IsOrdered (tracked : List ℕ) (p : Point) (lower upper : AbstractState) : Type 0 where
   pub below : StateBelow lower upper
   pub lower_fits : Fits tracked (record { point = p; state = lower })
   pub upper_fits : Fits tracked (record { point = p; state = upper })
-  pub lower_pad : HasScratchpad lower
-  pub upper_pad : HasScratchpad upper
+  pub scratchpad : HasScratchpad upper
   pub address : ForSome lower.counters.d0 (λ at. at < 65536)
 
 pub record StepOrderLaw : Type 0 where

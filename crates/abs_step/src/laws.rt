@@ -1,5 +1,6 @@
 // The laws of the checker's step.
 ghost use Rattle.abs_step.specs.Soundness.{SoundnessLaw};
+ghost use Rattle.abs_step.specs.StepOrder.{StepOrderLaw};
 
 /// Where an invariant map is closed and safe, no run meets a reserved opcode, takes an interrupt, or has a bus step that isn't served, but
 /// for reads at D0 that no chip answers; and where it is free of faults as well, none at all. A run begins with any accumulator,
@@ -8,4 +9,12 @@ ghost use Rattle.abs_step.specs.Soundness.{SoundnessLaw};
 #[tactic(auto, using(crate::proofs::SoundRuns::soundness))]
 pub fn soundness_law()
     ensures { SoundnessLaw }
+{}
+
+/// A step keeps the order of states. Of two states at one point, where the one that says less is safe, the one that says more is; where it
+/// is free of faults, the other is; and each successor of the one that says more has a successor of the other at its point that says no
+/// more (this project's own). This call does nothing; its contract is the law.
+#[tactic(auto, using(crate::proofs::SuccessorOrder::step_order))]
+pub fn step_order_law()
+    ensures { StepOrderLaw }
 {}

@@ -4,4 +4,4 @@
 
 mod laws;
 
-pub use laws::soundness_law;
+pub use laws::{soundness_law, step_order_law};
