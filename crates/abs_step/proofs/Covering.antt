@@ -22,7 +22,8 @@ use Rattle.abs_domain.proofs.PointOrders.{point_laws}
 use Rattle.abs_step.specs.RegisterWrites.{RegisterWrite, written_from, written_all}
 use Rattle.abs_step.specs.KnownFlow.{Exit}
 use Rattle.abs_step.specs.MapView.{MapView}
-use Rattle.abs_step.specs.Successors.{Invariant, state_after, exits_of, at_exit, along, all_along, is_equal, same_point, with_invariant, with_invariants, successors}
+use Rattle.abs_step.specs.Successors.{Invariant, state_after, exits_of, at_exit, along, all_along, is_equal, same_point}
+use Rattle.abs_step.specs.Successors.{with_invariant, with_invariants, successors}
 use Rattle.abs_step.specs.Safety.{writes_of}
 use Rattle.abs_step.specs.Concretization.{Holds, ChipTells, CopyTells, StandsFor}
 use Rattle.abs_step.specs.Soundness.{Covers}

@@ -21,7 +21,8 @@ use Rattle.abs_step.specs.Concretization.{whole_status, whole_registers}
 use Rattle.abs_step.proofs.Knowing.{below_map}
 use Rattle.abs_step.proofs.Scratchpads.{written_from_below}
 use Rattle.abs_step.proofs.Effects.{PairBelow, results_below}
-use Rattle.abs_step.proofs.Effects.{with_accumulator, with_status, with_digits, status_of_below, sum_status, sum_below, decimal_below, logic_below, stepped_below}
+use Rattle.abs_step.proofs.Effects.{with_accumulator, with_status, with_digits, status_of_below, sum_status, sum_below}
+use Rattle.abs_step.proofs.Effects.{decimal_below, logic_below, stepped_below}
 
 -- ---- the register that a number names
 

@@ -56,14 +56,22 @@ each_branch r c None x next ret h = each_of_both r c (exit_to x ret) _ (each_to 
 backs : (row : Row) (i : Inputs) (j : KnownInputs) (at : ℕ) (ret : Option ℕ) (second : Bool) (r c : Flow) → c.p ≡ r.p →
     Holds (is_some ret) (c.p1 ≡ r.p1) →
     AllByRecursion (IsBackAt (flow_after row i true r) (flow_after row i second c)) (exits row j at ret)
-backs StackFromK i j at ret second r c p back = each_to (flow_after StackFromK i true r) (flow_after StackFromK i second c) (Some (places_on at 1)) _ (holds_of _ refl)
-backs CallK i j at ret second r c p back = each_to (flow_after CallK i true r) (flow_after CallK i second c) (known_word j.k_high j.k_low) _ (ap (λ a. places_on a 1) p)
-backs JumpQ i j at ret second r c p back = each_to (flow_after JumpQ i true r) (flow_after JumpQ i second c) (known_word j.q_high j.q_low) ret back
-backs Return i j at ret second r c p back = each_to (flow_after Return i true r) (flow_after Return i second c) ret ret back
-backs Call i j at ret second r c p back = each_to (flow_after Call i true r) (flow_after Call i second c) (known_word j.operand j.second) _ (ap (λ a. places_on a 3) p)
-backs Jump i j at ret second r c p back = each_to (flow_after Jump i true r) (flow_after Jump i second c) (known_word j.operand j.second) ret back
-backs Branch i j at ret second r c p back = each_branch (flow_after Branch i true r) (flow_after Branch i second c) j.taken (branch_target at j) (places_on at 2) ret back
-backs BranchIsar i j at ret second r c p back = each_branch (flow_after BranchIsar i true r) (flow_after BranchIsar i second c) j.taken (branch_target at j) (places_on at 2) ret back
+backs StackFromK i j at ret second r c p back =
+    each_to (flow_after StackFromK i true r) (flow_after StackFromK i second c) (Some (places_on at 1)) _ (holds_of _ refl)
+backs CallK i j at ret second r c p back =
+    each_to (flow_after CallK i true r) (flow_after CallK i second c) (known_word j.k_high j.k_low) _ (ap (λ a. places_on a 1) p)
+backs JumpQ i j at ret second r c p back =
+    each_to (flow_after JumpQ i true r) (flow_after JumpQ i second c) (known_word j.q_high j.q_low) ret back
+backs Return i j at ret second r c p back =
+    each_to (flow_after Return i true r) (flow_after Return i second c) ret ret back
+backs Call i j at ret second r c p back =
+    each_to (flow_after Call i true r) (flow_after Call i second c) (known_word j.operand j.second) _ (ap (λ a. places_on a 3) p)
+backs Jump i j at ret second r c p back =
+    each_to (flow_after Jump i true r) (flow_after Jump i second c) (known_word j.operand j.second) ret back
+backs Branch i j at ret second r c p back =
+    each_branch (flow_after Branch i true r) (flow_after Branch i second c) j.taken (branch_target at j) (places_on at 2) ret back
+backs BranchIsar i j at ret second r c p back =
+    each_branch (flow_after BranchIsar i true r) (flow_after BranchIsar i second c) j.taken (branch_target at j) (places_on at 2) ret back
 backs Exchange i j at ret second r c p back = by second
   where
     by : (s : Bool) → AllByRecursion (IsBackAt (flow_after Exchange i true r) (flow_after Exchange i s c)) (exits Exchange j at ret)
