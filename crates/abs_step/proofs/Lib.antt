@@ -29,3 +29,4 @@ pub mod Ready
 pub mod Blurs
 pub mod SafeBelow
 pub mod SuccessorOrder
+pub mod MapViews

@@ -8,6 +8,9 @@ use Rattle.console_spec.specs.FlatMemory.{sort_of, is_ram_sort}
 use Rattle.console_spec.specs.Writes.{readers, takers}
 use Rattle.console_spec.specs.declared.Sort.{Sort}
 use Rattle.console_spec.specs.declared.Sort.TheVariants.{Rom, Ram, Void, Nothing, Shared}
+use Rattle.chip_face.specs.declared.specification.ChipSpec.{ChipSpec}
+use Rattle.memory_map.specs.MapOf.{MapTable, mapped_sort, mapped_byte, mapped_held, mapped_readers, mapped_takers, mapped_any}
+use Rattle.memory_map.specs.MapOf.{mapped_overlaps, mapped_wired, seats_of, IsMapOf}
 use Rattle.memory_map.specs.MapKinds.{is_held_once, kind_holds, kind_has_pages}
 
 -- by address what it is, the byte that stays there, and whether a chip of a kind holds it; how many chips have a port as a data port, and
@@ -58,3 +61,20 @@ pub record IsViewOf (m : MapView) (seats : List Seat) : Type 0 where
   pub overlaps : (at : ℕ) → at < 65536 → sort_of seats at ≡ Shared → m.overlaps ≡ true
   pub wired : m.wired ≡ list_any (λ s. s.wired) seats
   pub ram : AllByRecursion HasOwnRam seats
+
+-- the view of a map
+abbrev pub view_of : MapTable → MapView
+view_of m = record {
+  sort = mapped_sort m;
+  byte = mapped_byte m;
+  held = mapped_held m;
+  readers = mapped_readers m;
+  takers = mapped_takers m;
+  any = mapped_any m;
+  overlaps = mapped_overlaps m;
+  wired = mapped_wired m;
+}
+
+-- it is right of the chips of the map
+pub record MapViewLaw : Type 0 where
+  pub view : (m : MapTable) (chips : List ChipSpec) → IsMapOf m chips → IsViewOf (view_of m) (seats_of chips)

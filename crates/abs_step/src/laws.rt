@@ -1,6 +1,14 @@
 // The laws of the checker's step.
+ghost use Rattle.abs_step.specs.MapView.{MapViewLaw};
 ghost use Rattle.abs_step.specs.Soundness.{SoundnessLaw};
 ghost use Rattle.abs_step.specs.StepOrder.{StepOrderLaw};
+
+/// The map of the chips of a description tells the checker what is so of them: sorts, bytes that stay, holders by kind, ports, and whether
+/// some chip can interrupt (this project's own). This call does nothing; its contract is the law.
+#[tactic(auto, using(crate::proofs::MapViews::map_view))]
+pub fn map_view_law()
+    ensures { MapViewLaw }
+{}
 
 /// Where an invariant map is closed and safe, no run meets a reserved opcode, takes an interrupt, or has a bus step that isn't served, but
 /// for reads at D0 that no chip answers; and where it is free of faults as well, none at all. A run begins with any accumulator,
