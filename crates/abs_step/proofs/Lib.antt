@@ -30,3 +30,5 @@ pub mod Blurs
 pub mod SafeBelow
 pub mod SuccessorOrder
 pub mod MapViews
+pub mod ScriptStarts
+pub mod ScriptEnds

@@ -9,3 +9,4 @@ pub mod Concretization
 pub mod FreeRuns
 pub mod Soundness
 pub mod StepOrder
+pub mod ScriptRuns

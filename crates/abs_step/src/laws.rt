@@ -1,5 +1,6 @@
 // The laws of the checker's step.
 ghost use Rattle.abs_step.specs.MapView.{MapViewLaw};
+ghost use Rattle.abs_step.specs.ScriptRuns.{ScriptRunLaw};
 ghost use Rattle.abs_step.specs.Soundness.{SoundnessLaw};
 ghost use Rattle.abs_step.specs.StepOrder.{StepOrderLaw};
 
@@ -17,6 +18,13 @@ pub fn map_view_law()
 #[tactic(auto, using(crate::proofs::SoundRuns::soundness))]
 pub fn soundness_law()
     ensures { SoundnessLaw }
+{}
+
+/// Over a closed and safe invariant map of the chips a run by a script is done, or it stops at a read at D0 that no chip answers; and where
+/// the map is free of faults as well, it is done (this project's own). This call does nothing; its contract is the law.
+#[tactic(auto, using(crate::proofs::ScriptEnds::script_runs))]
+pub fn script_run_law()
+    ensures { ScriptRunLaw }
 {}
 
 /// A step keeps the order of states. Of two states at one point, where the one that says less is safe, the one that says more is; where it

@@ -4,4 +4,4 @@
 
 mod laws;
 
-pub use laws::{map_view_law, soundness_law, step_order_law};
+pub use laws::{map_view_law, script_run_law, soundness_law, step_order_law};

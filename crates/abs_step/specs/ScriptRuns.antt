@@ -1,0 +1,36 @@
+-- Runs by scripts, which are runs with free inputs: how they end over a closed and safe invariant map.
+use Rattle.std.specs.Prelude.{◌≡◌, ℕ, ◌<◌, ◌⊎◌, Bool, List, map, Option, Some}
+use Rattle.std.specs.List.{AllByRecursion}
+use Rattle.f8_spec.specs.ChipState.{ChipView}
+use Rattle.f8_spec.specs.BusArbitration.{seat_of}
+use Rattle.console_spec.specs.FlatMemory.{fixed_byte}
+use Rattle.console_spec.specs.Services.{Fault}
+use Rattle.console_spec.specs.Run.{Position, Ending, Done, Unserved}
+use Rattle.console_spec.specs.Scripts.{Script}
+use Rattle.console_spec.specs.Telling.{played_by}
+use Rattle.console_spec.specs.declared.At.{At}
+use Rattle.abs_step.specs.MapView.{MapView}
+use Rattle.abs_step.specs.Successors.{Invariant}
+use Rattle.abs_step.specs.FreeRuns.{HasByte}
+use Rattle.abs_step.specs.Soundness.{IsSafeMap, IsFaultFree, OnlyUndriven}
+
+-- a script for some chips: what is told by address stays there in them, and all bytes are bytes
+pub record IsScriptFor (bytes : ℕ → Option ℕ) (vs : List ChipView) (script : Script) : Type 0 where
+  pub fixed : (at byte : ℕ) → at < 65536 → bytes at ≡ Some byte → fixed_byte vs at ≡ Some byte
+  pub held : (at byte : ℕ) → fixed_byte vs at ≡ Some byte → byte < 256
+  pub power : script.power < 256
+  pub events : AllByRecursion (λ (a : At). HasByte a.event) script.events
+
+-- a run is done, or it stops at a fault of which a claim holds, at the position where it stops
+abbrev pub EndsBy : (Position → Option Fault → Type 0) → Ending → Type 0
+EndsBy claim e = (e.stop ≡ Done) ⊎ ((fault : Fault) × (e.stop ≡ Unserved fault) × claim e.position (Some fault))
+
+pub record ScriptRunLaw : Type 0 where
+  -- where the map is safe, nothing stops a run but a read at D0 that no chip answers
+  pub sound : (m : MapView) (tracked : List ℕ) (notes : List Invariant) (vs : List ChipView) (chain : List ℕ) (traced : Bool) (script : Script) →
+      IsSafeMap m (map seat_of vs) tracked notes → IsScriptFor m.byte vs script →
+      EndsBy (λ here fault. OnlyUndriven here.flat.state.flow.d0 fault) (played_by vs chain traced script).ending
+  -- where it is free of faults too, nothing does
+  pub fault_free : (m : MapView) (tracked : List ℕ) (notes : List Invariant) (vs : List ChipView) (chain : List ℕ) (traced : Bool) (script : Script) →
+      IsSafeMap m (map seat_of vs) tracked notes → IsFaultFree m notes → IsScriptFor m.byte vs script →
+      (played_by vs chain traced script).ending.stop ≡ Done
