@@ -32,3 +32,4 @@ pub mod SuccessorOrder
 pub mod MapViews
 pub mod ScriptStarts
 pub mod ScriptEnds
+pub mod WorkedMaps

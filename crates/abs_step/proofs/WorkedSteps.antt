@@ -26,7 +26,7 @@ abbrev page : PageSort → ℕ → Page
 page sort number = record { number = number; sort = sort }
 
 -- a 3851 with these bytes, and FF behind them
-abbrev psu : ℕ → ℕ → List ℕ → ChipView
+abbrev pub psu : ℕ → ℕ → List ℕ → ChipView
 psu base ports bytes = record (blank_view Psu) {
   pages = page Rom (base / 256) ∷ page Rom (base / 256 + 1) ∷ page Rom (base / 256 + 2) ∷ page Rom (base / 256 + 3) ∷ [];
   bytes = bytes ++ replicate (1024 - length bytes) 255;
@@ -38,7 +38,7 @@ abbrev smi : List Page → ChipView
 smi pages = record (blank_view Smi) { pages = pages; bytes = replicate 512 255; ports = Some 0x0C }
 
 -- the map of some chips, of which no two hold an address
-abbrev map_of : List ChipView → MapView
+abbrev pub map_of : List ChipView → MapView
 map_of vs =
     let seats : List Seat = map seat_of vs in
     record {
