@@ -33,3 +33,4 @@ pub mod MapViews
 pub mod ScriptStarts
 pub mod ScriptEnds
 pub mod WorkedMaps
+pub mod TrackedFits

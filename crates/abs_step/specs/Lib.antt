@@ -9,4 +9,5 @@ pub mod Concretization
 pub mod FreeRuns
 pub mod Soundness
 pub mod StepOrder
+pub mod FitLaws
 pub mod ScriptRuns

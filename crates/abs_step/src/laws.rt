@@ -1,4 +1,5 @@
 // The laws of the checker's step.
+ghost use Rattle.abs_step.specs.FitLaws.{FitLaw};
 ghost use Rattle.abs_step.specs.MapView.{MapViewLaw};
 ghost use Rattle.abs_step.specs.ScriptRuns.{ScriptRunLaw};
 ghost use Rattle.abs_step.specs.Soundness.{SoundnessLaw};
@@ -33,4 +34,12 @@ pub fn script_run_law()
 #[tactic(auto, using(crate::proofs::SuccessorOrder::step_order))]
 pub fn step_order_law()
     ensures { StepOrderLaw }
+{}
+
+/// Points and states fit each other at the start, where two states at one point are joined, and in all that holds next after an
+/// instruction: the point has what the state knows of the tracked registers (this project's own). This call does nothing; its contract is
+/// the law.
+#[tactic(auto, using(crate::proofs::TrackedFits::fits))]
+pub fn fit_law()
+    ensures { FitLaw }
 {}

@@ -4,4 +4,4 @@
 
 mod laws;
 
-pub use laws::{map_view_law, script_run_law, soundness_law, step_order_law};
+pub use laws::{fit_law, map_view_law, script_run_law, soundness_law, step_order_law};
