@@ -34,3 +34,4 @@ pub mod ScriptStarts
 pub mod ScriptEnds
 pub mod WorkedMaps
 pub mod TrackedFits
+pub mod WorkedChecks

@@ -22,7 +22,7 @@ use Rattle.f8_spec.specs.declared.instructions.Op.{Op}
 
 -- ---- chips and their map
 
-abbrev page : PageSort → ℕ → Page
+abbrev pub page : PageSort → ℕ → Page
 page sort number = record { number = number; sort = sort }
 
 -- a 3851 with these bytes, and FF behind them
@@ -34,7 +34,7 @@ psu base ports bytes = record (blank_view Psu) {
 }
 
 -- a 3853 with these pages, of 255 each
-abbrev smi : List Page → ChipView
+abbrev pub smi : List Page → ChipView
 smi pages = record (blank_view Smi) { pages = pages; bytes = replicate 512 255; ports = Some 0x0C }
 
 -- the map of some chips, of which no two hold an address
@@ -54,11 +54,11 @@ map_of vs =
 
 -- ---- walks
 
-abbrev next : Option Op → MapView → List ℕ → Invariant → List Invariant
+abbrev pub next : Option Op → MapView → List ℕ → Invariant → List Invariant
 next None m tracked x = []
 next (Some op) m tracked x = successors op m tracked x
 
-abbrev next_at : MapView → List ℕ → Invariant → List Invariant
+abbrev pub next_at : MapView → List ℕ → Invariant → List Invariant
 next_at m tracked x = next (op_at m x) m tracked x
 
 -- where so many instructions lead by the first way
