@@ -25,6 +25,7 @@ use Rattle.abs_step.specs.Successors.{Invariant}
 use Rattle.abs_step.specs.Safety.{reads_at_data, is_answered, is_row_fault_free, is_fault_free}
 use Rattle.abs_step.specs.Concretization.{ChipTells}
 use Rattle.abs_step.specs.Soundness.{IsDataRead}
+use Rattle.abs_step.proofs.Knowing.{all_and_any}
 use Rattle.abs_step.proofs.Members.{SomeOf, all_map, some_map, some_unmapped}
 use Rattle.abs_step.proofs.Holders.{some_hold}
 use Rattle.abs_step.proofs.MapLaws.{IsMapped, HoldsAs, some_of_kind}
@@ -111,15 +112,9 @@ module _ (m : MapView) (ret : Option ℕ) (k : KnownCounters) (r : Flow) (cs : L
   either_held false true false e = absurd (cc)
   either_held false false p0 e = absurd (cc)
 
-  covered_by : (all any p0 : Bool) → (all && (not any || p0)) ≡ true → (all ≡ true) × (any ≡ true → p0 ≡ true)
-  covered_by true true true e = (refl, λ h. refl)
-  covered_by true true false e = absurd (cc)
-  covered_by true false p0 e = (refl, λ h. absurd (cc))
-  covered_by false any p0 e = absurd (cc)
-
   pub some_answers : (o : Option ℕ) → Below (Some r.d0) o → r.d0 < 65536 → is_answered m o k.p0 ≡ true → SomeOf (Answers r) cs
   some_answers None p small answered =
-      let both = covered_by (holds_every_address m) (m.any Psu) k.p0 answered in
+      let both = all_and_any (holds_every_address m) (m.any Psu) k.p0 answered in
       by_any (held_everywhere m (seats_of cs) r.d0 view small both.0) both.1
   some_answers (Some v) p small answered =
       let same : v ≡ r.d0 = cc in

@@ -7,7 +7,7 @@ use Rattle.abs_domain.specs.AbstractState.{KnownRegisters}
 use Rattle.abs_step.specs.RegisterWrites.{known_register, Target, RegisterWrite, target_allows, is_exact, written_to, written_from, written_all}
 use Rattle.abs_step.specs.Safety.{blurs, any_blurred}
 use Rattle.abs_step.specs.Successors.{tracked_byte, tracked_bytes}
-use Rattle.abs_step.proofs.Knowing.{Implies, left_of, right_of, both_of, known_below}
+use Rattle.abs_step.proofs.Knowing.{known_of, Implies, left_of, right_of, both_of, known_below}
 use Rattle.abs_step.proofs.Members.{IsIn, none_of_any, from_all}
 use Rattle.abs_step.proofs.Scratchpads.{TargetBelow, WriteBelow, allows_below, written_from_below}
 
@@ -32,10 +32,6 @@ clear_of true true exact e a = absurd (cc)
 clear_of true false true e a = (refl, refl)
 clear_of true false false e a = absurd (cc)
 clear_of false none exact e a = absurd (cc)
-
-known_of : (o : Option ℕ) → is_none o ≡ false → is_some o ≡ true
-known_of None e = absurd (cc)
-known_of (Some v) e = refl
 
 -- a register that the upper write doesn't blur
 same_written : (v w : RegisterWrite) (r : ℕ) (old older : Option ℕ) → WriteBelow v w → old ≡ older → blurs w r ≡ false →

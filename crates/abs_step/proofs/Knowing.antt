@@ -1,6 +1,6 @@
 -- A function of what is known keeps the order: from less, no more is known.
-use Rattle.std.proofs.Common.{◌≡◌, ℕ, zero, suc, Bool, true, false, ◌&&◌, List, [], ◌∷◌, refl}
-use Rattle.std.specs.Prelude.{Option, Some, None, option_map, option_and_then, slice_index_or, ◌==◌, is_some, not}
+use Rattle.std.proofs.Common.{◌||◌, ◌≡◌, ℕ, zero, suc, Bool, true, false, ◌&&◌, List, [], ◌∷◌, refl}
+use Rattle.std.specs.Prelude.{Option, Some, None, option_map, option_and_then, slice_index_or, ◌==◌, is_some, is_none, not}
 use Rattle.std.specs.List.{AllZip}
 use Rattle.abs_domain.specs.Lattice.{Below, FactBelow}
 use Rattle.abs_step.specs.Known.{lift2, lift3, known_word, agree, known_or, known_not}
@@ -22,6 +22,17 @@ right_of false b both = absurd (cc)
 pub both_of : (a b : Bool) → a ≡ true → b ≡ true → (a && b) ≡ true
 both_of true b p q = q
 both_of false b p q = absurd (cc)
+
+pub is_not : (b : Bool) → not b ≡ false → b ≡ true
+is_not true e = refl
+is_not false e = absurd (cc)
+
+-- all hold, and of any the one
+pub all_and_any : (all any one : Bool) → (all && (not any || one)) ≡ true → (all ≡ true) × (any ≡ true → one ≡ true)
+all_and_any true true true e = (refl, λ h. refl)
+all_and_any true true false e = absurd (cc)
+all_and_any true false one e = (refl, λ h. absurd (cc))
+all_and_any false any one e = absurd (cc)
 
 -- ---- functions
 
@@ -63,6 +74,10 @@ below_at (suc n) (x ∷ xs) (y ∷ ys) p = below_at n xs ys p.1
 pub known_below : {A : Type 0} (x y : Option A) → Below x y → Implies (is_some y) (is_some x)
 known_below x None p known = absurd (cc)
 known_below x (Some y) p known = rw p refl
+
+pub known_of : (o : Option ℕ) → is_none o ≡ false → is_some o ≡ true
+known_of None e = absurd (cc)
+known_of (Some v) e = refl
 
 pub agree_below : (x y u v : Option ℕ) → Below x y → Below u v → FactBelow (agree x u) (agree y v)
 agree_below x None u v p q = tt

@@ -1,6 +1,6 @@
 -- At a safe point all that the exits of the instruction need is known.
 use Rattle.std.proofs.Common.{◌≡◌, ℕ, true, false, List, refl, arith}
-use Rattle.std.specs.Prelude.{Option, Some, None, is_some, is_none}
+use Rattle.std.specs.Prelude.{Option, Some, None, is_some}
 use Rattle.f8_spec.specs.Words.{places_on}
 use Rattle.f8_spec.specs.Instructions.{row_of, row_length}
 use Rattle.f8_spec.specs.BusArbitration.{Seat}
@@ -11,13 +11,10 @@ use Rattle.abs_step.specs.Known.{known_word}
 use Rattle.abs_step.specs.MapView.{MapView, IsViewOf}
 use Rattle.abs_step.specs.Safety.{operand_reasons, code_reasons, jump_is_lost, return_is_lost, return_is_unset}
 use Rattle.abs_step.specs.Successors.{Invariant, inputs_at}
+use Rattle.abs_step.proofs.Knowing.{known_of}
 use Rattle.abs_step.proofs.ExitLaws.{is_ready}
 use Rattle.abs_step.proofs.Reasons.{IsCode, IsSafeState, code_of}
 use Rattle.abs_step.proofs.SafeRows.{NoneHold}
-
-known_of : (o : Option ℕ) → is_none o ≡ false → is_some o ≡ true
-known_of None e = absurd (cc)
-known_of (Some v) e = refl
 
 both_known : (x y : Option ℕ) → is_some x ≡ true → is_some y ≡ true → is_some (known_word x y) ≡ true
 both_known None y p q = absurd (cc)

@@ -1,6 +1,6 @@
 -- What holds where no reason does.
 use Rattle.std.proofs.Common.{◌≡◌, ℕ, Bool, true, false, List, [], ◌∷◌, ◌++◌, refl}
-use Rattle.std.specs.Prelude.{Option, Some, None, not}
+use Rattle.std.specs.Prelude.{Option, Some, None}
 use Rattle.f8_spec.specs.Instructions.{row_of, row_length}
 use Rattle.f8_spec.specs.declared.instructions.Op.{Op}
 use Rattle.console_spec.specs.FlatMemory.{is_ram_sort}
@@ -9,6 +9,7 @@ use Rattle.abs_step.specs.MapView.{MapView}
 use Rattle.abs_step.specs.Successors.{Invariant}
 use Rattle.abs_step.specs.Safety.{first_reason, code_reasons, operand_reasons, later_reasons, reasons, instruction_reason, reason_behind, unsafe_reason}
 use Rattle.abs_step.specs.Soundness.{op_at}
+use Rattle.abs_step.proofs.Knowing.{is_not}
 use Rattle.abs_step.proofs.SafeRows.{NoneHold}
 
 none_of : (rs : List (Bool × ℕ)) → first_reason rs ≡ None → NoneHold rs
@@ -27,10 +28,6 @@ none_of_both (r ∷ rs) ss h = let rest = none_of_both rs ss h.1 in ((h.0, rest.
 pub record IsCode (m : MapView) (at : ℕ) : Type 0 where
   pub once : is_held_once (m.sort at) ≡ true
   pub stays : is_ram_sort (m.sort at) ≡ false
-
-is_not : (b : Bool) → not b ≡ false → b ≡ true
-is_not true e = refl
-is_not false e = absurd (cc)
 
 pub code_of : (m : MapView) (at : ℕ) → NoneHold (code_reasons m at) → IsCode m at
 code_of m at h = record { once = is_not _ h.0; stays = h.1.0 }

@@ -24,7 +24,7 @@ use Rattle.abs_step.specs.Safety.{first_reason, code_reasons, reasons, unsafe_re
 use Rattle.abs_step.specs.Safety.{reads_at_data, goes_by_data, may_be_held_by_psu, may_part, may_be_shared, may_be_interrupted, writes_of}
 use Rattle.abs_step.specs.Safety.{is_answered, is_op_fault_free, is_fault_free}
 use Rattle.abs_step.specs.Soundness.{op_at}
-use Rattle.abs_step.proofs.Knowing.{below_word}
+use Rattle.abs_step.proofs.Knowing.{all_and_any, below_word}
 use Rattle.abs_step.proofs.Members.{SomeOf}
 use Rattle.abs_step.proofs.Scratchpads.{WriteBelow, register_below}
 use Rattle.abs_step.proofs.Effects.{writes_below, results_below}
@@ -219,12 +219,6 @@ held_by_kind m (s ∷ ss) at small mapped (inl holds) = by s.kind refl
         inr (rw is at held, rw is at any)
 held_by_kind m (s ∷ ss) at small mapped (inr later) = held_by_kind m ss at small mapped.1 later
 
-every_of : (all any p0 : Bool) → (all && (not any || p0)) ≡ true → (all ≡ true) × (any ≡ true → p0 ≡ true)
-every_of true true true e = (refl, λ h. refl)
-every_of true true false e = absurd (cc)
-every_of true false p0 e = (refl, λ h. absurd (cc))
-every_of false any p0 e = absurd (cc)
-
 some_every : (all any p0 q0 : Bool) → FactBelow p0 q0 → (all && (not any || q0)) ≡ true → (all && (not any || p0)) ≡ true
 some_every true true p0 true p e = p
 some_every true true p0 false p e = absurd (cc)
@@ -251,7 +245,7 @@ answered_below : (m : MapView) (seats : List Seat) (x y : Option ℕ) (p0 q0 : B
 answered_below m seats x (Some at) p0 q0 view small p fact e = rw p (some_kind (m.held at Smi) (m.held at Psu) p0 q0 fact e)
 answered_below m seats None None p0 q0 view small p fact e = some_every (holds_every_address m) (m.any Psu) p0 q0 fact e
 answered_below m seats (Some at) None p0 q0 view small p fact e =
-    let every = every_of (holds_every_address m) (m.any Psu) q0 e in
+    let every = all_and_any (holds_every_address m) (m.any Psu) q0 e in
     let held = held_everywhere m seats at view (small at refl) every.0 in
     let kind = held_by_kind m seats at (small at refl) (all_mapped_seats m seats view) (some_hold at seats held) in
     either_kind (m.held at Smi) (m.held at Psu) p0 (either kind (λ any. fact_of p0 q0 fact (every.1 any)))

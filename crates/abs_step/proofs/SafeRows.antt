@@ -24,6 +24,7 @@ use Rattle.abs_step.specs.MapView.{MapView, IsViewOf}
 use Rattle.abs_step.specs.Safety.{operand_reasons, return_is_unset, return_is_unheld, port_is_bad, reads_at_data, goes_by_data}
 use Rattle.abs_step.specs.Concretization.{Holds}
 use Rattle.abs_step.specs.Soundness.{IsDataRead}
+use Rattle.abs_step.proofs.Knowing.{is_not}
 use Rattle.abs_step.proofs.Members.{all_map}
 use Rattle.abs_step.proofs.ExitLaws.{same_next}
 use Rattle.abs_step.proofs.MapLaws.{port_read_served, port_write_served}
@@ -60,10 +61,6 @@ pub record IsSafeRow (Q : Option Fault → Type 0) (row : Row) (m : MapView) (re
   pub next : is_held_once (sort_of (seats_of cs) (flow_after row i true r).p) ≡ true
 
 -- ---- booleans
-
-is_not : (b : Bool) → not b ≡ false → b ≡ true
-is_not true e = refl
-is_not false e = absurd (cc)
 
 pub holds_if_known : {P : Type 0} (o : Option ℕ) → is_none o ≡ false → Holds (is_some o) P → P
 holds_if_known None e h = absurd (cc)
