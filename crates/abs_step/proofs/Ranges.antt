@@ -20,7 +20,7 @@ use Rattle.f8_spec.specs.declared.instructions.Row.TheVariants.{Jump, LoadData, 
 use Rattle.console_spec.specs.AddressSpace.{byte_at}
 use Rattle.console_spec.specs.Processor.{Flow, Registers, Inputs, with_scratch, with_pair, register_of, field_byte, stepped_isar}
 use Rattle.console_spec.specs.Processor.{with_isar_stepped, decremented, effect, used_byte, result_of, flow_after}
-use Rattle.abs_step.specs.FreeRuns.{AreBytes, HasBytes, AreAddresses}
+use Rattle.console_spec.specs.FreeRuns.{AreBytes, HasBytes, AreAddresses}
 
 -- ---- lists of bytes
 

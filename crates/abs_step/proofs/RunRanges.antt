@@ -20,7 +20,7 @@ use Rattle.console_spec.specs.Processor.{write_at, with_write, written_port}
 use Rattle.console_spec.specs.CounterCopies.{Copy, copy_after, copies_after}
 use Rattle.console_spec.specs.Run.{Position, seats_of, gets_at, position_after}
 use Rattle.console_spec.specs.declared.PortWrite.{PortWrite}
-use Rattle.abs_step.specs.FreeRuns.{AreBytes, HasBytes, AreAddresses, IsInRange}
+use Rattle.console_spec.specs.FreeRuns.{AreBytes, HasBytes, AreAddresses, IsInRange}
 use Rattle.abs_step.proofs.Members.{all_map, all_mapped}
 use Rattle.abs_step.proofs.SafeRows.{uninterrupted}
 use Rattle.abs_step.proofs.Leads.{unvectored}

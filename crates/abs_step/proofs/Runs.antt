@@ -20,7 +20,7 @@ use Rattle.abs_step.specs.MapView.{MapView, IsViewOf}
 use Rattle.abs_step.specs.Successors.{Invariant, start_invariant, start_state, state_after, at_exit, successors}
 use Rattle.abs_step.specs.Safety.{unsafe_reason}
 use Rattle.abs_step.specs.Concretization.{ChipTells, StandsFor, whole_status}
-use Rattle.abs_step.specs.FreeRuns.{IsFreeStart, HasByte, IsReached}
+use Rattle.console_spec.specs.FreeRuns.{IsFreeStart, HasByte, IsReached}
 use Rattle.abs_step.specs.Soundness.{Covers, LeadsInto, IsSafeMap}
 use Rattle.abs_step.proofs.Members.{IsIn, from_all, all_map}
 use Rattle.abs_step.proofs.Opcodes.{decoded_in_range}

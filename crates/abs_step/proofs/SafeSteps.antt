@@ -24,7 +24,7 @@ use Rattle.abs_step.specs.Successors.{Invariant, inputs_at, state_after}
 use Rattle.abs_step.specs.Safety.{code_reasons, operand_reasons, may_part}
 use Rattle.abs_step.specs.Safety.{port_is_bad, goes_by_data, reads_at_data, may_be_shared, may_be_held_by_psu}
 use Rattle.abs_step.specs.Concretization.{CopyTells}
-use Rattle.abs_step.specs.FreeRuns.{AreAddresses}
+use Rattle.console_spec.specs.FreeRuns.{AreAddresses}
 use Rattle.abs_step.specs.Soundness.{IsDataRead}
 use Rattle.abs_step.proofs.Members.{all_map, all_both, all_unmapped}
 use Rattle.abs_step.proofs.Exact.{results_tell}

@@ -16,7 +16,7 @@ use Rattle.console_spec.specs.declared.At.{At}
 use Rattle.console_spec.specs.declared.Event.{Event}
 use Rattle.abs_step.specs.MapView.{MapView}
 use Rattle.abs_step.specs.Successors.{Invariant}
-use Rattle.abs_step.specs.FreeRuns.{HasByte, IsReached}
+use Rattle.console_spec.specs.FreeRuns.{HasByte, IsReached}
 use Rattle.abs_step.specs.Soundness.{IsSafeMap, OnlyUndriven, GoesOn}
 use Rattle.abs_step.specs.ScriptRuns.{IsScriptFor, EndsBy, ScriptRunLaw}
 use Rattle.abs_step.proofs.SoundRuns.{soundness}

@@ -16,7 +16,7 @@ use Rattle.console_spec.specs.declared.Event.{Event}
 use Rattle.console_spec.specs.declared.Event.TheVariants.{Keys, Pulse}
 use Rattle.console_spec.specs.declared.Sort.{Sort}
 use Rattle.console_spec.specs.declared.Sort.TheVariants.{Rom, Ram, Void, Nothing, Shared}
-use Rattle.abs_step.specs.FreeRuns.{AreBytes, AreAddresses, IsFreeStart, HasByte}
+use Rattle.console_spec.specs.FreeRuns.{AreBytes, AreAddresses, IsFreeStart, HasByte}
 use Rattle.abs_step.specs.ScriptRuns.{IsScriptFor}
 use Rattle.abs_step.proofs.Ranges.{set_bytes}
 

@@ -22,7 +22,7 @@ use Rattle.abs_domain.specs.AbstractState.{KnownCounters}
 use Rattle.abs_step.specs.MapView.{MapView, is_held}
 use Rattle.abs_step.specs.Safety.{may_be_held_by_psu}
 use Rattle.abs_step.specs.Concretization.{Holds, ChipTells, CopyTells}
-use Rattle.abs_step.specs.FreeRuns.{AreAddresses}
+use Rattle.console_spec.specs.FreeRuns.{AreAddresses}
 use Rattle.abs_step.proofs.Members.{SomeOf, all_map, all_mapped, some_map, some_mapped, some_unmapped}
 use Rattle.abs_step.proofs.Accesses.{IsThere, ReadOutcome, IsServed, IsUndriven, read_outcome, read_served, store_served}
 use Rattle.abs_step.proofs.Holders.{held_by_one, some_hold, ram_is_held}

@@ -13,7 +13,7 @@ use Rattle.memory_map.specs.MapKinds.{is_held_once}
 use Rattle.abs_step.specs.MapView.{MapView}
 use Rattle.abs_step.specs.Successors.{Invariant}
 use Rattle.abs_step.specs.Safety.{is_fault_free, reads_at_data}
-use Rattle.abs_step.specs.FreeRuns.{IsFreeStart, IsReached}
+use Rattle.console_spec.specs.FreeRuns.{IsFreeStart, IsReached}
 use Rattle.abs_step.specs.Soundness.{IsSafeMap, IsFaultFree, IsDataRead, OnlyUndriven, GoesOn, SoundnessLaw}
 use Rattle.abs_step.proofs.Members.{from_all, all_map}
 use Rattle.abs_step.proofs.Services.{IsAt, all_at_served, DataOutcome, NoFault, NoAnswer}

@@ -20,7 +20,7 @@ use Rattle.abs_step.specs.MapView.{MapView, IsViewOf}
 use Rattle.abs_step.specs.Successors.{Invariant, inputs_at}
 use Rattle.abs_step.specs.Safety.{may_be_interrupted}
 use Rattle.abs_step.specs.Concretization.{whole_registers, StandsFor}
-use Rattle.abs_step.specs.FreeRuns.{IsInRange}
+use Rattle.console_spec.specs.FreeRuns.{IsInRange}
 use Rattle.abs_step.specs.Soundness.{op_at}
 use Rattle.abs_step.proofs.Members.{none_of_any}
 use Rattle.abs_step.proofs.Scratchpads.{register_below}

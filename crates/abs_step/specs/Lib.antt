@@ -6,7 +6,6 @@ pub mod MapView
 pub mod Successors
 pub mod Safety
 pub mod Concretization
-pub mod FreeRuns
 pub mod Soundness
 pub mod StepOrder
 pub mod FitLaws

@@ -11,7 +11,7 @@ use Rattle.console_spec.specs.Telling.{played_by}
 use Rattle.console_spec.specs.declared.At.{At}
 use Rattle.abs_step.specs.MapView.{MapView}
 use Rattle.abs_step.specs.Successors.{Invariant}
-use Rattle.abs_step.specs.FreeRuns.{HasByte}
+use Rattle.console_spec.specs.FreeRuns.{HasByte}
 use Rattle.abs_step.specs.Soundness.{IsSafeMap, IsFaultFree, OnlyUndriven}
 
 -- a script for some chips: what is told by address stays there in them, and all bytes are bytes

@@ -10,7 +10,7 @@ use Rattle.abs_domain.specs.AbstractState.{StateBelow}
 use Rattle.abs_step.specs.MapView.{MapView, IsViewOf}
 use Rattle.abs_step.specs.Successors.{Invariant, start_invariant, successors}
 use Rattle.abs_step.specs.Safety.{unsafe_reason, is_fault_free}
-use Rattle.abs_step.specs.FreeRuns.{IsFreeStart, IsReached}
+use Rattle.console_spec.specs.FreeRuns.{IsFreeStart, IsReached}
 
 -- ---- invariant maps: a list of states at points
 
