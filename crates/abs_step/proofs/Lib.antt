@@ -35,3 +35,6 @@ pub mod ScriptEnds
 pub mod WorkedMaps
 pub mod TrackedFits
 pub mod WorkedChecks
+pub mod Reachability
+pub mod KnownRanges
+pub mod PointFits

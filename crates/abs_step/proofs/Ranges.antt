@@ -191,14 +191,14 @@ wrapped_small : (at : ℕ) (by : ℤ) → wrapped at by < 65536
 wrapped_small at (pos n) = omega arith
 wrapped_small at (negsuc n) = omega arith
 
-displaced_small : (at byte : ℕ) → displaced at byte < 65536
+pub displaced_small : (at byte : ℕ) → displaced at byte < 65536
 displaced_small at byte = wrapped_small at (cast_signed w8 byte)
 
 branch_small : (taken : Bool) (at byte : ℕ) → (if taken then displaced (places_on at 1) byte else places_on at 2) < 65536
 branch_small true at byte = displaced_small (places_on at 1) byte
 branch_small false at byte = omega arith
 
-word_small : (high low : ℕ) → high < 256 → low < 256 → word high low < 65536
+pub word_small : (high low : ℕ) → high < 256 → low < 256 → word high low < 65536
 word_small high low p q = omega arith
 
 pub flow_small : (row : Row) (i : Inputs) (second : Bool) (c : Flow) → GetsBytes i → AreAddresses c → AreAddresses (flow_after row i second c)

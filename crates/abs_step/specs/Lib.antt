@@ -10,3 +10,6 @@ pub mod Soundness
 pub mod StepOrder
 pub mod FitLaws
 pub mod ScriptRuns
+pub mod Analysis
+pub mod ReachedStates
+pub mod CartridgeAnalysis

@@ -1,0 +1,88 @@
+-- The analysis of a cartridge: abstract states at points, over what is known of the chips; and that it meets the laws of an analysis.
+use Rattle.std.specs.Prelude.{◌≡◌, ℕ, ◌<◌, List, [], map, Option, Some, None, Result, Ok, Err}
+use Rattle.std.specs.List.{AllByRecursion}
+use Rattle.std.specs.List.Sorted.{IsStrictlySortedBy}
+use Rattle.std.specs.Map.{keys_of}
+use Rattle.std.specs.Option.{ForSome}
+use Rattle.f8_spec.specs.BusArbitration.{Seat}
+use Rattle.f8_spec.specs.declared.instructions.Op.{Op}
+use Rattle.console_spec.specs.FreeRuns.{AreBytes}
+use Rattle.memory_map.specs.MapOf.{MapTable}
+use Rattle.abs_domain.specs.AbstractState.{AbstractState, HasScratchpad}
+use Rattle.abs_domain.specs.Joins.{joined_state, is_state_below, rank}
+use Rattle.abs_domain.specs.PointOrder.{point_cmp}
+use Rattle.abs_domain.specs.declared.points.Point.{Point}
+use Rattle.abs_step.specs.RegisterWrites.{known_register}
+use Rattle.abs_step.specs.MapView.{MapView, IsViewOf, view_of}
+use Rattle.abs_step.specs.Successors.{Invariant, Fits, start_point, start_state, successors}
+use Rattle.abs_step.specs.Safety.{unsafe_reason, is_fault_free}
+use Rattle.abs_step.specs.Soundness.{op_at, IsSafeMap, IsFaultFree}
+use Rattle.abs_step.specs.Analysis.{Analysis, AnalysisLaws}
+use Rattle.abs_step.specs.ReachedStates.{IsClosedMap, HoldsSafeStates, HoldsFaultFreeStates}
+
+-- ---- states that fit a point
+
+-- what is known to be a byte, a digit or an address is one
+pub record IsWithinRange (s : AbstractState) : Type 0 where
+  pub accumulator : ForSome s.registers.accumulator (λ byte. byte < 256)
+  pub high : ForSome s.registers.high (λ digit. digit < 8)
+  pub low : ForSome s.registers.low (λ digit. digit < 8)
+  pub scratchpad : (number : ℕ) → ForSome (known_register number s.registers) (λ byte. byte < 256)
+  pub d0 : ForSome s.counters.d0 (λ at. at < 65536)
+  pub d1 : ForSome s.counters.d1 (λ at. at < 65536)
+
+-- The point has what the state knows of the tracked registers. The scratchpad is whole, and all is within its range.
+pub record FitsPoint (tracked : List ℕ) (p : Point) (s : AbstractState) : Type 0 where
+  pub split : Fits tracked (record { point = p; state = s })
+  pub scratchpad : HasScratchpad s
+  pub range : IsWithinRange s
+  pub at : p.at < 65536
+  pub ret : ForSome p.ret (λ at. at < 65536)
+
+-- ---- the analysis
+
+abbrev pub pair_of : Invariant → Point × AbstractState
+pair_of x = (x.point, x.state)
+
+abbrev pub invariant_of : Point × AbstractState → Invariant
+invariant_of e = record { point = e.0; state = e.1 }
+
+-- what holds next, by the reason against a state and by its instruction; a safe state has one
+abbrev pub next_by : Option ℕ → Option Op → MapView → List ℕ → Invariant → Result (List (Point × AbstractState)) ℕ
+next_by (Some reason) op m tracked x = Err reason
+next_by None None m tracked x = Ok []
+next_by None (Some op) m tracked x = Ok (map pair_of (successors op m tracked x))
+
+abbrev pub next_of : MapView → List ℕ → Invariant → Result (List (Point × AbstractState)) ℕ
+next_of m tracked x = next_by (unsafe_reason m tracked x) (op_at m x) m tracked x
+
+abbrev pub analysis : MapView → List ℕ → Analysis Point AbstractState
+analysis m tracked = record {
+  order = point_cmp;
+  below = is_state_below;
+  join = joined_state;
+  start_point = start_point;
+  start_state = start_state;
+  next = λ p s. next_of m tracked (record { point = p; state = s });
+  is_fault_free = λ p s. is_fault_free m (record { point = p; state = s });
+  fits = FitsPoint tracked;
+  rank = rank;
+}
+
+-- ---- the law
+
+-- the bytes that stay in the chips are bytes
+abbrev pub TellsBytes : MapView → Type 0
+TellsBytes m = (at byte : ℕ) → m.byte at ≡ Some byte → byte < 256
+
+pub record AnalysisLaw : Type 0 where
+  -- over what is right of some chips the analysis meets its laws
+  pub laws : (m : MapView) (seats : List Seat) (tracked : List ℕ) → IsViewOf m seats → TellsBytes m → AnalysisLaws (analysis m tracked)
+  -- a map of bytes tells bytes
+  pub bytes : (m : MapTable) → AreBytes m.bytes → TellsBytes (view_of m)
+  -- a map that is closed and safe in the analysis is one of which soundness speaks
+  pub sound : (m : MapView) (seats : List Seat) (tracked : List ℕ) (notes : List (Point × AbstractState)) → IsViewOf m seats →
+      IsStrictlySortedBy point_cmp (keys_of notes) → IsClosedMap (analysis m tracked) notes → HoldsSafeStates (analysis m tracked) notes →
+      IsSafeMap m seats tracked (map invariant_of notes)
+  pub fault_free : (m : MapView) (tracked : List ℕ) (notes : List (Point × AbstractState)) →
+      IsStrictlySortedBy point_cmp (keys_of notes) → HoldsFaultFreeStates (analysis m tracked) notes → IsFaultFree m (map invariant_of notes)
