@@ -1,7 +1,7 @@
 -- What is known stays within its range: bytes, digits and addresses. Where all that isn't known is taken as 0, the flat machine's step is one
 -- of those that the state stands for, and its results are in range; so is what is known of them.
-use Rattle.std.proofs.Common.{◌≡◌, ℕ, zero, suc, ◌+◌, ◌*◌, ◌/◌, ◌%◌, ◌<◌, Bool, true, false, List, [], ◌∷◌, length, map, refl, ap, sym, ◌∙◌, arith}
-use Rattle.std.specs.Prelude.{Option, Some, None, option_map, option_and_then, unwrap_or, slice_index, slice_index_or}
+use Rattle.std.proofs.Common.{◌≡◌, ℕ, zero, suc, ◌+◌, ◌*◌, ◌/◌, ◌%◌, ◌<◌, Bool, true, false, List, [], ◌∷◌, map, refl, ap, ◌∙◌, arith}
+use Rattle.std.specs.Prelude.{Option, Some, None, option_map, option_and_then, unwrap_or, slice_index_or}
 use Rattle.std.specs.List.{AllZip}
 use Rattle.std.specs.Option.{ForSome}
 use Rattle.std.proofs.lemmas.List.{length-map}
@@ -12,14 +12,14 @@ use Rattle.f8_spec.specs.declared.instructions.Op.{Op}
 use Rattle.console_spec.specs.FreeRuns.{AreBytes, AreAddresses, HasBytes}
 use Rattle.console_spec.specs.Processor.{Flow, Registers, Inputs, result_of, flow_after, scratch_byte}
 use Rattle.abs_domain.specs.Lattice.{Below}
-use Rattle.abs_domain.specs.AbstractState.{AbstractState, KnownStatus, KnownRegisters, HasScratchpad, RegistersBelow, StatusBelow}
+use Rattle.abs_domain.specs.AbstractState.{AbstractState, KnownStatus, KnownRegisters, HasScratchpad, RegistersBelow}
 use Rattle.abs_domain.specs.declared.points.Point.{Point}
 use Rattle.abs_domain.proofs.Orders.{below_trans}
 use Rattle.abs_step.specs.RegisterWrites.{known_register}
-use Rattle.abs_step.specs.KnownFlow.{KnownInputs, pair_of}
+use Rattle.abs_step.specs.KnownFlow.{KnownInputs}
 use Rattle.abs_step.specs.MapView.{MapView}
 use Rattle.abs_step.specs.Successors.{Invariant, inputs_at, state_after}
-use Rattle.abs_step.specs.Concretization.{DataTells, whole_status, whole_registers}
+use Rattle.abs_step.specs.Concretization.{whole_registers}
 use Rattle.abs_step.specs.Soundness.{op_at}
 use Rattle.abs_step.specs.CartridgeAnalysis.{IsWithinRange, FitsPoint, TellsBytes}
 use Rattle.abs_step.proofs.Scratchpads.{register_below}

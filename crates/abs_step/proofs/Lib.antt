@@ -38,3 +38,5 @@ pub mod WorkedChecks
 pub mod Reachability
 pub mod KnownRanges
 pub mod PointFits
+pub mod CartridgeLaws
+pub mod CartridgeMaps

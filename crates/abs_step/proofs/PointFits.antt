@@ -1,5 +1,5 @@
 -- States fit their points: at the start, where two at one point are joined, and in all that holds next.
-use Rattle.std.proofs.Common.{◌≡◌, ℕ, zero, suc, ◌<◌, Bool, true, false, List, [], ◌∷◌, ◌++◌, refl, sym, ◌∙◌, subst, arith}
+use Rattle.std.proofs.Common.{◌≡◌, ℕ, zero, suc, ◌<◌, Bool, true, false, List, [], ◌∷◌, ◌++◌, refl, subst, arith}
 use Rattle.std.specs.Prelude.{Option, Some, None, option_map, slice_index_or, ◌==◌, if◌then◌else◌, flat_map, replicate}
 use Rattle.std.specs.List.{AllByRecursion}
 use Rattle.std.specs.Option.{ForSome}
@@ -14,10 +14,9 @@ use Rattle.abs_domain.specs.Joins.{joined_state}
 use Rattle.abs_domain.specs.declared.points.Point.{Point}
 use Rattle.abs_domain.proofs.Bounds.{join_laws}
 use Rattle.abs_step.specs.Known.{known_word}
-use Rattle.abs_step.specs.RegisterWrites.{known_register}
 use Rattle.abs_step.specs.KnownFlow.{KnownInputs, Exit, exit_to, branch_exits, branch_target, exits}
 use Rattle.abs_step.specs.MapView.{MapView}
-use Rattle.abs_step.specs.Successors.{Invariant, start_point, start_state, state_after, exits_of, inputs_at, at_exit, along, all_along}
+use Rattle.abs_step.specs.Successors.{Invariant, start_point, start_state, state_after, exits_of, inputs_at, along, all_along}
 use Rattle.abs_step.specs.Successors.{same_point, with_invariant, with_invariants, successors}
 use Rattle.abs_step.specs.Soundness.{op_at}
 use Rattle.abs_step.specs.CartridgeAnalysis.{IsWithinRange, FitsPoint, TellsBytes}

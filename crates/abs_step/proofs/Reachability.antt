@@ -1,7 +1,7 @@
 -- What follows from the laws of an analysis alone: reached states fit their points, every closed and safe map covers them, and so an unsafe
 -- one, or too many points, show that there is no such map; and the least one is free of faults where some is.
-use Rattle.std.proofs.Common.{◌≡◌, ℕ, ◌≤◌, ◌<◌, Bool, true, false, List, length, refl, sym, ◌∙◌, subst, arith}
-use Rattle.std.specs.Prelude.{Option, Some, None, Result, Ok, Err, is_some, IsSome}
+use Rattle.std.proofs.Common.{◌≡◌, ℕ, ◌≤◌, true, List, length, refl, sym, ◌∙◌, subst, arith}
+use Rattle.std.specs.Prelude.{Ok, Err, IsSome}
 use Rattle.std.specs.List.{All, Contains, list_any}
 use Rattle.std.specs.Map.{lookup}
 use Rattle.std.specs.BTreeMap.{is_at}
@@ -13,7 +13,7 @@ use Rattle.std.proofs.lemmas.Map.Views.{Contains-from_any}
 use Rattle.std.proofs.lemmas.List.Elements.{All-contains}
 use Rattle.std.proofs.lemmas.Cmp.{eq_by_cmp_equiv}
 use Rattle.abs_step.specs.Analysis.{Analysis, AnalysisLaws}
-use Rattle.abs_step.specs.ReachedStates.{Reached, start, joined, next, state_at, CoversAt, IsSafelyClosed, HoldsFaultFreeStates, IsLeastMap, IsLowestMap}
+use Rattle.abs_step.specs.ReachedStates.{Reached, start, joined, next, CoversAt, IsSafelyClosed, HoldsFaultFreeStates, IsLeastMap, IsLowestMap}
 use Rattle.abs_step.specs.ReachedStates.{SomeIsSafe, SomeIsFaultFree, ReachesUnsafe, ReachesTooMany}
 
 module _ {P S : Type 0} (an : Analysis P S) (laws : AnalysisLaws an) where

@@ -1,4 +1,5 @@
 // The laws of the checker's step.
+ghost use Rattle.abs_step.specs.CartridgeAnalysis.{AnalysisLaw};
 ghost use Rattle.abs_step.specs.FitLaws.{FitLaw};
 ghost use Rattle.abs_step.specs.MapView.{MapViewLaw};
 ghost use Rattle.abs_step.specs.ScriptRuns.{ScriptRunLaw};
@@ -42,4 +43,13 @@ pub fn step_order_law()
 #[tactic(auto, using(crate::proofs::TrackedFits::fits))]
 pub fn fit_law()
     ensures { FitLaw }
+{}
+
+/// The analysis of a cartridge meets all that a search of it stands on: points are in a total order; states are in order, with a least upper
+/// bound of two at a point, and no state rises more than 79 times; a step keeps their order; and states that fit their points lead to such.
+/// An invariant map that is closed, safe and free of faults in it is one of which `soundness_law` speaks (this project's own). This call
+/// does nothing; its contract is the law.
+#[tactic(auto, using(crate::proofs::CartridgeMaps::analysis_law))]
+pub fn analysis_law()
+    ensures { AnalysisLaw }
 {}

@@ -4,4 +4,6 @@
 
 mod laws;
 
-pub use laws::{fit_law, map_view_law, script_run_law, soundness_law, step_order_law};
+pub use laws::{
+    analysis_law, fit_law, map_view_law, script_run_law, soundness_law, step_order_law,
+};
