@@ -40,3 +40,5 @@ pub mod KnownRanges
 pub mod PointFits
 pub mod CartridgeLaws
 pub mod CartridgeMaps
+pub mod SeatSums
+pub mod SeatedViews

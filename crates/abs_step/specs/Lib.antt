@@ -13,3 +13,4 @@ pub mod ScriptRuns
 pub mod Analysis
 pub mod ReachedStates
 pub mod CartridgeAnalysis
+pub mod RackSeats

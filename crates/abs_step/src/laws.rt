@@ -2,6 +2,7 @@
 ghost use Rattle.abs_step.specs.CartridgeAnalysis.{AnalysisLaw};
 ghost use Rattle.abs_step.specs.FitLaws.{FitLaw};
 ghost use Rattle.abs_step.specs.MapView.{MapViewLaw};
+ghost use Rattle.abs_step.specs.RackSeats.{SeatedViewLaw};
 ghost use Rattle.abs_step.specs.ScriptRuns.{ScriptRunLaw};
 ghost use Rattle.abs_step.specs.Soundness.{SoundnessLaw};
 ghost use Rattle.abs_step.specs.StepOrder.{StepOrderLaw};
@@ -11,6 +12,13 @@ ghost use Rattle.abs_step.specs.StepOrder.{StepOrderLaw};
 #[tactic(auto, using(crate::proofs::MapViews::map_view))]
 pub fn map_view_law()
     ensures { MapViewLaw }
+{}
+
+/// What the map of a description tells is as true of a rack in which its chips sit: in another order, and with blank chips between. Nor does
+/// it matter whether a chip has a patch (this project's own). This call does nothing; its contract is the law.
+#[tactic(auto, using(crate::proofs::SeatedViews::seated_views))]
+pub fn seated_view_law()
+    ensures { SeatedViewLaw }
 {}
 
 /// Where an invariant map is closed and safe, no run meets a reserved opcode, takes an interrupt, or has a bus step that isn't served, but

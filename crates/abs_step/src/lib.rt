@@ -5,5 +5,6 @@
 mod laws;
 
 pub use laws::{
-    analysis_law, fit_law, map_view_law, script_run_law, soundness_law, step_order_law,
+    analysis_law, fit_law, map_view_law, script_run_law, seated_view_law, soundness_law,
+    step_order_law,
 };
