@@ -17,7 +17,7 @@ use Rattle.abs_step.specs.Safety.{unsafe_reason}
 use Rattle.abs_step.specs.Soundness.{op_at, Covers}
 use Rattle.abs_step.specs.StepOrder.{IsOrdered}
 use Rattle.abs_step.specs.Analysis.{LeadsBelow, AnalysisLaws}
-use Rattle.abs_step.specs.CartridgeAnalysis.{FitsPoint, TellsBytes, pair_of, next_by, next_of, analysis}
+use Rattle.abs_step.specs.CartridgeAnalysis.{FitsPoint, TellsBytes, entry_of, answer_by, answer_at, analysis}
 use Rattle.abs_step.proofs.Members.{IsIn, from_all, all_map, all_mapped}
 use Rattle.abs_step.proofs.Reasons.{safe_state}
 use Rattle.abs_step.proofs.SuccessorOrder.{step_order}
@@ -45,20 +45,20 @@ pub record IsNext (m : MapView) (tracked : List ℕ) (x : Invariant) (ways : Lis
   pub op : Op
   pub is : op_at m x ≡ Some op
   pub safe : unsafe_reason m tracked x ≡ None
-  pub same : map pair_of (successors op m tracked x) ≡ ways
+  pub same : map entry_of (successors op m tracked x) ≡ ways
 
-pub next_is : (m : MapView) (tracked : List ℕ) (x : Invariant) (ways : List (Point × AbstractState)) → next_of m tracked x ≡ Ok ways →
+pub next_is : (m : MapView) (tracked : List ℕ) (x : Invariant) (ways : List (Point × AbstractState)) → answer_at m tracked x ≡ Ok ways →
     IsNext m tracked x ways
 next_is m tracked x ways e = by (unsafe_reason m tracked x) refl (op_at m x) refl e
   where
-    by : (reason : Option ℕ) → unsafe_reason m tracked x ≡ reason → (o : Option Op) → op_at m x ≡ o → next_by reason o m tracked x ≡ Ok ways →
+    by : (reason : Option ℕ) → unsafe_reason m tracked x ≡ reason → (o : Option Op) → op_at m x ≡ o → answer_by reason o m tracked x ≡ Ok ways →
         IsNext m tracked x ways
     by (Some reason) r o q e = absurd (cc)
     by None r None q e = let safe = safe_state m tracked x r in let has = safe.1.is in absurd (cc)
     by None r (Some op) q e = record { op = op; is = q; safe = r; same = cc }
 
 pub is_next : (m : MapView) (tracked : List ℕ) (x : Invariant) (op : Op) → unsafe_reason m tracked x ≡ None → op_at m x ≡ Some op →
-    next_of m tracked x ≡ Ok (map pair_of (successors op m tracked x))
+    answer_at m tracked x ≡ Ok (map entry_of (successors op m tracked x))
 is_next m tracked x op safe is = rw (safe, is) refl
 
 -- ---- the order
@@ -78,16 +78,16 @@ IsMatched upper e = (u : AbstractState) × Contains upper (e.0, u) × (is_state_
 
 -- what is covered is so by an element
 cover_in : (zs : List Invariant) (x : Invariant) → Covers zs x →
-    (u : AbstractState) × IsIn (x.point, u) (map pair_of zs) × (is_state_below x.state u ≡ true)
+    (u : AbstractState) × IsIn (x.point, u) (map entry_of zs) × (is_state_below x.state u ≡ true)
 cover_in [] x h = absurd h
 cover_in (z ∷ zs) x (inl here) = (z.state, inl (λ i. (here.0 i, z.state)), test_of x.state z.state here.1)
 cover_in (z ∷ zs) x (inr later) = let rest = cover_in zs x later in (rest.0, inr rest.1, rest.2)
 
-all_matched : (zs xs : List Invariant) (ws : List (Point × AbstractState)) → map pair_of zs ≡ ws → AllByRecursion (Covers zs) xs →
-    AllByRecursion (IsMatched ws) (map pair_of xs)
-all_matched zs xs ws same covered = all_mapped pair_of (IsMatched ws) xs (all_map (Covers zs) _ xs each covered)
+all_matched : (zs xs : List Invariant) (ws : List (Point × AbstractState)) → map entry_of zs ≡ ws → AllByRecursion (Covers zs) xs →
+    AllByRecursion (IsMatched ws) (map entry_of xs)
+all_matched zs xs ws same covered = all_mapped entry_of (IsMatched ws) xs (all_map (Covers zs) _ xs each covered)
   where
-    each : (x : Invariant) → Covers zs x → IsMatched ws (pair_of x)
+    each : (x : Invariant) → Covers zs x → IsMatched ws (entry_of x)
     each x h =
         let found = cover_in zs x h in
         let among : Contains ws (x.point, found.0) =
@@ -106,7 +106,7 @@ module _ (m : MapView) (seats : List Seat) (tracked : List ℕ) (view : IsViewOf
   }
 
   keeps : (p : Point) (lower upper : AbstractState) (ways : List (Point × AbstractState)) → FitsPoint tracked p lower → FitsPoint tracked p upper →
-      is_state_below lower upper ≡ true → next_of m tracked (record { point = p; state = upper }) ≡ Ok ways →
+      is_state_below lower upper ≡ true → answer_at m tracked (record { point = p; state = upper }) ≡ Ok ways →
       LeadsBelow (analysis m tracked) p lower ways
   keeps p lower upper ways first second below e =
       let x : Invariant = record { point = p; state = lower } in
@@ -116,7 +116,7 @@ module _ (m : MapView) (seats : List Seat) (tracked : List ℕ) (view : IsViewOf
       let upper_ways = successors next.op m tracked (record { point = p; state = upper }) in
       let covered = step_order.successors m seats tracked p lower upper view order next.safe next.op next.is in
       record {
-        lower = map pair_of (successors next.op m tracked x);
+        lower = map entry_of (successors next.op m tracked x);
         safe = is_next m tracked x next.op safe next.is;
         followed = record {
           each = λ q t way. from_all (IsMatched ways) _ (q, t) (all_matched upper_ways _ ways next.same covered) (in_of_contains _ (q, t) way);
@@ -124,16 +124,16 @@ module _ (m : MapView) (seats : List Seat) (tracked : List ℕ) (view : IsViewOf
       }
 
   next_fits : (p : Point) (s : AbstractState) (ways : List (Point × AbstractState)) → FitsPoint tracked p s →
-      next_of m tracked (record { point = p; state = s }) ≡ Ok ways → (q : Point) (t : AbstractState) → Contains ways (q, t) → FitsPoint tracked q t
+      answer_at m tracked (record { point = p; state = s }) ≡ Ok ways → (q : Point) (t : AbstractState) → Contains ways (q, t) → FitsPoint tracked q t
   next_fits p s ways h e q t way =
       let x : Invariant = record { point = p; state = s } in
       let next = next_is m tracked x ways e in
       let fit = successors_fit tracked m tells x h next.op next.is in
-      let all : AllByRecursion (λ (d : Point × AbstractState). FitsPoint tracked d.0 d.1) (map pair_of (successors next.op m tracked x)) =
-      all_mapped pair_of _ (successors next.op m tracked x) fit in
-      let among : Contains (map pair_of (successors next.op m tracked x)) (q, t) =
+      let all : AllByRecursion (λ (d : Point × AbstractState). FitsPoint tracked d.0 d.1) (map entry_of (successors next.op m tracked x)) =
+      all_mapped entry_of _ (successors next.op m tracked x) fit in
+      let among : Contains (map entry_of (successors next.op m tracked x)) (q, t) =
       subst (λ (ws : List (Point × AbstractState)). Contains ws (q, t)) (sym next.same) way in
-      from_all _ (map pair_of (successors next.op m tracked x)) (q, t) all (in_of_contains _ (q, t) among)
+      from_all _ (map entry_of (successors next.op m tracked x)) (q, t) all (in_of_contains _ (q, t) among)
 
   pub cartridge_laws : AnalysisLaws (analysis m tracked)
   cartridge_laws = record {

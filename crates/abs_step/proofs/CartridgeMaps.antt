@@ -26,7 +26,7 @@ use Rattle.abs_step.specs.MapView.{MapView, view_of}
 use Rattle.abs_step.specs.Successors.{start_invariant, successors}
 use Rattle.abs_step.specs.Soundness.{Covers, LeadsInto, IsClosed, IsSafe, IsFaultFree}
 use Rattle.abs_step.specs.ReachedStates.{CoversAt, IsClosedMap, HoldsSafeStates, HoldsFaultFreeStates}
-use Rattle.abs_step.specs.CartridgeAnalysis.{TellsBytes, pair_of, invariant_of, analysis, AnalysisLaw}
+use Rattle.abs_step.specs.CartridgeAnalysis.{TellsBytes, entry_of, as_invariant, analysis, AnalysisLaw}
 use Rattle.abs_step.proofs.Members.{IsIn, all_of, all_mapped, all_unmapped}
 use Rattle.abs_step.proofs.CartridgeLaws.{in_of_contains, contains_of_in, IsNext, next_is, cartridge_laws}
 
@@ -64,7 +64,7 @@ in_noted notes e ascends is =
     (contains_of_in notes e is)
 
 cover_of : (notes : List (Point × AbstractState)) (p : Point) (s u : AbstractState) → IsIn (p, u) notes → StateBelow s u →
-    Covers (map invariant_of notes) (record { point = p; state = s })
+    Covers (map as_invariant notes) (record { point = p; state = s })
 cover_of [] p s u is below = absurd is
 cover_of (e ∷ es) p s u (inl here) below =
     inl (λ i. (here i).0, subst (λ (d : Point × AbstractState). StateBelow s d.1) (sym here) below)
@@ -72,39 +72,39 @@ cover_of (e ∷ es) p s u (inr later) below = inr (cover_of es p s u later below
 
 module _ (m : MapView) (tracked : List ℕ) (notes : List (Point × AbstractState)) (ascends : IsStrictlySortedBy point_cmp (keys_of notes)) where
   covered : (p : Point) (s : AbstractState) → CoversAt (analysis m tracked) notes p s →
-      Covers (map invariant_of notes) (record { point = p; state = s })
+      Covers (map as_invariant notes) (record { point = p; state = s })
   covered p s h = cover_of notes p s h.upper (noted_in notes p h.upper h.noted) ((order_laws.test s h.upper).0 h.below)
 
   module _ (closed : IsClosedMap (analysis m tracked) notes) (safe : HoldsSafeStates (analysis m tracked) notes) where
-    next_at : (e : Point × AbstractState) → IsIn e notes → (ways : List (Point × AbstractState)) × IsNext m tracked (invariant_of e) ways
+    next_at : (e : Point × AbstractState) → IsIn e notes → (ways : List (Point × AbstractState)) × IsNext m tracked (as_invariant e) ways
     next_at e is =
         let here = safe e.0 e.1 (in_noted notes e ascends is) in
-        (here.0, next_is m tracked (invariant_of e) here.0 here.1)
+        (here.0, next_is m tracked (as_invariant e) here.0 here.1)
 
-    leads : (e : Point × AbstractState) → IsIn e notes → LeadsInto m tracked (map invariant_of notes) (invariant_of e)
+    leads : (e : Point × AbstractState) → IsIn e notes → LeadsInto m tracked (map as_invariant notes) (as_invariant e)
     leads e is op has =
         let noted = in_noted notes e ascends is in
         let here = safe e.0 e.1 noted in
-        let next = next_is m tracked (invariant_of e) here.0 here.1 in
+        let next = next_is m tracked (as_invariant e) here.0 here.1 in
         let same : next.op ≡ op = cc in
-        let ways : map pair_of (successors op m tracked (invariant_of e)) ≡ here.0 =
-        subst (λ (o : Op). map pair_of (successors o m tracked (invariant_of e)) ≡ here.0) same next.same in
-        all_unmapped pair_of (λ d. Covers (map invariant_of notes) (invariant_of d)) (successors op m tracked (invariant_of e))
-        (all_of _ (map pair_of (successors op m tracked (invariant_of e))) (λ d among.
+        let ways : map entry_of (successors op m tracked (as_invariant e)) ≡ here.0 =
+        subst (λ (o : Op). map entry_of (successors o m tracked (as_invariant e)) ≡ here.0) same next.same in
+        all_unmapped entry_of (λ d. Covers (map as_invariant notes) (as_invariant d)) (successors op m tracked (as_invariant e))
+        (all_of _ (map entry_of (successors op m tracked (as_invariant e))) (λ d among.
         covered d.0 d.1 (closed.next e.0 e.1 here.0 noted here.1 d.0 d.1
         (subst (λ (ws : List (Point × AbstractState)). Contains ws d) ways (contains_of_in _ d among)))))
 
-    is_closed : IsClosed m tracked (map invariant_of notes)
+    is_closed : IsClosed m tracked (map as_invariant notes)
     is_closed = record {
       start = covered start_invariant.point start_invariant.state closed.start;
-      each = all_mapped invariant_of _ notes (all_of _ notes leads);
+      each = all_mapped as_invariant _ notes (all_of _ notes leads);
     }
 
-    is_safe : IsSafe m tracked (map invariant_of notes)
-    is_safe = all_mapped invariant_of _ notes (all_of _ notes (λ e is. (next_at e is).1.safe))
+    is_safe : IsSafe m tracked (map as_invariant notes)
+    is_safe = all_mapped as_invariant _ notes (all_of _ notes (λ e is. (next_at e is).1.safe))
 
-  is_fault_free_map : HoldsFaultFreeStates (analysis m tracked) notes → IsFaultFree m (map invariant_of notes)
-  is_fault_free_map free = all_mapped invariant_of _ notes (all_of _ notes (λ e is. free e.0 e.1 (in_noted notes e ascends is)))
+  is_fault_free_map : HoldsFaultFreeStates (analysis m tracked) notes → IsFaultFree m (map as_invariant notes)
+  is_fault_free_map free = all_mapped as_invariant _ notes (all_of _ notes (λ e is. free e.0 e.1 (in_noted notes e ascends is)))
 
 pub analysis_law : AnalysisLaw
 analysis_law = record {

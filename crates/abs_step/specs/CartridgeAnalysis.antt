@@ -40,20 +40,20 @@ pub record FitsPoint (tracked : List ℕ) (p : Point) (s : AbstractState) : Type
 
 -- ---- the analysis
 
-abbrev pub pair_of : Invariant → Point × AbstractState
-pair_of x = (x.point, x.state)
+abbrev pub entry_of : Invariant → Point × AbstractState
+entry_of x = (x.point, x.state)
 
-abbrev pub invariant_of : Point × AbstractState → Invariant
-invariant_of e = record { point = e.0; state = e.1 }
+abbrev pub as_invariant : Point × AbstractState → Invariant
+as_invariant e = record { point = e.0; state = e.1 }
 
 -- what holds next, by the reason against a state and by its instruction; a safe state has one
-abbrev pub next_by : Option ℕ → Option Op → MapView → List ℕ → Invariant → Result (List (Point × AbstractState)) ℕ
-next_by (Some reason) op m tracked x = Err reason
-next_by None None m tracked x = Ok []
-next_by None (Some op) m tracked x = Ok (map pair_of (successors op m tracked x))
+abbrev pub answer_by : Option ℕ → Option Op → MapView → List ℕ → Invariant → Result (List (Point × AbstractState)) ℕ
+answer_by (Some reason) op m tracked x = Err reason
+answer_by None None m tracked x = Ok []
+answer_by None (Some op) m tracked x = Ok (map entry_of (successors op m tracked x))
 
-abbrev pub next_of : MapView → List ℕ → Invariant → Result (List (Point × AbstractState)) ℕ
-next_of m tracked x = next_by (unsafe_reason m tracked x) (op_at m x) m tracked x
+abbrev pub answer_at : MapView → List ℕ → Invariant → Result (List (Point × AbstractState)) ℕ
+answer_at m tracked x = answer_by (unsafe_reason m tracked x) (op_at m x) m tracked x
 
 abbrev pub analysis : MapView → List ℕ → Analysis Point AbstractState
 analysis m tracked = record {
@@ -62,7 +62,7 @@ analysis m tracked = record {
   join = joined_state;
   start_point = start_point;
   start_state = start_state;
-  next = λ p s. next_of m tracked (record { point = p; state = s });
+  next = λ p s. answer_at m tracked (record { point = p; state = s });
   is_fault_free = λ p s. is_fault_free m (record { point = p; state = s });
   fits = FitsPoint tracked;
   rank = rank;
@@ -82,6 +82,6 @@ pub record AnalysisLaw : Type 0 where
   -- a map that is closed and safe in the analysis is one of which soundness speaks
   pub sound : (m : MapView) (seats : List Seat) (tracked : List ℕ) (notes : List (Point × AbstractState)) → IsViewOf m seats →
       IsStrictlySortedBy point_cmp (keys_of notes) → IsClosedMap (analysis m tracked) notes → HoldsSafeStates (analysis m tracked) notes →
-      IsSafeMap m seats tracked (map invariant_of notes)
+      IsSafeMap m seats tracked (map as_invariant notes)
   pub fault_free : (m : MapView) (tracked : List ℕ) (notes : List (Point × AbstractState)) →
-      IsStrictlySortedBy point_cmp (keys_of notes) → HoldsFaultFreeStates (analysis m tracked) notes → IsFaultFree m (map invariant_of notes)
+      IsStrictlySortedBy point_cmp (keys_of notes) → HoldsFaultFreeStates (analysis m tracked) notes → IsFaultFree m (map as_invariant notes)
