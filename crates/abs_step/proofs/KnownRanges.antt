@@ -6,17 +6,19 @@ use Rattle.std.specs.List.{AllZip}
 use Rattle.std.specs.Option.{ForSome}
 use Rattle.std.proofs.lemmas.List.{length-map}
 use Rattle.f8_spec.specs.Flags.{Status}
-use Rattle.f8_spec.specs.Words.{places_on}
+use Rattle.f8_spec.specs.Words.{places_on, displaced}
 use Rattle.f8_spec.specs.Instructions.{decoded, row_of, InRange}
 use Rattle.f8_spec.specs.declared.instructions.Op.{Op}
+use Rattle.f8_spec.specs.declared.instructions.Row.{Row}
+use Rattle.f8_spec.specs.declared.instructions.Row.TheVariants.{DataFromQ, DataFromH, ReadData, StoreData, LoadData, AddData}
 use Rattle.console_spec.specs.FreeRuns.{AreBytes, AreAddresses, HasBytes}
 use Rattle.console_spec.specs.Processor.{Flow, Registers, Inputs, result_of, flow_after, scratch_byte}
 use Rattle.abs_domain.specs.Lattice.{Below}
-use Rattle.abs_domain.specs.AbstractState.{AbstractState, KnownStatus, KnownRegisters, HasScratchpad, RegistersBelow}
+use Rattle.abs_domain.specs.AbstractState.{AbstractState, KnownStatus, KnownRegisters, KnownCounters, HasScratchpad, RegistersBelow}
 use Rattle.abs_domain.specs.declared.points.Point.{Point}
 use Rattle.abs_domain.proofs.Orders.{below_trans}
 use Rattle.abs_step.specs.RegisterWrites.{known_register}
-use Rattle.abs_step.specs.KnownFlow.{KnownInputs}
+use Rattle.abs_step.specs.KnownFlow.{KnownInputs, known_counters}
 use Rattle.abs_step.specs.MapView.{MapView}
 use Rattle.abs_step.specs.Successors.{Invariant, inputs_at, state_after}
 use Rattle.abs_step.specs.Concretization.{whole_registers}
@@ -27,12 +29,10 @@ use Rattle.abs_step.proofs.Exact.{register_whole, results_tell}
 use Rattle.abs_step.proofs.InputLaws.{whole_inputs, InputsBelow, used_tells}
 use Rattle.abs_step.proofs.CounterLaws.{data_tells}
 use Rattle.abs_step.proofs.Opcodes.{decoded_in_range}
-use Rattle.abs_step.proofs.Ranges.{GetsBytes, result_small, flow_small}
+use Rattle.abs_step.proofs.Ranges.{GetsBytes, displaced_small, result_small, flow_small}
+use Rattle.abs_step.proofs.KnownNumbers.{IsBelow, none_below, some_below, filled, filled_small, known_small, word_below}
 
--- ---- a part that isn't known is taken as 0
-
-abbrev pub filled : Option ℕ → ℕ
-filled o = unwrap_or o 0
+-- ---- a part that isn't known is taken as 0, and a bit as clear
 
 abbrev pub set : Option Bool → Bool
 set o = unwrap_or o false
@@ -44,14 +44,6 @@ filled_below (Some x) = refl
 set_below : (o : Option Bool) → Below (Some (set o)) o
 set_below None = tt
 set_below (Some b) = refl
-
-filled_small : (n : ℕ) (o : Option ℕ) → 0 < n → ForSome o (λ x. x < n) → filled o < n
-filled_small n None positive h = positive
-filled_small n (Some x) positive h = h x refl
-
--- what is known of a value in range
-known_small : (n a : ℕ) (o : Option ℕ) → Below (Some a) o → a < n → ForSome o (λ x. x < n)
-known_small n a o below small x is = let same : Some a ≡ Some x = rw is at below in let equal : a ≡ x = cc in omega arith
 
 -- ---- registers
 
@@ -181,6 +173,29 @@ data_small : (m : MapView) → TellsBytes m → (o : Option ℕ) → filled (opt
 data_small m tells None = omega arith
 data_small m tells (Some at) = byte_small m tells at
 
+-- ---- the copies of the 3851s
+
+moved_small : (f : ℕ → Option ℕ) (o : Option ℕ) → ((at : ℕ) → IsBelow 65536 (f at)) → IsBelow 65536 (option_and_then f o)
+moved_small f None each = none_below 65536
+moved_small f (Some at) each = each at
+
+next_small : (at : ℕ) → IsBelow 65536 (Some (places_on at 1))
+next_small at = some_below 65536 (places_on at 1) (omega arith)
+
+added_small : (o : Option ℕ) (at : ℕ) → IsBelow 65536 (option_map (displaced at) o)
+added_small None at = none_below 65536
+added_small (Some byte) at = some_below 65536 (displaced at byte) (displaced_small at byte)
+
+copies_small : (row : Row) (i : KnownInputs) (k : KnownCounters) → GetsBytes (filled_inputs i) → IsBelow 65536 k.c →
+    IsBelow 65536 (known_counters row i k).c
+copies_small DataFromQ i k g h = word_below i.q_high i.q_low g.q_high g.q_low
+copies_small DataFromH i k g h = word_below i.h_high i.h_low g.h_high g.h_low
+copies_small LoadData i k g h = word_below i.operand i.second g.operand g.second
+copies_small ReadData i k g h = moved_small (λ at. Some (places_on at 1)) k.c next_small
+copies_small StoreData i k g h = moved_small (λ at. Some (places_on at 1)) k.c next_small
+copies_small AddData i k g h = moved_small (λ at. option_map (displaced at) i.accumulator) k.c (added_small i.accumulator)
+copies_small row i k g h = h
+
 module _ (m : MapView) (tells : TellsBytes m) (tracked : List ℕ) (p : Point) (s : AbstractState) (fits : FitsPoint tracked p s) (op : Op)
     (is : op_at m (record { point = p; state = s }) ≡ Some op) where
   abbrev here : Invariant
@@ -256,4 +271,5 @@ module _ (m : MapView) (tells : TellsBytes m) (tracked : List ℕ) (p : Point) (
         scratchpad = λ number. known_registers_small after known.registers number result_is_small result_tells;
         d0 = known_small 65536 flow.d0 known.counters.d0 counters.d0 flow_is_small.d0;
         d1 = known_small 65536 flow.d1 known.counters.d1 counters.d1 flow_is_small.d1;
+        c = copies_small row i s.counters inputs_small fits.range.c;
       }

@@ -36,6 +36,7 @@ pub mod WorkedMaps
 pub mod TrackedFits
 pub mod WorkedChecks
 pub mod Reachability
+pub mod KnownNumbers
 pub mod KnownRanges
 pub mod PointFits
 pub mod CartridgeLaws

@@ -1,19 +1,16 @@
 -- States fit their points: at the start, where two at one point are joined, and in all that holds next.
 use Rattle.std.proofs.Common.{◌≡◌, ℕ, zero, suc, ◌<◌, Bool, true, false, List, [], ◌∷◌, ◌++◌, refl, subst, arith}
-use Rattle.std.specs.Prelude.{Option, Some, None, option_map, slice_index_or, ◌==◌, if◌then◌else◌, flat_map, replicate}
+use Rattle.std.specs.Prelude.{Option, Some, None, option_map, slice_index_or, if◌then◌else◌, flat_map, replicate}
 use Rattle.std.specs.List.{AllByRecursion}
-use Rattle.std.specs.Option.{ForSome}
-use Rattle.f8_spec.specs.Words.{places_on, displaced, word}
+use Rattle.f8_spec.specs.Words.{places_on, displaced}
 use Rattle.f8_spec.specs.Instructions.{row_of, row_length}
 use Rattle.f8_spec.specs.declared.instructions.Op.{Op}
 use Rattle.f8_spec.specs.declared.instructions.Row.{Row}
 use Rattle.f8_spec.specs.declared.instructions.Row.TheVariants.{StackFromK, CallK, JumpQ, Return, Call, Jump, Branch, BranchIsar}
-use Rattle.abs_domain.specs.Lattice.{common, common_each, same_number}
 use Rattle.abs_domain.specs.AbstractState.{AbstractState, HasScratchpad}
 use Rattle.abs_domain.specs.Joins.{joined_state}
 use Rattle.abs_domain.specs.declared.points.Point.{Point}
 use Rattle.abs_domain.proofs.Bounds.{join_laws}
-use Rattle.abs_step.specs.Known.{known_word}
 use Rattle.abs_step.specs.KnownFlow.{KnownInputs, Exit, exit_to, branch_exits, branch_target, exits}
 use Rattle.abs_step.specs.MapView.{MapView}
 use Rattle.abs_step.specs.Successors.{Invariant, start_point, start_state, state_after, exits_of, inputs_at, along, all_along}
@@ -22,44 +19,9 @@ use Rattle.abs_step.specs.Soundness.{op_at}
 use Rattle.abs_step.specs.CartridgeAnalysis.{IsWithinRange, FitsPoint, TellsBytes}
 use Rattle.abs_step.proofs.Covering.{same_by, pad_after}
 use Rattle.abs_step.proofs.TrackedFits.{fits}
-use Rattle.abs_step.proofs.Ranges.{GetsBytes, displaced_small, word_small}
-use Rattle.abs_step.proofs.KnownRanges.{filled, filled_inputs, inputs_small, after_in_range}
-
--- ---- numbers in range
-
-abbrev IsBelow : ℕ → Option ℕ → Type 0
-IsBelow n o = ForSome o (λ x. x < n)
-
-none_below : (n : ℕ) → IsBelow n None
-none_below n x is = absurd (cc)
-
-some_below : (n x : ℕ) → x < n → IsBelow n (Some x)
-some_below n x small y is = let same : x ≡ y = cc in omega arith
-
-filled_is_below : (n : ℕ) (o : Option ℕ) → filled o < n → IsBelow n o
-filled_is_below n None small = none_below n
-filled_is_below n (Some x) small = some_below n x small
-
-common_below : (n : ℕ) (x y : Option ℕ) → IsBelow n x → IsBelow n (common same_number x y)
-common_below n None y h = h
-common_below n (Some x) None h = none_below n
-common_below n (Some x) (Some y) h = by (x == y)
-  where
-    by : (b : Bool) → IsBelow n (if b then Some x else None)
-    by true = h
-    by false = none_below n
-
-common_each_below : (n : ℕ) (xs ys : List (Option ℕ)) → ((k : ℕ) → IsBelow n (slice_index_or xs k None)) →
-    (k : ℕ) → IsBelow n (slice_index_or (common_each same_number xs ys) k None)
-common_each_below n [] ys h k = none_below n
-common_each_below n (x ∷ xs) [] h k = none_below n
-common_each_below n (x ∷ xs) (y ∷ ys) h zero = common_below n x y (h 0)
-common_each_below n (x ∷ xs) (y ∷ ys) h (suc k) = common_each_below n xs ys (λ j. h (suc j)) k
-
-word_below : (x y : Option ℕ) → filled x < 256 → filled y < 256 → IsBelow 65536 (known_word x y)
-word_below None y p q = none_below 65536
-word_below (Some x) None p q = none_below 65536
-word_below (Some x) (Some y) p q = some_below 65536 (word x y) (word_small x y p q)
+use Rattle.abs_step.proofs.Ranges.{GetsBytes, displaced_small}
+use Rattle.abs_step.proofs.KnownNumbers.{IsBelow, none_below, some_below, common_below, common_each_below, word_below}
+use Rattle.abs_step.proofs.KnownRanges.{filled_inputs, inputs_small, after_in_range}
 
 -- ---- exits
 
@@ -122,6 +84,7 @@ start_fits tracked = record {
     scratchpad = none_at 64;
     d0 = some_below 65536 0 (omega arith);
     d1 = some_below 65536 0 (omega arith);
+    c = none_below 65536;
   };
   at = omega arith;
   ret = none_below 65536;
@@ -141,6 +104,7 @@ joined_fits tracked p s t first second =
         scratchpad = common_each_below 256 s.registers.scratchpad t.registers.scratchpad range.scratchpad;
         d0 = common_below 65536 s.counters.d0 t.counters.d0 range.d0;
         d1 = common_below 65536 s.counters.d1 t.counters.d1 range.d1;
+        c = common_below 65536 s.counters.c t.counters.c range.c;
       };
       at = first.at;
       ret = first.ret;

@@ -29,6 +29,7 @@ pub record IsWithinRange (s : AbstractState) : Type 0 where
   pub scratchpad : (number : ℕ) → ForSome (known_register number s.registers) (λ byte. byte < 256)
   pub d0 : ForSome s.counters.d0 (λ at. at < 65536)
   pub d1 : ForSome s.counters.d1 (λ at. at < 65536)
+  pub c : ForSome s.counters.c (λ at. at < 65536)
 
 -- The point has what the state knows of the tracked registers. The scratchpad is whole, and all is within its range.
 pub record FitsPoint (tracked : List ℕ) (p : Point) (s : AbstractState) : Type 0 where
