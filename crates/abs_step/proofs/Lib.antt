@@ -43,3 +43,4 @@ pub mod CartridgeLaws
 pub mod CartridgeMaps
 pub mod SeatSums
 pub mod SeatedViews
+pub mod WorkedAnalyses
