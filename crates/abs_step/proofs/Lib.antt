@@ -44,3 +44,10 @@ pub mod CartridgeMaps
 pub mod SeatSums
 pub mod SeatedViews
 pub mod WorkedAnalyses
+pub mod WrittenRegisters
+pub mod KnownSums
+pub mod Joinings
+pub mod Fitting
+pub mod StepParts
+pub mod HeldPages
+pub mod SomeSuccessor

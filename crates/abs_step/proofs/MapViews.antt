@@ -36,7 +36,7 @@ byte_stays : (m : MapTable) (at byte : ℕ) → mapped_byte m at ≡ Some byte �
 unfolding mapped_byte mapped_sort
 byte_stays m at byte e = not_ram (sort_by (entry_at m at)) _ byte e
 
-byte_told : (m : MapTable) (at : ℕ) → is_held_once (mapped_sort m at) ≡ true → is_ram_sort (mapped_sort m at) ≡ false →
+pub byte_told : (m : MapTable) (at : ℕ) → is_held_once (mapped_sort m at) ≡ true → is_ram_sort (mapped_sort m at) ≡ false →
     is_some (mapped_byte m at) ≡ true
 unfolding mapped_byte mapped_sort
 byte_told m at once stays = told_by (sort_by (entry_at m at)) _ once stays

@@ -44,12 +44,17 @@ behind : (m : MapView) (tracked : List ℕ) (x : Invariant) (o : Option ℕ) →
 behind m tracked x None none = (refl, none)
 behind m tracked x (Some n) none = absurd (cc)
 
+pub no_reason : (op : Op) (m : MapView) (tracked : List ℕ) (x : Invariant) → first_reason (reasons op m tracked x) ≡ None →
+    NoneHold (operand_reasons (row_length (row_of op)) m x.point.at) × NoneHold (later_reasons op m tracked x)
+unfolding reasons
+no_reason op m tracked x none =
+    none_of_both (operand_reasons (row_length (row_of op)) m x.point.at) (later_reasons op m tracked x) (none_of _ none)
+
 safe_by : (m : MapView) (tracked : List ℕ) (x : Invariant) (o : Option Op) → op_at m x ≡ o → IsCode m x.point.at →
     instruction_reason o m tracked x ≡ None → (op : Op) × IsSafeState m tracked x op
-unfolding reasons
 safe_by m tracked x None is code none = absurd (cc)
 safe_by m tracked x (Some op) is code none =
-    let both = none_of_both (operand_reasons (row_length (row_of op)) m x.point.at) (later_reasons op m tracked x) (none_of _ none) in
+    let both = no_reason op m tracked x none in
     (op, record { is = is; code = code; operands = both.0; later = both.1 })
 
 pub safe_state : (m : MapView) (tracked : List ℕ) (x : Invariant) → unsafe_reason m tracked x ≡ None → (op : Op) × IsSafeState m tracked x op

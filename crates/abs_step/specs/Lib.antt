@@ -14,3 +14,5 @@ pub mod Analysis
 pub mod ReachedStates
 pub mod CartridgeAnalysis
 pub mod RackSeats
+pub mod StepView
+pub mod WorkView

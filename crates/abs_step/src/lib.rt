@@ -1,10 +1,30 @@
-//! One step of the cartridge checker: what is known after an instruction, where it may lead, and whether a state is safe. These are
-//! definitions, in `specs/`; the calls here have the laws of them as contracts.
+//! One step of the cartridge checker: what is known after an instruction, where it may lead, and whether a state is safe.
 #![tactic(auto)]
 
+mod bytes;
+mod counters;
+mod exits;
+mod fault_free;
+mod hazards;
+mod inputs;
+mod known;
 mod laws;
+mod pairs;
+mod registers;
+mod scratchpad;
+mod status;
+mod step;
+mod succs;
+mod tracked;
+mod writes;
 
+pub use fault_free::whole;
 pub use laws::{
     analysis_law, fit_law, map_view_law, script_run_law, seated_view_law, soundness_law,
     step_order_law,
 };
+pub use step::{Unsafe, after, start};
+pub use succs::Succs;
+
+#[cfg(test)]
+mod tests;

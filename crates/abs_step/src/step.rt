@@ -1,0 +1,237 @@
+// One step of the checker from a state at a point.
+ghost use Rattle.std.specs.Prelude.{◌≡◌, ◌<◌, None, Some, length, IfOk, IfErr, option_and_then};
+ghost use Rattle.std.specs.List.{AllByRecursion};
+ghost use Rattle.std.specs.Option.{ForSome};
+ghost use Rattle.f8_spec.specs.Instructions.{InRange, decoded, row_of};
+ghost use Rattle.console_spec.specs.Processor.{port_field};
+ghost use Rattle.abs_domain.specs.StateView.{state_of};
+ghost use Rattle.abs_step.specs.Successors.{Fits, start_point, start_state};
+ghost use Rattle.abs_step.specs.Successors.{successors};
+ghost use Rattle.abs_step.specs.Safety.{first_reason, reasons, unsafe_reason};
+ghost use Rattle.abs_step.specs.MapView.{view_of};
+ghost use Rattle.abs_step.specs.StepView.{invariant_at, next_at};
+ghost use Rattle.abs_step.specs.StepView.{joined_along, reasons_before, reasons_after};
+ghost use Rattle.abs_step.specs.WorkView.{counters_view, writes_view, exits_view};
+
+use super::counters::Counters;
+use super::exits::{Exit, Exits};
+use super::hazards::{
+    any_blurred, code_reason, goes_by_data, jump_is_lost, may_be_interrupted, may_be_shared,
+    may_part, operand_reason, port_is_bad, return_is_lost, return_is_unheld, return_is_unset,
+};
+use super::inputs::Inputs;
+use super::registers::Registers;
+use super::succs::Succs;
+use super::tracked::tracked_bytes;
+use super::writes::Writes;
+use abs_domain::{Abs, Bit, Digit, Point, Val, Word};
+use cartridge::Split;
+use f8_ops::{Op, decode, row_of};
+use memory_map::Map;
+
+/// Why a state isn't safe at its point (this project's own): the number of the first reason that holds, 1 to 12.
+///
+/// 1. The address of the opcode or of an operand byte isn't held by exactly one chip.
+/// 2. It is in RAM.
+/// 3. The opcode is reserved.
+/// 4. `PK` or `LR P0,Q`, and a byte of K or Q isn't known.
+/// 5. `LR P,K`, and a byte of K isn't known.
+/// 6. `POP` or `LR K,P`, and the copies of the stack register may differ.
+/// 7. The bus goes by D0, and a chip that may take part may have its DC0 elsewhere.
+/// 8. `LR K,P`, and the address in the stack register isn't held by exactly one chip.
+/// 9. A read of a port that isn't a data port of exactly one chip, or a write to a port of several.
+/// 10. An interrupt may be taken at the end.
+/// 11. The bus goes by D0, which several chips may hold.
+/// 12. A tracked register is written with an unknown byte, or may be written by an ISAR with an unknown digit.
+///
+/// The reasons 1 and 2 of an operand byte come before all others but those of the opcode.
+#[derive(Clone, Copy, Debug, PartialEq, Eq)]
+pub struct Unsafe {
+    pub reason: u8,
+}
+
+/// The reason of a reserved opcode.
+const RESERVED: u8 = 3;
+
+/// What is known as reset ends: the status word is clear, and both data counters are 0.
+const START: Abs = Abs {
+    a: Val::Any,
+    regs: [Val::Any; 64],
+    hi: Digit::Any,
+    lo: Digit::Any,
+    w: [Bit::Known(false); 5],
+    d0: Word::Known(0),
+    d1: Word::Known(0),
+    c: Word::Any,
+    s0: false,
+    s1: false,
+    p0: false,
+    p1: false,
+};
+
+/// Where a run starts, and what is known there (this project's own): at address 0, with any stack registers, and any bytes in the tracked
+/// registers.
+#[tactic(auto, using(crate::proofs::Fitting::start_fits))]
+pub fn start(split: &Split) -> (Point, Abs)
+    ensures point { result.0 ≡ start_point }
+    ensures state { state_of result.1 ≡ start_state }
+    ensures fits { Fits split.now (invariant_at result.0 result.1) }
+{
+    let point = Point {
+        at: 0,
+        ret: None,
+        split: [None; 8],
+    };
+    (point, START)
+}
+
+/// The instruction at an address, where a byte stays there and it is an opcode.
+pub(crate) fn instruction_at(map: &Map, at: u16) -> Option<Op>
+    ensures instruction { result ≡ option_and_then decoded ((view_of map.now).byte at) }
+    ensures in_range { ForSome result InRange }
+{
+    decode(map.byte(at)?).ok()
+}
+
+/// What holds after the instruction at a point, at each point to which it may lead, or why the state isn't safe there (this project's
+/// own). Of the chips it learns by the map.
+#[tactic(auto, unfolding(crate::specs::Safety::unsafe_reason))]
+pub fn after(abs: &Abs, point: &Point, split: &Split, map: &Map) -> Result<Succs, Unsafe>
+    requires { Fits split.now (invariant_at point.now abs.now) }
+    ensures safe { IfOk result (λ _. unsafe_reason (view_of map.now) split.now
+        (invariant_at point.now abs.now) ≡ None) }
+    ensures reason { IfErr result (λ error. unsafe_reason (view_of map.now) split.now
+        (invariant_at point.now abs.now) ≡ Some error.reason) }
+    ensures successors { IfOk result (λ succs. succs
+        ≡ next_at (view_of map.now) split.now (invariant_at point.now abs.now)) }
+    ensures some { IfOk result (λ succs. 0 < length succs) }
+    ensures fits { IfOk result (λ succs. AllByRecursion (Fits split.now) succs) }
+{
+    if let Some(reason) = code_reason(map, point.at) {
+        return Err(Unsafe { reason });
+    }
+    match instruction_at(map, point.at) {
+        Some(op) => after_instruction(op, abs, point, split, map),
+        None => Err(Unsafe { reason: RESERVED }),
+    }
+}
+
+/// What holds after an instruction, or the first reason against it.
+fn after_instruction(
+    op: Op,
+    abs: &Abs,
+    point: &Point,
+    split: &Split,
+    map: &Map,
+) -> Result<Succs, Unsafe>
+    requires { InRange op }
+    ensures safe { IfOk result (λ _. first_reason (reasons op (view_of map.now) split.now
+        (invariant_at point.now abs.now)) ≡ None) }
+    ensures reason { IfErr result (λ error. first_reason (reasons op (view_of map.now) split.now
+        (invariant_at point.now abs.now)) ≡ Some error.reason) }
+    ensures successors { IfOk result (λ succs. succs
+        ≡ successors op (view_of map.now) split.now (invariant_at point.now abs.now)) }
+    ensures some { IfOk result (λ succs. 0 < length succs) }
+    ensures fits { IfOk result (λ succs. AllByRecursion (Fits split.now) succs) }
+{
+    let mut registers = Registers::of(abs);
+    let counters = Counters::of(abs);
+    let inputs = Inputs::at(op, map, point, counters.d0, &registers);
+    let writes = registers.writes(op, inputs.stack, inputs.counter);
+    if let Some(reason) = operand_reason(op, map, point.at) {
+        return Err(Unsafe { reason });
+    }
+    if let Some(reason) = reason_before(op, map, point.ret, inputs.operand, &registers, counters) {
+        return Err(Unsafe { reason });
+    }
+    registers.step(op, inputs.used_byte(row_of(op)), writes);
+    if let Some(reason) = reason_after(op, map, split, registers.icb(), counters.d0, writes) {
+        return Err(Unsafe { reason });
+    }
+    let exits = Exits::of(op, &inputs, point.at, point.ret);
+    let counters = counters.after(row_of(op), &inputs);
+    Ok(successors(split, &registers, counters, exits))
+}
+
+/// The first reason against an instruction, by what holds before it, behind those of its bytes.
+fn reason_before(
+    op: Op,
+    map: &Map,
+    ret: Option<u16>,
+    operand: Option<u8>,
+    registers: &Registers,
+    counters: Counters,
+) -> Option<u8>
+    ensures { result ≡ first_reason (reasons_before op (view_of map.now) ret operand
+        registers.now (counters_view counters)) }
+{
+    let row = row_of(op);
+    if jump_is_lost(row, registers) {
+        Some(4)
+    } else if return_is_lost(row, registers) {
+        Some(5)
+    } else if return_is_unset(row, ret) {
+        Some(6)
+    } else if may_part(row, map, counters) {
+        Some(7)
+    } else if return_is_unheld(row, map, ret) {
+        Some(8)
+    } else if port_is_bad(op, map, operand) {
+        Some(9)
+    } else {
+        None
+    }
+}
+
+/// The first reason against it by the interrupt control bit after it, by D0 before it, and by what it writes.
+fn reason_after(
+    op: Op,
+    map: &Map,
+    split: &Split,
+    icb: Option<bool>,
+    d0: Option<u16>,
+    writes: Writes,
+) -> Option<u8>
+    ensures { result ≡ first_reason (reasons_after op (view_of map.now) split.now icb d0
+        (writes_view writes)) }
+{
+    if may_be_interrupted(op, map, icb) {
+        Some(10)
+    } else if goes_by_data(row_of(op)) && may_be_shared(map, d0) {
+        Some(11)
+    } else if any_blurred(writes, split) {
+        Some(12)
+    } else {
+        None
+    }
+}
+
+/// What holds at each exit, with each point once.
+fn successors(split: &Split, registers: &Registers, counters: Counters, exits: Exits) -> Succs
+    ensures { result ≡ joined_along split.now registers.now (counters_view counters)
+        (exits_view exits) }
+{
+    let state = registers.state_with(counters);
+    let bytes = tracked_bytes(split, registers);
+    let mut succs = Succs::empty(point_at(Exit { at: 0, ret: None }, bytes), state);
+    match exits {
+        Exits::Nowhere => {},
+        Exits::One(exit) => succs.add(point_at(exit, bytes), state),
+        Exits::Two(first, second) => {
+            succs.add(point_at(first, bytes), state);
+            succs.add(point_at(second, bytes), state);
+        },
+    }
+    succs
+}
+
+/// The point to which an exit leads.
+fn point_at(exit: Exit, split: [Option<u8>; 8]) -> Point
+    ensures { result ≡ record { at = exit.at; ret = exit.ret; split = split } }
+{
+    Point {
+        at: exit.at,
+        ret: exit.ret,
+        split,
+    }
+}

@@ -1,0 +1,140 @@
+// Steps of small cartridges.
+ghost use Rattle.std.specs.Prelude.{◌≡◌, ◌≤◌, IfOk, None, false, length, replicate};
+ghost use Rattle.chip_face.specs.Fitting.{IsSpec, is_blank};
+
+use super::*;
+use abs_domain::{Bit, Point, Word};
+use cartridge::Split;
+use chip_face::{Bytes, ChipList, ChipSpec, Page, PageList, PageSort};
+use memory_map::Map;
+use std::alloc::Global;
+use std::test::Fail;
+
+// a 3851 at address 0 with some bytes, and FF behind them
+fn psu(alloc: Global, code: &[u8]) -> Result<ChipSpec, Fail>
+    requires { length code.now ≤ 16 }
+    ensures spec { IfOk result IsSpec }
+    ensures kept { IfOk result (λ chip. is_blank chip ≡ false) }
+{
+    let mut rom = [0xFF; 1024];
+    for (place, byte) in code.iter().enumerate() {
+        rom[place] = *byte;
+    }
+    Ok(ChipSpec::Psu {
+        base: 0x0000,
+        rom: Bytes::of(alloc, &rom)?,
+        ports: 0x04,
+        vector: 0x0000,
+        wired: false,
+    })
+}
+
+// a 3853 with a RAM page at 28
+fn smi(alloc: Global) -> Result<ChipSpec, Fail>
+    ensures spec { IfOk result IsSpec }
+    ensures kept { IfOk result (λ chip. is_blank chip ≡ false) }
+{
+    let pages = [Page {
+        number: 0x28,
+        sort: PageSort::Ram,
+    }];
+    Ok(ChipSpec::Smi {
+        pages: PageList::of(alloc, &pages)?,
+        rom: Bytes::of(alloc, &[])?,
+        wired: false,
+    })
+}
+
+// the map of a 3851 alone
+fn lone(alloc: Global, code: &[u8]) -> Result<Map, Fail>
+    requires { length code.now ≤ 16 }
+{
+    let mut chips = Vec::with_capacity(alloc, 1)?;
+    chips.push(psu(alloc, code)?)?;
+    Ok(Map::of(alloc, &ChipList::from_vec(chips))?)
+}
+
+// the map of a 3851 and a 3853
+fn both(alloc: Global, code: &[u8]) -> Result<Map, Fail>
+    requires { length code.now ≤ 16 }
+{
+    let mut chips = Vec::with_capacity(alloc, 2)?;
+    chips.push(psu(alloc, code)?)?;
+    chips.push(smi(alloc)?)?;
+    Ok(Map::of(alloc, &ChipList::from_vec(chips))?)
+}
+
+fn point(at: u16) -> Point
+    ensures { result ≡ record { at = at; ret = None; split = replicate 8 None } }
+{
+    Point {
+        at,
+        ret: None,
+        split: [None; 8],
+    }
+}
+
+// DCI 0005 at the start, with XDC and LM behind it
+#[test]
+fn loads_the_data_counter_at_the_start(rt: HostRuntime) -> Result<(), Fail> {
+    let map = lone(rt.alloc(), &[0x2A, 0x00, 0x05, 0x2C, 0x16])?;
+    let split = Split::new();
+    let (here, state) = start(&split);
+    let Ok(succs) = after(&state, &here, &split, &map) else {
+        panic!(rt; "the start isn't safe");
+    };
+    let mut wanted = state;
+    wanted.d0 = Word::Known(0x0005);
+    wanted.d1 = Word::Known(0x0000);
+    wanted.c = Word::Known(0x0005);
+    wanted.s0 = true;
+    wanted.p0 = true;
+    assert_eq!(rt; succs.as_slice(), [(point(0x0003), wanted)].as_slice());
+    Ok(())
+}
+
+// LM where ROM may answer at 0010, and RAM at 2800
+#[test]
+fn refuses_a_read_that_two_chips_may_answer(rt: HostRuntime) -> Result<(), Fail> {
+    let code = [0x2A, 0x28, 0x00, 0x2C, 0x2A, 0x00, 0x10, 0x2C, 0x16];
+    let map = both(rt.alloc(), &code)?;
+    let split = Split::new();
+    let (_, mut parted) = start(&split);
+    parted.d0 = Word::Known(0x2800);
+    parted.c = Word::Known(0x0010);
+    parted.s0 = true;
+    parted.p0 = false;
+    let refused = after(&parted, &point(0x0008), &split, &map);
+    assert_eq!(rt; refused.err(), Some(Unsafe { reason: 7 }));
+    Ok(())
+}
+
+// BT 2 back to itself, with a carry that isn't known
+#[test]
+fn takes_a_branch_first(rt: HostRuntime) -> Result<(), Fail> {
+    let map = lone(rt.alloc(), &[0x82, 0xFF])?;
+    let split = Split::new();
+    let (here, mut unknown) = start(&split);
+    unknown.w[1] = Bit::Any;
+    let Ok(succs) = after(&unknown, &here, &split, &map) else {
+        panic!(rt; "a branch isn't safe");
+    };
+    let wanted = [(point(0x0000), unknown), (point(0x0002), unknown)];
+    assert_eq!(rt; succs.as_slice(), wanted.as_slice());
+    Ok(())
+}
+
+// LM at the last byte of ROM, and behind it
+#[test]
+fn reads_within_the_chip_are_whole(rt: HostRuntime) -> Result<(), Fail> {
+    let map = lone(rt.alloc(), &[0x16])?;
+    let (here, state) = start(&Split::new());
+    for (at, answered) in [(0x03FF, true), (0x0400, false)] {
+        let mut loaded = state;
+        loaded.p0 = true;
+        loaded.d0 = Word::Known(at);
+        loaded.c = Word::Known(at);
+        assert_eq!(rt; whole(&loaded, &here, &map), answered, "at {at:04X}");
+    }
+    Ok(())
+}
