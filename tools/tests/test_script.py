@@ -95,7 +95,9 @@ class Script(unittest.TestCase):
         path = f'{self.top}/bin:{os.environ["PATH"]}' if with_rt else '/usr/bin:/bin'
         environment = {**os.environ, 'PATH': path, 'TMPDIR': str(self.top / 'temporary')}
         return subprocess.Popen([self.top / 'channel_f', *words], cwd=self.top, env=environment, text=True, stdin=subprocess.DEVNULL,
-                                stdout=subprocess.PIPE, stderr=subprocess.PIPE, start_new_session=True)
+                                stdout=subprocess.PIPE, stderr=subprocess.PIPE, start_new_session=True,
+                                # A shell ignores SIGINT for jobs in the background, and what is ignored stays so.
+                                preexec_fn=lambda: signal.signal(signal.SIGINT, signal.SIG_DFL))
 
     def call(self, *words: str, with_rt: bool = True) -> subprocess.CompletedProcess:
         process = self.start(*words, with_rt=with_rt)
