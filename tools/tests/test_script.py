@@ -66,6 +66,12 @@ exit "$(cat status)"
 '''
 
 
+def heed_signals():
+    """What a shell ignores for jobs in the background, and nohup, stays ignored in all that they start."""
+    for sign in (signal.SIGINT, signal.SIGHUP):
+        signal.signal(sign, signal.SIG_DFL)
+
+
 class Script(unittest.TestCase):
     def setUp(self):
         room = tempfile.TemporaryDirectory()
@@ -96,8 +102,7 @@ class Script(unittest.TestCase):
         environment = {**os.environ, 'PATH': path, 'TMPDIR': str(self.top / 'temporary')}
         return subprocess.Popen([self.top / 'channel_f', *words], cwd=self.top, env=environment, text=True, stdin=subprocess.DEVNULL,
                                 stdout=subprocess.PIPE, stderr=subprocess.PIPE, start_new_session=True,
-                                # A shell ignores SIGINT for jobs in the background, and what is ignored stays so.
-                                preexec_fn=lambda: signal.signal(signal.SIGINT, signal.SIG_DFL))
+                                preexec_fn=heed_signals)
 
     def call(self, *words: str, with_rt: bool = True) -> subprocess.CompletedProcess:
         process = self.start(*words, with_rt=with_rt)
