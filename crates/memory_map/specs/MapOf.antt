@@ -1,11 +1,12 @@
 -- What a map tells of each address and of each port, and that it is the map of some chips.
-use Rattle.std.specs.Prelude.{◌≡◌, ℕ, ◌/◌, ◌<◌, ◌↔◌, Bool, false, IsTrue, List, map, slice_index, slice_index_or, Option, Some, None}
+use Rattle.std.specs.Prelude.{◌≡◌, ℕ, ◌/◌, ◌<◌, ◌↔◌, Bool, false, IsTrue, List, length, map, slice_index, slice_index_or, Option, Some, None}
 use Rattle.f8_spec.specs.ChipState.{ChipView}
 use Rattle.f8_spec.specs.BusArbitration.{Seat, seat_of}
 use Rattle.f8_spec.specs.declared.chips.ChipKind.{ChipKind}
 use Rattle.f8_spec.specs.declared.chips.ChipKind.TheVariants.{Psu, Smi}
 use Rattle.f8_spec.specs.declared.chips.PageSort.{PageSort}
 use Rattle.f8_spec.specs.declared.chips.PageSort.TheVariants.{Rom as RomPage, Ram as RamPage, Void as VoidPage}
+use Rattle.console_spec.specs.FreeRuns.{AreBytes}
 use Rattle.console_spec.specs.FlatMemory.{sort_of, owner_of, fixed_byte, fixed_byte_by}
 use Rattle.console_spec.specs.Writes.{readers, takers}
 use Rattle.console_spec.specs.declared.Sort.{Sort}
@@ -123,3 +124,13 @@ pub record IsMapOf (m : MapTable) (chips : List ChipSpec) : Type 0 where
   pub tells : (at : ℕ) → at < 65536 → Tells m chips at
   pub ports : (port : ℕ) → port < 256 → TellsPort m chips port
   pub all : TellsAll m chips
+
+-- It has an entry for each page, a byte for each address, and counts for each port, and its bytes are bytes.
+pub record IsWholeMap (m : MapTable) : Type 0 where
+  pub pages : length m.pages ≡ 256
+  pub bytes : length m.bytes ≡ 65536
+  pub readers : length m.readers ≡ 256
+  pub takers : length m.takers ≡ 256
+  pub psu : length m.psu.held ≡ 256
+  pub smi : length m.smi.held ≡ 256
+  pub are_bytes : AreBytes m.bytes

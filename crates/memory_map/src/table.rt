@@ -1,4 +1,6 @@
 // The map: what each address is to the chips of a description.
+ghost use Rattle.console_spec.specs.FreeRuns.{AreBytes};
+
 use super::chips::some_wired;
 use super::entry::{Entry, all_held, any_shared};
 use super::holders::Holder;
@@ -58,15 +60,19 @@ impl Model for Map {
 impl Map {
     ghost use Rattle.std.specs.Prelude.{◌≡◌, ◌≤◌, ◌/◌, ℕ, All, IfOk, length};
     ghost use Rattle.chip_face.specs.Fitting.{IsSpec};
-    ghost use Rattle.memory_map.specs.MapOf.{IsMapOf, entry_at, mapped_sort, mapped_owner, mapped_byte, mapped_readers, mapped_takers};
+    ghost use Rattle.memory_map.specs.MapOf.{IsMapOf, IsWholeMap, entry_at, mapped_sort, mapped_owner, mapped_byte, mapped_readers, mapped_takers};
     ghost use Rattle.memory_map.specs.MapOf.{kind_pages, mapped_held, mapped_any, mapped_covered, mapped_overlaps, mapped_wired};
 
     /// The map of some chips, or want of memory. What it tells is copied.
     pub fn of(alloc: Global, chips: &ChipList) -> Result<Map, Memory>
-        ensures { IfOk result (λ map. IsMapOf map chips.now) }
+        ensures tells { IfOk result (λ map. IsMapOf map chips.now) }
+        ensures whole { IfOk result IsWholeMap }
     {
         match Map::of_slice(alloc, chips.as_slice()) {
-            Ok(map) => Ok(map),
+            Ok(map) => {
+                bytes_law(&map.bytes);
+                Ok(map)
+            },
             Err(_) => Err(Memory),
         }
     }
@@ -222,3 +228,8 @@ impl Map {
         self.wired
     }
 }
+
+/// What a slice of `u8` holds are bytes. This call does nothing; its contract is the law.
+fn bytes_law(bytes: &[u8])
+    ensures { AreBytes bytes.now }
+{}
