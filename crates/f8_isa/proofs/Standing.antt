@@ -34,7 +34,7 @@ use Rattle.memory_map.specs.MapOf.{MapTable, IsMapOf, views_of, seats_of as seat
 use Rattle.f8_isa.specs.Ports.{PortState, AreLatches, KnowsPorts, kept_value, chip_value, value_read, if_writable, port_taking, ports_after}
 use Rattle.f8_isa.specs.IsaState.{IsaState, KnowsRam, StandsAt, LeadsTo, GoesTo, InReach, state_of, flat_of, memory_by, kept_inputs, kept_write}
 use Rattle.f8_isa.specs.IsaState.{phi_after, isa_after}
-use Rattle.f8_isa.specs.IsaState.{sample_time, chosen_place, with_interrupt, finished, with_clocks, wrote_by, finished_write, VectorFits, TellsInterrupt}
+use Rattle.f8_isa.specs.IsaState.{sample_time, chosen_place, with_interrupt, finished, VectorFits, TellsInterrupt}
 use Rattle.f8_isa.specs.Requests.{KnowsChain, first_requests, asking_place, place_vector}
 use Rattle.chip_face.specs.Fitting.{IsChipList}
 use Rattle.f8_isa.proofs.RequestChains.{chain-written, chain-acknowledged, chain-first}
@@ -228,10 +228,6 @@ state_alone op isa count h seats range reach knows =
 halves : (vector : ℕ) → vector < 65536 → word (vector / 256 % 256) (vector % 256) ≡ vector
 halves vector small = omega arith
 
-clocks_written : (phi other byte : ℕ) (port : Option ℕ) → with_clocks phi (write_at other byte port) ≡ write_at phi byte port
-clocks_written phi other byte None = refl
-clocks_written phi other byte (Some port) = refl
-
 state_interrupted : (op : Op) (isa : IsaState) (count : ℕ) (h : History) (seats : List Seat) (place socket vector phi : ℕ) → InRange op → InReach op isa →
     KnowsPorts isa.ports seats → vector_of (Some socket) seats h.writes ≡ vector → vector < 65536 →
     vector ≡ place_vector place (isa_after op isa).ports.latches (isa_after op isa).requests →
@@ -419,19 +415,16 @@ module _ (op : Op) (isa : IsaState) (count : ℕ) (h : History) (copies : List C
 
   leads_to : VectorFits (chosen_place op (isa_after op isa)) (isa_after op isa) →
       LeadsTo (record { flat = flat_of isa count h; copies = copies; chain = chain }) (finished op (isa_after op isa)) (count + 1)
-      (finished_write op (isa_after op isa) (kept_write op isa (phi_after op isa)))
+      (kept_write op isa (finished op (isa_after op isa)).phi)
   leads_to small = by (chosen_place op (isa_after op isa)) (chosen_by op isa (seats_of copies) chain h) refl refl chosen small
     where
       by : (place socket : Option ℕ) → chosen_place op (isa_after op isa) ≡ place → chosen_by op isa (seats_of copies) chain h ≡ socket →
           AreChosen (seats_of copies) h isa.phi isa.requests chain place socket → VectorFits place (isa_after op isa) →
           LeadsTo (record { flat = flat_of isa count h; copies = copies; chain = chain })
           (with_interrupt place (sample_time op (isa_after op isa)) (isa_after op isa)) (count + 1)
-          (wrote_by place (sample_time op (isa_after op isa)) (kept_write op isa (phi_after op isa)))
+          (kept_write op isa (with_interrupt place (sample_time op (isa_after op isa)) (isa_after op isa)).phi)
       by None None e f one small = leads_alone f
-      by (Some place) (Some socket) e f one small =
-          rw (clocks_written (sample_time op (isa_after op isa) + 26) (phi_after op isa) isa.registers.accumulator
-          (port_taking op (byte_at isa.memory (places_on isa.flow.p 1)) isa.ports))
-          (leads_interrupted place socket e small one f)
+      by (Some place) (Some socket) e f one small = leads_interrupted place socket e small one f
       by None (Some socket) e f one small = absurd one
       by (Some place) None e f one small = absurd one
 
@@ -453,13 +446,13 @@ before_at op isa count x found range reach stands = record {
   requests = stands.requests;
 }
 
-pub goes_to : (op : Op) (isa done after : IsaState) (wrote told : Option PortWrite) → decoded (byte_at isa.memory isa.flow.p) ≡ Some op → InRange op →
-    InReach op isa → done ≡ isa_after op isa → wrote ≡ kept_write op isa (phi_after op isa) → after ≡ finished op done →
-    told ≡ finished_write op done wrote → VectorFits (chosen_place op done) done → GoesTo isa after told
-goes_to op isa done after wrote told found range reach state writes ended tells_it small = λ count x stands.
-    rw (ended, tells_it, writes, state) (
+pub goes_to : (op : Op) (isa done after : IsaState) (told : Option PortWrite) → decoded (byte_at isa.memory isa.flow.p) ≡ Some op → InRange op →
+    InReach op isa → done ≡ isa_after op isa → after ≡ finished op done → told ≡ kept_write op isa after.phi →
+    VectorFits (chosen_place op done) done → GoesTo isa after told
+goes_to op isa done after told found range reach state ended writes small = λ count x stands.
+    rw (writes, ended, state) (
     subst (λ (f : FlatState). LeadsTo (record { flat = f; copies = x.copies; chain = x.chain }) (finished op (isa_after op isa)) (count + 1)
-    (finished_write op (isa_after op isa) (kept_write op isa (phi_after op isa)))) (sym stands.flat)
+    (kept_write op isa (finished op (isa_after op isa)).phi)) (sym stands.flat)
     (leads_to op isa count (history_of x.flat.state) x.copies x.chain (before_at op isa count x found range reach stands) (rw state at small)))
 
 pub tells_interrupt : (op : Op) (isa done : IsaState) (vectored : Bool) → decoded (byte_at isa.memory isa.flow.p) ≡ Some op → InRange op →

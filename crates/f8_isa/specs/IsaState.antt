@@ -126,18 +126,6 @@ with_interrupt (Some place) time done = record done {
 abbrev pub finished : Op → IsaState → IsaState
 finished op done = with_interrupt (chosen_place op done) (sample_time op done) done
 
--- a write with the clocks at its instruction's end, which come later with an interrupt
-abbrev pub with_clocks : ℕ → Option PortWrite → Option PortWrite
-with_clocks phi None = None
-with_clocks phi (Some w) = Some (record w { phi = phi })
-
-abbrev pub wrote_by : Option ℕ → ℕ → Option PortWrite → Option PortWrite
-wrote_by None time wrote = wrote
-wrote_by (Some place) time wrote = with_clocks (time + interrupt_clocks) wrote
-
-abbrev pub finished_write : Op → IsaState → Option PortWrite → Option PortWrite
-finished_write op done wrote = wrote_by (chosen_place op done) (sample_time op done) wrote
-
 -- the vector of an interrupt that is taken is a number that an address can be
 abbrev pub VectorFits : Option ℕ → IsaState → Type 0
 VectorFits None done = Unit {0}

@@ -8,6 +8,7 @@ use Rattle.f8_spec.specs.declared.instructions.Op.{Op}
 use Rattle.f8_spec.specs.declared.instructions.Op.TheVariants.{In, Out, Ins, Outs}
 use Rattle.console_spec.specs.Writes.{latch_of, readers, takers}
 use Rattle.console_spec.specs.declared.PortWrite.{PortWrite}
+use Rattle.f8_isa.specs.declared.ports.PortByte.{PortByte}
 
 -- by port: its latch, its key byte, that exactly one chip reads there, and that exactly one chip takes a write there
 pub record PortState : Type 0 where
@@ -40,6 +41,11 @@ abbrev pub port_taking : Op → ℕ → PortState → Option ℕ
 port_taking Out operand p = if_writable p operand
 port_taking (Outs n) operand p = if nat_lt n 2 then Some n else if_writable p n
 port_taking op operand p = None
+
+-- the write of a byte that a port takes, by the clocks at its instruction's end
+abbrev pub clocked : ℕ → Option PortByte → Option PortWrite
+clocked phi None = None
+clocked phi (Some taken) = Some (record { phi = phi; port = taken.port; byte = taken.byte })
 
 abbrev pub ports_after : Option PortWrite → PortState → PortState
 ports_after None p = p

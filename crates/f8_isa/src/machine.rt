@@ -1,11 +1,8 @@
 // The instruction set on flat memory, an instruction at a time.
-ghost use Rattle.std.specs.Prelude.{◌≡◌};
-ghost use Rattle.f8_isa.specs.IsaState.{with_clocks};
-
 use super::counters::Flow;
 use super::flat_memory::FlatMemory;
 use super::instruction_table::{Instruction, InstructionTable};
-use super::ports::Ports;
+use super::ports::{PortByte, Ports, clocked};
 use super::register_file::RegisterFile;
 use super::requests::Requests;
 use chip_face::ChipList;
@@ -27,16 +24,6 @@ use std::marker::Model;
 pub struct Done {
     pub wrote: Option<PortWrite>,
     pub vectored: bool,
-}
-
-/// Sets the clocks of a write, where there is one.
-#[inline]
-fn set_clocks(wrote: &mut Option<PortWrite>, phi: u64)
-    ensures { wrote.new ≡ with_clocks phi wrote.old }
-{
-    if let Some(write) = wrote {
-        write.phi = phi;
-    }
 }
 
 /// The F8 instruction set over one flat memory, one set of counters and one set of ports (Fairchild F8 User's Guide). It does a whole
@@ -64,8 +51,8 @@ impl Model for Isa {
 }
 
 impl Isa {
-    ghost use Rattle.std.specs.Prelude.{◌≡◌, ◌+◌, ◌^◌, ◌<◌, ◌≤◌, true, false, None, Some, IfOk, IfErr, OnErr, is_some};
-    ghost use Rattle.f8_spec.specs.Instructions.{InRange, row_of, is_shielding};
+    ghost use Rattle.std.specs.Prelude.{◌≡◌, ◌+◌, ◌^◌, ◌<◌, ◌≤◌, ℕ, true, None, Some, IfOk, IfErr, OnErr, is_some};
+    ghost use Rattle.f8_spec.specs.Instructions.{InRange, row_of};
     ghost use Rattle.f8_spec.specs.Words.{word, places_on, displaced};
     ghost use Rattle.f8_spec.specs.declared.instructions.Op.{Op};
     ghost use Rattle.console_spec.specs.AddressSpace.{byte_at};
@@ -75,10 +62,10 @@ impl Isa {
     ghost use Rattle.memory_map.specs.MapOf.{IsMapOf, views_of};
     ghost use Rattle.f8_isa.specs.Counters.{flow_of};
     ghost use Rattle.f8_isa.specs.InstructionRows.{IsInstruction};
-    ghost use Rattle.f8_isa.specs.Ports.{value_read, with_key_byte};
-    ghost use Rattle.f8_isa.specs.Requests.{pulse_at_place, place_vector};
+    ghost use Rattle.f8_isa.specs.Ports.{clocked, value_read, with_key_byte};
+    ghost use Rattle.f8_isa.specs.Requests.{asking_place, pulse_at_place, place_vector};
     ghost use Rattle.f8_isa.specs.IsaState.{state_of, kept_inputs, kept_write, isa_after, phi_after};
-    ghost use Rattle.f8_isa.specs.IsaState.{sample_time, chosen_place, with_interrupt, finished, finished_write, VectorFits};
+    ghost use Rattle.f8_isa.specs.IsaState.{sample_time, chosen_place, with_interrupt, finished, VectorFits};
     ghost use Rattle.f8_isa.specs.IsaState.{GoesTo, TellsInterrupt, StopsBy, StandsAt, InReach, TakesKey, TakesPulse, TakesEarlyPulse};
 
     /// A program on some chips, after power-on with a byte and reset, or want of memory. The map is that of the chips; what it tells is
@@ -122,9 +109,12 @@ impl Isa {
         let Some(instruction) = self.instructions.instruction(code) else {
             return Err(Reserved { code });
         };
-        let mut wrote = self.carry_out(instruction);
-        let vectored = self.finish(instruction, &mut wrote);
-        Ok(Done { wrote, vectored })
+        let taken = self.carry_out(instruction);
+        let vectored = self.finish(instruction);
+        Ok(Done {
+            wrote: clocked(taken, self.phi),
+            vectored,
+        })
     }
 
     /// Sets the key byte of a port. It is read there together with what was last written to the port.
@@ -147,45 +137,36 @@ impl Isa {
         self.requests.pulse(chip);
     }
 
-    /// The interrupt at the end of an instruction that is done but for it, if one is taken, and whether one is: then the instruction's
-    /// write gets the clocks at the end of both. Where the interrupt control bit is clear, or the instruction shields its end, no chip is
-    /// asked.
+    /// The interrupt at the end of an instruction that is done but for it, if one is taken, and whether one is. Where the interrupt control
+    /// bit is clear, or the instruction shields its end, no chip is asked.
     #[inline]
-    fn finish(&mut self, instruction: Instruction, wrote: &mut Option<PortWrite>) -> bool
+    fn finish(&mut self, instruction: Instruction) -> bool
         requires right { IsInstruction instruction }
         requires phi { self.old.phi < 2 ^ 63 }
         ensures state { self.new ≡ finished instruction.op self.old }
-        ensures wrote { wrote.new ≡ finished_write instruction.op self.old wrote.old }
         ensures vectored { result ≡ is_some (chosen_place instruction.op self.old) }
         ensures reach { VectorFits (chosen_place instruction.op self.old) self.old }
     {
-        let vectored = self.registers.icb()
+        self.registers.icb()
             && !shields(instruction.op)
-            && self.take_interrupt(instruction);
-        if vectored {
-            set_clocks(wrote, self.phi);
-        }
-        vectored
+            && self.take_interrupt(self.sample_time(instruction))
     }
 
-    /// The interrupt at an end where the chips are asked, and whether there is one.
+    /// The interrupt at an end where the chips are asked, by the clocks as the last fetch began, and whether there is one.
     // Not inlined, so that the end of every other instruction stays a test.
     #[inline(never)]
-    fn take_interrupt(&mut self, instruction: Instruction) -> bool
-        requires right { IsInstruction instruction }
-        requires phi { self.old.phi < 2 ^ 63 }
-        requires enabled { self.old.registers.status.icb ≡ true }
-        requires open { is_shielding instruction.op ≡ false }
-        ensures state { self.new ≡ finished instruction.op self.old }
-        ensures taken { result ≡ is_some (chosen_place instruction.op self.old) }
-        ensures reach { VectorFits (chosen_place instruction.op self.old) self.old }
+    fn take_interrupt(&mut self, time: u64) -> bool
+        requires { time < 2 ^ 63 }
+        ensures state { let chosen = asking_place time self.old.requests in
+            self.new ≡ with_interrupt chosen time self.old }
+        ensures taken { result ≡ is_some (asking_place time self.old.requests) }
+        ensures reach { VectorFits (asking_place time self.old.requests) self.old }
     {
-        let time = self.sample_time(instruction);
         match self.requests.first_asking(time) {
             Some(place) => {
                 self.interrupt(place, time);
                 true
-            },
+            }
             None => false,
         }
     }
@@ -212,14 +193,13 @@ impl Isa {
         self.requests.acknowledge(place, self.phi);
     }
 
-    /// A whole instruction, with its write.
+    /// A whole instruction, with the byte that a port takes.
     #[inline]
-    fn carry_out(&mut self, instruction: Instruction) -> Option<PortWrite>
+    fn carry_out(&mut self, instruction: Instruction) -> Option<PortByte>
         requires right { IsInstruction instruction }
         requires phi { self.old.phi < 2 ^ 62 }
         ensures state { self.new ≡ isa_after instruction.op self.old }
-        ensures wrote { result ≡ kept_write instruction.op self.old
-            (phi_after instruction.op self.old) }
+        ensures taken { (phi : ℕ) → clocked phi result ≡ kept_write instruction.op self.old phi }
         ensures clocks { self.new.phi ≤ self.old.phi + MOST_PHI }
         ensures onward { self.old.phi ≤ self.new.phi }
         ensures ranges { InReach instruction.op self.old }
@@ -240,8 +220,7 @@ impl Isa {
         requires plain { instruction.row ≡ Row.Plain }
         requires phi { self.old.phi < 2 ^ 62 }
         ensures state { self.new ≡ isa_after instruction.op self.old }
-        ensures wrote { kept_write instruction.op self.old (phi_after instruction.op self.old)
-            ≡ None }
+        ensures taken { (phi : ℕ) → kept_write instruction.op self.old phi ≡ None }
         ensures clocks { self.new.phi ≤ self.old.phi + MOST_PHI }
         ensures onward { self.old.phi ≤ self.new.phi }
         ensures ranges { InReach instruction.op self.old }
@@ -251,15 +230,14 @@ impl Isa {
         self.phi += u64::from(instruction.clocks);
     }
 
-    /// A whole instruction of any row, with its write.
+    /// A whole instruction of any row, with the byte that a port takes.
     #[tactic(auto, unfolding(console_spec::specs::Processor::own_inputs))]
     #[inline]
-    fn carry_out_other(&mut self, instruction: Instruction) -> Option<PortWrite>
+    fn carry_out_other(&mut self, instruction: Instruction) -> Option<PortByte>
         requires right { IsInstruction instruction }
         requires phi { self.old.phi < 2 ^ 62 }
         ensures state { self.new ≡ isa_after instruction.op self.old }
-        ensures wrote { result ≡ kept_write instruction.op self.old
-            (phi_after instruction.op self.old) }
+        ensures taken { (phi : ℕ) → clocked phi result ≡ kept_write instruction.op self.old phi }
         ensures clocks { self.new.phi ≤ self.old.phi + MOST_PHI }
         ensures onward { self.old.phi ≤ self.new.phi }
         ensures ranges { InReach instruction.op self.old }
@@ -277,17 +255,17 @@ impl Isa {
             self.registers.accumulator(),
             self.operand(),
         );
-        let wrote = self.write(op, operand, phi);
+        let taken_byte = self.write(op, operand);
         let flow = self.flow_after(row, taken);
         self.work(op, row);
         if row == Row::StoreData {
             self.memory.store(at, byte);
         }
-        self.ports.take(wrote);
-        self.requests.take(wrote);
+        self.ports.take(taken_byte);
+        self.requests.take(clocked(taken_byte, phi));
         self.flow = flow;
         self.phi = phi;
-        wrote
+        taken_byte
     }
 
     #[inline]
@@ -307,11 +285,11 @@ impl Isa {
         self.memory.byte(self.ahead(1))
     }
 
-    /// The write of an instruction, if a port takes it, with the clocks at the instruction's end.
+    /// The byte that an instruction writes, if a port takes it.
     #[inline]
-    fn write(&self, op: Op, operand: u8, phi: u64) -> Option<PortWrite>
+    fn write(&self, op: Op, operand: u8) -> Option<PortByte>
         requires { operand ≡ byte_at self.now.memory (places_on self.now.flow.p 1) }
-        ensures { result ≡ kept_write op self.now phi }
+        ensures { (phi : ℕ) → clocked phi result ≡ kept_write op self.now phi }
     {
         let port = match op {
             Op::Out => self.ports.if_writable(operand)?,
@@ -319,8 +297,7 @@ impl Isa {
             Op::Outs { n } => self.ports.if_writable(n)?,
             _ => return None,
         };
-        Some(PortWrite {
-            phi,
+        Some(PortByte {
             port,
             byte: self.registers.accumulator(),
         })

@@ -1,11 +1,30 @@
 // The ports as the instruction set keeps them.
 ghost use Rattle.std.specs.Prelude.{◌≡◌};
 ghost use Rattle.f8_isa.specs.KeptPorts.{AreReadable, AreWritable};
+ghost use Rattle.f8_isa.specs.Ports.{clocked};
 
 use super::flat_memory::NO_BYTE;
 use console_board::PortWrite;
 use memory_map::Map;
 use std::marker::Model;
+
+/// A byte that a port takes.
+#[derive(Clone, Copy)]
+pub struct PortByte {
+    pub port: u8,
+    pub byte: u8,
+}
+
+/// The write of a byte that a port takes, if one does, by the clocks, in Φ, at the end of its instruction.
+#[inline]
+pub fn clocked(taken: Option<PortByte>, phi: u64) -> Option<PortWrite>
+    ensures { result ≡ clocked phi taken }
+{
+    match taken {
+        Some(PortByte { port, byte }) => Some(PortWrite { phi, port, byte }),
+        None => None,
+    }
+}
 
 /// A latch and a key byte for each of 256 ports, and which of the ports are those of exactly one chip: to read, and to write. Contracts see
 /// the four lists.
@@ -26,9 +45,9 @@ impl Model for Ports {
 }
 
 impl Ports {
-    ghost use Rattle.std.specs.Prelude.{◌≡◌, ◌+◌, ◌<◌, slice_index};
+    ghost use Rattle.std.specs.Prelude.{◌≡◌, ◌+◌, ◌<◌, ℕ, slice_index};
     ghost use Rattle.f8_spec.specs.Words.{word};
-    ghost use Rattle.f8_isa.specs.Ports.{kept_value, chip_value, if_writable, ports_after, with_key_byte};
+    ghost use Rattle.f8_isa.specs.Ports.{clocked, kept_value, chip_value, if_writable, ports_after, with_key_byte};
     ghost use Rattle.f8_isa.specs.KeptPorts.{AreFirstPorts};
 
     /// The ports at power-on, with each latch and each key byte 0.
@@ -87,11 +106,11 @@ impl Ports {
 
     /// Keeps the byte of a write that was taken.
     #[inline]
-    pub fn take(&mut self, wrote: Option<PortWrite>)
-        ensures { self.new ≡ ports_after wrote self.old }
+    pub fn take(&mut self, taken: Option<PortByte>)
+        ensures { (phi : ℕ) → self.new ≡ ports_after (clocked phi taken) self.old }
     {
-        if let Some(write) = wrote {
-            self.latches[usize::from(write.port)] = write.byte;
+        if let Some(PortByte { port, byte }) = taken {
+            self.latches[usize::from(port)] = byte;
         }
     }
 
