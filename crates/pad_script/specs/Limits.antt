@@ -1,5 +1,8 @@
--- What the end of a script's run can be (this project's own).
-use Rattle.std.specs.Prelude.{◌≤◌}
+-- What the end of a script's run and its events can be (this project's own).
+use Rattle.std.specs.Prelude.{◌≤◌, List}
+use Rattle.std.specs.List.{AllByRecursion}
+use Rattle.console_spec.specs.FreeRuns.{HasByte}
+use Rattle.console_spec.specs.declared.At.{At}
 use Rattle.console_spec.specs.declared.End.{End}
 use Rattle.console_spec.specs.declared.End.TheVariants.{Frames, Steps}
 
@@ -7,3 +10,7 @@ use Rattle.console_spec.specs.declared.End.TheVariants.{Frames, Steps}
 abbrev pub HasLimits : End → Type 0
 HasLimits (Frames n) = n ≤ 600
 HasLimits (Steps n) = n ≤ 1000000
+
+-- what a port gets from outside is a byte
+abbrev pub HaveBytes : List At → Type 0
+HaveBytes events = AllByRecursion (λ at. HasByte at.event) events

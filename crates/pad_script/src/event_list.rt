@@ -1,7 +1,10 @@
 // The events of a script.
 ghost use Rattle.std.specs.Prelude.{◌≡◌, ◌≤◌, length, slice_get, vec_len};
+ghost use Rattle.console_spec.specs.FreeRuns.{HasByte};
+ghost use Rattle.pad_script.specs.Limits.{HaveBytes};
 
 use super::script::At;
+use console_spec::Event;
 use std::marker::Model;
 
 /// The events of a script, in the order of its text, at most 1,024. Contracts see the list of them.
@@ -13,12 +16,13 @@ pub struct EventList {
 impl Model for EventList {
     ghost use Rattle.std.specs.Prelude.{List, ◌≤◌, length};
     ghost use Rattle.console_spec.specs.declared.At.{At};
+    ghost use Rattle.pad_script.specs.Limits.{HaveBytes};
 
     ghost Value = { List At };
 
     ghost view = { λ e. e.items.items };
 
-    ghost invariant = { λ e. length e.items.items ≤ 1024 };
+    ghost invariant = { λ e. (length e.items.items ≤ 1024) × HaveBytes e.items.items };
 }
 
 impl EventList {
@@ -27,6 +31,7 @@ impl EventList {
         requires { vec_len items ≤ 1024 }
         ensures { result ≡ items.items }
     {
+        bytes_law(items.as_slice());
         EventList { items }
     }
 
@@ -34,6 +39,7 @@ impl EventList {
     pub fn as_slice(&self) -> &[At]
         ensures events { result.now ≡ self.now }
         ensures limit { length self.now ≤ 1024 }
+        ensures bytes { HaveBytes self.now }
     {
         self.items.as_slice()
     }
@@ -53,3 +59,16 @@ impl EventList {
         self.items.get(place).copied()
     }
 }
+
+/// What a port gets from outside is a byte. This call changes nothing; its contract is the law.
+fn bytes_law(events: &[At])
+    ensures { HaveBytes events.now }
+{
+    for at in events {
+        byte_law(at.event);
+    }
+}
+
+fn byte_law(event: Event)
+    ensures { HasByte event }
+{}
