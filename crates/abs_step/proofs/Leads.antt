@@ -125,7 +125,8 @@ module _ (m : MapView) (tracked : List ℕ) (x : Invariant) (op : Op) (here : Po
   pub taken : Taken
   taken =
       let way = taken_by (row_of op) (gets_at op here) (inputs_at op m x) here.flat.state.flow x.point.at x.point.ret
-      (gets_tell m tracked x op here safe) safe.beside.tells.ret (ready m safe.beside.view.told tracked x op safe.state.operands safe.state.later) safe.beside.tells.at in
+      (gets_tell m tracked x op here safe) safe.beside.tells.ret
+      (ready m safe.beside.view.told tracked x op safe.state.operands safe.state.later) safe.beside.tells.at in
       record { exit = way.0; is = way.1; at = way.2; ret = way.3 }
 
   -- ---- what is known after the instruction stands for the position there

@@ -29,6 +29,7 @@ pub mod Ready
 pub mod Blurs
 pub mod SafeBelow
 pub mod SuccessorOrder
+pub mod ChipPages
 pub mod MapViews
 pub mod ScriptStarts
 pub mod ScriptEnds
@@ -51,3 +52,4 @@ pub mod Fitting
 pub mod StepParts
 pub mod HeldPages
 pub mod SomeSuccessor
+pub mod StatesRead

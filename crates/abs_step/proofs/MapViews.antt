@@ -1,20 +1,28 @@
--- The view of the map of some chips is right of them.
-use Rattle.std.proofs.Common.{◌≡◌, ℕ, zero, suc, ◌/◌, Bool, true, false, ◌||◌, List, [], ◌∷◌, map, refl, ap, ◌∙◌}
-use Rattle.std.specs.Prelude.{Option, Some, None, is_some, slice_get, option_map, option_and_then, if◌then◌else◌}
+-- The view of the map of some chips is right of them, and so is what is known of them, which is the same.
+use Rattle.std.proofs.Common.{◌≡◌, ℕ, zero, suc, ◌/◌, ◌<◌, ◌≤◌, Bool, true, false, ◌||◌, List, [], ◌∷◌, length, map, refl, ap, sym, ◌∙◌, arith}
+use Rattle.std.specs.Prelude.{Option, Some, None, is_some, slice_get, option_map, option_and_then, if◌then◌else◌, nat_lt, ◌&&◌, slice_index}
+use Rattle.std.proofs.lemmas.Bool.{ltb-true, ltb-false, lt-ltb}
+use Rattle.std.proofs.lemmas.List.{get_or_past}
 use Rattle.std.specs.List.{AllByRecursion, list_any}
 use Rattle.f8_spec.specs.ChipState.{ChipView, is_ram, is_sort_at, place_of}
 use Rattle.f8_spec.specs.BusArbitration.{Seat, seat_of}
+use Rattle.f8_spec.specs.declared.chips.ChipKind.{ChipKind}
+use Rattle.f8_spec.specs.declared.chips.ChipKind.TheVariants.{Psu as PsuKind, Smi as SmiKind}
 use Rattle.f8_spec.specs.declared.chips.Page.{Page}
 use Rattle.f8_spec.specs.declared.chips.PageSort.TheVariants.{Rom as RomPage}
-use Rattle.console_spec.specs.FlatMemory.{is_ram_sort, fixed_byte_by}
+use Rattle.console_spec.specs.FlatMemory.{is_ram_sort, fixed_byte, fixed_byte_by, sort_of}
+use Rattle.console_spec.specs.Writes.{readers, takers}
 use Rattle.console_spec.specs.declared.Sort.{Sort}
 use Rattle.console_spec.specs.declared.Sort.TheVariants.{Rom, Ram, Void, Nothing, Shared}
 use Rattle.chip_face.specs.Fitting.{fitted, psu_pages}
 use Rattle.chip_face.specs.declared.specification.ChipSpec.{ChipSpec}
 use Rattle.chip_face.specs.declared.specification.ChipSpec.TheVariants.{Blank, Psu, Smi}
-use Rattle.memory_map.specs.MapKinds.{is_held_once, some_wired}
-use Rattle.memory_map.specs.MapOf.{MapTable, mapped_sort, mapped_byte, views_of, seats_of, IsMapOf, sort_by, entry_at}
-use Rattle.abs_step.specs.MapView.{IsViewOf, HasOwnRam, view_of, MapViewLaw}
+use Rattle.memory_map.specs.MapKinds.{is_held_once, kind_holds, some_wired}
+use Rattle.memory_map.specs.MapOf.{MapTable, mapped_sort, mapped_byte, mapped_held, mapped_readers, mapped_takers, mapped_overlaps}
+use Rattle.memory_map.specs.MapOf.{views_of, seats_of, IsMapOf, IsWholeMap, sort_by, entry_at, kind_pages}
+use Rattle.memory_map.specs.declared.entry.Entry.TheVariants.{Nothing as NoChip}
+use Rattle.abs_step.specs.MapView.{IsViewOf, HasOwnRam, view_of, has_shared_page, chips_view, MapViewLaw}
+use Rattle.abs_step.proofs.ChipPages.{byte_of_one, page_of_shared, shared_of_page}
 
 -- ---- bytes
 
@@ -91,5 +99,105 @@ view_is m chips h = record {
   ram = all_own_ram chips;
 }
 
+-- ---- what is known of the chips
+
+told_if : (s : Sort) (o : Option ℕ) → is_held_once s ≡ true → is_ram_sort s ≡ false → is_some o ≡ true → is_some (fixed_byte_by s o) ≡ true
+told_if Rom o once stays some = some
+told_if Ram o once stays some = absurd (cc)
+told_if Void o once stays some = some
+told_if Nothing o once stays some = absurd (cc)
+told_if Shared o once stays some = absurd (cc)
+
+pub right_is : (chips : List ChipSpec) → IsViewOf (chips_view chips) (seats_of chips)
+unfolding chips_view
+right_is chips = record {
+  sort = λ at small. rw (lt-ltb at 65536 small) refl;
+  stays = λ at byte small is. not_ram (sort_of (seats_of chips) at) _ byte (rw (lt-ltb at 65536 small) at is);
+  told = λ at small once stays.
+      let one : is_held_once (sort_of (seats_of chips) at) ≡ true = rw (lt-ltb at 65536 small) at once in
+      let kept : is_ram_sort (sort_of (seats_of chips) at) ≡ false = rw (lt-ltb at 65536 small) at stays in
+      rw (lt-ltb at 65536 small) (told_if (sort_of (seats_of chips) at) _ one kept (byte_of_one at (views_of chips) one));
+  held = λ at small kind. rw (lt-ltb at 65536 small) refl;
+  readers = λ port small. rw (lt-ltb port 256 small) refl;
+  takers = λ port small. rw (lt-ltb port 256 small) refl;
+  any = λ kind. refl;
+  overlaps = λ at small shared. page_of_shared (seats_of chips) at small shared;
+  wired = wired_seats (views_of chips);
+  ram = all_own_ram chips;
+}
+
+-- ---- each map tells just that
+
+-- what is told below a bound, and is nothing from it on
+below_alone : {X : Type 0} (f g : ℕ → X) (none : X) (size : ℕ) → ((at : ℕ) → at < size → f at ≡ g at) → ((at : ℕ) → size ≤ at → f at ≡ none) →
+    (at : ℕ) → f at ≡ (if nat_lt at size then g at else none)
+below_alone f g none size below past at = by (nat_lt at size) refl
+  where
+    by : (b : Bool) → nat_lt at size ≡ b → f at ≡ (if b then g at else none)
+    by true small = below at (ltb-true at size small)
+    by false large = past at (ltb-false at size large)
+
+both_or_false : (b c : Bool) → (if b then c else false) ≡ (b && c)
+both_or_false true c = refl
+both_or_false false c = refl
+
+same_tests : (b c : Bool) → (b ≡ true → c ≡ true) → (c ≡ true → b ≡ true) → b ≡ c
+same_tests true c to from = sym (to refl)
+same_tests false true to from = from refl
+same_tests false false to from = refl
+
+module _ (m : MapTable) (chips : List ChipSpec) (h : IsMapOf m chips) (whole : IsWholeMap m) where
+  no_entry : (at : ℕ) → 65536 ≤ at → entry_at m at ≡ NoChip
+  no_entry at large = let size = whole.pages in get_or_past m.pages (at / 256) NoChip (omega (arith, size, large))
+
+  sort_told : (at : ℕ) → mapped_sort m at ≡ (if nat_lt at 65536 then sort_of (seats_of chips) at else Nothing)
+  unfolding mapped_sort
+  sort_told = below_alone (mapped_sort m) (sort_of (seats_of chips)) Nothing 65536 (λ at small. (h.tells at small).sort)
+      (λ at large. ap sort_by (no_entry at large))
+
+  byte_as_told : (at : ℕ) → mapped_byte m at ≡ (if nat_lt at 65536 then fixed_byte (views_of chips) at else None)
+  unfolding mapped_byte
+  byte_as_told = below_alone (mapped_byte m) (fixed_byte (views_of chips)) None 65536 (λ at small. (h.tells at small).byte)
+      (λ at large. ap (λ e. fixed_byte_by (sort_by e) (Some (slice_index m.bytes at))) (no_entry at large))
+
+  held_size : (kind : ChipKind) → length (kind_pages kind m).held ≡ 256
+  held_size PsuKind = whole.psu
+  held_size SmiKind = whole.smi
+
+  held_told : (at : ℕ) (kind : ChipKind) → mapped_held m at kind ≡ (nat_lt at 65536 && kind_holds kind (seats_of chips) at)
+  unfolding mapped_held
+  held_told at kind =
+      below_alone (λ x. mapped_held m x kind) (kind_holds kind (seats_of chips)) false 65536 (λ x small. (h.tells x small).held kind)
+      (λ x large. let size = held_size kind in get_or_past (kind_pages kind m).held (x / 256) false (omega (arith, size, large))) at
+      ∙ both_or_false (nat_lt at 65536) _
+
+  readers_told : (port : ℕ) → mapped_readers m port ≡ (if nat_lt port 256 then readers port (seats_of chips) else 0)
+  unfolding mapped_readers
+  readers_told = below_alone (mapped_readers m) (λ port. readers port (seats_of chips)) 0 256 (λ port small. (h.ports port small).readers)
+      (λ port large. let size = whole.readers in get_or_past m.readers port 0 (omega (arith, size, large)))
+
+  takers_told : (port : ℕ) → mapped_takers m port ≡ (if nat_lt port 256 then takers port (seats_of chips) else 0)
+  unfolding mapped_takers
+  takers_told = below_alone (mapped_takers m) (λ port. takers port (seats_of chips)) 0 256 (λ port small. (h.ports port small).takers)
+      (λ port large. let size = whole.takers in get_or_past m.takers port 0 (omega (arith, size, large)))
+
+  overlaps_told : mapped_overlaps m ≡ has_shared_page (seats_of chips)
+  overlaps_told = same_tests (mapped_overlaps m) (has_shared_page (seats_of chips))
+      (λ some. let overlap = h.all.overlaps.0 some in page_of_shared (seats_of chips) overlap.0 overlap.1 overlap.2)
+      (λ some. h.all.overlaps.1 (shared_of_page (seats_of chips) some))
+
+  pub told_is : view_of m ≡ chips_view chips
+  unfolding chips_view
+  told_is = λ i. record {
+    sort = λ at. sort_told at i;
+    byte = λ at. byte_as_told at i;
+    held = λ at kind. held_told at kind i;
+    readers = λ port. readers_told port i;
+    takers = λ port. takers_told port i;
+    any = λ kind. h.all.any kind i;
+    overlaps = overlaps_told i;
+    wired = h.all.wired i;
+  }
+
 pub map_view : MapViewLaw
-map_view = record { view = view_is }
+map_view = record { view = view_is; right = right_is; told = told_is }

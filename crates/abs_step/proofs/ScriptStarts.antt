@@ -1,5 +1,5 @@
 -- After power-on, the events of frame 0 and reset a run by a script is at a free start.
-use Rattle.std.proofs.Common.{◌≡◌, ℕ, zero, suc, ◌+◌, ◌<◌, List, [], ◌∷◌, map, replicate, refl, ap, ◌∙◌, arith}
+use Rattle.std.proofs.Common.{◌≡◌, ℕ, zero, suc, ◌+◌, ◌<◌, ◌≤◌, List, [], ◌∷◌, map, replicate, refl, ap, ◌∙◌, arith}
 use Rattle.std.specs.Prelude.{Option, Some, None, slice_get, Bool, true, false, if◌then◌else◌, ◌==◌}
 use Rattle.std.specs.List.{AllByRecursion, enumerate_from, range_with_len}
 use Rattle.std.proofs.lemmas.List.FromFn.{get_or-map-range_with_len}
@@ -40,14 +40,14 @@ first_small Void fill None small each = omega arith
 first_small Nothing fill None small each = omega arith
 first_small Shared fill None small each = omega arith
 
-all_small : (f : ℕ → ℕ) (a n at : ℕ) → ((x : ℕ) → f x < 256) → byte_at (map f (range_with_len a n)) at < 256
+all_small : (f : ℕ → ℕ) (a n at : ℕ) → ((x : ℕ) → a ≤ x → x < a + n → f x < 256) → byte_at (map f (range_with_len a n)) at < 256
 all_small f a zero at each = omega arith
-all_small f a (suc n) zero each = each a
-all_small f a (suc n) (suc at) each = all_small f (a + 1) n at each
+all_small f a (suc n) zero each = each a (omega arith) (omega arith)
+all_small f a (suc n) (suc at) each = all_small f (a + 1) n at (λ x from small. each x (omega (arith, from)) (omega (arith, small)))
 
-memory_small : (vs : List ChipView) (fill at : ℕ) → ((x : ℕ) → first_byte vs fill x < 256) → byte_at (first_memory vs fill) at < 256
+memory_small : (vs : List ChipView) (fill at : ℕ) → ((x : ℕ) → x < 65536 → first_byte vs fill x < 256) → byte_at (first_memory vs fill) at < 256
 unfolding first_memory
-memory_small vs fill at each = all_small (first_byte vs fill) 0 65536 at each
+memory_small vs fill at each = all_small (first_byte vs fill) 0 65536 at (λ x from small. each x (omega (arith, small)))
 
 memory_fixed : (vs : List ChipView) (fill at : ℕ) → at < 65536 → byte_at (first_memory vs fill) at ≡ first_byte vs fill at
 unfolding first_memory
@@ -94,7 +94,7 @@ power_free bytes vs chain script h = record {
     keys = same_bytes 256 0 (omega arith);
     writes = tt;
     memory = λ at. memory_small vs script.power at
-        (λ x. first_small (sort_of (map seat_of vs) x) script.power (fixed_byte vs x) h.power (λ byte is. h.held x byte is));
+        (λ x small. first_small (sort_of (map seat_of vs) x) script.power (fixed_byte vs x) h.power (λ byte is. h.held x byte small is));
     counters = record { p = omega arith; p1 = omega arith; d0 = omega arith; d1 = omega arith };
     copies = copies_small script.power 0 (map seat_of vs);
   };

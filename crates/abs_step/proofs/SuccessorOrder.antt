@@ -166,7 +166,8 @@ module _ (m : MapView) (seats : List Seat) (tracked : List ℕ) (p : Point) (s t
   successors_covered =
       let upper = successors op m tracked (at_point p t) in
       let matched = exits_below (λ (x y : Option ℕ). x ≡ y) (λ v. refl) (row_of op) (inputs_at op m (at_point p s)) (inputs_at op m (at_point p t))
-      p.at p.ret p.ret (inputs_ordered m p s t ordered.below op) (below_refl p.ret) refl (ready m view.told tracked (at_point p t) op safe.operands safe.later) in
+      p.at p.ret p.ret (inputs_ordered m p s t ordered.below op) (below_refl p.ret) refl
+      (ready m view.told tracked (at_point p t) op safe.operands safe.later) in
       let each = along_covered tracked (state_after op m (at_point p s)) (state_after op m (at_point p t)) (exits_of op m (at_point p t)) upper
       (after_ordered m p s t ordered.below op) same_after upper_covered (exits_of op m (at_point p s)) matched in
       all_map (FirstCovers upper) (Covers upper) _ (λ y h. first_covers upper y h) (all_covered upper (all_along op m tracked (at_point p s)) [] each tt)

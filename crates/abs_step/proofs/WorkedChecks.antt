@@ -12,7 +12,8 @@ use Rattle.abs_step.specs.KnownResults.{known_effect, register_writes}
 use Rattle.abs_step.specs.MapView.{MapView, holds_every_address}
 use Rattle.abs_step.specs.Successors.{Invariant, same_point, start_point, start_invariant, successors}
 use Rattle.abs_step.specs.Safety.{unsafe_reason, reasons, is_fault_free}
-use Rattle.abs_step.proofs.WorkedSteps.{page, psu, smi, map_of, next_at}
+use Rattle.abs_step.proofs.WorkedSteps.{page, psu, smi, map_of}
+use Rattle.abs_step.specs.StepView.{next_at}
 
 -- ---- what is reached
 

@@ -15,10 +15,9 @@ use Rattle.memory_map.specs.MapKinds.{kind_holds, kind_has_pages}
 use Rattle.abs_domain.specs.declared.points.Point.{Point}
 use Rattle.abs_step.specs.KnownResults.{known_effect, register_writes}
 use Rattle.abs_step.specs.MapView.{MapView}
+use Rattle.abs_step.specs.StepView.{next_at}
 use Rattle.abs_step.specs.Successors.{Invariant, start_point, start_state, start_invariant, successors}
-use Rattle.abs_step.specs.Soundness.{op_at}
 use Rattle.abs_step.specs.Safety.{unsafe_reason, reasons, is_fault_free}
-use Rattle.f8_spec.specs.declared.instructions.Op.{Op}
 
 -- ---- chips and their map
 
@@ -53,13 +52,6 @@ map_of vs =
     }
 
 -- ---- walks
-
-abbrev pub next : Option Op → MapView → List ℕ → Invariant → List Invariant
-next None m tracked x = []
-next (Some op) m tracked x = successors op m tracked x
-
-abbrev pub next_at : MapView → List ℕ → Invariant → List Invariant
-next_at m tracked x = next (op_at m x) m tracked x
 
 -- where so many instructions lead by the first way
 abbrev walked : MapView → List ℕ → ℕ → Option Invariant

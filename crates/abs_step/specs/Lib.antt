@@ -16,3 +16,4 @@ pub mod CartridgeAnalysis
 pub mod RackSeats
 pub mod StepView
 pub mod WorkView
+pub mod StatesAtPoints

@@ -1,17 +1,17 @@
 -- What the checker knows of the chips: what a map tells of addresses, ports and kinds of chip, and that it is so of some chips.
-use Rattle.std.specs.Prelude.{◌≡◌, ℕ, ◌<◌, ◌*◌, Bool, true, false, List, Option, Some, is_some}
+use Rattle.std.specs.Prelude.{◌≡◌, ℕ, ◌<◌, ◌*◌, nat_lt, Bool, true, false, ◌&&◌, if◌then◌else◌, List, Option, Some, None, is_some}
 use Rattle.std.specs.List.{AllByRecursion, list_any, list_all, range_with_len}
 use Rattle.f8_spec.specs.BusArbitration.{Seat, seat_has_ram}
 use Rattle.f8_spec.specs.declared.chips.ChipKind.{ChipKind}
 use Rattle.f8_spec.specs.declared.chips.ChipKind.TheVariants.{Smi}
-use Rattle.console_spec.specs.FlatMemory.{sort_of, is_ram_sort}
+use Rattle.console_spec.specs.FlatMemory.{sort_of, is_ram_sort, fixed_byte}
 use Rattle.console_spec.specs.Writes.{readers, takers}
 use Rattle.console_spec.specs.declared.Sort.{Sort}
 use Rattle.console_spec.specs.declared.Sort.TheVariants.{Rom, Ram, Void, Nothing, Shared}
 use Rattle.chip_face.specs.declared.specification.ChipSpec.{ChipSpec}
 use Rattle.memory_map.specs.MapOf.{MapTable, mapped_sort, mapped_byte, mapped_held, mapped_readers, mapped_takers, mapped_any}
-use Rattle.memory_map.specs.MapOf.{mapped_overlaps, mapped_wired, seats_of, IsMapOf}
-use Rattle.memory_map.specs.MapKinds.{is_held_once, kind_holds, kind_has_pages}
+use Rattle.memory_map.specs.MapOf.{mapped_overlaps, mapped_wired, views_of, seats_of, IsMapOf, IsWholeMap}
+use Rattle.memory_map.specs.MapKinds.{is_held_once, kind_holds, kind_has_pages, some_wired}
 
 -- by address what it is, the byte that stays there, and whether a chip of a kind holds it; how many chips have a port as a data port, and
 -- how many have it at all; whether some chip of a kind has pages; whether two chips hold an address; and whether some chip can interrupt
@@ -75,6 +75,30 @@ view_of m = record {
   wired = mapped_wired m;
 }
 
--- it is right of the chips of the map
+-- ---- what is known of the chips of a description
+
+-- some page has several holders
+abbrev pub has_shared_page : List Seat → Bool
+has_shared_page seats = list_any (λ number. is_shared (sort_of seats (number * 256))) (range_with_len 0 256)
+
+-- of each address below 65,536, of each port below 256, of each kind of chip, and of all of them
+unfoldable pub chips_view : List ChipSpec → MapView
+chips_view chips = record {
+  sort = λ at. if nat_lt at 65536 then sort_of (seats_of chips) at else Nothing;
+  byte = λ at. if nat_lt at 65536 then fixed_byte (views_of chips) at else None;
+  held = λ at kind. nat_lt at 65536 && kind_holds kind (seats_of chips) at;
+  readers = λ port. if nat_lt port 256 then readers port (seats_of chips) else 0;
+  takers = λ port. if nat_lt port 256 then takers port (seats_of chips) else 0;
+  any = λ kind. kind_has_pages kind (seats_of chips);
+  overlaps = has_shared_page (seats_of chips);
+  wired = some_wired (views_of chips);
+}
+
+-- ---- the law
+
 pub record MapViewLaw : Type 0 where
+  -- a map of some chips is right of them
   pub view : (m : MapTable) (chips : List ChipSpec) → IsMapOf m chips → IsViewOf (view_of m) (seats_of chips)
+  -- what is known of them is right of them, and it is just what each of their maps tells
+  pub right : (chips : List ChipSpec) → IsViewOf (chips_view chips) (seats_of chips)
+  pub told : (m : MapTable) (chips : List ChipSpec) → IsMapOf m chips → IsWholeMap m → view_of m ≡ chips_view chips

@@ -17,7 +17,7 @@ use Rattle.abs_step.specs.Soundness.{IsSafeMap, IsFaultFree, OnlyUndriven}
 -- a script for some chips: what is told by address stays there in them, and all bytes are bytes
 pub record IsScriptFor (bytes : ℕ → Option ℕ) (vs : List ChipView) (script : Script) : Type 0 where
   pub fixed : (at byte : ℕ) → at < 65536 → bytes at ≡ Some byte → fixed_byte vs at ≡ Some byte
-  pub held : (at byte : ℕ) → fixed_byte vs at ≡ Some byte → byte < 256
+  pub held : (at byte : ℕ) → at < 65536 → fixed_byte vs at ≡ Some byte → byte < 256
   pub power : script.power < 256
   pub events : AllByRecursion (λ (a : At). HasByte a.event) script.events
 

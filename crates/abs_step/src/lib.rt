@@ -1,6 +1,7 @@
 //! One step of the cartridge checker: what is known after an instruction, where it may lead, and whether a state is safe.
 #![tactic(auto)]
 
+mod annotation;
 mod bytes;
 mod counters;
 mod exits;
@@ -18,6 +19,7 @@ mod succs;
 mod tracked;
 mod writes;
 
+pub use annotation::{Annotation, MOST_POINTS};
 pub use fault_free::whole;
 pub use laws::{
     analysis_law, fit_law, map_view_law, script_run_law, seated_view_law, soundness_law,
