@@ -9,22 +9,28 @@ use Rattle.console_spec.specs.RunText.{text_of}
 use Rattle.outside.specs.Counts.{Rose}
 use Rattle.outside.specs.SinkRules.{Adds}
 use Rattle.outside.specs.StoreRules.{NamedBytes, Input}
-use Rattle.command_line.specs.CommandLine.{Command, Play, Ref, Asm, Dis, Gen}
+use Rattle.command_line.specs.CommandLine.{Command, Play, Check, Ref, Asm, Dis, Gen}
+use Rattle.console_spec.specs.Telling.{Telling}
+use Rattle.console_spec.specs.declared.VerdictWord.{VerdictWord}
+use Rattle.cart_checker.specs.Verdicts.{verdict_word}
+use Rattle.cart_checker.specs.declared.verdict.Verdict.{Verdict}
+use Rattle.cart_checker.specs.declared.verdict.Verdict.TheVariants.{Whole as FaultFree, Agreed, Refused as RefusedCart, TooMany}
 use Rattle.loader.specs.declared.refusals.Refusal.{Refusal}
 use Rattle.loader.specs.declared.refusals.Stop.{Stop}
 use Rattle.loader.specs.declared.refusals.Stop.TheVariants.{Refused, Store, Memory}
-use Rattle.loader.specs.Games.{Game, game_of, image_by, bytes_by}
+use Rattle.loader.specs.Games.{Game, game_of, cart_of, image_by, bytes_by}
 use Rattle.loader.specs.Work.{End, Gives, Refuses, Lacks, Work, gives, ◌>>=◌}
 use Rattle.loader.specs.Works.{HasFiles, Misses, order_of, file_of, Works, outcome_as}
 use Rattle.loader.proofs.WorkLaws.{works_gives, works_done, works_stop}
-use Rattle.channel_f.specs.Answers.{Answer, refusal, status_of, run_answer, game_run, unless_refused, game_answer}
-use Rattle.channel_f.specs.Answers.{generated_game, gen_answer, play_answer, ref_answer, asm_answer, dis_answer}
-use Rattle.channel_f.specs.Answers.{words_answer, answer_of, refusal_answer}
+use Rattle.channel_f.specs.Answers.{Answer, Due, Plain, Judged, refusal, status_of, run_answer, judged_run, game_run, ref_run}
+use Rattle.channel_f.specs.Answers.{unless_refused, game_due, generated_game, gen_due, play_due, check_answer, check_due}
+use Rattle.channel_f.specs.Answers.{ref_answer, asm_answer, dis_answer, words_answer, due_of, refusal_answer}
 use Rattle.channel_f.specs.Commands.{Around, Ends, Says}
-use Rattle.channel_f.specs.Completeness.{due_answer, Answered, RefusesBehind, RefusesRack, IsComplete}
-use Rattle.channel_f.specs.Reports.{Answers, Stops}
+use Rattle.channel_f.specs.Completeness.{due_at, Answered, AnsweredDue, RefusesBehind, RefusesRack, IsComplete}
+use Rattle.channel_f.specs.Reports.{Answers, AnswersDue, Wants, Stops}
 use Rattle.channel_f.specs.declared.manner.Manner.{Manner}
 use Rattle.channel_f.specs.declared.manner.Manner.TheVariants.{Whole, Summary}
+use Rattle.channel_f.proofs.Games.{answers_of}
 
 -- a status that the store, the sink and memory don't have
 record IsPlain (status : ℕ) : Type 0 where
@@ -34,38 +40,38 @@ record IsPlain (status : ℕ) : Type 0 where
 
 -- ---- what is due
 
-due_has : (end : End Answer) (answer : Answer) → due_answer end ≡ Some answer → HasFiles end
-due_has (Gives a) answer e = tt
-due_has (Refuses r) answer e = tt
-due_has Lacks answer e = cc e
+due_has : (end : End Due) (due : Due) → due_at end ≡ Some due → HasFiles end
+due_has (Gives d) due e = tt
+due_has (Refuses r) due e = tt
+due_has Lacks due e = cc e
 
-due_given : (end : End Answer) (a answer : Answer) → end ≡ Gives a → due_answer end ≡ Some answer → a ≡ answer
-due_given end a answer is e = let here : due_answer (Gives a) ≡ Some answer = rw is at e in some_same here
+due_given : (end : End Due) (d due : Due) → end ≡ Gives d → due_at end ≡ Some due → d ≡ due
+due_given end d due is e = let here : due_at (Gives d) ≡ Some due = rw is at e in some_same here
   where
-    some_same : Some a ≡ Some answer → a ≡ answer
+    some_same : Some d ≡ Some due → d ≡ due
     some_same e = cc e
 
-due_refused : (end : End Answer) (r : Refusal) (answer : Answer) → end ≡ Refuses r → due_answer end ≡ Some answer →
-    refusal_answer r ≡ answer
-due_refused end r answer is e = let here : due_answer (Refuses r) ≡ Some answer = rw is at e in some_same here
+due_refused : (end : End Due) (r : Refusal) (due : Due) → end ≡ Refuses r → due_at end ≡ Some due →
+    Plain (refusal_answer r) ≡ due
+due_refused end r due is e = let here : due_at (Refuses r) ≡ Some due = rw is at e in some_same here
   where
-    some_same : Some (refusal_answer r) ≡ Some answer → refusal_answer r ≡ answer
+    some_same : Some (Plain (refusal_answer r)) ≡ Some due → Plain (refusal_answer r) ≡ due
     some_same e = cc e
 
-given_due : (end : End Answer) (a : Answer) → end ≡ Gives a → due_answer end ≡ None → ⊥
-given_due end a is e = let here : due_answer (Gives a) ≡ None = rw is at e in never here
+given_due : (end : End Due) (d : Due) → end ≡ Gives d → due_at end ≡ None → ⊥
+given_due end d is e = let here : due_at (Gives d) ≡ None = rw is at e in never here
   where
-    never : Some a ≡ None → ⊥
+    never : Some d ≡ None → ⊥
     never e = cc e
 
-refused_due : (end : End Answer) (r : Refusal) → end ≡ Refuses r → due_answer end ≡ None → ⊥
-refused_due end r is e = let here : due_answer (Refuses r) ≡ None = rw is at e in never here
+refused_due : (end : End Due) (r : Refusal) → end ≡ Refuses r → due_at end ≡ None → ⊥
+refused_due end r is e = let here : due_at (Refuses r) ≡ None = rw is at e in never here
   where
-    never : Some (refusal_answer r) ≡ None → ⊥
+    never : Some (Plain (refusal_answer r)) ≡ None → ⊥
     never e = cc e
 
 -- the store tells its files after the call
-still_told : (old new : Around) (work : Work Answer) (outcome : Result Answer Stop) →
+still_told : (old new : Around) (work : Work Due) (outcome : Result Due Stop) →
     Works old.input new.input work outcome →
     (files : List NamedBytes) → old.input.files ≡ Some files →
     HasFiles (work files).end ⊎ (new.input.files ≡ Some files) →
@@ -76,6 +82,15 @@ still_told old new work outcome works files e (inr told) = told
 no_rise : (before now : ℕ) → now ≡ before → before < now → ⊥
 no_rise before now e less = omega (arith, e, less)
 
+two_not_six : (said : ℕ) → said ≡ 2 → said ≡ 6 → ⊥
+two_not_six said two six = cc
+
+four_not_six : (said : ℕ) → said ≡ 4 → said ≡ 6 → ⊥
+four_not_six said four six = cc
+
+five_not_six : (said : ℕ) → said ≡ 5 → said ≡ 6 → ⊥
+five_not_six said five six = cc
+
 -- what is due with 2 is the refusal of a rack
 record RackRefuses (rack : List ChipState) (due : Answer) : Type 0 where
   game : Game
@@ -83,20 +98,27 @@ record RackRefuses (rack : List ChipState) (due : Answer) : Type 0 where
   is : refusal game rack ≡ Some line
   lines : due.lines ≡ line ∷ []
 
+-- What is due came to an answer, whose status is none of those.
+record Answering (old new : Around) (said : ℕ) (due : Due) : Type 0 where
+  answer : Answer
+  plain : IsPlain answer.status
+  of_rack : answer.status ≡ 2 → RackRefuses old.rack answer
+  ends : Answers old.output new.output said answer
+  is_due : Answered old new said answer → AnsweredDue old new said due
+
 -- ---- an answer
 
-module _ (old new : Around) (said : ℕ) (work : Work Answer) where
-  complete_ok : (a : Answer) → IsPlain a.status → (a.status ≡ 2 → RackRefuses old.rack a) →
-      Works old.input new.input work (Ok a) → Answers old.output new.output said a → IsComplete old new said work
-  complete_ok a plain of_rack works ends = record {
-    answers = λ files answer e is_due no_store no_sink.
-        let told = works.telling files e (due_has (work files).end answer is_due) in
-        let same = due_given (work files).end a answer (works.follows files told).0 is_due in
-        subst (λ (b : Answer). Answered old new said b ⊎ (said ≡ 6)) same (answered no_sink ends.which);
-    lacks = λ files told none. absurd (given_due (work files).end a (works.follows files told).0 none);
+module _ (old new : Around) (said : ℕ) (work : Work Due) where
+  complete_ok : (due : Due) → Answering old new said due → Works old.input new.input work (Ok due) → IsComplete old new said work
+  complete_ok due here works = record {
+    answers = λ files other e is_due no_store no_sink.
+        let told = works.telling files e (due_has (work files).end other is_due) in
+        let same = due_given (work files).end due other (works.follows files told).0 is_due in
+        subst (λ (d : Due). AnsweredDue old new said d ⊎ (said ≡ 6)) same (answered_due (answered no_sink ends.which));
+    lacks = λ files told none. absurd (given_due (work files).end due (works.follows files told).0 none);
     refused = λ files e none two. inr (rack_refused two ends.which);
     bound = λ files e either.
-        let follows = works.follows files (still_told old new work (Ok a) works files e either) in
+        let follows = works.follows files (still_told old new work (Ok due) works files e either) in
         record { count = length (work files).asks; few = omega arith; fetches = follows.1 };
     store = λ four. absurd (not_store four ends.which);
     store_told = λ less. absurd (no_rise old.input.faults new.input.faults works.fails less);
@@ -104,6 +126,19 @@ module _ (old new : Around) (said : ℕ) (work : Work Answer) where
     sink_told = λ less. is_sink less ends.which;
   }
     where
+      a : Answer
+      a = here.answer
+
+      plain : IsPlain a.status
+      plain = here.plain
+
+      ends : Answers old.output new.output said a
+      ends = here.ends
+
+      answered_due : Answered old new said a ⊎ (said ≡ 6) → AnsweredDue old new said due ⊎ (said ≡ 6)
+      answered_due (inl answered) = inl (here.is_due answered)
+      answered_due (inr six) = inr six
+
       answered : (Rose old.output.faults new.output.faults → ⊥) → (said ≡ a.status) ⊎ (said ≡ 5) ⊎ (said ≡ 6) →
           Answered old new said a ⊎ (said ≡ 6)
       answered no_sink (inl is) = inl (record {
@@ -115,7 +150,7 @@ module _ (old new : Around) (said : ℕ) (work : Work Answer) where
 
       rack_refused : said ≡ 2 → (said ≡ a.status) ⊎ (said ≡ 5) ⊎ (said ≡ 6) → RefusesRack old new
       rack_refused two (inl is) =
-          let refuses = of_rack (sym is ∙ two) in
+          let refuses = here.of_rack (sym is ∙ two) in
           let whole = ends.whole (λ five. plain.sink (sym is ∙ five)) (λ six. plain.memory (sym is ∙ six)) in
           record {
             game = refuses.game;
@@ -141,15 +176,31 @@ module _ (old new : Around) (said : ℕ) (work : Work Answer) where
       is_sink less (inr (inr six)) =
           absurd (no_rise old.output.faults new.output.faults (ends.nothing six).count less)
 
+  -- memory was wanting behind the files
+  complete_wanting : (due : Due) → Wants old.output new.output said → Works old.input new.input work (Ok due) →
+      IsComplete old new said work
+  complete_wanting due wants works = record {
+    answers = λ files other e is_due no_store no_sink. inr wants.status;
+    lacks = λ files told none. absurd (given_due (work files).end due (works.follows files told).0 none);
+    refused = λ files e none two. absurd (two_not_six said two wants.status);
+    bound = λ files e either.
+        let follows = works.follows files (still_told old new work (Ok due) works files e either) in
+        record { count = length (work files).asks; few = omega arith; fetches = follows.1 };
+    store = λ four. absurd (four_not_six said four wants.status);
+    store_told = λ less. absurd (no_rise old.input.faults new.input.faults works.fails less);
+    sink = λ five. absurd (five_not_six said five wants.status);
+    sink_told = λ less. absurd (no_rise old.output.faults new.output.faults wants.nothing.count less);
+  }
+
   -- ---- a file that stops it
 
   complete_stop : (stop : Stop) → Works old.input new.input work (Err stop) → Stops old.output new.output said stop →
       IsComplete old new said work
   complete_stop (Refused r) works ends = record {
-    answers = λ files answer e is_due no_store no_sink.
-        let told = works.telling files e (due_has (work files).end answer is_due) in
-        let same = due_refused (work files).end r answer (works.follows files told).0 is_due in
-        subst (λ (b : Answer). Answered old new said b ⊎ (said ≡ 6)) same (inl (answered no_sink ends.which));
+    answers = λ files due e is_due no_store no_sink.
+        let told = works.telling files e (due_has (work files).end due is_due) in
+        let same = due_refused (work files).end r due (works.follows files told).0 is_due in
+        subst (λ (d : Due). AnsweredDue old new said d ⊎ (said ≡ 6)) same (inl (answered no_sink ends.which));
     lacks = λ files told none. absurd (refused_due (work files).end r (works.follows files told).0 none);
     refused = λ files e none two. inl (behind files none two (works.refused files e));
     bound = λ files e either.
@@ -170,7 +221,7 @@ module _ (old new : Around) (said : ℕ) (work : Work Answer) where
       not_five : said ≡ 2 → said ≡ 5 → ⊥
       not_five two five = cc
 
-      behind : (files : List NamedBytes) → due_answer (work files).end ≡ None → said ≡ 2 →
+      behind : (files : List NamedBytes) → due_at (work files).end ≡ None → said ≡ 2 →
           ((work files).end ≡ Refuses r) ⊎ Misses files (work files).asks (order_of (file_of r)) →
           RefusesBehind old new files (work files).asks
       behind files none two (inl is) = absurd (refused_due (work files).end r is none)
@@ -217,102 +268,143 @@ module _ (old new : Around) (said : ℕ) (work : Work Answer) where
   complete_stop Memory works ends = record {
     answers = λ files answer e is_due no_store no_sink. inr ends.status;
     lacks = λ files told none. inr (inr ends.status);
-    refused = λ files e none two. absurd (not_two two ends.status);
+    refused = λ files e none two. absurd (two_not_six said two ends.status);
     bound = λ files e either. works.follows files (still_told old new work (Err Memory) works files e either);
-    store = λ four. absurd (not_four four ends.status);
+    store = λ four. absurd (four_not_six said four ends.status);
     store_told = λ less. absurd (no_rise old.input.faults new.input.faults works.fails less);
-    sink = λ five. absurd (not_five five ends.status);
+    sink = λ five. absurd (five_not_six said five ends.status);
     sink_told = λ less. absurd (no_rise old.output.faults new.output.faults ends.nothing.count less);
   }
-    where
-      not_two : said ≡ 2 → said ≡ 6 → ⊥
-      not_two two six = cc
 
-      not_four : said ≡ 4 → said ≡ 6 → ⊥
-      not_four four six = cc
+-- ---- what came of what is due
 
-      not_five : said ≡ 5 → said ≡ 6 → ⊥
-      not_five five six = cc
+-- each answer that may be due has a status of its own, and 2 is the refusal of a rack
+record IsOrdinary (rack : List ChipState) (answer : Answer) : Type 0 where
+  plain : IsPlain answer.status
+  of_rack : answer.status ≡ 2 → RackRefuses rack answer
 
-complete_of : {A : Type 0} (old new : Around) (said : ℕ) (work : Work A) (answer : A → Answer)
-    (outcome : Result A Stop) →
-    ((x : A) → IsPlain (answer x).status) → ((x : A) → (answer x).status ≡ 2 → RackRefuses old.rack (answer x)) →
-    Works old.input new.input work outcome → Ends old.output new.output said (outcome_as answer outcome) →
-    IsComplete old new said (work >>= λ x. gives (answer x))
-complete_of old new said work answer (Ok x) plain of_rack works ends =
-    complete_ok old new said (work >>= λ y. gives (answer y)) (answer x) (plain x) (of_rack x)
-    (works_done old.input new.input work x answer works) ends
-complete_of old new said work answer (Err stop) plain of_rack works ends =
-    complete_stop old new said (work >>= λ y. gives (answer y)) stop
-    (works_stop old.input new.input work (λ y. gives (answer y)) stop works) ends
+abbrev AreOrdinary : List ChipState → Due → Type 0
+AreOrdinary rack (Plain answer) = IsOrdinary rack answer
+AreOrdinary rack (Judged cart by) = (verdict : Verdict) → IsOrdinary rack (by verdict)
+
+complete_given : (old new : Around) (said : ℕ) (work : Work Due) (due : Due) → AreOrdinary old.rack due →
+    Works old.input new.input work (Ok due) → AnswersDue old.output new.output said due → IsComplete old new said work
+complete_given old new said work (Plain answer) ordinary works ends =
+    complete_ok old new said work (Plain answer)
+    (record { answer = answer; plain = ordinary.plain; of_rack = ordinary.of_rack; ends = ends; is_due = λ answered. answered })
+    works
+complete_given old new said work (Judged cart by) ordinary works (inl wants) =
+    complete_wanting old new said work (Judged cart by) wants works
+complete_given old new said work (Judged cart by) ordinary works (inr judges) =
+    let mine = ordinary judges.right.verdict in
+    complete_ok old new said work (Judged cart by)
+    (record {
+      answer = by judges.right.verdict;
+      plain = mine.plain;
+      of_rack = mine.of_rack;
+      ends =
+          answers_of old.output new.output said (by judges.right.verdict).status (by judges.right.verdict).lines mine.plain.memory
+          judges.reports;
+      is_due = λ answered. record { right = judges.right; answered = answered };
+    })
+    works
+
+complete_of : {A : Type 0} (old new : Around) (said : ℕ) (work : Work A) (due : A → Due) (outcome : Result A Stop) →
+    ((x : A) → AreOrdinary old.rack (due x)) → Works old.input new.input work outcome →
+    Ends old.output new.output said (outcome_as due outcome) → IsComplete old new said (work >>= λ x. gives (due x))
+complete_of old new said work due (Ok x) ordinary works ends =
+    complete_given old new said (work >>= λ y. gives (due y)) (due x) (ordinary x)
+    (works_done old.input new.input work x due works) ends
+complete_of old new said work due (Err stop) ordinary works ends =
+    complete_stop old new said (work >>= λ y. gives (due y)) stop
+    (works_stop old.input new.input work (λ y. gives (due y)) stop works) ends
+
+-- no file is asked for
+complete_asked : (old new : Around) (said : ℕ) (due : Due) → AreOrdinary old.rack due → new.input ≡ old.input →
+    AnswersDue old.output new.output said due → IsComplete old new said (gives due)
+complete_asked old new said due ordinary asks answers =
+    complete_given old new said (gives due) due ordinary
+    (subst (λ (input : Input). Works old.input input (gives due) (Ok due)) (sym asks) (works_gives old.input due))
+    answers
 
 -- ---- the statuses of answers
 
-run_plain : (stop : RunStop) → IsPlain (status_of stop)
-run_plain Done = record { store = λ e. cc; sink = λ e. cc; memory = λ e. cc }
-run_plain (Unserved fault) = record { store = λ e. cc; sink = λ e. cc; memory = λ e. cc }
-run_plain (Reserved at code) = record { store = λ e. cc; sink = λ e. cc; memory = λ e. cc }
+zero_ordinary : (rack : List ChipState) (lines : List (List ℕ)) → IsOrdinary rack (record { status = 0; lines = lines })
+zero_ordinary rack lines = record {
+  plain = record { store = λ e. cc; sink = λ e. cc; memory = λ e. cc };
+  of_rack = λ e. cc;
+}
 
-zero_plain : IsPlain 0
-zero_plain = record { store = λ e. cc; sink = λ e. cc; memory = λ e. cc }
+one_ordinary : (rack : List ChipState) → IsOrdinary rack words_answer
+one_ordinary rack = record {
+  plain = record { store = λ e. cc; sink = λ e. cc; memory = λ e. cc };
+  of_rack = λ e. cc;
+}
 
-one_plain : IsPlain 1
-one_plain = record { store = λ e. cc; sink = λ e. cc; memory = λ e. cc }
-
-unless_plain : (line : Option (List ℕ)) (answer : Answer) → IsPlain answer.status →
-    IsPlain (unless_refused line answer).status
-unless_plain None answer plain = plain
-unless_plain (Some line) answer plain = record { store = λ e. cc; sink = λ e. cc; memory = λ e. cc }
+seven_ordinary : (rack : List ChipState) (lines : List (List ℕ)) → IsOrdinary rack (record { status = 7; lines = lines })
+seven_ordinary rack lines = record {
+  plain = record { store = λ e. cc; sink = λ e. cc; memory = λ e. cc };
+  of_rack = λ e. cc;
+}
 
 -- only a rack is refused with 2
-run_no_refusal : {P : Type 0} (stop : RunStop) → status_of stop ≡ 2 → P
-run_no_refusal Done e = cc
-run_no_refusal (Unserved fault) e = cc
-run_no_refusal (Reserved at code) e = cc
+stop_ordinary : (rack : List ChipState) (stop : RunStop) (lines : List (List ℕ)) →
+    IsOrdinary rack (record { status = status_of stop; lines = lines })
+stop_ordinary rack Done lines = zero_ordinary rack lines
+stop_ordinary rack (Unserved fault) lines = record {
+  plain = record { store = λ e. cc; sink = λ e. cc; memory = λ e. cc };
+  of_rack = λ e. cc;
+}
+stop_ordinary rack (Reserved at code) lines = record {
+  plain = record { store = λ e. cc; sink = λ e. cc; memory = λ e. cc };
+  of_rack = λ e. cc;
+}
 
-unless_refuses : (rack : List ChipState) (game : Game) (line : Option (List ℕ)) (answer : Answer) →
-    refusal game rack ≡ line →
-    (answer.status ≡ 2 → RackRefuses rack answer) → (unless_refused line answer).status ≡ 2 →
-    RackRefuses rack (unless_refused line answer)
-unless_refuses rack game None answer is played two = played two
-unless_refuses rack game (Some line) answer is played two = record { game = game; line = line; is = is; lines = refl }
+run_ordinary : (rack : List ChipState) (manner : Manner) (word : VerdictWord) (run : Telling) →
+    IsOrdinary rack (run_answer manner word run)
+run_ordinary rack manner word run = stop_ordinary rack run.ending.stop _
 
-game_refuses : (manner : Manner) (rack : List ChipState) (game : Game) → (game_answer manner rack game).status ≡ 2 →
-    RackRefuses rack (game_answer manner rack game)
-game_refuses manner rack game =
-    unless_refuses rack game (refusal game rack) (run_answer manner (game_run manner game rack)) refl
-    (run_no_refusal (game_run manner game rack).ending.stop)
+-- a game is refused, or its run is told
+unless_ordinary : (rack : List ChipState) (game : Game) (line : Option (List ℕ)) (due : Due) → refusal game rack ≡ line →
+    AreOrdinary rack due → AreOrdinary rack (unless_refused line due)
+unless_ordinary rack game None due is ordinary = ordinary
+unless_ordinary rack game (Some line) due is ordinary = record {
+  plain = record { store = λ e. cc; sink = λ e. cc; memory = λ e. cc };
+  of_rack = λ two. record { game = game; line = line; is = is; lines = refl };
+}
 
-game_plain : (manner : Manner) (rack : List ChipState) (game : Game) → IsPlain (game_answer manner rack game).status
-game_plain manner rack game = unless_plain (refusal game rack) _ (run_plain _)
+game_ordinary : (manner : Manner) (rack : List ChipState) (game : Game) → AreOrdinary rack (game_due manner rack game)
+game_ordinary manner rack game =
+    unless_ordinary rack game (refusal game rack) (judged_run manner game (game_run manner game rack)) refl
+    (λ verdict. run_ordinary rack manner (verdict_word verdict) (game_run manner game rack))
+
+check_ordinary : (rack : List ChipState) (tracked : List ℕ) (verdict : Verdict) → IsOrdinary rack (check_answer tracked verdict)
+check_ordinary rack tracked (FaultFree notes) = zero_ordinary rack _
+check_ordinary rack tracked (Agreed notes) = zero_ordinary rack _
+check_ordinary rack tracked (RefusedCart point state reason) = seven_ordinary rack _
+check_ordinary rack tracked TooMany = seven_ordinary rack _
 
 -- ---- all commands
 
--- no file is asked for
-complete_asked : (old new : Around) (said : ℕ) (answer : Answer) → IsPlain answer.status →
-    (answer.status ≡ 2 → RackRefuses old.rack answer) → new.input ≡ old.input →
-    Answers old.output new.output said answer → IsComplete old new said (gives answer)
-complete_asked old new said answer plain of_rack asks answers =
-    complete_ok old new said (gives answer) answer plain of_rack
-    (subst (λ (input : Input). Works old.input input (gives answer) (Ok answer)) (sym asks) (works_gives old.input answer))
-    answers
-
 pub completed : (old new : Around) (said : ℕ) (command : Option Command) → Says old new said command →
-    IsComplete old new said (answer_of old.rack command)
+    IsComplete old new said (due_of old.rack command)
 completed old new said (Some (Play cart script traced)) says =
-    complete_of old new said (game_of cart script) (play_answer traced old.rack) says.outcome
-    (game_plain (Whole traced) old.rack) (game_refuses (Whole traced) old.rack) says.works says.ends
+    complete_of old new said (game_of cart script) (play_due traced old.rack) says.outcome
+    (game_ordinary (Whole traced) old.rack) says.works says.ends
+completed old new said (Some (Check cart)) says =
+    complete_of old new said (cart_of cart) check_due says.told.outcome
+    (λ cartridge verdict. check_ordinary old.rack cartridge.split verdict) says.told.works says.told.ends
 completed old new said (Some (Ref cart script)) says =
-    complete_of old new said (game_of cart script) ref_answer says.told.outcome (λ game. run_plain _)
-    (λ game. run_no_refusal _) says.told.works says.told.ends
+    complete_of old new said (game_of cart script) (λ game. Plain (ref_answer game)) says.told.outcome
+    (λ game. stop_ordinary old.rack (ref_run game).ending.stop _) says.told.works says.told.ends
 completed old new said (Some (Asm file)) says =
-    complete_of old new said (image_by file) asm_answer says.told.outcome (λ picture. zero_plain) (λ picture two. cc)
-    says.told.works says.told.ends
+    complete_of old new said (image_by file) (λ picture. Plain (asm_answer picture)) says.told.outcome
+    (λ picture. zero_ordinary old.rack _) says.told.works says.told.ends
 completed old new said (Some (Dis file)) says =
-    complete_of old new said (bytes_by file) dis_answer says.told.outcome (λ bytes. zero_plain) (λ bytes two. cc)
-    says.told.works says.told.ends
+    complete_of old new said (bytes_by file) (λ bytes. Plain (dis_answer bytes)) says.told.outcome
+    (λ bytes. zero_ordinary old.rack _) says.told.works says.told.ends
 completed old new said (Some (Gen seed)) says =
-    complete_asked old new said (gen_answer old.rack seed) (game_plain (Summary seed) old.rack (generated_game seed))
-    (game_refuses (Summary seed) old.rack (generated_game seed)) says.asks says.answers
+    complete_asked old new said (gen_due old.rack seed) (game_ordinary (Summary seed) old.rack (generated_game seed))
+    says.asks says.answers
 completed old new said None says =
-    complete_asked old new said words_answer one_plain (λ two. cc) says.asks says.answers
+    complete_asked old new said (Plain words_answer) (one_ordinary old.rack) says.asks says.answers

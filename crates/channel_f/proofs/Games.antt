@@ -9,7 +9,7 @@ use Rattle.console_spec.specs.Run.{Stop, Done, Unserved, Reserved, Ending as Fla
 use Rattle.console_spec.specs.RunText.{verdict_line, told_lines, ending_lines, flat_telling_lines, lines_of, text_of}
 use Rattle.console_spec.specs.Telling.{Telling, told_in}
 use Rattle.console_spec.specs.declared.Regs.{Regs}
-use Rattle.console_spec.specs.declared.VerdictWord.TheVariants.{Unchecked}
+use Rattle.console_spec.specs.declared.VerdictWord.{VerdictWord}
 use Rattle.generator.specs.SummaryLines.{gen_line}
 use Rattle.outside.specs.SinkRules.{Output, Adds, AddsPart}
 use Rattle.outside.proofs.SinkLaws.{adds_none, adds_then, adds_part_behind, adds_part_first}
@@ -22,15 +22,20 @@ use Rattle.rack_run.proofs.Seats.{stays_in_part}
 use Rattle.report.proofs.TextLaws.{text_of-nil, text_of-cons, text_of-append}
 use Rattle.data_bus.specs.Racks.{views}
 use Rattle.loader.specs.Games.{Game}
-use Rattle.channel_f.specs.Answers.{Answer, status_of, refusal, ref_run, game_run, game_chain}
+use Rattle.cart_checker.specs.Verdicts.{verdict_word}
+use Rattle.channel_f.specs.Answers.{Answer, Due, Plain, Judged, status_of, refusal, ref_run, game_run, game_chain, run_answer, judged_run}
 use Rattle.channel_f.specs.Manners.{detail_of, run_by, run_fitted, opening_lines, closing_lines, lines_by, told_summary}
 use Rattle.channel_f.specs.Manners.{summary_lines}
 use Rattle.channel_f.specs.Manners.{ending_told, summary_told, closing_told}
-use Rattle.channel_f.specs.RackAfter.{RanOn, OnFitted, Plays, PlaysUnless}
+use Rattle.channel_f.specs.JudgedRuns.{RunsJudged, PlaysJudged}
+use Rattle.channel_f.specs.RackAfter.{RanOn, OnFitted, PlayedOn, Plays, PlaysUnless}
 use Rattle.channel_f.specs.RackAfter.{PlaysGame}
-use Rattle.channel_f.specs.Reports.{Answers, Reports}
+use Rattle.channel_f.specs.Reports.{Answers, AnswersDue, Judges, Reports}
+use Rattle.channel_f.specs.SafeGames.{KeepsVerdict}
+use Rattle.channel_f.specs.SafeRuns.{HasScriptBytes, SafeRunLaw}
 use Rattle.channel_f.specs.declared.manner.Manner.{Manner}
 use Rattle.channel_f.specs.declared.manner.Manner.TheVariants.{Whole, Summary}
+use Rattle.channel_f.proofs.SafeGames.{keeps_verdict}
 
 -- ---- lines and statuses
 
@@ -64,19 +69,19 @@ closing_is (Summary seed) told e tells = told_sums told e tells
 abbrev told_text : Manner → Telling → List ℕ
 told_text manner t = text_in (detail_of manner) (told_in t.moments)
 
-text_by : (manner : Manner) (t : Telling) →
-    text_of (lines_by manner t)
-    ≡ text_of (opening_lines manner) ++ (told_text manner t ++ text_of (closing_lines manner t.ending))
+text_by : (manner : Manner) (word : VerdictWord) (t : Telling) →
+    text_of (lines_by manner word t)
+    ≡ text_of (opening_lines manner word) ++ (told_text manner t ++ text_of (closing_lines manner t.ending))
 unfolding text_told
-text_by (Whole true) t =
-    text_of-append (verdict_line Unchecked ∷ []) (flat_telling_lines t)
-    ∙ ap (λ (text : List ℕ). text_of (verdict_line Unchecked ∷ []) ++ text)
+text_by (Whole true) word t =
+    text_of-append (verdict_line word ∷ []) (flat_telling_lines t)
+    ∙ ap (λ (text : List ℕ). text_of (verdict_line word ∷ []) ++ text)
     (text_of-append (flat_map lines_of (told_in t.moments)) (ending_lines t.ending))
-text_by (Whole false) t =
-    text_of-append (verdict_line Unchecked ∷ []) (flat_telling_lines t)
-    ∙ ap (λ (text : List ℕ). text_of (verdict_line Unchecked ∷ []) ++ text)
+text_by (Whole false) word t =
+    text_of-append (verdict_line word ∷ []) (flat_telling_lines t)
+    ∙ ap (λ (text : List ℕ). text_of (verdict_line word ∷ []) ++ text)
     (text_of-append (flat_map lines_of (told_in t.moments)) (ending_lines t.ending))
-text_by (Summary seed) t = text_of-append (gen_line seed ∷ verdict_line Unchecked ∷ []) (summary_lines t.ending)
+text_by (Summary seed) word t = text_of-append (gen_line seed ∷ verdict_line word ∷ []) (summary_lines t.ending)
 
 flat_text : (t : Telling) →
     text_of (flat_telling_lines t) ≡ text_in Writes (told_in t.moments) ++ text_of (ending_lines t.ending)
@@ -139,17 +144,21 @@ answers_wanting now due = record {
   nothing = λ six. adds_none now;
 }
 
+pub due_wanting : (now : Output) (due : Due) → AnswersDue now now 6 due
+due_wanting now (Plain answer) = answers_wanting now answer
+due_wanting now (Judged cart by) = inl (record { status = refl; nothing = adds_none now })
+
 pub answers_stayed : (old new : Output) (due : Answer) → new ≡ old → Answers old new 6 due
 answers_stayed old new due same = subst (λ (now : Output). Answers old now 6 due) (sym same) (answers_wanting old due)
 
 -- ---- a run on chips that are fitted
 
-module _ (manner : Manner) (game : Game) (chain : List ℕ) (fitted : List ChipState) where
+module _ (manner : Manner) (word : VerdictWord) (game : Game) (chain : List ℕ) (fitted : List ChipState) where
   abbrev run : Telling
   run = run_fitted manner game chain fitted
 
   abbrev opening : List ℕ
-  opening = text_of (opening_lines manner)
+  opening = text_of (opening_lines manner word)
 
   abbrev told : List ℕ
   told = told_text manner run
@@ -157,15 +166,15 @@ module _ (manner : Manner) (game : Game) (chain : List ℕ) (fitted : List ChipS
   abbrev closing : List ℕ
   closing = text_of (closing_lines manner run.ending)
 
-  opened : text_of (lines_by manner run) ≡ (opening ++ told) ++ closing
-  opened = text_by manner run ∙ sym (append_assoc opening told closing)
+  opened : text_of (lines_by manner word run) ≡ (opening ++ told) ++ closing
+  opened = text_by manner word run ∙ sym (append_assoc opening told closing)
 
   -- the sink failed before it
-  pub reports_not_begun : (a b : Output) (due : ℕ) → AddsPart a b opening → Reports a b 5 due (lines_by manner run)
+  pub reports_not_begun : (a b : Output) (due : ℕ) → AddsPart a b opening → Reports a b 5 due (lines_by manner word run)
   reports_not_begun a b due part =
-      reports_part a b due opening (told ++ closing) (lines_by manner run) part (text_by manner run)
+      reports_part a b due opening (told ++ closing) (lines_by manner word run) part (text_by manner word run)
 
-  pub on_not_begun : (a b : Output) → AddsPart a b opening → OnFitted a b 5 manner game.script.power chain run fitted fitted
+  pub on_not_begun : (a b : Output) → AddsPart a b opening → OnFitted a b 5 manner word game.script.power chain run fitted fitted
   on_not_begun a b part = record {
     ran = λ five. absurd (five refl);
     failed = λ five. inl (record { same = refl; part = part });
@@ -173,14 +182,14 @@ module _ (manner : Manner) (game : Game) (chain : List ℕ) (fitted : List ChipS
 
   -- it failed at one of its lines
   pub reports_cut : (news : List ChipState) (a b c : Output) (due : ℕ) → Adds a b opening →
-      PlaysPart (detail_of manner) game.script chain fitted news b c → Reports a c 5 due (lines_by manner run)
+      PlaysPart (detail_of manner) game.script chain fitted news b c → Reports a c 5 due (lines_by manner word run)
   reports_cut news a b c due first plays =
-      reports_part a c due (opening ++ told) closing (lines_by manner run)
+      reports_part a c due (opening ++ told) closing (lines_by manner word run)
       (adds_part_behind a b c opening told first plays.part) opened
 
   pub on_cut : (news : List ChipState) (a b c : Output) → Adds a b opening →
       PlaysPart (detail_of manner) game.script chain fitted news b c →
-      OnFitted a c 5 manner game.script.power chain run fitted news
+      OnFitted a c 5 manner word game.script.power chain run fitted news
   on_cut news a b c first plays = record {
     ran = λ five. absurd (five refl);
     failed = λ five. inr (inl (record {
@@ -208,12 +217,12 @@ module _ (manner : Manner) (game : Game) (chain : List ℕ) (fitted : List ChipS
         (closing_lines manner run.ending) (ap status_of plays.tells.halt)
         (closing_is manner ending run.ending plays.tells) r
 
-    pub reports_run : Reports a d said (status_of run.ending.stop) (lines_by manner run)
+    pub reports_run : Reports a d said (status_of run.ending.stop) (lines_by manner word run)
     reports_run =
         reports_behind a c d said (status_of run.ending.stop) (opening ++ told) (closing_lines manner run.ending)
-        (lines_by manner run) told_all closing_reports opened
+        (lines_by manner word run) told_all closing_reports opened
 
-    pub on_run : OnFitted a d said manner game.script.power chain run fitted news
+    pub on_run : OnFitted a d said manner word game.script.power chain run fitted news
     on_run = record {
       ran = λ five. ran_on;
       failed = λ five. inr (inr (record {
@@ -226,40 +235,69 @@ module _ (manner : Manner) (game : Game) (chain : List ℕ) (fitted : List ChipS
 
 -- ---- a game on a rack before it is fitted
 
-module _ (a b : Output) (said : ℕ) (manner : Manner) (game : Game) (rack fitted : List ChipState) (chain : List ℕ)
-    (same : views fitted ≡ fitted_views game.chips rack) (linked : chain ≡ game_chain game rack) where
+module _ (a b : Output) (said : ℕ) (manner : Manner) (game : Game) (rack fitted news : List ChipState) (chain : List ℕ)
+    (same : views fitted ≡ fitted_views game.cart.chips rack) (linked : chain ≡ game_chain game rack) where
   run_same : run_fitted manner game chain fitted ≡ game_run manner game rack
   run_same =
       ap (λ (sockets : List ℕ). run_by manner game.script sockets (views fitted)) linked
       ∙ ap (λ (vs : List ChipView). run_by manner game.script (game_chain game rack) vs) same
 
-  pub answers_fitted : Reports a b said (status_of (run_fitted manner game chain fitted).ending.stop)
-      (lines_by manner (run_fitted manner game chain fitted)) →
-      Answers a b said (record {
-        status = status_of (game_run manner game rack).ending.stop;
-        lines = lines_by manner (game_run manner game rack);
-      })
-  answers_fitted r =
-      answers_of a b said _ _ (status_not_memory (game_run manner game rack).ending.stop)
-      (subst (λ (t : Telling). Reports a b said (status_of t.ending.stop) (lines_by manner t)) run_same r)
-
-  pub plays_fitted : (news : List ChipState) → RackFits (seated game.chips rack) rack fitted → said ≢ 6 →
-      OnFitted a b said manner game.script.power chain (run_fitted manner game chain fitted) fitted news →
-      Plays a b said manner game rack news
-  plays_fitted news fits six on = record {
-    wanting = λ e. absurd (six e);
-    played = λ other. record {
-      fitted = fitted;
-      fits = fits;
-      on =
-          subst (λ (sockets : List ℕ).
-          OnFitted a b said manner game.script.power sockets (game_run manner game rack) fitted news) linked
-          (subst (λ (t : Telling). OnFitted a b said manner game.script.power chain t fitted news) run_same on);
-    };
+  -- the run on the chips described, behind the right verdict
+  answers_judged : RunsJudged a b said manner game chain fitted news →
+      Judges a b said game.cart (λ verdict. run_answer manner (verdict_word verdict) (game_run manner game rack))
+  answers_judged runs = record {
+    right = runs.right;
+    reports =
+        subst (λ (t : Telling). Reports a b said (status_of t.ending.stop) (lines_by manner (verdict_word runs.right.verdict) t))
+        run_same runs.reports;
   }
 
+  played_judged : RackFits (seated game.cart.chips rack) rack fitted → RunsJudged a b said manner game chain fitted news →
+      PlayedOn a b said manner game rack news
+  played_judged fits runs = record {
+    fitted = fitted;
+    fits = fits;
+    right = runs.right;
+    on =
+        subst (λ (sockets : List ℕ).
+        OnFitted a b said manner (verdict_word runs.right.verdict) game.script.power sockets (game_run manner game rack) fitted news)
+        linked
+        (subst (λ (t : Telling).
+        OnFitted a b said manner (verdict_word runs.right.verdict) game.script.power chain t fitted news) run_same runs.on);
+  }
+
+  pub plays_judged : RackFits (seated game.cart.chips rack) rack fitted → PlaysJudged a b said manner game chain fitted news →
+      Plays a b said manner game rack news
+  plays_judged fits (inl wants) = record {
+    wanting = λ six. inr (subst (λ (chips : List ChipState). RackFits (seated game.cart.chips rack) rack chips)
+        (sym wants.same) fits);
+    played = λ six. absurd (six wants.status);
+  }
+  plays_judged fits (inr runs) = record {
+    wanting = λ six. absurd (no_memory_from said _ (status_not_memory _) runs.reports.which six);
+    played = λ six. played_judged fits runs;
+  }
+
+  pub due_judged : PlaysJudged a b said manner game chain fitted news →
+      AnswersDue a b said (judged_run manner game (game_run manner game rack))
+  due_judged (inl wants) = inl (record { status = wants.status; nothing = wants.nothing })
+  due_judged (inr runs) = inr (answers_judged runs)
+
+  -- what the verdict promises of it
+  pub keeps_judged : SafeRunLaw → HasScriptBytes game.script → PlaysJudged a b said manner game chain fitted news →
+      KeepsVerdict said manner game rack
+  keeps_judged law script (inl wants) = λ fits patches six. absurd (six wants.status)
+  keeps_judged law script (inr runs) =
+      keeps_verdict law said manner game rack script runs.bytes
+      (subst (λ (t : Telling). (said ≡ status_of t.ending.stop) ⊎ (said ≡ 5)) run_same runs.reports.which)
+
+-- the check and the run on chips that are fitted
+pub judged_wanting : (now : Output) (manner : Manner) (game : Game) (chain : List ℕ) (fitted : List ChipState) →
+    PlaysJudged now now 6 manner game chain fitted fitted
+judged_wanting now manner game chain fitted = inl (record { status = refl; nothing = adds_none now; same = refl })
+
 pub plays_wanting : (a b : Output) (manner : Manner) (game : Game) (rack news : List ChipState) →
-    RackFitsInPart (seated game.chips rack) rack news → Plays a b 6 manner game rack news
+    RackFitsInPart (seated game.cart.chips rack) rack news → Plays a b 6 manner game rack news
 plays_wanting a b manner game rack news partly = record {
   wanting = λ e. inl partly;
   played = λ six. absurd (six refl);
@@ -270,7 +308,7 @@ unless_wanting : (line : Option (List ℕ)) (now : Output) (manner : Manner) (ga
     PlaysUnless line now now 6 manner game rack rack
 unless_wanting (Some line) now manner game rack = refl
 unless_wanting None now manner game rack =
-    plays_wanting now now manner game rack rack (stays_in_part (seated game.chips rack) rack)
+    plays_wanting now now manner game rack rack (stays_in_part (seated game.cart.chips rack) rack)
 
 pub game_wanting : (now : Output) (manner : Manner) (game : Game) (rack : List ChipState) →
     PlaysGame now now 6 manner game rack rack
@@ -279,7 +317,7 @@ game_wanting now manner game rack = unless_wanting (refusal game rack) now manne
 -- ---- a run on the flat instruction set alone
 
 pub reports_flat : (game : Game) (ending : Ending) (a b c : Output) (said : ℕ) →
-    Refers game.script ending game.chips a b →
+    Refers game.script ending game.cart.chips a b →
     Reports b c said (status_of (stop_at ending.halt)) (ending_told ending) →
     Reports a c said (status_of (ref_run game).ending.stop) (flat_telling_lines (ref_run game))
 reports_flat game ending a b c said refers r =

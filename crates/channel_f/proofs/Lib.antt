@@ -1,3 +1,7 @@
+pub mod SeatedChips
+pub mod SeatedBytes
+pub mod SafeRuns
+pub mod SafeGames
 mod KeyWords
 pub mod Games
 mod Outcomes

@@ -5,44 +5,45 @@ use Rattle.std.specs.Prelude.{◌||◌, if◌then◌else◌, IsTrue, bytes_eq, c
 use Rattle.outside.specs.SinkRules.{Output}
 use Rattle.outside.specs.StoreRules.{Input}
 use Rattle.outside.proofs.SinkLaws.{adds_none}
-use Rattle.command_line.specs.CommandLine.{Command, Play, Ref, Asm, Dis, Gen, command_of, has_command, play_of}
+use Rattle.command_line.specs.CommandLine.{Command, Play, Check, Ref, Asm, Dis, Gen, command_of, has_command, play_of}
 use Rattle.command_line.specs.CommandLine.{one_of, two_of, run_of, seed_of}
 use Rattle.loader.specs.declared.refusals.Stop.{Stop}
 use Rattle.loader.specs.declared.refusals.Stop.TheVariants.{Memory}
-use Rattle.loader.specs.Games.{Game, game_of, image_by, bytes_by}
+use Rattle.loader.specs.Games.{Game, game_of, cart_of, image_by, bytes_by}
 use Rattle.loader.specs.Work.{Work}
 use Rattle.loader.specs.Works.{Works}
 use Rattle.loader.proofs.WorkLaws.{works_memory}
-use Rattle.channel_f.specs.Answers.{Answer, generated_game, gen_answer, play_answer, ref_answer, asm_answer, dis_answer}
+use Rattle.channel_f.specs.Answers.{Due, Plain, generated_game, gen_due, play_due, check_due, ref_answer, asm_answer, dis_answer}
 use Rattle.channel_f.specs.Answers.{words_answer}
 use Rattle.channel_f.specs.Commands.{Around, Told, Tells, TellsGame, Says}
 use Rattle.channel_f.specs.RackAfter.{PlaysGame, RackAfter}
-use Rattle.channel_f.specs.Reports.{Answers, Reports, Stops}
+use Rattle.channel_f.specs.Reports.{Answers, AnswersDue, Reports, Stops}
+use Rattle.channel_f.specs.SafeGames.{KeepsVerdict}
 use Rattle.channel_f.specs.declared.manner.Manner.TheVariants.{Whole, Summary}
-use Rattle.channel_f.proofs.Games.{answers_wanting, game_wanting}
+use Rattle.channel_f.proofs.Games.{answers_wanting, due_wanting, game_wanting}
 
 -- a command that doesn't look at the rack
-module _ {A : Type 0} (old new : Output) (before after : Input) (said : ℕ) (work : Work A) (answer : A → Answer) where
-  pub told_ok : (x : A) → Works before after work (Ok x) → Answers old new said (answer x) →
-      Told old new before after said work answer
+module _ {A : Type 0} (old new : Output) (before after : Input) (said : ℕ) (work : Work A) (due : A → Due) where
+  pub told_ok : (x : A) → Works before after work (Ok x) → AnswersDue old new said (due x) →
+      Told old new before after said work due
   told_ok x works answers = record { outcome = Ok x; works = works; ends = answers }
 
   pub told_stop : (stop : Stop) → Works before after work (Err stop) → Stops old new said stop →
-      Told old new before after said work answer
+      Told old new before after said work due
   told_stop stop works stops = record { outcome = Err stop; works = works; ends = stops }
 
 module _ (old new : Around) (said : ℕ) where
   pub tells_game : (traced : Bool) (work : Work Game) (game : Game) → Works old.input new.input work (Ok game) →
-      Answers old.output new.output said (play_answer traced old.rack game) →
+      AnswersDue old.output new.output said (play_due traced old.rack game) →
       RackAfter old.output new.output said (Whole traced) (Ok game) old.rack new.rack →
-      TellsGame old new said traced work
-  tells_game traced work game works answers chips =
-      record { outcome = Ok game; works = works; ends = answers; chips = chips }
+      KeepsVerdict said (Whole traced) game old.rack → TellsGame old new said traced work
+  tells_game traced work game works answers chips safe =
+      record { outcome = Ok game; works = works; ends = answers; chips = chips; safe = safe }
 
   pub tells_no_game : (traced : Bool) (work : Work Game) (stop : Stop) → Works old.input new.input work (Err stop) →
       Stops old.output new.output said stop → new.rack ≡ old.rack → TellsGame old new said traced work
   tells_no_game traced work stop works stops same =
-      record { outcome = Err stop; works = works; ends = stops; chips = same }
+      record { outcome = Err stop; works = works; ends = stops; chips = same; safe = tt }
 
   -- ---- all commands
 
@@ -51,27 +52,33 @@ module _ (old new : Around) (said : ℕ) where
       Says old new said command
   says_play traced cart script command is tells = rw (← is) tells
 
-  pub says_ref : (cart script : List ℕ) (command : Option Command) → Some (Ref cart script) ≡ command →
-      Told old.output new.output old.input new.input said (game_of cart script) ref_answer → new.rack ≡ old.rack →
+  pub says_check : (cart : List ℕ) (command : Option Command) → Some (Check cart) ≡ command →
+      Told old.output new.output old.input new.input said (cart_of cart) check_due → new.rack ≡ old.rack →
       Says old new said command
+  says_check cart command is told same = rw (← is) (record { told = told; same = same })
+
+  pub says_ref : (cart script : List ℕ) (command : Option Command) → Some (Ref cart script) ≡ command →
+      Told old.output new.output old.input new.input said (game_of cart script) (λ game. Plain (ref_answer game)) →
+      new.rack ≡ old.rack → Says old new said command
   says_ref cart script command is told same = rw (← is) (record { told = told; same = same })
 
   pub says_asm : (file : List ℕ) (command : Option Command) → Some (Asm file) ≡ command →
-      Told old.output new.output old.input new.input said (image_by file) asm_answer → new.rack ≡ old.rack →
-      Says old new said command
+      Told old.output new.output old.input new.input said (image_by file) (λ picture. Plain (asm_answer picture)) →
+      new.rack ≡ old.rack → Says old new said command
   says_asm file command is told same = rw (← is) (record { told = told; same = same })
 
   pub says_dis : (file : List ℕ) (command : Option Command) → Some (Dis file) ≡ command →
-      Told old.output new.output old.input new.input said (bytes_by file) dis_answer → new.rack ≡ old.rack →
-      Says old new said command
+      Told old.output new.output old.input new.input said (bytes_by file) (λ bytes. Plain (dis_answer bytes)) →
+      new.rack ≡ old.rack → Says old new said command
   says_dis file command is told same = rw (← is) (record { told = told; same = same })
 
   -- the generated cartridge
   pub says_gen : (seed : ℕ) (command : Option Command) → Some (Gen seed) ≡ command →
-      Answers old.output new.output said (gen_answer old.rack seed) →
+      AnswersDue old.output new.output said (gen_due old.rack seed) →
       PlaysGame old.output new.output said (Summary seed) (generated_game seed) old.rack new.rack →
-      new.input ≡ old.input → Says old new said command
-  says_gen seed command is answers chips asks = rw (← is) (record { answers = answers; chips = chips; asks = asks })
+      KeepsVerdict said (Summary seed) (generated_game seed) old.rack → new.input ≡ old.input → Says old new said command
+  says_gen seed command is answers chips safe asks =
+      rw (← is) (record { answers = answers; chips = chips; safe = safe; asks = asks })
 
   -- words that ask for nothing
   pub says_words : (command : Option Command) → None ≡ command → Answers old.output new.output said words_answer →
@@ -83,10 +90,10 @@ module _ (now : Around) where
   wanting : Stops now.output now.output 6 Memory
   wanting = record { status = refl; nothing = adds_none now.output }
 
-  tells_wanting : {A : Type 0} (work : Work A) (answer : A → Answer) → Tells now now 6 work answer
-  tells_wanting work answer = record {
+  tells_wanting : {A : Type 0} (work : Work A) (due : A → Due) → Tells now now 6 work due
+  tells_wanting work due = record {
     told =
-        told_stop now.output now.output now.input now.input 6 work answer Memory (works_memory now.input work) wanting;
+        told_stop now.output now.output now.input now.input 6 work due Memory (works_memory now.input work) wanting;
     same = refl;
   }
 
@@ -94,37 +101,40 @@ module _ (now : Around) where
   says_wanting (Some (Play cart script traced)) =
       tells_no_game now now 6 traced (game_of cart script) Memory (works_memory now.input (game_of cart script))
       wanting refl
-  says_wanting (Some (Ref cart script)) = tells_wanting (game_of cart script) ref_answer
-  says_wanting (Some (Asm file)) = tells_wanting (image_by file) asm_answer
-  says_wanting (Some (Dis file)) = tells_wanting (bytes_by file) dis_answer
+  says_wanting (Some (Check cart)) = tells_wanting (cart_of cart) check_due
+  says_wanting (Some (Ref cart script)) = tells_wanting (game_of cart script) (λ game. Plain (ref_answer game))
+  says_wanting (Some (Asm file)) = tells_wanting (image_by file) (λ picture. Plain (asm_answer picture))
+  says_wanting (Some (Dis file)) = tells_wanting (bytes_by file) (λ bytes. Plain (dis_answer bytes))
   says_wanting (Some (Gen seed)) = record {
-    answers = answers_wanting now.output (gen_answer now.rack seed);
+    answers = due_wanting now.output (gen_due now.rack seed);
     chips = game_wanting now.output (Summary seed) (generated_game seed) now.rack;
+    safe = λ fits described six. absurd (six refl);
     asks = refl;
   }
   says_wanting None = record { answers = answers_wanting now.output words_answer; asks = refl; same = refl }
 
 -- ---- words without a command
 
-named_by : (a b c d e : Bool) (play ref asm dis gen : Option Command) (command : Command) →
-    Some command
-    ≡ (if a then play else (if b then ref else (if c then asm else (if d then dis else (if e then gen else None))))) →
-    IsTrue (a || b || c || d || e)
-named_by true b c d e play ref asm dis gen command is = refl
-named_by false true c d e play ref asm dis gen command is = refl
-named_by false false true d e play ref asm dis gen command is = refl
-named_by false false false true e play ref asm dis gen command is = refl
-named_by false false false false true play ref asm dis gen command is = refl
-named_by false false false false false play ref asm dis gen command is = cc is
+named_by : (a b c d e f : Bool) (play ref check asm dis gen : Option Command) (command : Command) →
+    Some command ≡
+    (if a then play else (if b then ref else (if c then check else (if d then asm else (if e then dis else (if f then gen else None)))))) →
+    IsTrue (a || b || c || d || e || f)
+named_by true b c d e f play ref check asm dis gen command is = refl
+named_by false true c d e f play ref check asm dis gen command is = refl
+named_by false false true d e f play ref check asm dis gen command is = refl
+named_by false false false true e f play ref check asm dis gen command is = refl
+named_by false false false false true f play ref check asm dis gen command is = refl
+named_by false false false false false true play ref check asm dis gen command is = refl
+named_by false false false false false false play ref check asm dis gen command is = cc is
 
 -- what asks for something begins with the word of a command
 pub command_named : (words : List (List ℕ)) (command : Command) → Some command ≡ command_of words →
     IsTrue (has_command words)
 command_named [] command is = cc is
 command_named (name ∷ rest) command is =
-    named_by (bytes_eq name (codes "play")) (bytes_eq name (codes "ref")) (bytes_eq name (codes "asm"))
-    (bytes_eq name (codes "dis")) (bytes_eq name (codes "gen")) (option_map play_of (run_of rest))
-    (option_map (λ files. Ref files.0 files.1) (two_of rest)) (option_map Asm (one_of rest))
+    named_by (bytes_eq name (codes "play")) (bytes_eq name (codes "ref")) (bytes_eq name (codes "check"))
+    (bytes_eq name (codes "asm")) (bytes_eq name (codes "dis")) (bytes_eq name (codes "gen")) (option_map play_of (run_of rest))
+    (option_map (λ files. Ref files.0 files.1) (two_of rest)) (option_map Check (one_of rest)) (option_map Asm (one_of rest))
     (option_map Dis (one_of rest))
     (option_map Gen (option_and_then seed_of (one_of rest))) command is
 

@@ -6,13 +6,13 @@ use Rattle.outside.specs.StoreRules.{NamedBytes}
 use Rattle.report.specs.RefusalLines.{words_line}
 use Rattle.command_line.specs.CommandLine.{command_of}
 use Rattle.loader.specs.Work.{Gives}
-use Rattle.channel_f.specs.Answers.{answer_of}
+use Rattle.channel_f.specs.Answers.{Plain, due_of}
 
 -- one word too few, whatever the rack and the files
 one_word : (rack : List ChipState) (files : List NamedBytes) →
-    answer_of rack (command_of (codes "play" ∷ codes "a" ∷ [])) files ≡ record {
+    due_of rack (command_of (codes "play" ∷ codes "a" ∷ [])) files ≡ record {
       asks = [];
-      end = Gives (record { status = 1; lines = codes "error words\n" ∷ [] });
+      end = Gives (Plain (record { status = 1; lines = codes "error words\n" ∷ [] }));
     }
 unfolding words_line
 one_word rack files = refl

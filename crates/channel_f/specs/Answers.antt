@@ -1,4 +1,4 @@
--- What the program answers: its lines and its status.
+-- What the program answers: its lines and its status, for some commands by the verdict on a cartridge.
 use Rattle.std.specs.Prelude.{ℕ, Bool, nat_lt, if◌then◌else◌, List, [], ◌∷◌, length, Option, Some, None, option_map}
 use Rattle.chip_face.specs.declared.sizes.TheConstants.{MOST_CHIPS}
 use Rattle.f8_spec.specs.ChipState.{ChipState}
@@ -6,19 +6,25 @@ use Rattle.console_spec.specs.Run.{Stop, Done, Unserved, Reserved}
 use Rattle.console_spec.specs.RunText.{flat_telling_lines}
 use Rattle.console_spec.specs.Telling.{Telling, referred_by}
 use Rattle.console_spec.specs.declared.End.TheVariants.{Frames}
+use Rattle.console_spec.specs.declared.VerdictWord.{VerdictWord}
 use Rattle.generator.specs.GeneratedChips.{chips_of_seed}
 use Rattle.memory_map.specs.MapOf.{views_of}
 use Rattle.rack_run.specs.Seating.{kinds_of, fitted_views}
 use Rattle.rack_run.specs.Sockets.{chain_of, shortage_of}
 use Rattle.rack_run.specs.declared.sockets.Shortage.{Shortage}
+use Rattle.report.specs.CheckLines.{whole_line, agreed_line, refused_line, toomany_line}
 use Rattle.report.specs.RefusalLines.{words_line, rack_line, sockets_line}
+use Rattle.cartridge.specs.declared.finish.Cart.{Cart}
+use Rattle.cart_checker.specs.Verdicts.{verdict_word}
+use Rattle.cart_checker.specs.declared.verdict.Verdict.{Verdict}
+use Rattle.cart_checker.specs.declared.verdict.Verdict.TheVariants.{Whole as FaultFree, Agreed, Refused, TooMany}
 use Rattle.f8_asm.specs.Image.{Picture}
 use Rattle.f8_asm.specs.Listing.{listing}
 use Rattle.asm_lines.specs.ImageLines.{image_lines}
-use Rattle.command_line.specs.CommandLine.{Command, Play, Ref, Asm, Dis, Gen}
+use Rattle.command_line.specs.CommandLine.{Command, Play, Check, Ref, Asm, Dis, Gen}
 use Rattle.loader.specs.declared.purposes.Purpose.{Purpose}
 use Rattle.loader.specs.declared.refusals.Refusal.{Refusal}
-use Rattle.loader.specs.Games.{Game, game_of, image_by, bytes_by}
+use Rattle.loader.specs.Games.{Game, game_of, cart_of, image_by, bytes_by}
 use Rattle.loader.specs.Work.{Work, gives, ◌>>=◌}
 use Rattle.channel_f.specs.Manners.{run_by, lines_by}
 use Rattle.channel_f.specs.Refusals.{refusal_line, missing_line}
@@ -30,6 +36,11 @@ pub record Answer : Type 0 where
   pub status : ℕ
   pub lines : List (List ℕ)
 
+-- What is due: an answer, or for each verdict on a cartridge one, of which that of a right verdict is due.
+pub data Due : Type 0 where
+  Plain : (answer : Answer) → Due
+  Judged : (cart : Cart) (by : Verdict → Answer) → Due
+
 -- ---- racks
 
 -- the line of a kind that lacks sockets
@@ -40,7 +51,7 @@ shortage_line s = sockets_line s.kind s.need s.have
 unfoldable pub refusal : Game → List ChipState → Option (List ℕ)
 refusal game rack =
     if nat_lt MOST_CHIPS (length rack) then Some (rack_line (length rack))
-    else option_map shortage_line (shortage_of game.chips (kinds_of rack))
+    else option_map shortage_line (shortage_of game.cart.chips (kinds_of rack))
 
 -- ---- runs
 
@@ -52,41 +63,55 @@ status_of (Reserved at code) = 8
 
 -- the sockets of the chips of a game, in the order of its description
 abbrev pub game_chain : Game → List ChipState → List ℕ
-game_chain game rack = chain_of game.chips (kinds_of rack)
+game_chain game rack = chain_of game.cart.chips (kinds_of rack)
 
 -- the run of a game on the chips of a rack, fitted for it, each with its own patch in its bytes
 abbrev pub game_run : Manner → Game → List ChipState → Telling
-game_run manner game rack = run_by manner game.script (game_chain game rack) (fitted_views game.chips rack)
+game_run manner game rack = run_by manner game.script (game_chain game rack) (fitted_views game.cart.chips rack)
 
-abbrev pub run_answer : Manner → Telling → Answer
-run_answer manner run = record { status = status_of run.ending.stop; lines = lines_by manner run }
+abbrev pub run_answer : Manner → VerdictWord → Telling → Answer
+run_answer manner word run = record { status = status_of run.ending.stop; lines = lines_by manner word run }
 
 -- ---- what is due
 
-abbrev pub unless_refused : Option (List ℕ) → Answer → Answer
-unless_refused (Some line) due = record { status = 2; lines = line ∷ [] }
+abbrev pub unless_refused : Option (List ℕ) → Due → Due
+unless_refused (Some line) due = Plain (record { status = 2; lines = line ∷ [] })
 unless_refused None due = due
 
+-- the run of a game is told behind the verdict on its cartridge
+abbrev pub judged_run : Manner → Game → Telling → Due
+judged_run manner game run = Judged game.cart (λ verdict. run_answer manner (verdict_word verdict) run)
+
 -- a game that the rack has no place for is refused
-abbrev pub game_answer : Manner → List ChipState → Game → Answer
-game_answer manner rack game = unless_refused (refusal game rack) (run_answer manner (game_run manner game rack))
+abbrev pub game_due : Manner → List ChipState → Game → Due
+game_due manner rack game = unless_refused (refusal game rack) (judged_run manner game (game_run manner game rack))
 
-abbrev pub play_answer : Bool → List ChipState → Game → Answer
-play_answer traced rack game = game_answer (Whole traced) rack game
+abbrev pub play_due : Bool → List ChipState → Game → Due
+play_due traced rack game = game_due (Whole traced) rack game
 
--- the generated cartridge runs for 60 frames, without keys and shown frames
+-- the generated cartridge has no register that is tracked, and runs for 60 frames, without keys and shown frames
 abbrev pub generated_game : ℕ → Game
 generated_game seed = record {
+  cart = record { split = []; chips = chips_of_seed seed };
   script = record { power = 0; end = Frames 60; events = []; shows = [] };
-  chips = chips_of_seed seed;
 }
 
-abbrev pub gen_answer : List ChipState → ℕ → Answer
-gen_answer rack seed = game_answer (Summary seed) rack (generated_game seed)
+abbrev pub gen_due : List ChipState → ℕ → Due
+gen_due rack seed = game_due (Summary seed) rack (generated_game seed)
+
+-- 0 where some map is closed and safe, with how many points the least one has, and else 7
+abbrev pub check_answer : List ℕ → Verdict → Answer
+check_answer tracked (FaultFree notes) = record { status = 0; lines = whole_line (length notes) ∷ [] }
+check_answer tracked (Agreed notes) = record { status = 0; lines = agreed_line (length notes) ∷ [] }
+check_answer tracked (Refused point state reason) = record { status = 7; lines = refused_line tracked point reason ∷ [] }
+check_answer tracked TooMany = record { status = 7; lines = toomany_line ∷ [] }
+
+abbrev pub check_due : Cart → Due
+check_due cart = Judged cart (check_answer cart.split)
 
 -- the same chips on the flat instruction set alone
 abbrev pub ref_run : Game → Telling
-ref_run game = referred_by (views_of game.chips) game.script
+ref_run game = referred_by (views_of game.cart.chips) game.script
 
 abbrev pub ref_answer : Game → Answer
 ref_answer game = record { status = status_of (ref_run game).ending.stop; lines = flat_telling_lines (ref_run game) }
@@ -103,14 +128,15 @@ abbrev pub words_answer : Answer
 words_answer = record { status = 1; lines = words_line ∷ [] }
 
 -- What is due, as a work over the files: each file is read before the next one is asked for, and the rack is looked at after all of them.
-abbrev pub answer_of : List ChipState → Option Command → Work Answer
-answer_of rack None = gives words_answer
-answer_of rack (Some (Play cart script traced)) =
-    game_of cart script >>= λ game. gives (play_answer traced rack game)
-answer_of rack (Some (Ref cart script)) = game_of cart script >>= λ game. gives (ref_answer game)
-answer_of rack (Some (Asm file)) = image_by file >>= λ picture. gives (asm_answer picture)
-answer_of rack (Some (Dis file)) = bytes_by file >>= λ bytes. gives (dis_answer bytes)
-answer_of rack (Some (Gen seed)) = gives (gen_answer rack seed)
+abbrev pub due_of : List ChipState → Option Command → Work Due
+due_of rack None = gives (Plain words_answer)
+due_of rack (Some (Play cart script traced)) =
+    game_of cart script >>= λ game. gives (play_due traced rack game)
+due_of rack (Some (Check cart)) = cart_of cart >>= λ cartridge. gives (check_due cartridge)
+due_of rack (Some (Ref cart script)) = game_of cart script >>= λ game. gives (Plain (ref_answer game))
+due_of rack (Some (Asm file)) = image_by file >>= λ picture. gives (Plain (asm_answer picture))
+due_of rack (Some (Dis file)) = bytes_by file >>= λ bytes. gives (Plain (dis_answer bytes))
+due_of rack (Some (Gen seed)) = gives (gen_due rack seed)
 
 -- a file that is refused, and one that the store did not give
 abbrev pub refusal_answer : Refusal → Answer

@@ -3,15 +3,16 @@ use Rattle.std.specs.Prelude.{◌≡◌, ℕ, Bool, List, Option, Some, None, Re
 use Rattle.f8_spec.specs.ChipState.{ChipState}
 use Rattle.outside.specs.SinkRules.{Output}
 use Rattle.outside.specs.StoreRules.{Input}
-use Rattle.command_line.specs.CommandLine.{Command, Play, Ref, Asm, Dis, Gen}
+use Rattle.command_line.specs.CommandLine.{Command, Play, Check, Ref, Asm, Dis, Gen}
 use Rattle.loader.specs.declared.refusals.Stop.{Stop}
-use Rattle.loader.specs.Games.{Game, game_of, image_by, bytes_by}
+use Rattle.loader.specs.Games.{Game, game_of, cart_of, image_by, bytes_by}
 use Rattle.loader.specs.Work.{Work}
 use Rattle.loader.specs.Works.{Works, outcome_as}
-use Rattle.channel_f.specs.Answers.{Answer, generated_game, gen_answer, play_answer, ref_answer, asm_answer, dis_answer}
+use Rattle.channel_f.specs.Answers.{Due, Plain, generated_game, gen_due, play_due, check_due, ref_answer, asm_answer, dis_answer}
 use Rattle.channel_f.specs.Answers.{words_answer}
 use Rattle.channel_f.specs.RackAfter.{PlaysGame, RackAfter}
-use Rattle.channel_f.specs.Reports.{Answers, Stops}
+use Rattle.channel_f.specs.Reports.{Answers, AnswersDue, Stops}
+use Rattle.channel_f.specs.SafeGames.{KeepsVerdict, IsSafeRun}
 use Rattle.channel_f.specs.declared.manner.Manner.TheVariants.{Whole, Summary}
 
 -- what stands around the program, as contracts see it: the sink, the store and the rack
@@ -23,34 +24,35 @@ pub record Around : Type 0 where
 abbrev pub around : Output → Input → List ChipState → Around
 around output input rack = record { output = output; input = input; rack = rack }
 
--- What was written, and the status: those of the answer, or those of the file that stopped it.
-abbrev pub Ends : Output → Output → ℕ → Result Answer Stop → Type 0
-Ends old new said (Ok answer) = Answers old new said answer
+-- What was written, and the status: those that are due, or those of the file that stopped it.
+abbrev pub Ends : Output → Output → ℕ → Result Due Stop → Type 0
+Ends old new said (Ok due) = AnswersDue old new said due
 Ends old new said (Err stop) = Stops old new said stop
 
 -- The files gave what the answer is made of, or stopped the call, and it ended so.
-pub record Told {A : Type 0} (old new : Output) (before after : Input) (said : ℕ) (work : Work A)
-    (answer : A → Answer) : Type 0 where
+pub record Told {A : Type 0} (old new : Output) (before after : Input) (said : ℕ) (work : Work A) (due : A → Due) : Type 0 where
   pub outcome : Result A Stop
   pub works : Works before after work outcome
-  pub ends : Ends old new said (outcome_as answer outcome)
+  pub ends : Ends old new said (outcome_as due outcome)
 
 -- a command that leaves the rack as it was
-pub record Tells {A : Type 0} (old new : Around) (said : ℕ) (work : Work A) (answer : A → Answer) : Type 0 where
-  pub told : Told old.output new.output old.input new.input said work answer
+pub record Tells {A : Type 0} (old new : Around) (said : ℕ) (work : Work A) (due : A → Due) : Type 0 where
+  pub told : Told old.output new.output old.input new.input said work due
   pub same : new.rack ≡ old.rack
 
 -- a command that plays the game that the files gave on the rack
 pub record TellsGame (old new : Around) (said : ℕ) (traced : Bool) (work : Work Game) : Type 0 where
   pub outcome : Result Game Stop
   pub works : Works old.input new.input work outcome
-  pub ends : Ends old.output new.output said (outcome_as (play_answer traced old.rack) outcome)
+  pub ends : Ends old.output new.output said (outcome_as (play_due traced old.rack) outcome)
   pub chips : RackAfter old.output new.output said (Whole traced) outcome old.rack new.rack
+  pub safe : IsSafeRun said (Whole traced) outcome old.rack
 
 -- a command that plays the generated game on the rack, and asks for no file
 pub record TellsGenerated (old new : Around) (said : ℕ) (seed : ℕ) : Type 0 where
-  pub answers : Answers old.output new.output said (gen_answer old.rack seed)
+  pub answers : AnswersDue old.output new.output said (gen_due old.rack seed)
   pub chips : PlaysGame old.output new.output said (Summary seed) (generated_game seed) old.rack new.rack
+  pub safe : KeepsVerdict said (Summary seed) (generated_game seed) old.rack
   pub asks : new.input ≡ old.input
 
 -- words that ask for nothing
@@ -61,8 +63,9 @@ pub record TellsWords (old new : Around) (said : ℕ) : Type 0 where
 
 abbrev pub Says : Around → Around → ℕ → Option Command → Type 0
 Says old new said (Some (Play cart script traced)) = TellsGame old new said traced (game_of cart script)
-Says old new said (Some (Ref cart script)) = Tells old new said (game_of cart script) ref_answer
-Says old new said (Some (Asm file)) = Tells old new said (image_by file) asm_answer
-Says old new said (Some (Dis file)) = Tells old new said (bytes_by file) dis_answer
+Says old new said (Some (Check cart)) = Tells old new said (cart_of cart) check_due
+Says old new said (Some (Ref cart script)) = Tells old new said (game_of cart script) (λ game. Plain (ref_answer game))
+Says old new said (Some (Asm file)) = Tells old new said (image_by file) (λ picture. Plain (asm_answer picture))
+Says old new said (Some (Dis file)) = Tells old new said (bytes_by file) (λ bytes. Plain (dis_answer bytes))
 Says old new said (Some (Gen seed)) = TellsGenerated old new said seed
 Says old new said None = TellsWords old new said

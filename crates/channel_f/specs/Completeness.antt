@@ -8,19 +8,31 @@ use Rattle.loader.specs.declared.refusals.Refusal.{Refusal}
 use Rattle.loader.specs.Games.{Game}
 use Rattle.loader.specs.Work.{Ask, End, Gives, Refuses, Lacks, Work}
 use Rattle.loader.specs.Works.{AsksFew, HasFiles, Misses, order_of, file_of}
-use Rattle.channel_f.specs.Answers.{Answer, refusal, refusal_answer}
+use Rattle.cartridge.specs.declared.finish.Cart.{Cart}
+use Rattle.cart_checker.specs.Verdicts.{RightVerdict}
+use Rattle.cart_checker.specs.declared.verdict.Verdict.{Verdict}
+use Rattle.channel_f.specs.Answers.{Answer, Due, Plain, Judged, refusal, refusal_answer}
 use Rattle.channel_f.specs.Commands.{Around}
 
 -- what is due where no file is missing
-abbrev pub due_answer : End Answer → Option Answer
-due_answer (Gives answer) = Some answer
-due_answer (Refuses refusal) = Some (refusal_answer refusal)
-due_answer Lacks = None
+abbrev pub due_at : End Due → Option Due
+due_at (Gives due) = Some due
+due_at (Refuses refusal) = Some (Plain (refusal_answer refusal))
+due_at Lacks = None
 
 -- the status is the one that is due, with all of its lines
 pub record Answered (old new : Around) (said : ℕ) (answer : Answer) : Type 0 where
   pub status : said ≡ answer.status
   pub lines : Adds old.output new.output (text_of answer.lines)
+
+-- the same, where it is due by the right verdict on a cartridge
+pub record AnsweredBy (old new : Around) (said : ℕ) (cart : Cart) (by : Verdict → Answer) : Type 0 where
+  pub right : RightVerdict cart
+  pub answered : Answered old new said (by right.verdict)
+
+abbrev pub AnsweredDue : Around → Around → ℕ → Due → Type 0
+AnsweredDue old new said (Plain answer) = Answered old new said answer
+AnsweredDue old new said (Judged cart by) = AnsweredBy old new said cart by
 
 -- the line of a file that is refused was written, and that file or one that is asked for before it is missing
 pub record RefusesBehind (old new : Around) (files : List NamedBytes) (asks : List Ask) : Type 0 where
@@ -35,18 +47,18 @@ pub record RefusesRack (old new : Around) : Type 0 where
   pub due : refusal game old.rack ≡ Some line
   pub lines : Adds old.output new.output (text_of (line ∷ []))
 
-pub record IsComplete (old new : Around) (said : ℕ) (work : Work Answer) : Type 0 where
+pub record IsComplete (old new : Around) (said : ℕ) (work : Work Due) : Type 0 where
   -- Where the store tells its files and has all that are asked for, and neither count rose, the call answers what is due, or memory was
   -- wanting.
-  pub answers : (files : List NamedBytes) (answer : Answer) → old.input.files ≡ Some files →
-      due_answer (work files).end ≡ Some answer →
+  pub answers : (files : List NamedBytes) (due : Due) → old.input.files ≡ Some files →
+      due_at (work files).end ≡ Some due →
       (Rose old.input.faults new.input.faults → ⊥) → (Rose old.output.faults new.output.faults → ⊥) →
-      Answered old new said answer ⊎ (said ≡ 6)
+      AnsweredDue old new said due ⊎ (said ≡ 6)
   -- where a file is missing, the store failed, or memory was wanting
-  pub lacks : (files : List NamedBytes) → new.input.files ≡ Some files → due_answer (work files).end ≡ None →
+  pub lacks : (files : List NamedBytes) → new.input.files ≡ Some files → due_at (work files).end ≡ None →
       (said ≡ 4) ⊎ (said ≡ 5) ⊎ (said ≡ 6)
   -- where a file is missing and the store made something up for it, no file before it is refused
-  pub refused : (files : List NamedBytes) → old.input.files ≡ Some files → due_answer (work files).end ≡ None →
+  pub refused : (files : List NamedBytes) → old.input.files ≡ Some files → due_at (work files).end ≡ None →
       said ≡ 2 →
       RefusesBehind old new files (work files).asks ⊎ RefusesRack old new
   -- no more files are asked for than there are to be had, with the first that is missing or refused

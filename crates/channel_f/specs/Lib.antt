@@ -3,6 +3,9 @@ pub mod Refusals
 pub mod Manners
 pub mod Answers
 pub mod Reports
+pub mod SafeRuns
+pub mod SafeGames
 pub mod RackAfter
+pub mod JudgedRuns
 pub mod Commands
 pub mod Completeness

@@ -7,7 +7,7 @@ use Rattle.console_spec.specs.RunText.{verdict_line, stop_line, total_line, told
 use Rattle.console_spec.specs.Scripts.{Script}
 use Rattle.console_spec.specs.Telling.{Telling, played_by}
 use Rattle.console_spec.specs.declared.Regs.{Regs}
-use Rattle.console_spec.specs.declared.VerdictWord.TheVariants.{Unchecked}
+use Rattle.console_spec.specs.declared.VerdictWord.{VerdictWord}
 use Rattle.data_bus.specs.Racks.{views}
 use Rattle.generator.specs.SummaryLines.{gen_line, writes_line, scratch_sum_line}
 use Rattle.loader.specs.Games.{Game}
@@ -34,9 +34,9 @@ abbrev pub run_fitted : Manner → Game → List ℕ → List ChipState → Tell
 run_fitted manner game chain fitted = run_by manner game.script chain (views fitted)
 
 -- before it begins
-abbrev pub opening_lines : Manner → List (List ℕ)
-opening_lines (Whole traced) = verdict_line Unchecked ∷ []
-opening_lines (Summary seed) = gen_line seed ∷ verdict_line Unchecked ∷ []
+abbrev pub opening_lines : Manner → VerdictWord → List (List ℕ)
+opening_lines (Whole traced) word = verdict_line word ∷ []
+opening_lines (Summary seed) word = gen_line seed ∷ verdict_line word ∷ []
 
 -- what stops it, the instructions and their clocks, the writes that ports took with the sum of their bytes, and the sum of the scratchpad
 abbrev pub told_summary : Stop → Regs → (count phi writes bytes : ℕ) → List (List ℕ)
@@ -54,9 +54,9 @@ closing_lines (Whole traced) e = ending_lines e
 closing_lines (Summary seed) e = summary_lines e
 
 -- all its lines
-abbrev pub lines_by : Manner → Telling → List (List ℕ)
-lines_by (Whole traced) t = telling_lines t
-lines_by (Summary seed) t = gen_line seed ∷ verdict_line Unchecked ∷ summary_lines t.ending
+abbrev pub lines_by : Manner → VerdictWord → Telling → List (List ℕ)
+lines_by (Whole traced) word t = telling_lines word t
+lines_by (Summary seed) word t = gen_line seed ∷ verdict_line word ∷ summary_lines t.ending
 
 -- ---- the same from an ending as a run tells it
 

@@ -3,6 +3,8 @@ use Rattle.std.specs.Prelude.{◌≡◌, ◌≢◌, ℕ, ◌⊎◌, List, ◌++�
 use Rattle.f8_spec.specs.ChipState.{ChipState}
 use Rattle.console_spec.specs.RunText.{text_of}
 use Rattle.console_spec.specs.Telling.{Telling, told_in}
+use Rattle.console_spec.specs.declared.VerdictWord.{VerdictWord}
+use Rattle.cart_checker.specs.Verdicts.{RightVerdict, verdict_word}
 use Rattle.f8_machine.specs.Rounds.{RackPowers}
 use Rattle.outside.specs.SinkRules.{Output, Adds, AddsPart}
 use Rattle.rack_run.specs.Endings.{CutShort}
@@ -26,52 +28,53 @@ pub record RanOn (power : ℕ) (chain : List ℕ) (run : Telling) (fitted news :
   pub lived : Lives chain run.moments powered news
 
 -- the sink failed at a line before the run began
-pub record FailedBefore (old new : Output) (manner : Manner) (fitted news : List ChipState) : Type 0 where
+pub record FailedBefore (old new : Output) (manner : Manner) (word : VerdictWord) (fitted news : List ChipState) : Type 0 where
   pub same : news ≡ fitted
-  pub part : AddsPart old new (text_of (opening_lines manner))
+  pub part : AddsPart old new (text_of (opening_lines manner word))
 
 -- it failed at a line of the run, at whose instruction, or at whose reset, the chips stand
-pub record FailedDuring (old new : Output) (manner : Manner) (power : ℕ) (chain : List ℕ) (run : Telling)
+pub record FailedDuring (old new : Output) (manner : Manner) (word : VerdictWord) (power : ℕ) (chain : List ℕ) (run : Telling)
     (fitted news : List ChipState) : Type 0 where
   pub powered : List ChipState
   pub powers : RackPowers power fitted powered
   pub between : Output
-  pub opening : Adds old between (text_of (opening_lines manner))
+  pub opening : Adds old between (text_of (opening_lines manner word))
   pub cut : CutShort (detail_of manner) chain run.moments powered news between new
 
 -- it failed at a line behind the run
-pub record FailedAfter (old new : Output) (manner : Manner) (power : ℕ) (chain : List ℕ) (run : Telling)
+pub record FailedAfter (old new : Output) (manner : Manner) (word : VerdictWord) (power : ℕ) (chain : List ℕ) (run : Telling)
     (fitted news : List ChipState) : Type 0 where
   pub ran : RanOn power chain run fitted news
   pub between : Output
-  pub told : Adds old between (text_of (opening_lines manner) ++ text_in (detail_of manner) (told_in run.moments))
+  pub told : Adds old between (text_of (opening_lines manner word) ++ text_in (detail_of manner) (told_in run.moments))
   pub part : AddsPart between new (text_of (closing_lines manner run.ending))
 
 -- What a run on chips that are fitted makes of them.
-pub record OnFitted (old new : Output) (said : ℕ) (manner : Manner) (power : ℕ) (chain : List ℕ) (run : Telling)
-    (fitted news : List ChipState) : Type 0 where
+pub record OnFitted (old new : Output) (said : ℕ) (manner : Manner) (word : VerdictWord) (power : ℕ) (chain : List ℕ)
+    (run : Telling) (fitted news : List ChipState) : Type 0 where
   pub ran : said ≢ 5 → RanOn power chain run fitted news
   pub failed : said ≡ 5 →
-      FailedBefore old new manner fitted news
-      ⊎ FailedDuring old new manner power chain run fitted news
-      ⊎ FailedAfter old new manner power chain run fitted news
+      FailedBefore old new manner word fitted news
+      ⊎ FailedDuring old new manner word power chain run fitted news
+      ⊎ FailedAfter old new manner word power chain run fitted news
 
 -- ---- a game on a rack
 
--- the chips are fitted as the game has it, and then the run is theirs
+-- the chips are fitted as the game has it, and then the run is theirs, behind a line of the right verdict
 pub record PlayedOn (old new : Output) (said : ℕ) (manner : Manner) (game : Game)
     (rack news : List ChipState) : Type 0 where
   pub fitted : List ChipState
-  pub fits : RackFits (seated game.chips rack) rack fitted
-  pub on : OnFitted old new said manner game.script.power (game_chain game rack) (game_run manner game rack)
-      fitted news
+  pub fits : RackFits (seated game.cart.chips rack) rack fitted
+  pub right : RightVerdict game.cart
+  pub on : OnFitted old new said manner (verdict_word right.verdict) game.script.power (game_chain game rack)
+      (game_run manner game rack) fitted news
 
 -- What a call that plays a game says of the rack. Where memory was wanting, the first chips may have been fitted, or all of them, and
 -- no more became of them.
 pub record Plays (old new : Output) (said : ℕ) (manner : Manner) (game : Game)
     (rack news : List ChipState) : Type 0 where
   pub wanting : said ≡ 6 →
-      RackFitsInPart (seated game.chips rack) rack news ⊎ RackFits (seated game.chips rack) rack news
+      RackFitsInPart (seated game.cart.chips rack) rack news ⊎ RackFits (seated game.cart.chips rack) rack news
   pub played : said ≢ 6 → PlayedOn old new said manner game rack news
 
 -- a game that is refused leaves the rack as it was

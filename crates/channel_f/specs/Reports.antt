@@ -4,7 +4,10 @@ use Rattle.console_spec.specs.RunText.{text_of}
 use Rattle.outside.specs.SinkRules.{Output, Adds, AddsPart}
 use Rattle.loader.specs.declared.refusals.Stop.{Stop}
 use Rattle.loader.specs.declared.refusals.Stop.TheVariants.{Refused, Store, Memory}
-use Rattle.channel_f.specs.Answers.{Answer, refusal_answer, missing_answer}
+use Rattle.cartridge.specs.declared.finish.Cart.{Cart}
+use Rattle.cart_checker.specs.Verdicts.{RightVerdict}
+use Rattle.cart_checker.specs.declared.verdict.Verdict.{Verdict}
+use Rattle.channel_f.specs.Answers.{Answer, Due, Plain, Judged, refusal_answer, missing_answer}
 
 -- What a call that writes lines and ends with a status says: the sink, old and new, beside the status and the lines that are due.
 pub record Reports (old new : Output) (said due : ℕ) (lines : List (List ℕ)) : Type 0 where
@@ -26,10 +29,20 @@ pub record Answers (old new : Output) (said : ℕ) (due : Answer) : Type 0 where
   -- where memory was wanting, nothing was written, and the count stays
   pub nothing : said ≡ 6 → Adds old new []
 
+-- the lines and the status are those of the right verdict, which has what shows it
+pub record Judges (old new : Output) (said : ℕ) (cart : Cart) (by : Verdict → Answer) : Type 0 where
+  pub right : RightVerdict cart
+  pub reports : Reports old new said (by right.verdict).status (by right.verdict).lines
+
 -- memory was wanting, and nothing was written
 pub record Wants (old new : Output) (said : ℕ) : Type 0 where
   pub status : said ≡ 6
   pub nothing : Adds old new []
+
+-- what a call says that answers what is due
+abbrev pub AnswersDue : Output → Output → ℕ → Due → Type 0
+AnswersDue old new said (Plain answer) = Answers old new said answer
+AnswersDue old new said (Judged cart by) = Wants old new said ⊎ Judges old new said cart by
 
 -- what a call says that files stopped
 abbrev pub Stops : Output → Output → ℕ → Stop → Type 0

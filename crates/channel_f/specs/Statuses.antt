@@ -1,7 +1,7 @@
 -- The exit statuses as numbers.
 use Rattle.std.specs.Prelude.{ℕ}
 use Rattle.channel_f.specs.declared.status.Status.{Status}
-use Rattle.channel_f.specs.declared.status.Status.TheVariants.{Done, Words, Input, Fault, Store, Sink, Memory, Reserved}
+use Rattle.channel_f.specs.declared.status.Status.TheVariants.{Done, Words, Input, Fault, Store, Sink, Memory, NoVerdict, Reserved}
 use Rattle.channel_f.specs.declared.status.Status.TheVariants.{NoWords}
 
 abbrev pub exit_code : Status → ℕ
@@ -12,5 +12,6 @@ exit_code Fault = 3
 exit_code Store = 4
 exit_code Sink = 5
 exit_code Memory = 6
+exit_code NoVerdict = 7
 exit_code Reserved = 8
 exit_code NoWords = 10

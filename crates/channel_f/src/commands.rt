@@ -1,26 +1,30 @@
 // What each command answers.
 ghost use Rattle.std.specs.Prelude.{◌≡◌, ◌≤◌, IfOk, map, length};
-ghost use Rattle.loader.specs.Games.{game_of, image_by, bytes_by};
-ghost use Rattle.channel_f.specs.Answers.{generated_game, gen_answer, ref_answer, asm_answer, dis_answer};
+ghost use Rattle.loader.specs.Games.{game_of, cart_of, image_by, bytes_by};
+ghost use Rattle.channel_f.specs.Answers.{Plain, generated_game, gen_due, check_due, ref_answer};
+ghost use Rattle.channel_f.specs.Answers.{asm_answer, dis_answer};
 ghost use Rattle.channel_f.specs.Commands.{around, Told, TellsGame};
 ghost use Rattle.loader.specs.Seen.{seen_game};
 ghost use Rattle.pad_script.specs.Limits.{HasLimits};
 ghost use Rattle.channel_f.specs.RackAfter.{PlaysGame};
-ghost use Rattle.channel_f.specs.Reports.{Answers};
+ghost use Rattle.channel_f.specs.Reports.{Answers, AnswersDue};
+ghost use Rattle.channel_f.specs.SafeGames.{KeepsVerdict};
 ghost use Rattle.channel_f.specs.Statuses.{exit_code};
 
-use super::lines_out::{put_picture, put_text};
+use super::lines_out::{put_picture, put_text, put_verdict};
 use super::manner::Manner;
 use super::playing::{play_game, refer_game};
 use super::refused::put_stop;
 use super::status::Status;
+use cart_checker::check_cart;
+use cartridge::{Cart, Split};
 use chip_face::Chip;
 use console_spec::End;
 use f8_asm::disassemble;
 use f8_machine::Rack;
 use f8_spec::Memory;
 use generator::generated_chips;
-use loader::{Game, load_bytes, load_game, load_image};
+use loader::{Game, load_bytes, load_cart, load_game, load_image};
 use outside::{Sink, Store};
 use pad_script::{EventList, Script, ShowList};
 use std::alloc::Global;
@@ -47,6 +51,34 @@ pub fn answer_play<S: Store, K: Sink>(
     }
 }
 
+/// The line of the verdict on a cartridge.
+fn check<K: Sink>(alloc: Global, cart: &Cart, sink: &mut K) -> Status
+    ensures { AnswersDue (K.output sink.old) (K.output sink.new) (exit_code result)
+        (check_due cart.now) }
+{
+    match check_cart(alloc, cart) {
+        Ok(verdict) => put_verdict(sink, &cart.split, &verdict),
+        Err(Memory) => Status::Memory,
+    }
+}
+
+/// `check CART`.
+#[tactic(auto, using(crate::proofs::Outcomes::told_ok, crate::proofs::Outcomes::told_stop))]
+pub fn answer_check<S: Store, K: Sink>(
+    alloc: Global,
+    cart: &str,
+    store: &mut S,
+    sink: &mut K,
+) -> Status
+    ensures { Told (K.output sink.old) (K.output sink.new) (S.input store.old) (S.input store.new)
+        (exit_code result) (cart_of cart.now) check_due }
+{
+    match load_cart(alloc, store, cart) {
+        Ok(cart) => check(alloc, &cart, sink),
+        Err(stop) => put_stop(sink, stop),
+    }
+}
+
 /// `ref CART SCRIPT`.
 #[tactic(auto, using(crate::proofs::Outcomes::told_ok, crate::proofs::Outcomes::told_stop))]
 pub fn answer_ref<S: Store, K: Sink>(
@@ -57,7 +89,7 @@ pub fn answer_ref<S: Store, K: Sink>(
     sink: &mut K,
 ) -> Status
     ensures { Told (K.output sink.old) (K.output sink.new) (S.input store.old) (S.input store.new)
-        (exit_code result) (game_of cart.now script.now) ref_answer }
+        (exit_code result) (game_of cart.now script.now) (λ game. Plain (ref_answer game)) }
 {
     match load_game(alloc, store, cart, script) {
         Ok(game) => refer_game(alloc, &game, sink),
@@ -74,7 +106,7 @@ pub fn answer_asm<S: Store, K: Sink>(
     sink: &mut K,
 ) -> Status
     ensures { Told (K.output sink.old) (K.output sink.new) (S.input store.old) (S.input store.new)
-        (exit_code result) (image_by file.now) asm_answer }
+        (exit_code result) (image_by file.now) (λ picture. Plain (asm_answer picture)) }
 {
     match load_image(alloc, store, file) {
         Ok(image) => put_picture(sink, &image),
@@ -104,7 +136,7 @@ pub fn answer_dis<S: Store, K: Sink>(
     sink: &mut K,
 ) -> Status
     ensures { Told (K.output sink.old) (K.output sink.new) (S.input store.old) (S.input store.new)
-        (exit_code result) (bytes_by file.now) dis_answer }
+        (exit_code result) (bytes_by file.now) (λ bytes. Plain (dis_answer bytes)) }
 {
     match load_bytes(alloc, store, file) {
         Ok(bytes) => list_bytes(alloc, bytes.as_slice(), sink),
@@ -119,7 +151,10 @@ fn generate(alloc: Global, seed: u32) -> Result<Game, Memory>
 {
     let chips = generated_chips(alloc, seed)?;
     Ok(Game {
-        chips,
+        cart: Cart {
+            split: Split::new(),
+            chips,
+        },
         script: Script {
             power: 0,
             end: End::Frames(60),
@@ -131,8 +166,10 @@ fn generate(alloc: Global, seed: u32) -> Result<Game, Memory>
 
 /// `gen N`.
 pub fn answer_gen<K: Sink>(alloc: Global, seed: u32, sink: &mut K, rack: &mut Rack) -> Status
-    ensures answers { Answers (K.output sink.old) (K.output sink.new) (exit_code result)
-        (gen_answer (map state rack.old.items) seed) }
+    ensures answers { AnswersDue (K.output sink.old) (K.output sink.new) (exit_code result)
+        (gen_due (map state rack.old.items) seed) }
+    ensures safe { KeepsVerdict (exit_code result)
+        (Manner.Summary seed) (generated_game seed) (map state rack.old.items) }
     ensures rack { PlaysGame (K.output sink.old) (K.output sink.new) (exit_code result)
         (Manner.Summary seed) (generated_game seed)
         (map state rack.old.items) (map state rack.new.items) }

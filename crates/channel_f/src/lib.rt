@@ -2,6 +2,7 @@
 #![tactic(auto)]
 
 mod commands;
+mod laws;
 mod lines_out;
 mod manner;
 mod playing;

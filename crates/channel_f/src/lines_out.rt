@@ -1,8 +1,8 @@
 // The lines that are written, each as one put.
-ghost use Rattle.std.specs.Prelude.{◌≡◌, ◌≢◌, ◌<◌, [], ◌∷◌, OnOk, OnErr};
+ghost use Rattle.std.specs.Prelude.{◌≡◌, ◌≢◌, ◌<◌, ℕ, List, [], ◌∷◌, OnOk, OnErr};
 ghost use Rattle.console_spec.specs.RunText.{stop_line as spelled_stop, text_of};
 ghost use Rattle.rack_run.specs.Endings.{stop_at};
-ghost use Rattle.channel_f.specs.Answers.{status_of};
+ghost use Rattle.channel_f.specs.Answers.{status_of, check_answer};
 ghost use Rattle.channel_f.specs.Manners.{opening_lines, ending_told, summary_told, closing_told};
 ghost use Rattle.channel_f.specs.Reports.{Reports};
 ghost use Rattle.asm_lines.specs.ImageLines.{image_lines};
@@ -12,6 +12,8 @@ ghost use Rattle.channel_f.specs.Statuses.{exit_code};
 use super::manner::Manner;
 use super::status::Status;
 use asm_lines::{put_image, put_listing};
+use cart_checker::Verdict;
+use cartridge::Split;
 use f8_asm::{Image, Text};
 use generator::{gen_line, scratch_sum, scratch_sum_line, writes_line};
 use outside::{Sink, SinkFault};
@@ -88,13 +90,17 @@ pub fn put_ending<K: Sink>(sink: &mut K, ending: &Ending) -> Status
 }
 
 /// The lines before a run on a rack.
-pub fn put_opening<K: Sink>(sink: &mut K, manner: Manner) -> Result<(), SinkFault>
+pub fn put_opening<K: Sink>(
+    sink: &mut K,
+    manner: Manner,
+    word: VerdictWord,
+) -> Result<(), SinkFault>
     ensures ok { OnOk result (Adds (K.output sink.old) (K.output sink.new)
-        (text_of (opening_lines manner))) }
+        (text_of (opening_lines manner word))) }
     ensures err { OnErr result (AddsPart (K.output sink.old) (K.output sink.new)
-        (text_of (opening_lines manner))) }
+        (text_of (opening_lines manner word))) }
 {
-    let verdict = report::verdict_line(VerdictWord::Unchecked);
+    let verdict = report::verdict_line(word);
     match manner {
         Manner::Whole { .. } => put_all(sink, [verdict].as_slice()),
         Manner::Summary { seed } => put_all(sink, [gen_line(seed), verdict].as_slice()),
@@ -125,6 +131,36 @@ pub fn put_closing<K: Sink>(sink: &mut K, manner: Manner, ending: &Ending) -> St
             put_lines(sink, summary_of(ending).as_slice(), status_at(&ending.halt))
         }
     }
+}
+
+/// The line of a verdict on a cartridge, by the registers that are tracked.
+fn check_line(split: &Split, verdict: &Verdict) -> Line
+    ensures { (check_answer split.now verdict.now).lines ≡ result ∷ [] }
+{
+    match verdict {
+        Verdict::Whole(notes) => report::whole_line(notes.len() as u32),
+        Verdict::Agreed(notes) => report::agreed_line(notes.len() as u32),
+        Verdict::Refused { point, reason, .. } => report::refused_line(point, split, *reason),
+        Verdict::TooMany => report::toomany_line(),
+    }
+}
+
+fn check_status(verdict: &Verdict) -> Status
+    ensures { (split : List ℕ) → exit_code result ≡ (check_answer split verdict.now).status }
+{
+    match verdict {
+        Verdict::Whole(_) | Verdict::Agreed(_) => Status::Done,
+        Verdict::Refused { .. } | Verdict::TooMany => Status::NoVerdict,
+    }
+}
+
+/// Writes the line of a verdict on a cartridge, and ends with its status.
+pub fn put_verdict<K: Sink>(sink: &mut K, split: &Split, verdict: &Verdict) -> Status
+    ensures { let due = check_answer split.now verdict.now in
+        Reports (K.output sink.old) (K.output sink.new) (exit_code result) due.status due.lines }
+{
+    let line = check_line(split, verdict);
+    put_lines(sink, [line].as_slice(), check_status(verdict))
 }
 
 /// Writes the lines of an image.

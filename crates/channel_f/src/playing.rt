@@ -6,23 +6,27 @@ ghost use Rattle.data_bus.specs.Racks.{views};
 ghost use Rattle.f8_machine.specs.Refinement.{AreWhole};
 ghost use Rattle.loader.specs.Seen.{seen_game};
 ghost use Rattle.pad_script.specs.Limits.{HasLimits};
-ghost use Rattle.channel_f.specs.Answers.{status_of, refusal as spelled_refusal, run_answer, game_run};
-ghost use Rattle.channel_f.specs.Answers.{game_answer, ref_answer};
+ghost use Rattle.channel_f.specs.Answers.{status_of, refusal as spelled_refusal, judged_run, game_run};
+ghost use Rattle.channel_f.specs.Answers.{game_due, ref_answer};
+ghost use Rattle.channel_f.specs.JudgedRuns.{PlaysJudged};
 ghost use Rattle.channel_f.specs.Manners.{run_fitted, lines_by};
-ghost use Rattle.channel_f.specs.Reports.{Answers, Reports};
+ghost use Rattle.channel_f.specs.Reports.{Answers, AnswersDue, Reports};
 ghost use Rattle.channel_f.specs.RackAfter.{OnFitted, Plays, PlaysGame};
+ghost use Rattle.channel_f.specs.SafeGames.{KeepsVerdict};
 ghost use Rattle.channel_f.specs.Statuses.{exit_code};
 
+use super::laws::{safe_run_law, script_law};
 use super::lines_out::{put_closing, put_ending, put_lines, put_opening};
 use super::manner::Manner;
 use super::status::Status;
+use cart_checker::check_cart;
 use chip_face::{Chip, MOST_CHIPS};
 use f8_machine::{Chain, Rack};
 use f8_spec::Memory;
 use loader::Game;
 use outside::{Sink, SinkFault};
 use rack_run::{ReferFault, chain_of, first_shortage, fit_all, play, refer};
-use report::Line;
+use report::{Line, VerdictWord};
 use std::alloc::Global;
 
 /// The line of why a game isn't begun on a rack: it has more chips than 16, or too few sockets of a kind.
@@ -34,7 +38,7 @@ fn refusal(game: &Game, rack: &Rack) -> Option<Line>
     if rack.len() > MOST_CHIPS {
         return Some(report::error_rack(rack.len() as u64));
     }
-    let shortage = first_shortage(&game.chips, rack)?;
+    let shortage = first_shortage(&game.cart.chips, rack)?;
     Some(report::error_sockets(shortage.kind, shortage.need, shortage.have))
 }
 
@@ -42,6 +46,7 @@ fn refusal(game: &Game, rack: &Rack) -> Option<Line>
 fn play_fitted<K: Sink>(
     game: &Game,
     manner: Manner,
+    word: VerdictWord,
     chain: Chain,
     sink: &mut K,
     rack: &mut Rack,
@@ -53,19 +58,41 @@ fn play_fitted<K: Sink>(
     ensures reports { Reports (K.output sink.old) (K.output sink.new) (exit_code result)
         (status_of
         (run_fitted manner (seen_game game.now) chain (map state rack.old.items)).ending.stop)
-        (lines_by manner
+        (lines_by manner word
         (run_fitted manner (seen_game game.now) chain (map state rack.old.items))) }
     ensures rack { OnFitted (K.output sink.old) (K.output sink.new) (exit_code result)
-        manner game.now.script.power chain
+        manner word game.now.script.power chain
         (run_fitted manner (seen_game game.now) chain (map state rack.old.items))
         (map state rack.old.items) (map state rack.new.items) }
 {
-    let Ok(()) = put_opening(sink, manner) else {
+    let Ok(()) = put_opening(sink, manner, word) else {
         return Status::Sink;
     };
     match play(rack, sink, chain, &game.script, manner.detail()) {
         Ok(ending) => put_closing(sink, manner, &ending),
         Err(SinkFault) => Status::Sink,
+    }
+}
+
+/// The check, and then the run, on a rack that is fitted for the game. Behind the check no memory is needed any more.
+fn check_and_play<K: Sink>(
+    alloc: Global,
+    game: &Game,
+    manner: Manner,
+    chain: Chain,
+    sink: &mut K,
+    rack: &mut Rack,
+) -> Status
+    requires few { length rack.old.items ≤ MOST_CHIPS }
+    requires whole { AreWhole (map state rack.old.items) }
+    requires ports { LeaveOwnPorts (map seat_of (views (map state rack.old.items))) }
+    requires limits { HasLimits game.now.script.end }
+    ensures { PlaysJudged (K.output sink.old) (K.output sink.new) (exit_code result)
+        manner (seen_game game.now) chain (map state rack.old.items) (map state rack.new.items) }
+{
+    match check_cart(alloc, &game.cart) {
+        Ok(verdict) => play_fitted(game, manner, verdict.word(), chain, sink, rack),
+        Err(Memory) => Status::Memory,
     }
 }
 
@@ -79,14 +106,19 @@ fn fit_and_play<K: Sink>(
 ) -> Status
     requires few { length rack.old.items ≤ MOST_CHIPS }
     requires limits { HasLimits game.now.script.end }
-    ensures answers { Answers (K.output sink.old) (K.output sink.new) (exit_code result)
-        (run_answer manner (game_run manner (seen_game game.now) (map state rack.old.items))) }
+    ensures answers { AnswersDue (K.output sink.old) (K.output sink.new) (exit_code result)
+        (judged_run manner (seen_game game.now)
+        (game_run manner (seen_game game.now) (map state rack.old.items))) }
     ensures rack { Plays (K.output sink.old) (K.output sink.new) (exit_code result)
         manner (seen_game game.now) (map state rack.old.items) (map state rack.new.items) }
+    ensures safe { KeepsVerdict (exit_code result)
+        manner (seen_game game.now) (map state rack.old.items) }
 {
-    let chain = chain_of(&game.chips, rack);
-    match fit_all(alloc, &game.chips, rack) {
-        Ok(()) => play_fitted(game, manner, chain, sink, rack),
+    safe_run_law();
+    script_law(&game.script);
+    let chain = chain_of(&game.cart.chips, rack);
+    match fit_all(alloc, &game.cart.chips, rack) {
+        Ok(()) => check_and_play(alloc, game, manner, chain, sink, rack),
         Err(Memory) => Status::Memory,
     }
 }
@@ -100,8 +132,10 @@ pub fn play_game<K: Sink>(
     rack: &mut Rack,
 ) -> Status
     requires limits { HasLimits game.now.script.end }
-    ensures answers { Answers (K.output sink.old) (K.output sink.new) (exit_code result)
-        (game_answer manner (map state rack.old.items) (seen_game game.now)) }
+    ensures answers { AnswersDue (K.output sink.old) (K.output sink.new) (exit_code result)
+        (game_due manner (map state rack.old.items) (seen_game game.now)) }
+    ensures safe { KeepsVerdict (exit_code result)
+        manner (seen_game game.now) (map state rack.old.items) }
     ensures rack { PlaysGame (K.output sink.old) (K.output sink.new) (exit_code result)
         manner (seen_game game.now) (map state rack.old.items) (map state rack.new.items) }
 {
@@ -117,7 +151,7 @@ pub fn refer_game<K: Sink>(alloc: Global, game: &Game, sink: &mut K) -> Status
     ensures { Answers (K.output sink.old) (K.output sink.new) (exit_code result)
         (ref_answer (seen_game game.now)) }
 {
-    match refer(alloc, sink, &game.chips, &game.script) {
+    match refer(alloc, sink, &game.cart.chips, &game.script) {
         Ok(ending) => put_ending(sink, &ending),
         Err(ReferFault::Memory) => Status::Memory,
         Err(ReferFault::Sink) => Status::Sink,

@@ -16,6 +16,8 @@ pub enum Status {
     Sink = 5,
     /// Memory was wanting, and nothing was written.
     Memory = 6,
+    /// A cartridge can't be shown to be safe.
+    NoVerdict = 7,
     /// A reserved opcode was met.
     Reserved = 8,
     /// The system didn't give the words.

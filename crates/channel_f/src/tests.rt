@@ -21,6 +21,9 @@ const RAM_CART: &str = "format = 1\n\
      [[chip]]\nkind = '3851'\nbase = 0\nports = 4\nrom = '2A28002C2A28012C1690FF'\n\
      [[chip]]\nkind = '3853'\nram_page = 0x28\nram_pages = 1\n";
 
+const DATA_CART: &str =
+    "format = 1\n[[chip]]\nkind = '3851'\nbase = 0\nports = 4\nrom = '2A00001690FE'\n";
+
 const SOURCE_CART: &str =
     "format = 1\n[[chip]]\nkind = '3851'\nbase = 0\nports = 4\nsource = 'loop.f8'\n";
 
@@ -36,7 +39,7 @@ const LOOP_RUN: &str = "stop done\n\
      s30 00 00 00 00 00 00 00 00 00 00 00 00 00 00 00 00\n\
      total 3 instructions 36 phi\n";
 
-const LOOP_PLAY: &str = "verdict unchecked\n\
+const LOOP_PLAY: &str = "verdict whole\n\
      stop done\n\
      regs P=0001 P1=0000 D0=0000 D1=0000 A=01 IS=00 W=00\n\
      s00 00 00 00 00 00 00 00 00 00 00 00 00 00 00 00 00\n\
@@ -45,7 +48,7 @@ const LOOP_PLAY: &str = "verdict unchecked\n\
      s30 00 00 00 00 00 00 00 00 00 00 00 00 00 00 00 00\n\
      total 3 instructions 36 phi\n";
 
-const RAM_PLAY: &str = "verdict unchecked\n\
+const RAM_PLAY: &str = "verdict whole\n\
      stop done\n\
      regs P=0009 P1=0000 D0=2801 D1=2801 A=5A IS=32 W=00\n\
      s00 5A 5A 5A 5A 5A 5A 5A 5A 5A 5A 5A 5A 5A 5A 5A 5A\n\
@@ -54,7 +57,7 @@ const RAM_PLAY: &str = "verdict unchecked\n\
      s30 5A 5A 5A 5A 5A 5A 5A 5A 5A 5A 5A 5A 5A 5A 5A 5A\n\
      total 6 instructions 102 phi\n";
 
-const NEIGHBOURS_PLAY: &str = "verdict unchecked\n\
+const NEIGHBOURS_PLAY: &str = "verdict none\n\
      stop astray romc 00 socket 1 at 0405 reference 0000\n\
      regs P=0000 P1=0000 D0=0000 D1=0000 A=04 IS=04 W=00\n\
      s00 04 04 04 04 04 04 04 04 04 04 04 04 04 04 04 04\n\
@@ -67,7 +70,7 @@ const EXCHANGE_CART: &str = "format = 1\n\
      [[chip]]\nkind = '3851'\nbase = 0\nports = 4\nrom = '2A28002C2A00102C16'\n\
      [[chip]]\nkind = '3853'\nram_page = 0x28\nram_pages = 1\n";
 
-const EXCHANGE_PLAY: &str = "verdict unchecked\n\
+const EXCHANGE_PLAY: &str = "verdict none\n\
      stop conflict romc 02 socket 0 at 0010 socket 12 at 2800\n\
      regs P=0008 P1=0000 D0=2800 D1=0010 A=00 IS=00 W=00\n\
      s00 00 00 00 00 00 00 00 00 00 00 00 00 00 00 00 00\n\
@@ -76,7 +79,7 @@ const EXCHANGE_PLAY: &str = "verdict unchecked\n\
      s30 00 00 00 00 00 00 00 00 00 00 00 00 00 00 00 00\n\
      total 4 instructions 78 phi\n";
 
-const LOOP_TRACE: &str = "verdict unchecked\n\
+const LOOP_TRACE: &str = "verdict whole\n\
      bus 1C S 00 -\n\
      bus 08 L 00 cpu\n\
      bus 00 S 71 0\n\
@@ -97,7 +100,7 @@ const LOOP_TRACE: &str = "verdict unchecked\n\
 const KEYS_CART: &str =
     "format = 1\n[[chip]]\nkind = '3851'\nbase = 0\nports = 4\nrom = '200FB4A42602'\n";
 
-const KEYS_PLAY: &str = "verdict unchecked\n\
+const KEYS_PLAY: &str = "verdict none\n\
      out 40 04 0F\n\
      stop undriven romc 1B at 0002\n\
      regs P=0004 P1=0000 D0=0000 D1=0000 A=3F IS=00 W=01\n\
@@ -107,7 +110,7 @@ const KEYS_PLAY: &str = "verdict unchecked\n\
      s30 00 00 00 00 00 00 00 00 00 00 00 00 00 00 00 00\n\
      total 3 instructions 56 phi\n";
 
-const EMPTY_PLAY: &str = "verdict unchecked\n\
+const EMPTY_PLAY: &str = "verdict none\n\
      stop undriven romc 00 at 0000\n\
      regs P=0000 P1=0000 D0=0000 D1=0000 A=00 IS=00 W=00\n\
      s00 00 00 00 00 00 00 00 00 00 00 00 00 00 00 00 00\n\
@@ -117,7 +120,7 @@ const EMPTY_PLAY: &str = "verdict unchecked\n\
      total 0 instructions 0 phi\n";
 
 /// What is answered with ample memory.
-const ANSWERS: [Row; 10] = [
+const ANSWERS: [Row; 13] = [
     (
         &[("cart", LOOP_CART), ("script", "steps 3\n")],
         &["play", "cart", "--trace", "script"],
@@ -172,6 +175,14 @@ const ANSWERS: [Row; 10] = [
         &["ref", "cart", "script"],
         0,
         LOOP_RUN,
+    ),
+    (&[("cart", LOOP_CART)], &["check", "cart"], 0, "whole 3\n"),
+    (&[("cart", DATA_CART)], &["check", "cart"], 0, "agreed 3\n"),
+    (
+        &[("cart", EXCHANGE_CART)],
+        &["check", "cart"],
+        7,
+        "refused 0008 ---- . 7\n",
     ),
     (
         &[("loop.f8", "LOOP: NOP\nBR LOOP\n")],
@@ -327,7 +338,7 @@ fn is_summed_up(alloc: Global, seed: &str, rack: &mut Rack, text: &str) -> Resul
 #[test]
 fn generates_from_0(rt: HostRuntime) -> Result<(), Fail> {
     let mut rack = rack_of!(rt, 12, Psu::blank(), 0, Smi::blank());
-    let text = "gen 0\nverdict unchecked\nstop done\n\
+    let text = "gen 0\nverdict whole\nstop done\n\
          total 352240 instructions 1789800 phi\nwrites 20661 sum 1390761\nscratch 312\n";
     assert!(rt; is_summed_up(rt.alloc(), "0", &mut rack, text)?);
     Ok(())
@@ -336,7 +347,7 @@ fn generates_from_0(rt: HostRuntime) -> Result<(), Fail> {
 #[test]
 fn generates_from_1(rt: HostRuntime) -> Result<(), Fail> {
     let mut rack = rack_of!(rt, 12, Psu::blank(), 0, Smi::blank());
-    let text = "gen 1\nverdict unchecked\nstop done\n\
+    let text = "gen 1\nverdict whole\nstop done\n\
          total 352203 instructions 1789800 phi\nwrites 21121 sum 1542497\nscratch 207\n";
     assert!(rt; is_summed_up(rt.alloc(), "1", &mut rack, text)?);
     Ok(())
@@ -345,7 +356,7 @@ fn generates_from_1(rt: HostRuntime) -> Result<(), Fail> {
 #[test]
 fn generates_from_2(rt: HostRuntime) -> Result<(), Fail> {
     let mut rack = rack_of!(rt, 12, Psu::blank(), 0, Smi::blank());
-    let text = "gen 2\nverdict unchecked\nstop done\n\
+    let text = "gen 2\nverdict whole\nstop done\n\
          total 348157 instructions 1789800 phi\nwrites 21874 sum 1537277\nscratch 107\n";
     assert!(rt; is_summed_up(rt.alloc(), "2", &mut rack, text)?);
     Ok(())
@@ -354,7 +365,7 @@ fn generates_from_2(rt: HostRuntime) -> Result<(), Fail> {
 #[test]
 fn generates_from_the_greatest_number(rt: HostRuntime) -> Result<(), Fail> {
     let mut rack = rack_of!(rt, 12, Psu::blank(), 0, Smi::blank());
-    let text = "gen 4294967295\nverdict unchecked\nstop done\n\
+    let text = "gen 4294967295\nverdict whole\nstop done\n\
          total 352272 instructions 1789802 phi\nwrites 20833 sum 1520005\nscratch 276\n";
     assert!(rt; is_summed_up(rt.alloc(), "4294967295", &mut rack, text)?);
     Ok(())
@@ -493,13 +504,13 @@ fn plays_the_bytes_of_patched_chips(rt: HostRuntime) -> Result<(), Fail> {
             0x0001,
             0x1F,
             0,
-            b"verdict unchecked\nstop done\nregs P=0001 P1=0000 D0=0000 D1=0000 A=02 IS=00 W=01\n",
+            b"verdict whole\nstop done\nregs P=0001 P1=0000 D0=0000 D1=0000 A=02 IS=00 W=01\n",
         ),
         (
             0x0000,
             0x2D,
             8,
-            b"verdict unchecked\nstop reserved 2D at 0000\nregs P=0000 P1=0000 D0=0000 D1=0000 A=00 IS=00 W=00\n",
+            b"verdict whole\nstop reserved 2D at 0000\nregs P=0000 P1=0000 D0=0000 D1=0000 A=00 IS=00 W=00\n",
         ),
     ];
     let files = [("cart", LOOP_CART), ("script", "steps 3\n")];
@@ -539,7 +550,7 @@ const SINK_FAULTS: [SinkRow; 6] = [
         &["play", "cart", "drawn"],
         1024,
         &[4],
-        b"verdict unchecked\nframe 1 phi 29830 tone 0\n\
+        b"verdict whole\nframe 1 phi 29830 tone 0\n\
           0 00000000000000000000000000000000000000000000000000000000000000000000000000000000000000000000000000000000000000000000000000000000\n",
     ),
     (&["gen", "1"], 1024, &[2], b"gen 1\n"),
@@ -547,14 +558,9 @@ const SINK_FAULTS: [SinkRow; 6] = [
         &["play", "cart", "script"],
         1024,
         &[3],
-        b"verdict unchecked\nstop done\n",
+        b"verdict whole\nstop done\n",
     ),
-    (
-        &["play", "cart", "script"],
-        22,
-        &[],
-        b"verdict unchecked\nstop",
-    ),
+    (&["play", "cart", "script"], 18, &[], b"verdict whole\nstop"),
     (&["asm", "code"], 1024, &[2], b"0000 2B90FE\n"),
     (&["dis", "digits"], 1024, &[3], b"ORG $0000\nLIS 1\n"),
 ];

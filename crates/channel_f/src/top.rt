@@ -1,12 +1,12 @@
 // The top call of the program.
 ghost use Rattle.std.specs.Prelude.{◌≡◌, IsTrue, map, string_bytes};
 ghost use Rattle.command_line.specs.CommandLine.{command_of, has_command};
-ghost use Rattle.channel_f.specs.Answers.{answer_of};
+ghost use Rattle.channel_f.specs.Answers.{due_of};
 ghost use Rattle.channel_f.specs.Commands.{around, Says};
 ghost use Rattle.channel_f.specs.Completeness.{IsComplete};
 ghost use Rattle.channel_f.specs.Statuses.{exit_code};
 
-use super::commands::{answer_asm, answer_dis, answer_gen, answer_play, answer_ref};
+use super::commands::{answer_asm, answer_check, answer_dis, answer_gen, answer_play, answer_ref};
 use super::lines_out::put_lines;
 use super::status::Status;
 use chip_face::Chip;
@@ -16,7 +16,7 @@ use f8_spec::Memory;
 use outside::{Sink, Store};
 use std::alloc::Global;
 
-#[tactic(auto, using(crate::proofs::Outcomes::says_play, crate::proofs::Outcomes::says_ref, crate::proofs::Outcomes::says_asm, crate::proofs::Outcomes::says_dis, crate::proofs::Outcomes::says_gen, crate::proofs::Outcomes::says_words, crate::proofs::Outcomes::says_wanting, crate::proofs::Outcomes::command_named, crate::proofs::Outcomes::words_not_memory, crate::proofs::Games::answers_of))]
+#[tactic(auto, using(crate::proofs::Outcomes::says_play, crate::proofs::Outcomes::says_check, crate::proofs::Outcomes::says_ref, crate::proofs::Outcomes::says_asm, crate::proofs::Outcomes::says_dis, crate::proofs::Outcomes::says_gen, crate::proofs::Outcomes::says_words, crate::proofs::Outcomes::says_wanting, crate::proofs::Outcomes::command_named, crate::proofs::Outcomes::words_not_memory, crate::proofs::Games::answers_of))]
 fn answer_words<S: Store, K: Sink>(
     alloc: Global,
     words: &[String],
@@ -40,6 +40,7 @@ fn answer_words<S: Store, K: Sink>(
                 },
             ),
         ) => answer_play(alloc, cart, script, traced, store, sink, rack),
+        Ok(Some(Command::Check { cart })) => answer_check(alloc, cart, store, sink),
         Ok(Some(Command::Ref { cart, script })) => answer_ref(alloc, cart, script, store, sink),
         Ok(Some(Command::Asm { file })) => answer_asm(alloc, file, store, sink),
         Ok(Some(Command::Dis { file })) => answer_dis(alloc, file, store, sink),
@@ -55,6 +56,8 @@ fn answer_words<S: Store, K: Sink>(
 ///
 /// - `play CART SCRIPT`: the rack is fitted for the chips that the description describes, powered and reset, and runs as the script has it. With
 ///   `--trace` every bus step is told.
+/// - `check CART`: the verdict on the description: that no run of its chips can fail at a bus step, whatever the script, or that this can't be
+///   shown.
 /// - `ref CART SCRIPT`: the same bytes run on the flat instruction set alone, and the rack stays as it was.
 /// - `asm FILE`: the bytes that an assembly text makes, and its names.
 /// - `dis FILE`: the assembly text of a file of hexadecimal digits.
@@ -65,7 +68,8 @@ fn answer_words<S: Store, K: Sink>(
 ///
 /// Where the store tells its files and has those that are asked for, what is written is exactly what the flat machine's run says, with `play`
 /// over the bytes of the fitted chips, up to the first bus step that isn't served by one chip at the flat machine's address (clause `says`,
-/// and by the files alone clause `complete`). The status is
+/// and by the files alone clause `complete`). Before the run a line tells the verdict on the description; where that is `whole`, and no chip
+/// has other bytes in its ROM than are described, the status is 0 for every script, unless the sink failed. The status is
 ///
 /// - 0 where all is done,
 /// - 1 where the words are none of these,
@@ -74,6 +78,7 @@ fn answer_words<S: Store, K: Sink>(
 /// - 4 where the store failed, as one does that hasn't the file,
 /// - 5 where the sink failed,
 /// - 6 where memory was wanting, and then nothing was written; this comes only where the first word is that of a command,
+/// - 7 where `check` can't show that the cartridge is safe,
 /// - 8 at a reserved opcode.
 ///
 /// Where a run of `play` or `gen` began, each chip has heard its bus steps and has taken its key bytes, and nothing else. Where the sink failed at
@@ -93,7 +98,7 @@ pub fn console<S: Store, K: Sink>(
     ensures complete { IsComplete
         (around (K.output sink.old) (S.input store.old) (map state rack.old.items))
         (around (K.output sink.new) (S.input store.new) (map state rack.new.items))
-        result (answer_of (map state rack.old.items) (command_of (map string_bytes words.now))) }
+        result (due_of (map state rack.old.items) (command_of (map string_bytes words.now))) }
     ensures memory { result ≡ 6 → IsTrue (has_command (map string_bytes words.now)) }
 {
     answer_words(alloc, words, store, sink, rack).code()

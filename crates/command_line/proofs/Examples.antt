@@ -1,6 +1,6 @@
 -- Words with what they ask for, each worked out from the rules by hand and computed from the definitions.
 use Rattle.std.proofs.Common.{◌≡◌, true, false, [], ◌∷◌, Some, None, codes, refl}
-use Rattle.command_line.specs.CommandLine.{Play, Ref, Asm, Dis, Gen, command_of}
+use Rattle.command_line.specs.CommandLine.{Play, Ref, Check, Asm, Dis, Gen, command_of}
 
 pub two_words : command_of (codes "play" ∷ (codes "game.toml" ∷ (codes "run.txt" ∷ []))) ≡ Some (Play (codes "game.toml") (codes "run.txt") false)
 two_words = refl
@@ -38,6 +38,12 @@ flag_with_value = refl
 
 pub flag_cut_short : command_of (codes "play" ∷ (codes "a" ∷ (codes "b" ∷ (codes "--trac" ∷ [])))) ≡ None
 flag_cut_short = refl
+
+pub checked_cart : command_of (codes "check" ∷ (codes "game.toml" ∷ [])) ≡ Some (Check (codes "game.toml"))
+checked_cart = refl
+
+pub check_without_flags : command_of (codes "check" ∷ (codes "--trace" ∷ (codes "game.toml" ∷ []))) ≡ None
+check_without_flags = refl
 
 pub first_dashes_part : command_of (codes "asm" ∷ (codes "--" ∷ (codes "--" ∷ []))) ≡ Some (Asm (codes "--"))
 first_dashes_part = refl

@@ -22,6 +22,12 @@ pub enum Command<'a> {
         script: &'a str,
     },
 
+    /// The check of a cartridge.
+    Check {
+        /// The description of the cartridge.
+        cart: &'a str,
+    },
+
     /// The text of a program, to be assembled.
     Asm {
         /// The text.

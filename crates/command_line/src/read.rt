@@ -28,6 +28,7 @@ fn asked_for<'a>(alloc: Global, words: &'a [String]) -> Result<Option<Command<'a
     match name.as_str() {
         "play" => play(alloc, words),
         "ref" => Ok(two_files(alloc, words)?.map(|(cart, script)| Command::Ref { cart, script })),
+        "check" => Ok(one_word(alloc, words)?.map(|cart| Command::Check { cart })),
         "asm" => Ok(one_word(alloc, words)?.map(|file| Command::Asm { file })),
         "dis" => Ok(one_word(alloc, words)?.map(|file| Command::Dis { file })),
         "gen" => {

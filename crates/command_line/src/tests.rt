@@ -111,6 +111,7 @@ fn seeds_refused(rt: HostRuntime) -> Result<(), Fail> {
 #[test]
 fn files_alone(rt: HostRuntime) -> Result<(), Fail> {
     let lines = [
+        ("check c.toml", Command::Check { cart: "c.toml" }),
         ("asm a.asm", Command::Asm { file: "a.asm" }),
         ("asm ", Command::Asm { file: "" }),
         ("asm -- --", Command::Asm { file: "--" }),

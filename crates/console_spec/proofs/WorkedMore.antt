@@ -11,6 +11,7 @@ use Rattle.console_spec.specs.CounterCopies.{fetched, reset_flow}
 use Rattle.console_spec.specs.Run.{Reserved}
 use Rattle.console_spec.specs.declared.PortWrite.{PortWrite}
 use Rattle.console_spec.specs.Telling.{told_in, referred_by}
+use Rattle.console_spec.specs.declared.VerdictWord.TheVariants.{NoVerdict}
 use Rattle.console_spec.specs.RunText.{telling_lines, flat_telling_lines, ending_lines, text_of, lines_of}
 use Rattle.console_spec.specs.RunText.{frame_line}
 use Rattle.console_spec.specs.RunText.{picture_row}
@@ -110,9 +111,9 @@ unfolding running
 patch_stops = refl
 
 -- a key byte is read and written back; then a port is read that no chip has
-keyed_text : text_of (telling_lines (played_in_order (psu 0 4 (0x20 ∷ 0x0F ∷ 0xB4 ∷ 0xA4 ∷ 0x26 ∷ 0x02 ∷ []) ∷ []) false
+keyed_text : text_of (telling_lines NoVerdict (played_in_order (psu 0 4 (0x20 ∷ 0x0F ∷ 0xB4 ∷ 0xA4 ∷ 0x26 ∷ 0x02 ∷ []) ∷ []) false
     (record { power = 0; end = Steps 4; events = record { frame = 0; event = Keys 4 0x30 } ∷ []; shows = [] }))) ≡
-    codes "verdict unchecked\nout 40 04 0F\nstop undriven romc 1B at 0002\nregs P=0004 P1=0000 D0=0000 D1=0000 A=3F IS=00 W=01\n" ++ no_scratch
+    codes "verdict none\nout 40 04 0F\nstop undriven romc 1B at 0002\nregs P=0004 P1=0000 D0=0000 D1=0000 A=3F IS=00 W=01\n" ++ no_scratch
     ++ codes "total 3 instructions 56 phi\n"
 unfolding running printing
 keyed_text = refl

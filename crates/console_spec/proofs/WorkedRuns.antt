@@ -7,6 +7,7 @@ use Rattle.f8_spec.specs.ChipState.{ChipView}
 use Rattle.console_spec.specs.Services.{Conflict, Undriven, Astray}
 use Rattle.console_spec.proofs.Played.{played, played_alone, referred, printing, running}
 use Rattle.console_spec.specs.Run.{Done, Unserved, Reserved}
+use Rattle.console_spec.specs.declared.VerdictWord.TheVariants.{Whole}
 use Rattle.console_spec.specs.RunText.{telling_lines, text_of, fault_line, stop_line}
 use Rattle.console_spec.proofs.WorkedRacks.{psu}
 
@@ -147,8 +148,8 @@ unfolding running
 flat_without_chips = refl
 
 -- the text of the first run, whole
-text_of_branch_to_self : text_of (telling_lines (played_alone (rom (0x71 ∷ 0x2B ∷ 0x90 ∷ 0xFE ∷ [])) 0 3)) ≡
-    codes "verdict unchecked\nstop done\nregs P=0001 P1=0000 D0=0000 D1=0000 A=01 IS=00 W=00\n"
+text_of_branch_to_self : text_of (telling_lines Whole (played_alone (rom (0x71 ∷ 0x2B ∷ 0x90 ∷ 0xFE ∷ [])) 0 3)) ≡
+    codes "verdict whole\nstop done\nregs P=0001 P1=0000 D0=0000 D1=0000 A=01 IS=00 W=00\n"
     ++ codes "s00 00 00 00 00 00 00 00 00 00 00 00 00 00 00 00 00\n"
     ++ codes "s10 00 00 00 00 00 00 00 00 00 00 00 00 00 00 00 00\n"
     ++ codes "s20 00 00 00 00 00 00 00 00 00 00 00 00 00 00 00 00\n"

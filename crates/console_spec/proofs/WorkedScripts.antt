@@ -1,19 +1,15 @@
 -- Runs by scripts worked out by hand, computed from the definitions.
 use Rattle.std.proofs.Common.{◌≡◌, ℕ, true, false, List, [], ◌∷◌, length, refl}
 use Rattle.f8_spec.specs.Flags.{status_byte}
-use Rattle.f8_spec.specs.Instructions.{decoded}
-use Rattle.console_spec.specs.Processor.{own_inputs, effect}
-use Rattle.console_spec.specs.FlatMemory.{first_memory}
 use Rattle.console_spec.specs.Services.{Undriven}
 use Rattle.console_spec.specs.Run.{Position, Unserved, power_position}
 use Rattle.console_spec.specs.Scripts.{Script}
 use Rattle.console_spec.specs.declared.Event.TheVariants.{Keys}
 use Rattle.console_spec.specs.declared.Who.TheVariants.{Socket}
 use Rattle.console_spec.specs.declared.End.TheVariants.{Steps, Frames}
-use Rattle.console_spec.specs.Telling.{Traced, TracedFault, Wrote, Shown, telling, played_by, referred_by, told_in, on_rack}
+use Rattle.console_spec.specs.Telling.{Traced, TracedFault, Wrote, Shown, telling, told_in, on_rack}
 use Rattle.std.specs.Prelude.{flat_map, codes, slice_index, None}
-use Rattle.std.specs.Fmt.{digits}
-use Rattle.console_spec.specs.RunText.{text_of, lines_of, bus_line, out_line}
+use Rattle.console_spec.specs.RunText.{text_of, lines_of}
 use Rattle.console_spec.proofs.Played.{steps_alone, played, played_alone, referred, played_in_order, printing, running}
 use Rattle.console_spec.proofs.WorkedRacks.{psu}
 

@@ -1,6 +1,6 @@
 -- A step of the flat machine: an instruction, and the interrupt that is taken at its end (Fairchild F8 User's Guide). When a request is
 -- sampled is this project's own.
-use Rattle.std.specs.Prelude.{ℕ, ◌+◌, ◌-◌, ◌/◌, ◌%◌, Bool, true, not, ◌||◌, if◌then◌else◌, List, Option, Some, None}
+use Rattle.std.specs.Prelude.{ℕ, ◌+◌, ◌/◌, ◌%◌, Bool, true, not, ◌||◌, if◌then◌else◌, List, Option, Some, None}
 use Rattle.f8_spec.specs.Instructions.{row_of, clocks_of, clocks_before_fetch, interrupt_clocks, is_shielding}
 use Rattle.f8_spec.specs.BusArbitration.{Seat}
 use Rattle.f8_spec.specs.declared.instructions.Op.{Op}

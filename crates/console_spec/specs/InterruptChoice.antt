@@ -1,6 +1,6 @@
 -- Which chip's interrupt is taken, and where it leads (Mostek 3851 and 3853 data sheets for the vector). That the first chip of the
 -- description goes first is this project's own.
-use Rattle.std.specs.Prelude.{ℕ, ◌+◌, ◌/◌, ◌%◌, Bool, false, ◌&&◌, if◌then◌else◌, List, [], ◌∷◌, slice_get}
+use Rattle.std.specs.Prelude.{ℕ, ◌+◌, Bool, false, ◌&&◌, if◌then◌else◌, List, [], ◌∷◌, slice_get}
 use Rattle.std.specs.Prelude.{Option, Some, None}
 use Rattle.f8_spec.specs.Words.{word}
 use Rattle.f8_spec.specs.ChipState.{has_fixed_vector, vector_under}

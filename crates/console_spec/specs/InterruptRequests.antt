@@ -1,6 +1,6 @@
 -- The requests for an interrupt in closed form, by the history of a run and without a timer that runs (Mostek 3851 data sheet in
 -- outline). When a write and an acknowledgement count, and the rules of a request, are this project's own.
-use Rattle.std.specs.Prelude.{ℕ, ◌+◌, ◌-◌, ◌%◌, ◌≤◌, Bool, false, ◌&&◌, ◌||◌, ◌==◌, nat_lt, nat_le, max, if◌then◌else◌}
+use Rattle.std.specs.Prelude.{ℕ, ◌+◌, ◌-◌, ◌≤◌, Bool, false, ◌&&◌, ◌||◌, ◌==◌, nat_lt, nat_le, max, if◌then◌else◌}
 use Rattle.std.specs.Prelude.{List, [], ◌∷◌}
 use Rattle.f8_spec.specs.ShiftTimer.{expires_between}
 use Rattle.f8_spec.specs.ChipState.{admits_pulses, admits_expiries}

@@ -13,7 +13,7 @@ use Rattle.console_spec.specs.FlatMachine.{FlatState, flat_at_power, flat_after,
 use Rattle.console_spec.specs.CounterCopies.{Copy, copies_after, reset_copy}
 use Rattle.console_spec.specs.BusAccesses.{Access, accesses_of}
 use Rattle.console_spec.specs.Services.{Fault, first_fault}
-use Rattle.console_spec.specs.BusTrace.{TracedStep, Course, course_of, steps_with}
+use Rattle.console_spec.specs.BusTrace.{Course, course_of, steps_with}
 
 -- the flat machine, the copies of the chips by their sockets, and the sockets of the chips described, in the order of the description
 pub record Position : Type 0 where

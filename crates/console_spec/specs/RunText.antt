@@ -12,16 +12,15 @@ use Rattle.console_spec.specs.BusTrace.{TracedStep}
 use Rattle.console_spec.specs.Telling.{Told, Traced, TracedFault, Wrote, Shown, Telling, told_in}
 use Rattle.console_spec.specs.declared.Regs.{Regs}
 use Rattle.console_spec.specs.declared.VerdictWord.{VerdictWord}
-use Rattle.console_spec.specs.declared.VerdictWord.TheVariants.{Whole, Agreed, NoVerdict, Unchecked}
+use Rattle.console_spec.specs.declared.VerdictWord.TheVariants.{Whole, Agreed, NoVerdict}
 use Rattle.console_spec.specs.declared.Who.{Who}
 use Rattle.console_spec.specs.declared.Who.TheVariants.{Cpu, Socket, Nobody}
 
--- what was found beforehand, or that nothing was checked
+-- what was found beforehand
 abbrev pub verdict_text : VerdictWord → List ℕ
 verdict_text Whole = codes "whole"
 verdict_text Agreed = codes "agreed"
 verdict_text NoVerdict = codes "none"
-verdict_text Unchecked = codes "unchecked"
 
 unfoldable pub verdict_line : VerdictWord → List ℕ
 verdict_line word = codes "verdict " ++ verdict_text word ++ codes "\n"
@@ -118,9 +117,9 @@ lines_of (TracedFault romc long) = bus_fault_line romc long ∷ []
 lines_of (Wrote w) = out_line w ∷ []
 lines_of (Shown frame phi writes) = frame_lines frame phi writes
 
--- the lines of a whole run on the flat instruction set alone, and of one on a rack, which has a verdict
+-- the lines of a whole run on the flat instruction set alone, and of one on a rack, which has the verdict on its chips
 abbrev pub flat_telling_lines : Telling → List (List ℕ)
 flat_telling_lines t = flat_map lines_of (told_in t.moments) ++ ending_lines t.ending
 
-abbrev pub telling_lines : Telling → List (List ℕ)
-telling_lines t = verdict_line Unchecked ∷ flat_telling_lines t
+abbrev pub telling_lines : VerdictWord → Telling → List (List ℕ)
+telling_lines verdict t = verdict_line verdict ∷ flat_telling_lines t

@@ -62,9 +62,6 @@ pub enum VerdictWord {
 
     /// Neither was found.
     NoVerdict,
-
-    /// Nothing was checked.
-    Unchecked,
 }
 
 /// What comes from outside at a frame (this project's own).

@@ -1,13 +1,13 @@
--- The chips of a cartridge and what a script says, one after the other.
-use Rattle.std.proofs.Common.{◌≡◌, ℕ, zero, suc, ◌+◌, ◌-◌, ◌<◌, List, map, Option, Some, None, Result, Ok, Err}
+-- A cartridge and what a script says, one after the other.
+use Rattle.std.proofs.Common.{◌≡◌, ℕ, zero, suc, ◌+◌, ◌-◌, ◌<◌, List, Option, Some, None, Result, Ok, Err}
 use Rattle.std.proofs.Common.{subst, arith}
 use Rattle.std.specs.Prelude.{position}
 use Rattle.outside.specs.StoreRules.{Input}
 use Rattle.chip_face.specs.declared.sizes.TheConstants.{MOST_CHIPS}
-use Rattle.chip_face.specs.declared.specification.ChipSpec.{ChipSpec}
 use Rattle.cartridge.specs.declared.finish.Cart.{Cart}
 use Rattle.cartridge.specs.declared.finish.Unfilled.{Unfilled}
-use Rattle.cartridge.specs.Carts.{specification_of, wants_image, cart_of, cart_without}
+use Rattle.cartridge.specs.Carts.{wants_image, cart_without}
+use Rattle.cartridge.specs.Carts.{cart_of as cart_of_plan}
 use Rattle.cartridge.specs.ChipTables.{DescribedSource}
 use Rattle.cartridge.specs.Filling.{Planned, filled_plan, source_at}
 use Rattle.console_spec.specs.Scripts.{Script as RunScript}
@@ -15,7 +15,7 @@ use Rattle.f8_asm.specs.declared.answers.Room.{Room}
 use Rattle.loader.specs.declared.purposes.Purpose.TheVariants.{Cart as CartFile, Script, Source}
 use Rattle.loader.specs.declared.refusals.Stop.{Stop}
 use Rattle.loader.specs.Readings.{Says, image_in, description_of}
-use Rattle.loader.specs.Games.{Game, image_for, filled_from, filled_at, filled_up_to, planned_chips, chips_of}
+use Rattle.loader.specs.Games.{Game, image_for, filled_from, filled_at, filled_up_to, finished, planned_cart, cart_of}
 use Rattle.loader.specs.Games.{script_by, game_of}
 use Rattle.loader.specs.Work.{Work, gives, reads, ask, ◌>>=◌}
 use Rattle.loader.specs.Works.{order_of, RefusesFrom, Works}
@@ -54,18 +54,18 @@ ordered_up_to (suc chip) plan =
     (ordered_then (chip + 1) (filled_up_to chip plan) (filled_at chip)
     (ordered_more chip (chip + 1) (filled_up_to chip plan) (omega arith) (ordered_up_to chip plan)) (ordered_at chip))
 
-ordered_planned : (plan : Planned) → IsOrdered MOST_CHIPS (planned_chips plan)
-unfolding planned_chips
+ordered_planned : (plan : Planned) → IsOrdered MOST_CHIPS (planned_cart plan)
+unfolding planned_cart
 ordered_planned plan =
-    ordered_then MOST_CHIPS (filled_up_to MOST_CHIPS plan) (λ filled. gives (map specification_of filled.chips))
-    (ordered_up_to MOST_CHIPS plan) (λ filled. ordered_gives MOST_CHIPS (map specification_of filled.chips))
+    ordered_then MOST_CHIPS (filled_up_to MOST_CHIPS plan) (λ filled. gives (finished filled))
+    (ordered_up_to MOST_CHIPS plan) (λ filled. ordered_gives MOST_CHIPS (finished filled))
 
-ordered_chips : (cart : List ℕ) → IsOrdered MOST_CHIPS (chips_of cart)
-unfolding chips_of
-ordered_chips cart =
-    ordered_then MOST_CHIPS (ask CartFile cart 65536) (λ bytes. reads (description_of bytes) >>= planned_chips)
-    (ordered_ask MOST_CHIPS CartFile cart 65536 (omega arith))
-    (λ bytes. ordered_then MOST_CHIPS (reads (description_of bytes)) planned_chips
+ordered_cart : (name : List ℕ) → IsOrdered MOST_CHIPS (cart_of name)
+unfolding cart_of
+ordered_cart name =
+    ordered_then MOST_CHIPS (ask CartFile name 65536) (λ bytes. reads (description_of bytes) >>= planned_cart)
+    (ordered_ask MOST_CHIPS CartFile name 65536 (omega arith))
+    (λ bytes. ordered_then MOST_CHIPS (reads (description_of bytes)) planned_cart
     (ordered_reads MOST_CHIPS (description_of bytes)) ordered_planned)
 
 -- ---- sources
@@ -116,27 +116,27 @@ filled_stops a b c chip plan filled stop first second from below =
     (stops_behind a c (15 - chip) (suc chip) plan stop (filled_one_more a b c chip plan filled (Err stop) first second from))
 
 pub planned_stops : (a b : Input) (plan : Planned) (stop : Stop) →
-    Works a b (filled_up_to MOST_CHIPS plan) (Err stop) → Works a b (planned_chips plan) (Err stop)
-unfolding planned_chips
+    Works a b (filled_up_to MOST_CHIPS plan) (Err stop) → Works a b (planned_cart plan) (Err stop)
+unfolding planned_cart
 planned_stops a b plan stop works =
-    works_stop a b (filled_up_to MOST_CHIPS plan) (λ filled. gives (map specification_of filled.chips)) stop works
+    works_stop a b (filled_up_to MOST_CHIPS plan) (λ filled. gives (finished filled)) stop works
 
 pub planned_loaded : (a b : Input) (plan filled : Planned) → Works a b (filled_up_to MOST_CHIPS plan) (Ok filled) →
-    Works a b (planned_chips plan) (Ok (map specification_of filled.chips))
-unfolding planned_chips
+    Works a b (planned_cart plan) (Ok (finished filled))
+unfolding planned_cart
 planned_loaded a b plan filled works =
-    works_done a b (filled_up_to MOST_CHIPS plan) filled (λ filled. map specification_of filled.chips) works
+    works_done a b (filled_up_to MOST_CHIPS plan) filled finished works
 
 -- a plan in which every source has its image gives a cartridge
-pub cart_is : (plan : Planned) (cart : Cart) → position wants_image plan.chips ≡ None → Ok cart ≡ cart_of plan →
-    cart.chips ≡ map specification_of plan.chips
-cart_is plan cart none e = let is : Ok cart ≡ cart_without None plan = rw none at e in chips_in is
+pub cart_is : (plan : Planned) (cart : Cart) → position wants_image plan.chips ≡ None → Ok cart ≡ cart_of_plan plan →
+    cart ≡ finished plan
+cart_is plan cart none e = let is : Ok cart ≡ cart_without None plan = rw none at e in given is
   where
-    chips_in : Ok cart ≡ cart_without None plan → cart.chips ≡ map specification_of plan.chips
-    chips_in e = cc e
+    given : Ok cart ≡ cart_without None plan → cart ≡ finished plan
+    given e = cc e
 
 pub cart_there : (plan : Planned) (unfilled : Unfilled) → position wants_image plan.chips ≡ None →
-    Err unfilled ≡ cart_of plan → ⊥
+    Err unfilled ≡ cart_of_plan plan → ⊥
 cart_there plan unfilled none e = let is : Err unfilled ≡ cart_without None plan = rw none at e in never is
   where
     never : Err unfilled ≡ cart_without None plan → ⊥
@@ -144,60 +144,60 @@ cart_there plan unfilled none e = let is : Err unfilled ≡ cart_without None pl
 
 -- ---- a game
 
-pub chips_stop : (a b : Input) (cart : List ℕ) (stop : Stop) → Works a b (ask CartFile cart 65536) (Err stop) →
-    Works a b (chips_of cart) (Err stop)
-unfolding chips_of
-chips_stop a b cart stop works =
-    works_stop a b (ask CartFile cart 65536) (λ bytes. reads (description_of bytes) >>= planned_chips) stop works
+pub cart_stop : (a b : Input) (name : List ℕ) (stop : Stop) → Works a b (ask CartFile name 65536) (Err stop) →
+    Works a b (cart_of name) (Err stop)
+unfolding cart_of
+cart_stop a b name stop works =
+    works_stop a b (ask CartFile name 65536) (λ bytes. reads (description_of bytes) >>= planned_cart) stop works
 
-chips_read : (a b c : Input) (cart bytes : List ℕ) (outcome : Result (List ChipSpec) Stop) →
-    Works a b (ask CartFile cart 65536) (Ok bytes) →
-    Works b c (reads (description_of bytes) >>= planned_chips) outcome →
-    Works a c (chips_of cart) outcome
-unfolding chips_of
-chips_read a b c cart bytes outcome first second =
-    works_then a b c (ask CartFile cart 65536) bytes (λ bytes. reads (description_of bytes) >>= planned_chips) outcome 0
-    (ordered_ask 0 CartFile cart 65536 (omega arith)) (from_first outcome) first second
+pub cart_read : (a b c : Input) (name bytes : List ℕ) (outcome : Result Cart Stop) →
+    Works a b (ask CartFile name 65536) (Ok bytes) →
+    Works b c (reads (description_of bytes) >>= planned_cart) outcome →
+    Works a c (cart_of name) outcome
+unfolding cart_of
+cart_read a b c name bytes outcome first second =
+    works_then a b c (ask CartFile name 65536) bytes (λ bytes. reads (description_of bytes) >>= planned_cart) outcome 0
+    (ordered_ask 0 CartFile name 65536 (omega arith)) (from_first outcome) first second
 
-pub chips_unread : {A : Type 0} (a b : Input) (cart bytes : List ℕ) (seen : A → Planned) (stop : Stop) →
-    Works a b (ask CartFile cart 65536) (Ok bytes) → Says seen (Err stop) (description_of bytes) →
-    Works a b (chips_of cart) (Err stop)
-chips_unread a b cart bytes seen stop first says =
-    chips_read a b b cart bytes (Err stop) first
-    (works_stop b b (reads (description_of bytes)) planned_chips stop (works_unsaid b seen (description_of bytes) stop says))
+pub cart_unread : {A : Type 0} (a b : Input) (name bytes : List ℕ) (seen : A → Planned) (stop : Stop) →
+    Works a b (ask CartFile name 65536) (Ok bytes) → Says seen (Err stop) (description_of bytes) →
+    Works a b (cart_of name) (Err stop)
+cart_unread a b name bytes seen stop first says =
+    cart_read a b b name bytes (Err stop) first
+    (works_stop b b (reads (description_of bytes)) planned_cart stop (works_unsaid b seen (description_of bytes) stop says))
 
-pub chips_loaded : (a b c : Input) (cart bytes : List ℕ) (plan : Planned) (outcome : Result (List ChipSpec) Stop) →
-    Works a b (ask CartFile cart 65536) (Ok bytes) → description_of bytes ≡ Ok plan →
-    Works b c (planned_chips plan) outcome → Works a c (chips_of cart) outcome
-chips_loaded a b c cart bytes plan outcome first read second =
-    chips_read a b c cart bytes outcome first
-    (works_then b b c (reads (description_of bytes)) plan planned_chips outcome 0
+pub cart_loaded : (a b c : Input) (name bytes : List ℕ) (plan : Planned) (outcome : Result Cart Stop) →
+    Works a b (ask CartFile name 65536) (Ok bytes) → description_of bytes ≡ Ok plan →
+    Works b c (planned_cart plan) outcome → Works a c (cart_of name) outcome
+cart_loaded a b c name bytes plan outcome first read second =
+    cart_read a b c name bytes outcome first
+    (works_then b b c (reads (description_of bytes)) plan planned_cart outcome 0
     (ordered_reads 0 (description_of bytes)) (from_first outcome) (works_read b (description_of bytes) plan read)
     second)
 
--- a run behind its chips
-abbrev with_script : List ℕ → List ChipSpec → Work Game
-with_script script chips = script_by script >>= λ run. gives (record { script = run; chips = chips })
+-- a run behind its cartridge
+abbrev with_script : List ℕ → Cart → Work Game
+with_script script cart = script_by script >>= λ run. gives (record { script = run; cart = cart })
 
-pub game_loaded : (a b c : Input) (cart script : List ℕ) (chips : List ChipSpec) (run : RunScript) →
-    Works a b (chips_of cart) (Ok chips) → Works b c (script_by script) (Ok run) →
-    Works a c (game_of cart script) (Ok (record { script = run; chips = chips }))
+pub game_loaded : (a b c : Input) (name script : List ℕ) (cart : Cart) (run : RunScript) →
+    Works a b (cart_of name) (Ok cart) → Works b c (script_by script) (Ok run) →
+    Works a c (game_of name script) (Ok (record { script = run; cart = cart }))
 unfolding game_of
-game_loaded a b c cart script chips run first second =
-    works_then a b c (chips_of cart) chips (with_script script) (Ok (record { script = run; chips = chips })) MOST_CHIPS
-    (ordered_chips cart) tt first
-    (works_done b c (script_by script) run (λ run. record { script = run; chips = chips }) second)
+game_loaded a b c name script cart run first second =
+    works_then a b c (cart_of name) cart (with_script script) (Ok (record { script = run; cart = cart })) MOST_CHIPS
+    (ordered_cart name) tt first
+    (works_done b c (script_by script) run (λ run. record { script = run; cart = cart }) second)
 
-pub game_without_chips : (a b : Input) (cart script : List ℕ) (stop : Stop) → Works a b (chips_of cart) (Err stop) →
-    Works a b (game_of cart script) (Err stop)
+pub game_without_cart : (a b : Input) (name script : List ℕ) (stop : Stop) → Works a b (cart_of name) (Err stop) →
+    Works a b (game_of name script) (Err stop)
 unfolding game_of
-game_without_chips a b cart script stop works = works_stop a b (chips_of cart) (with_script script) stop works
+game_without_cart a b name script stop works = works_stop a b (cart_of name) (with_script script) stop works
 
-pub game_without_script : (a b c : Input) (cart script : List ℕ) (chips : List ChipSpec) (stop : Stop) →
-    Works a b (chips_of cart) (Ok chips) → Works b c (script_by script) (Err stop) →
-    RefusesFrom {A = RunScript} (order_of Script) (Err stop) → Works a c (game_of cart script) (Err stop)
+pub game_without_script : (a b c : Input) (name script : List ℕ) (cart : Cart) (stop : Stop) →
+    Works a b (cart_of name) (Ok cart) → Works b c (script_by script) (Err stop) →
+    RefusesFrom {A = RunScript} (order_of Script) (Err stop) → Works a c (game_of name script) (Err stop)
 unfolding game_of
-game_without_script a b c cart script chips stop first second from =
-    works_then a b c (chips_of cart) chips (with_script script) (Err stop) (order_of Script)
-    (ordered_more MOST_CHIPS (order_of Script) (chips_of cart) (omega arith) (ordered_chips cart)) from first
-    (works_stop b c (script_by script) (λ run. gives (record { script = run; chips = chips })) stop second)
+game_without_script a b c name script cart stop first second from =
+    works_then a b c (cart_of name) cart (with_script script) (Err stop) (order_of Script)
+    (ordered_more MOST_CHIPS (order_of Script) (cart_of name) (omega arith) (ordered_cart name)) from first
+    (works_stop b c (script_by script) (λ run. gives (record { script = run; cart = cart })) stop second)

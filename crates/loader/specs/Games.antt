@@ -1,18 +1,18 @@
 -- What each command wants of its files. A file is read before the next one is asked for.
 use Rattle.std.specs.Prelude.{ℕ, zero, suc, List, map, Option, Some, None}
 use Rattle.chip_face.specs.declared.sizes.TheConstants.{MOST_CHIPS}
-use Rattle.chip_face.specs.declared.specification.ChipSpec.{ChipSpec}
 use Rattle.cartridge.specs.Carts.{specification_of}
 use Rattle.cartridge.specs.ChipTables.{DescribedSource}
 use Rattle.cartridge.specs.Filling.{Planned, source_at, filled_plan}
+use Rattle.cartridge.specs.declared.finish.Cart.{Cart}
 use Rattle.f8_asm.specs.declared.answers.Room.{Room}
 use Rattle.f8_asm.specs.Image.{Picture, everywhere}
 use Rattle.console_spec.specs.Scripts.{Script as RunScript}
-use Rattle.loader.specs.declared.purposes.Purpose.TheVariants.{Cart, Script, File, Source}
+use Rattle.loader.specs.declared.purposes.Purpose.TheVariants.{Cart as CartFile, Script, File, Source}
 use Rattle.loader.specs.Readings.{description_of, image_in, script_in, bytes_in}
 use Rattle.loader.specs.Work.{Work, gives, reads, ask, ◌>>=◌}
 
--- ---- the chips of a cartridge
+-- ---- a cartridge
 
 -- the image of a chip's source, by its name, which may have the addresses of a room
 unfoldable pub image_for : ℕ → List ℕ → Room → Work Picture
@@ -33,13 +33,17 @@ unfoldable pub filled_up_to : ℕ → Planned → Work Planned
 filled_up_to zero plan = gives plan
 filled_up_to (suc chip) plan = filled_up_to chip plan >>= filled_at chip
 
--- the chips of a plan, at most `MOST_CHIPS`, with the images of their sources
-unfoldable pub planned_chips : Planned → Work (List ChipSpec)
-planned_chips plan = filled_up_to MOST_CHIPS plan >>= λ filled. gives (map specification_of filled.chips)
+-- the cartridge of a plan, all of whose sources have their images
+abbrev pub finished : Planned → Cart
+finished plan = record { split = plan.split; chips = map specification_of plan.chips }
 
--- the chips of the description with this name
-unfoldable pub chips_of : List ℕ → Work (List ChipSpec)
-chips_of cart = ask Cart cart 65536 >>= λ bytes. reads (description_of bytes) >>= planned_chips
+-- the cartridge of a plan of at most `MOST_CHIPS` chips, with the images of its sources
+unfoldable pub planned_cart : Planned → Work Cart
+planned_cart plan = filled_up_to MOST_CHIPS plan >>= λ filled. gives (finished filled)
+
+-- the cartridge of the description with this name
+unfoldable pub cart_of : List ℕ → Work Cart
+cart_of name = ask CartFile name 65536 >>= λ bytes. reads (description_of bytes) >>= planned_cart
 
 -- ---- a run
 
@@ -47,14 +51,14 @@ chips_of cart = ask Cart cart 65536 >>= λ bytes. reads (description_of bytes) >
 unfoldable pub script_by : List ℕ → Work RunScript
 script_by script = ask Script script 65536 >>= λ text. reads (script_in text)
 
--- the chips, and what the run is given
+-- the cartridge, and what the run is given
 pub record Game : Type 0 where
   pub script : RunScript
-  pub chips : List ChipSpec
+  pub cart : Cart
 
 unfoldable pub game_of : List ℕ → List ℕ → Work Game
 game_of cart script =
-    chips_of cart >>= λ chips. script_by script >>= λ run. gives (record { script = run; chips = chips })
+    cart_of cart >>= λ cartridge. script_by script >>= λ run. gives (record { script = run; cart = cartridge })
 
 -- ---- one file
 

@@ -12,7 +12,7 @@ mod sources;
 
 pub use f8_spec::Memory;
 pub use games::Game;
-pub use loading::{load_bytes, load_game, load_image};
+pub use loading::{load_bytes, load_cart, load_game, load_image};
 pub use purposes::Purpose;
 pub use refusals::{Refusal, Stop};
 

@@ -1,6 +1,6 @@
 // What each command wants of its files.
 ghost use Rattle.std.specs.Prelude.{◌≤◌, IfOk, length};
-ghost use Rattle.loader.specs.Games.{chips_of, script_by, game_of, image_by, bytes_by};
+ghost use Rattle.loader.specs.Games.{cart_of, script_by, game_of, image_by, bytes_by};
 ghost use Rattle.pad_script.specs.Limits.{HasLimits};
 ghost use Rattle.pad_script.specs.Reading.{seen};
 ghost use Rattle.loader.specs.Seen.{seen_game};
@@ -12,7 +12,7 @@ use super::purposes::Purpose;
 use super::readings::{read_bytes, read_description, read_image, read_run};
 use super::refusals::Stop;
 use super::sources::{ASSEMBLY_LIMIT, load_planned};
-use chip_face::ChipList;
+use cartridge::Cart;
 use f8_asm::{Image, Room};
 use outside::Store;
 use pad_script::Script;
@@ -30,12 +30,17 @@ const EVERYWHERE: Room = Room {
     last: 0xFFFF,
 };
 
-/// The chips of a description, with the images of their sources.
-#[tactic(auto, using(crate::proofs::GamesLoaded::chips_stop, crate::proofs::GamesLoaded::chips_unread, crate::proofs::GamesLoaded::chips_loaded))]
-fn load_chips<S: Store>(alloc: Global, store: &mut S, cart: &str) -> Result<ChipList, Stop>
-    ensures { Works (S.input store.old) (S.input store.new) (chips_of cart.now) result }
+/// The cartridge of a description, with the images of its sources: the description, and then the source of each chip that has one, each of
+/// them fetched and read before the next. A description has at most 65,536 bytes, and a source 262,144.
+///
+/// # Errors
+///
+/// As those of `load_game`.
+#[tactic(auto, using(crate::proofs::GamesLoaded::cart_stop, crate::proofs::GamesLoaded::cart_unread, crate::proofs::GamesLoaded::cart_loaded))]
+pub fn load_cart<S: Store>(alloc: Global, store: &mut S, name: &str) -> Result<Cart, Stop>
+    ensures { Works (S.input store.old) (S.input store.new) (cart_of name.now) result }
 {
-    let bytes = fetch(alloc, store, Purpose::Cart, cart, TEXT_LIMIT)?;
+    let bytes = fetch(alloc, store, Purpose::Cart, name, TEXT_LIMIT)?;
     let plan = read_description(alloc, bytes.as_slice())?;
     load_planned(alloc, store, plan)
 }
@@ -60,7 +65,7 @@ fn load_script<S: Store>(alloc: Global, store: &mut S, script: &str) -> Result<S
 ///
 /// `Refused`: the first file that is too long or at fault. `Store`: the store failed at a file. `Memory`: memory is missing; it says nothing
 /// of the files.
-#[tactic(auto, using(crate::proofs::GamesLoaded::game_loaded, crate::proofs::GamesLoaded::game_without_chips, crate::proofs::GamesLoaded::game_without_script))]
+#[tactic(auto, using(crate::proofs::GamesLoaded::game_loaded, crate::proofs::GamesLoaded::game_without_cart, crate::proofs::GamesLoaded::game_without_script))]
 pub fn load_game<S: Store>(
     alloc: Global,
     store: &mut S,
@@ -71,9 +76,9 @@ pub fn load_game<S: Store>(
         (game_of cart.now script.now) (outcome_as seen_game result) }
     ensures limits { IfOk result (λ game. HasLimits game.script.end) }
 {
-    let chips = load_chips(alloc, store, cart)?;
+    let cart = load_cart(alloc, store, cart)?;
     let script = load_script(alloc, store, script)?;
-    Ok(Game { chips, script })
+    Ok(Game { cart, script })
 }
 
 /// The image of an assembly file, which may have all addresses. The file has at most 262,144 bytes.

@@ -3,15 +3,15 @@ ghost use Rattle.std.specs.Prelude.{◌≡◌, ◌+◌, ◌≤◌, ℕ, List, le
 ghost use Rattle.cartridge.specs.Filling.{filled_plan};
 ghost use Rattle.cartridge.specs.Rooms.{LiesIn};
 ghost use Rattle.cartridge.specs.Carts.{wants_image};
-ghost use Rattle.loader.specs.Games.{image_for, filled_at, filled_up_to, planned_chips};
+ghost use Rattle.loader.specs.Games.{image_for, filled_at, filled_up_to, planned_cart};
 ghost use Rattle.loader.specs.Works.{Works, RefusesFrom, outcome_as};
 
 use super::fetching::fetch;
 use super::purposes::Purpose;
 use super::readings::read_image;
 use super::refusals::Stop;
-use cartridge::Plan;
-use chip_face::{ChipList, MOST_CHIPS};
+use cartridge::{Cart, Plan};
+use chip_face::MOST_CHIPS;
 use f8_asm::{Image, Room};
 use outside::Store;
 use std::alloc::Global;
@@ -69,15 +69,15 @@ fn fill_sources<S: Store>(alloc: Global, store: &mut S, mut plan: Plan) -> Resul
     Ok(plan)
 }
 
-/// The chips of a plan, with the images of their sources.
+/// The cartridge of a plan, with the images of its sources.
 #[tactic(auto, using(crate::proofs::GamesLoaded::planned_stops, crate::proofs::GamesLoaded::planned_loaded, crate::proofs::GamesLoaded::cart_is, crate::proofs::GamesLoaded::cart_there))]
-pub fn load_planned<S: Store>(alloc: Global, store: &mut S, plan: Plan) -> Result<ChipList, Stop>
+pub fn load_planned<S: Store>(alloc: Global, store: &mut S, plan: Plan) -> Result<Cart, Stop>
     requires { length plan.chips ≤ MOST_CHIPS }
-    ensures { Works (S.input store.old) (S.input store.new) (planned_chips plan) result }
+    ensures { Works (S.input store.old) (S.input store.new) (planned_cart plan) result }
 {
     let plan = fill_sources(alloc, store, plan)?;
     match plan.cart() {
-        Ok(cart) => Ok(cart.chips),
+        Ok(cart) => Ok(cart),
         Err(_) => unreachable!(),
     }
 }

@@ -8,7 +8,7 @@ use std::test::Fail;
 const FILES: [(&str, &str); 4] = [
     (
         "cart",
-        "format = 1\n[[chip]]\nkind = '3851'\nbase = 0x400\nports = 4\nsource = 'code'\n",
+        "format = 1\nsplit = [8, 63]\n[[chip]]\nkind = '3851'\nbase = 0x400\nports = 4\nsource = 'code'\n",
     ),
     ("code", " ORG $0400\nBYTES: DB 1, 2\n"),
     ("script", "power 5A\nat 1 pulse 0\nsteps 7\n"),
@@ -33,7 +33,8 @@ fn loads_a_game(rt: HostRuntime) -> Result<(), Fail> {
     let Ok(game) = load_game(rt.alloc(), &mut store, "cart", "script") else {
         panic!(rt; "no game");
     };
-    assert_eq!(rt; game.chips.len(), 1);
+    assert_eq!(rt; game.cart.chips.len(), 1);
+    assert_eq!(rt; game.cart.split.as_slice(), [8, 63].as_slice());
     assert_eq!(rt; game.script.power, 0x5A);
     assert_eq!(rt; game.script.shows.len(), 0);
     let pulse = At {
@@ -41,6 +42,17 @@ fn loads_a_game(rt: HostRuntime) -> Result<(), Fail> {
         event: Event::Pulse { chip: 0 },
     };
     assert_eq!(rt; game.script.events.as_slice(), [pulse].as_slice());
+    Ok(())
+}
+
+#[test]
+fn loads_a_cartridge(rt: HostRuntime) -> Result<(), Fail> {
+    let mut store = store(rt.alloc())?;
+    let Ok(cart) = load_cart(rt.alloc(), &mut store, "cart") else {
+        panic!(rt; "no cartridge");
+    };
+    assert_eq!(rt; cart.chips.len(), 1);
+    assert_eq!(rt; cart.split.as_slice(), [8, 63].as_slice());
     Ok(())
 }
 

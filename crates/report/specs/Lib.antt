@@ -1,1 +1,2 @@
 pub mod RefusalLines
+pub mod CheckLines

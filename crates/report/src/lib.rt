@@ -3,6 +3,7 @@
 //! hexadecimal capitals.
 #![tactic(auto)]
 
+mod check_lines;
 mod line_buffer;
 mod refusal_lines;
 mod run_lines;
@@ -10,6 +11,7 @@ mod run_lines;
 mod tests;
 mod told_lines;
 
+pub use check_lines::{agreed_line, refused_line, toomany_line, whole_line};
 pub use console_spec::VerdictWord;
 pub use line_buffer::{LINE_ROOM, Line};
 pub use refusal_lines::{

@@ -13,17 +13,16 @@ use romc_table::Romc;
 
 fn verdict_text(word: VerdictWord) -> &'static [u8]
     ensures text { result.now ≡ spelled_word word }
-    ensures size { length result.now ≤ 9 }
+    ensures size { length result.now ≤ 6 }
 {
     match word {
         VerdictWord::Whole => b"whole",
         VerdictWord::Agreed => b"agreed",
         VerdictWord::NoVerdict => b"none",
-        VerdictWord::Unchecked => b"unchecked",
     }
 }
 
-/// `verdict whole`, `verdict agreed`, `verdict none` and `verdict unchecked`: what was found before a run, or that nothing was checked.
+/// `verdict whole`, `verdict agreed` and `verdict none`: what was found before a run.
 #[tactic(auto, unfolding(console_spec::specs::RunText::verdict_line))]
 pub fn verdict_line(word: VerdictWord) -> Line
     ensures { result ≡ spelled_verdict word }

@@ -1,5 +1,7 @@
 // Each line by worked values.
 use super::*;
+use abs_domain::Point;
+use cartridge::Split;
 use console_board::{PortWrite, Screen};
 use console_spec::{Regs, Who};
 use data_bus::{BusFault, Parties};
@@ -76,8 +78,29 @@ fn verdicts(rt: HostRuntime) {
     tells(&rt, &verdict_line(VerdictWord::Whole), "verdict whole\n");
     tells(&rt, &verdict_line(VerdictWord::Agreed), "verdict agreed\n");
     tells(&rt, &verdict_line(VerdictWord::NoVerdict), "verdict none\n");
-    let unchecked = verdict_line(VerdictWord::Unchecked);
-    tells(&rt, &unchecked, "verdict unchecked\n");
+}
+
+#[test]
+fn checks(rt: HostRuntime) {
+    tells(&rt, &whole_line(4_294_967_295), "whole 4294967295\n");
+    tells(&rt, &agreed_line(0), "agreed 0\n");
+    tells(&rt, &toomany_line(), "toomany\n");
+    let mut point = Point {
+        at: 0x0004,
+        ret: None,
+        split: [None; 8],
+    };
+    let mut split = Split::new();
+    let untracked = refused_line(&point, &split, 7);
+    tells(&rt, &untracked, "refused 0004 ---- . 7\n");
+    point.ret = Some(0x0BCD);
+    point.split[0] = Some(0x0A);
+    point.split[2] = Some(0xFF);
+    split.push(8);
+    split.push(11);
+    split.push(63);
+    let tracked = refused_line(&point, &split, 255);
+    tells(&rt, &tracked, "refused 0004 0BCD 0A,--,FF 255\n");
 }
 
 #[test]

@@ -1,0 +1,119 @@
+-- No run of a script stops on a rack in which chips sit whose verdict is whole.
+use Rattle.std.proofs.Common.{◌≡◌, ℕ, ◌+◌, ◌<◌, Bool, List, [], ◌∷◌, map, refl, ap, sym, subst, ◌∙◌}
+use Rattle.std.specs.Prelude.{Option, None, filter_map}
+use Rattle.std.specs.List.{AllByRecursion}
+use Rattle.std.proofs.lemmas.Bool.{lt-ltb}
+use Rattle.f8_spec.specs.ChipState.{ChipView, ChipState, held_byte}
+use Rattle.f8_spec.specs.BusArbitration.{seat_of}
+use Rattle.f8_spec.specs.declared.chips.ChipKind.{ChipKind}
+use Rattle.f8_spec.specs.declared.chips.ChipKind.TheVariants.{Psu as PsuKind, Smi as SmiKind}
+use Rattle.console_spec.specs.FlatMemory.{sort_of, fixed_byte, fixed_byte_by, only_of}
+use Rattle.console_spec.specs.Run.{Done}
+use Rattle.console_spec.specs.Scripts.{Script}
+use Rattle.console_spec.specs.Telling.{played_by}
+use Rattle.console_spec.specs.declared.Sort.{Sort}
+use Rattle.chip_face.specs.Fitting.{fitted}
+use Rattle.chip_face.specs.declared.specification.ChipSpec.{ChipSpec}
+use Rattle.memory_map.specs.MapOf.{MapTable, IsMapOf, IsWholeMap, views_of, seats_of}
+use Rattle.rack_run.specs.Seating.{kinds_of, seat_at, seated_from, fitted_as, fitted_views}
+use Rattle.rack_run.specs.Sockets.{shortage_of}
+use Rattle.abs_step.specs.CartridgeAnalysis.{TellsBytes, analysis, as_invariant, AnalysisLaw}
+use Rattle.abs_step.specs.MapView.{MapView, IsViewOf, chips_view, MapViewLaw}
+use Rattle.abs_step.specs.RackSeats.{SeatedViewLaw}
+use Rattle.abs_step.specs.ReachedStates.{SomeIsSafe, SomeIsFaultFree}
+use Rattle.abs_step.specs.ScriptRuns.{IsScriptFor, EndsBy, ScriptRunLaw}
+use Rattle.abs_step.specs.Soundness.{IsSafeMap, OnlyUndriven}
+use Rattle.channel_f.specs.SafeRuns.{HasNoPatches, IsAsDescribed, SafeRunLaw}
+use Rattle.channel_f.proofs.SeatedBytes.{same_only}
+use Rattle.channel_f.proofs.SeatedChips.{both_same, chips_sit, seated_law}
+
+-- ---- the premises
+
+-- where no chip has a patch, none shows
+unpatched : (states : List ChipState) (chips : List ChipSpec) (psus smis : ℕ) → AllByRecursion (λ (s : ChipState). s.patch ≡ None) states →
+    fitted_as states (seated_from chips psus smis (kinds_of states)) ≡ views_of (seated_from chips psus smis (kinds_of states))
+unpatched [] chips psus smis none = refl
+unpatched (s ∷ states) chips psus smis none = by s.view.kind (λ p q. unpatched states chips p q none.1)
+  where
+    by : (kind : ChipKind) → ((p q : ℕ) →
+        fitted_as states (seated_from chips p q (kinds_of states)) ≡ views_of (seated_from chips p q (kinds_of states))) →
+        fitted_as (s ∷ states) (seated_from chips psus smis (kind ∷ kinds_of states)) ≡ views_of (seated_from chips psus smis (kind ∷ kinds_of states))
+    by PsuKind later = both_same (ap (λ (o : Option (ℕ × ℕ)). fitted o (seat_at chips PsuKind psus)) none.0) (later (psus + 1) smis)
+    by SmiKind later = both_same (ap (λ (o : Option (ℕ × ℕ)). fitted o (seat_at chips SmiKind smis)) none.0) (later psus (smis + 1))
+
+pub no_patches : (chips : List ChipSpec) (states : List ChipState) → AllByRecursion (λ (s : ChipState). s.patch ≡ None) states →
+    HasNoPatches chips states
+no_patches chips states none = unpatched states chips 0 0 none
+
+-- a map of the chips that was made shows that their bytes are bytes
+pub bytes_told : MapViewLaw → AnalysisLaw → (m : MapTable) (chips : List ChipSpec) → IsMapOf m chips → IsWholeMap m → TellsBytes (chips_view chips)
+bytes_told maps analyses m chips of whole =
+    subst (λ (v : MapView). TellsBytes v) (maps.told m chips of whole) (analyses.bytes m whole.are_bytes)
+
+-- ---- the bytes that stay
+
+-- the byte that is known of an address of the chips described
+known_byte : (chips : List ChipSpec) (at : ℕ) → at < 65536 → (chips_view chips).byte at ≡ fixed_byte (views_of chips) at
+unfolding chips_view
+known_byte chips at small = rw (lt-ltb at 65536 small) refl
+
+same_byte : (chips : List ChipSpec) (states : List ChipState) (at : ℕ) → shortage_of chips (kinds_of states) ≡ None → HasNoPatches chips states →
+    only_of (filter_map (λ (v : ChipView). held_byte v at) (fitted_views chips states))
+    ≡ only_of (filter_map (λ (v : ChipView). held_byte v at) (views_of chips))
+same_byte chips states at enough patches =
+    ap (λ (vs : List ChipView). only_of (filter_map (λ (v : ChipView). held_byte v at) vs)) patches
+    ∙ same_only at (chips_sit chips (kinds_of states) enough)
+
+module _ (maps : MapViewLaw) (seats : SeatedViewLaw) (chips : List ChipSpec) (states : List ChipState)
+    (enough : shortage_of chips (kinds_of states) ≡ None) where
+  -- what is known of the chips described is right of the rack
+  view_is : IsViewOf (chips_view chips) (map seat_of (fitted_views chips states))
+  view_is = seats.view (chips_view chips) (seats_of chips) (map seat_of (fitted_views chips states)) (seated_law chips states enough) (maps.right chips)
+
+  same_sort : (at : ℕ) → at < 65536 → sort_of (map seat_of (fitted_views chips states)) at ≡ sort_of (seats_of chips) at
+  same_sort at small = sym (view_is.sort at small) ∙ (maps.right chips).sort at small
+
+  -- the same bytes stay in it
+  same_fixed : (at : ℕ) → at < 65536 → HasNoPatches chips states → fixed_byte (fitted_views chips states) at ≡ fixed_byte (views_of chips) at
+  same_fixed at small patches =
+      ap (λ (s : Sort). fixed_byte_by s (only_of (filter_map (λ (v : ChipView). held_byte v at) (fitted_views chips states)))) (same_sort at small)
+      ∙ ap (λ (o : Option ℕ). fixed_byte_by (sort_of (seats_of chips) at) o) (same_byte chips states at enough patches)
+
+-- ---- the law
+
+module _ (runs : ScriptRunLaw) (analyses : AnalysisLaw) (maps : MapViewLaw) (seats : SeatedViewLaw) where
+  script_for : (chips : List ChipSpec) (states : List ChipState) (script : Script) → IsAsDescribed chips states script →
+      IsScriptFor (chips_view chips).byte (fitted_views chips states) script
+  script_for chips states script h = record {
+    fixed = λ at byte small is. same_fixed maps seats chips states h.enough at small h.patches ∙ sym (known_byte chips at small) ∙ is;
+    held = λ at byte small is.
+        h.bytes at byte (known_byte chips at small ∙ sym (same_fixed maps seats chips states h.enough at small h.patches) ∙ is);
+    power = h.script_bytes.power;
+    events = h.script_bytes.events;
+  }
+
+  safe_map : (chips : List ChipSpec) (tracked : List ℕ) (states : List ChipState) (script : Script) → IsAsDescribed chips states script →
+      (some : SomeIsSafe (analysis (chips_view chips) tracked)) →
+      IsSafeMap (chips_view chips) (map seat_of (fitted_views chips states)) tracked (map as_invariant some.0)
+  safe_map chips tracked states script h some =
+      analyses.sound (chips_view chips) (map seat_of (fitted_views chips states)) tracked some.0 (view_is maps seats chips states h.enough)
+      some.1.is_map.ascends some.1.closed some.1.safe
+
+  is_done : (chips : List ChipSpec) (tracked : List ℕ) (states : List ChipState) (chain : List ℕ) (traced : Bool) (script : Script) →
+      IsAsDescribed chips states script → SomeIsFaultFree (analysis (chips_view chips) tracked) →
+      (played_by (fitted_views chips states) chain traced script).ending.stop ≡ Done
+  is_done chips tracked states chain traced script h some =
+      runs.fault_free (chips_view chips) tracked (map as_invariant some.0) (fitted_views chips states) chain traced script
+      (safe_map chips tracked states script h (some.0, some.1))
+      (analyses.fault_free (chips_view chips) tracked some.0 some.1.is_map.ascends some.2)
+      (script_for chips states script h)
+
+  ends_undriven : (chips : List ChipSpec) (tracked : List ℕ) (states : List ChipState) (chain : List ℕ) (traced : Bool) (script : Script) →
+      IsAsDescribed chips states script → SomeIsSafe (analysis (chips_view chips) tracked) →
+      EndsBy (λ here fault. OnlyUndriven here.flat.state.flow.d0 fault) (played_by (fitted_views chips states) chain traced script).ending
+  ends_undriven chips tracked states chain traced script h some =
+      runs.sound (chips_view chips) tracked (map as_invariant some.0) (fitted_views chips states) chain traced script
+      (safe_map chips tracked states script h some) (script_for chips states script h)
+
+  pub safe_runs : SafeRunLaw
+  safe_runs = record { done = is_done; undriven = ends_undriven }

@@ -1,0 +1,33 @@
+-- A run on chips that are fitted for a game, behind the verdict on its cartridge.
+use Rattle.std.specs.Prelude.{◌≡◌, ℕ, ◌⊎◌, List, []}
+use Rattle.f8_spec.specs.ChipState.{ChipState}
+use Rattle.abs_step.specs.CartridgeAnalysis.{TellsBytes}
+use Rattle.abs_step.specs.MapView.{chips_view}
+use Rattle.cart_checker.specs.Verdicts.{RightVerdict, verdict_word}
+use Rattle.loader.specs.Games.{Game}
+use Rattle.outside.specs.SinkRules.{Output, Adds}
+use Rattle.channel_f.specs.Answers.{status_of}
+use Rattle.channel_f.specs.Manners.{run_fitted, lines_by}
+use Rattle.channel_f.specs.RackAfter.{OnFitted}
+use Rattle.channel_f.specs.Reports.{Reports}
+use Rattle.channel_f.specs.declared.manner.Manner.{Manner}
+
+-- memory was wanting before the first line
+pub record CheckWants (old new : Output) (said : ℕ) (fitted news : List ChipState) : Type 0 where
+  pub status : said ≡ 6
+  pub nothing : Adds old new []
+  pub same : news ≡ fitted
+
+-- the run is told behind the right verdict
+pub record RunsJudged (old new : Output) (said : ℕ) (manner : Manner) (game : Game) (chain : List ℕ)
+    (fitted news : List ChipState) : Type 0 where
+  pub right : RightVerdict game.cart
+  pub bytes : TellsBytes (chips_view game.cart.chips)
+  pub reports : Reports old new said (status_of (run_fitted manner game chain fitted).ending.stop)
+      (lines_by manner (verdict_word right.verdict) (run_fitted manner game chain fitted))
+  pub on : OnFitted old new said manner (verdict_word right.verdict) game.script.power chain
+      (run_fitted manner game chain fitted) fitted news
+
+abbrev pub PlaysJudged : Output → Output → ℕ → Manner → Game → List ℕ → List ChipState → List ChipState → Type 0
+PlaysJudged old new said manner game chain fitted news =
+    CheckWants old new said fitted news ⊎ RunsJudged old new said manner game chain fitted news

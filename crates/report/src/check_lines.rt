@@ -1,0 +1,115 @@
+// The lines of the verdict on a cartridge.
+ghost use Rattle.std.specs.Prelude.{◌≡◌, ◌+◌, ◌≤◌, ◌++◌, List, Option, ℕ, length};
+ghost use Rattle.report.specs.CheckLines.{return_text, value_text, values_text, point_text};
+ghost use Rattle.report.specs.CheckLines.{whole_line as spelled_whole, agreed_line as spelled_agreed};
+ghost use Rattle.report.specs.CheckLines.{refused_line as spelled_refused, toomany_line as spelled_toomany};
+
+use super::line_buffer::Line;
+use abs_domain::Point;
+use cartridge::Split;
+
+/// `whole`: every bus step of every run is served. So many points have a state.
+#[tactic(auto, unfolding(crate::specs::CheckLines::whole_line))]
+pub fn whole_line(points: u32) -> Line
+    ensures { result ≡ spelled_whole points }
+{
+    let mut line = Line::new();
+    line.text(b"whole ");
+    line.decimal(u64::from(points));
+    line.text(b"\n");
+    line
+}
+
+/// `agreed`: every bus step of every run is served, but a read at the data counter may find no chip that answers. So many points have a state.
+#[tactic(auto, unfolding(crate::specs::CheckLines::agreed_line))]
+pub fn agreed_line(points: u32) -> Line
+    ensures { result ≡ spelled_agreed points }
+{
+    let mut line = Line::new();
+    line.text(b"agreed ");
+    line.decimal(u64::from(points));
+    line.text(b"\n");
+    line
+}
+
+/// The return in four hexadecimal digits, or dashes where it is unset.
+fn write_return(line: &mut Line, ret: Option<u16>)
+    requires { length line.old + 4 ≤ 512 }
+    ensures text { line.new ≡ line.old ++ return_text ret }
+    ensures len { length line.new ≡ length line.old + 4 }
+{
+    match ret {
+        Some(at) => line.hex4(at),
+        None => line.text(b"----"),
+    }
+}
+
+/// The byte in a tracked register, or dashes where it is unset.
+fn write_value(line: &mut Line, value: Option<u8>)
+    requires { length line.old + 2 ≤ 512 }
+    ensures text { line.new ≡ line.old ++ value_text value }
+    ensures len { length line.new ≡ length line.old + 2 }
+{
+    match value {
+        Some(byte) => line.hex2(byte),
+        None => line.text(b"--"),
+    }
+}
+
+/// The bytes of all tracked registers, at most 8, with commas between, or a full stop where none is tracked.
+fn write_values(line: &mut Line, values: &[Option<u8>])
+    requires few { length values.now ≤ 8 }
+    requires room { length line.old + 23 ≤ 512 }
+    ensures text { line.new ≡ line.old ++ values_text values.now }
+    ensures len { length line.new ≤ length line.old + 23 }
+{
+    match values.split_first() {
+        Some((first, others)) => {
+            write_value(line, *first);
+            for value in others {
+                line.text(b",");
+                write_value(line, *value);
+            }
+        }
+        None => line.text(b"."),
+    }
+}
+
+/// A point by its address, its return and the bytes of the tracked registers.
+#[tactic(auto, unfolding(crate::specs::CheckLines::point_text))]
+fn write_point(line: &mut Line, point: &Point, split: &Split)
+    requires { length line.old + 33 ≤ 512 }
+    ensures text { line.new ≡ line.old ++ point_text split.now point.now }
+    ensures len { length line.new ≤ length line.old + 33 }
+{
+    let tracked = split.as_slice().len();
+    line.hex4(point.at);
+    line.text(b" ");
+    write_return(line, point.ret);
+    line.text(b" ");
+    write_values(line, &point.split[..tracked]);
+}
+
+/// `refused`: a state at this point isn't safe, for the reason of this number, 1 to 12. As many bytes of registers are told as `split` has.
+#[tactic(auto, unfolding(crate::specs::CheckLines::refused_line))]
+pub fn refused_line(point: &Point, split: &Split, reason: u8) -> Line
+    ensures { result ≡ spelled_refused split.now point.now reason }
+{
+    let mut line = Line::new();
+    line.text(b"refused ");
+    write_point(&mut line, point, split);
+    line.text(b" ");
+    line.small(reason);
+    line.text(b"\n");
+    line
+}
+
+/// `toomany`: more than 65,536 points have a state.
+#[tactic(auto, unfolding(crate::specs::CheckLines::toomany_line))]
+pub fn toomany_line() -> Line
+    ensures { result ≡ spelled_toomany }
+{
+    let mut line = Line::new();
+    line.text(b"toomany\n");
+    line
+}
