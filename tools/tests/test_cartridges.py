@@ -43,6 +43,18 @@ RUNS = [
         'regs P=0009 P1=0000 D0=0013 D1=2801 A=C0 IS=00 W=03',
         's00 03 00 00 00 00 00 00 00 00 00 00 00 00 00 00 00',
         'total 11 instructions 134 phi']),
+    (['play'], 'copied', 0, [
+        'verdict whole',
+        'stop done',
+        'regs P=0010 P1=0000 D0=2004 D1=2804 A=11 IS=00 W=07',
+        's00 00 00 00 00 00 00 00 00 00 00 00 00 00 00 00 00',
+        'total 100 instructions 1294 phi']),
+    (['play'], 'summed', 0, [
+        'verdict agreed',
+        'stop done',
+        'regs P=000D P1=0000 D0=0017 D1=0000 A=1F IS=00 W=07',
+        's00 00 1F 00 00 00 00 00 00 00 00 00 00 00 00 00 00',
+        'total 100 instructions 1126 phi']),
     (['play'], 'lighthouse', 0, [
         'frame 20 phi 596600 tone 0',
         'frame 40 phi 1193204 tone 0',
@@ -56,8 +68,15 @@ RUNS = [
 PARTED_WITHOUT_CHIPS = ['stop done', 'regs P=0010 P1=0000 D0=0016 D1=2804 A=11 IS=00 W=07', 'total 100 instructions 1294 phi']
 
 
+# The verdict on each cartridge. Where no register is tracked, the points are the instructions that a run can come to; of `copied`, the five
+# before the loop, six in each of its four turns, and the branch at the end. Those of `lighthouse` weren't counted by hand.
+VERDICTS = {
+    'product': (0, 'whole 30'), 'copied': (0, 'whole 30'), 'summed': (0, 'agreed 11'), 'two_roms': (0, 'agreed 27'), 'lighthouse': (0, 'agreed 1045'),
+    'parted': (7, 'refused 0009 ---- . 7'), 'heartbeat': (7, 'refused 0019 ---- . 10')}
+
+
 def run(command: list[str], name: str) -> tuple[int, list[str]]:
-    words = [*command, f'cartridges/{name}/cart.toml', f'cartridges/{name}/script.txt']
+    words = [*command, f'cartridges/{name}/cart.toml', *([] if command == ['check'] else [f'cartridges/{name}/script.txt'])]
     done = subprocess.run([PROGRAM, *words], cwd=TOP, capture_output=True, text=True, timeout=60)
     return done.returncode, done.stdout.splitlines()
 
@@ -73,8 +92,14 @@ class Cartridges(unittest.TestCase):
                 ended, lines = run(command, name)
                 self.assertEqual(ended, status)
                 self.assert_in_order(expected, lines)
-                self.assertEqual(lines[0] == 'verdict unchecked', command[0] == 'play')
+                self.assertEqual(lines[0].startswith('verdict '), command[0] == 'play')
                 self.assertTrue(lines[-1].startswith('total '))
+
+    def test_each_verdict_is_that_of_its_readme(self):
+        for name, (status, line) in VERDICTS.items():
+            with self.subTest(cartridge=name):
+                self.assertEqual(run(['check'], name), (status, [line]))
+                self.assertIn(line, (TOP / 'cartridges' / name / 'README.md').read_text())
 
     def test_copy_with_both_data_counters_is_done_without_chips(self):
         ended, lines = run(['ref'], 'parted')

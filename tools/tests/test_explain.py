@@ -133,12 +133,18 @@ class Explain(unittest.TestCase):
         self.assertIn('the port 0008', self.explained('stop undriven romc 1B at 0008', cart=two))
         self.assertRegex(self.explained('stop reserved FF at 0001'), '(?s)0001.*A ROM has FF')
 
+    @unittest.skipUnless(HAS_TOML, 'Python before 3.11 has no reader of TOML')
+    def test_verdicts_name_the_reason(self):
+        told = self.explained('refused 0009 ---- 03 7', cart='format = 1\nsplit = [5]\n' + CHIP.split('\n', 1)[-1] + 'rom = "2B"\n')
+        self.assertRegex(told, r'(?s)Reason 7: a data access.*What helps: .*0009 lies in chip 0.*r5 is 03.*The return is not known')
+        self.assertIn('`split`', call('explain', 'toomany').told)
+
     def test_the_line_may_have_lines_behind_it(self):
-        done = call('explain', stdin='verdict unchecked\nstop reserved 2D at 0000\nregs P=0000\ntotal 0 instructions 14 phi\n')
+        done = call('explain', stdin='verdict none\nstop reserved 2D at 0000\nregs P=0000\ntotal 0 instructions 14 phi\n')
         self.assertIn('Look whether 0000 holds data', done.told)
 
     def test_a_good_run_gets_no_word(self):
-        lines = 'verdict unchecked\nstop done\nregs P=0000\n'
+        lines = 'verdict whole\nstop done\nregs P=0000\n'
         done = call('explain', stdin=lines)
         self.assertEqual((done.text, done.told, done.returncode), (lines, '', 0))
         self.assertEqual(call('explain').told, '')

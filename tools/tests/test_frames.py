@@ -11,7 +11,7 @@ from pathlib import Path
 import tool
 from tool import call, frame, needs_program
 
-BEFORE = 'verdict unchecked\nout 32 00 20\n'
+BEFORE = 'verdict whole\nout 32 00 20\n'
 AFTER = 'stop done\nregs P=0009\n'
 # Row 0 begins with 0 1 2 3, and row 1 with 3 3 3 3.
 CORNER = ['0123' + '0' * 124, '3333' + '0' * 124] + ['0' * 128] * 62
@@ -21,7 +21,7 @@ class Frames(unittest.TestCase):
     def test_plain_picture_stands_behind_its_line(self):
         done = call('frames', '--plain', stdin=BEFORE + frame(rows=CORNER) + AFTER)
         lines = done.text.split('\n')
-        self.assertEqual(lines[:3], ['verdict unchecked', 'frame 20 phi 596600 tone 0', '_jg#'])
+        self.assertEqual(lines[:3], ['verdict whole', 'frame 20 phi 596600 tone 0', '_jg#'])
         self.assertEqual(lines[34:], ['stop done', 'regs P=0009', ''])
         self.assertEqual((done.returncode, done.told), (0, ''))
 

@@ -15,7 +15,7 @@ needs_toml = unittest.skipUnless(sys.version_info >= (3, 11), 'Python before 3.1
 PARTED = ('cartridges/parted/cart.toml', 'cartridges/parted/script.txt')
 # A 3851 with the bytes 71 2B 90 FE: LIS 1, NOP, and a branch to the NOP.
 CART = 'format = 1\n[[chip]]\nkind = "3851"\nbase = 0x0000\nports = 4\nrom = "712B90FE"\n'
-RUN = '''verdict unchecked
+RUN = '''verdict whole
 bus 1C S 00 -
 bus 08 L 00 cpu
 bus 00 S 71 0
@@ -45,7 +45,7 @@ class Trace(unittest.TestCase):
     def test_steps_stand_below_their_instruction(self):
         done = self.piped()
         self.assertEqual([line.rstrip() for line in done.text.split('\n')], [
-            'verdict unchecked',
+            'verdict whole',
             '                                   reference            0: 3851 at 0000',
             '   step  code      from   at       PC0  PC1  DC0  DC1   PC0   PC1   DC0',
             '         reset',

@@ -1,0 +1,59 @@
+"""Verdicts on large cartridges, on the built program: as many points as there may be, one more, and the generated cartridge."""
+from __future__ import annotations
+
+import subprocess
+import tempfile
+import unittest
+from pathlib import Path
+
+from tool import PROGRAM, needs_program
+
+# Two loops, one in the other: r1 counts 127 times what r0 counts 254 times. Each NOP behind them is a point more. The numbers of points were
+# computed by a model of the checker that was written apart.
+LOOPS = bytes.fromhex('207F5120FE503094FE3194F8')
+END = bytes.fromhex('90FF')
+OPCODES = bytes.fromhex('12131415 18191F40 5152C1D2 E3F433B4')
+
+
+def generated(seed: int) -> bytes:
+    """The bytes of the cartridge that `gen` makes, by the README of the crate generator."""
+    state, code = seed, bytearray()
+    for _ in range(12_285):
+        state = (1_664_525 * state + 1_013_904_223) % 2**32
+        code.append(OPCODES[(state >> 24) % 16])
+    return bytes(code) + b'\x29\x00\x00'
+
+
+def checked(code: bytes, tracked: list[int], keys: str = '') -> tuple[int, str]:
+    """The status and the line of `check`, for 3851s one behind another that hold the bytes, each with these keys besides."""
+    chips = [f'[[chip]]\nkind = "3851"\nbase = {at}\nports = {4 + at // 256}\nrom = "{code[at:at + 1024].hex()}"\n{keys}' for at in range(0, len(code), 1024)]
+    with tempfile.TemporaryDirectory() as folder:
+        cart = Path(folder) / 'cart.toml'
+        cart.write_text(f'format = 1\nsplit = {tracked}\n' + ''.join(chips))
+        done = subprocess.run([PROGRAM, 'check', cart], capture_output=True, text=True, timeout=60)
+    return done.returncode, done.stdout
+
+
+@needs_program
+class Verdicts(unittest.TestCase):
+    def test_as_many_points_as_there_may_be(self):
+        self.assertEqual(checked(LOOPS + 509 * b'\x2B' + END, [0, 1]), (0, 'whole 65536\n'))
+
+    def test_one_point_more(self):
+        self.assertEqual(checked(LOOPS + 510 * b'\x2B' + END, [0, 1]), (7, 'toomany\n'))
+
+    def test_calls_are_followed_where_the_return_is_tracked(self):
+        code = bytes.fromhex('28001028001090FF').ljust(16, b'\xFF') + bytes.fromhex('082800200C').ljust(16, b'\xFF') + b'\x1C'
+        self.assertEqual(checked(code, [12, 13]), (0, 'whole 11\n'))
+        self.assertEqual(checked(code, []), (7, 'refused 0014 0014 . 4\n'))
+
+    def test_interrupts_are_refused(self):
+        code = bytes.fromhex('71B6BA1B90FF').ljust(0x180, b'\xFF') + b'\x1B\x1C'
+        self.assertEqual(checked(code, [], 'vector = 0x0100\ninterrupt = true\n'), (7, 'refused 0004 ---- . 10\n'))
+
+    def test_the_generated_cartridge(self):
+        self.assertEqual(checked(generated(1), []), (0, 'whole 12286\n'))
+
+
+if __name__ == '__main__':
+    unittest.main()
