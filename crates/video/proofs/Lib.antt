@@ -1,4 +1,6 @@
 pub mod DarkRows
 pub mod DisplayLaws
+pub mod IndexedLists
+pub mod PlaneLaws
 pub mod RowTexts
 pub mod ShownLaws

@@ -1,20 +1,21 @@
 -- What is shown after some writes, and after one more.
-use Rattle.std.proofs.Common.{◌≡◌, ◌≢◌, ℕ, ◌+◌, ◌<◌, true, false, List, [], ◌∷◌, ◌++◌, length, get_or, set, map, refl}
-use Rattle.std.proofs.Common.{sym, ap, ◌∙◌, arith, ⊎_elim, eq-eqb, lit<}
+use Rattle.std.proofs.Common.{◌≡◌, ◌≢◌, ℕ, ◌+◌, ◌<◌, true, false, List, [], ◌∷◌, ◌++◌, get_or, set, map, refl}
+use Rattle.std.proofs.Common.{sym, ap, ◌∙◌, arith, eq-eqb, lit<}
 use Rattle.std.specs.Prelude.{Bool, ◌&&◌, ◌==◌, if◌then◌else◌, codes}
 use Rattle.std.specs.List.{range_with_len}
 use Rattle.std.proofs.lemmas.Simd.{map-map}
-use Rattle.std.proofs.lemmas.List.{length-set, get_or-set_same, get_or-set_other}
-use Rattle.std.proofs.lemmas.Bool.{cases_eq}
 use Rattle.std.proofs.lemmas.Grind.{common_steps}
-use Rattle.std.proofs.lemmas.List.FromFn.{length-map-range_with_len, get_or-map-range_with_len, fill_by_all}
+use Rattle.std.proofs.lemmas.List.FromFn.{get_or-map-range_with_len}
 use Rattle.console_spec.specs.Writes.{latch_of}
 use Rattle.console_spec.specs.declared.PortWrite.{PortWrite}
 use Rattle.console_spec.specs.Display.{is_raised, is_rise, pixel_of, palette_of}
 use Rattle.console_spec.specs.RunText.{picture_row}
-use Rattle.video.specs.ScreenState.{Latches, Shown, rows_of, latches_of, screen_after, row_in, pixel_in, digits_in}
+use Rattle.video.specs.ScreenState.{Latches, Shown, rows_of, latches_of, screen_after, row_in, pixel_in, palette_in, digits_in}
 use Rattle.video.specs.ScreenState.{colour_drawn, x_drawn, y_drawn, drawn, after_write}
+use Rattle.video.specs.Planes.{plane_of}
 use Rattle.video.proofs.DisplayLaws.{pixel_of-next}
+use Rattle.video.proofs.IndexedLists.{map-same, set-made}
+use Rattle.video.proofs.PlaneLaws.{plane_of-same}
 
 -- ---- rows made of colours
 
@@ -26,28 +27,11 @@ pub pixel_in-rows_of : (p : ℕ → ℕ → ℕ) (x y : ℕ) → x < 128 → y <
 pixel_in-rows_of p x y inside below =
     ap (λ row. get_or row x 0) (row_in-rows_of p y below) ∙ get_or-map-range_with_len (λ k. p k y) 0 128 x x 0 inside (omega arith)
 
--- lists made by two functions that agree
-map-same : {X : Type 0} (f g : ℕ → X) (n : ℕ) (d : X) → ((k : ℕ) → k < n → f k ≡ g k) → map f (range_with_len 0 n) ≡ map g (range_with_len 0 n)
-map-same f g n d same =
-    fill_by_all g (map f (range_with_len 0 n)) n d (length-map-range_with_len f 0 n)
-    (λ k h. get_or-map-range_with_len f 0 n k k d h (omega arith) ∙ same k h)
-
 pub rows_of-same : (p q : ℕ → ℕ → ℕ) → ((x y : ℕ) → x < 128 → y < 64 → p x y ≡ q x y) → rows_of p ≡ rows_of q
 unfolding rows_of
 rows_of-same p q same =
     map-same (λ y. map (λ x. p x y) (range_with_len 0 128)) (λ y. map (λ x. q x y) (range_with_len 0 128)) 64 []
     (λ y below. map-same (λ x. p x y) (λ x. q x y) 128 0 (λ x inside. same x y inside below))
-
--- a list made by f with one element set is made by g, which differs there alone
-set-made : {X : Type 0} (f g : ℕ → X) (n i : ℕ) (v : X) → i < n → g i ≡ v → ((k : ℕ) → k < n → k ≢ i → g k ≡ f k) →
-    set (map f (range_with_len 0 n)) i v ≡ map g (range_with_len 0 n)
-set-made {X} f g n i v inside here elsewhere =
-    let xs : List X = map f (range_with_len 0 n) in
-    let long : length xs ≡ n = length-map-range_with_len f 0 n in
-    fill_by_all g (set xs i v) n v (length-set xs i v ∙ long) (λ k h. ⊎_elim
-    (λ same. let place : i < length xs = omega arith in ap (λ j. get_or (set xs i v) j v) same ∙ get_or-set_same xs i v v place ∙ sym here ∙ ap g (sym same))
-    (λ differs. get_or-set_other xs i k v v differs ∙ get_or-map-range_with_len f 0 n k k v h (omega arith) ∙ sym (elsewhere k h differs))
-    (cases_eq k i))
 
 abbrev is_drawn_at : ℕ → ℕ → Latches → Bool
 is_drawn_at x y l = (x_drawn l == x) && (y_drawn l == y)
@@ -118,6 +102,16 @@ goes_on now after w ws next before = next ∙ ap (after_write w.port w.byte) bef
 
 pub shown_pixel : (s : Shown) (ws : List PortWrite) (x y : ℕ) → s ≡ screen_after ws → x < 128 → y < 64 → pixel_in s.rows x y ≡ pixel_of x y ws
 shown_pixel s ws x y e inside below = ap (λ t. pixel_in t.rows x y) e ∙ pixel_in-rows_of (pixels_of ws) x y inside below
+
+pub shown_palette : (s : Shown) (ws : List PortWrite) (y : ℕ) → s ≡ screen_after ws → y < 64 → palette_in (pixel_in s.rows) y ≡ palette_of y ws
+shown_palette s ws y e below =
+    let first : pixel_in s.rows 125 y ≡ pixel_of 125 y ws = shown_pixel s ws 125 y e (lit< tt) below in
+    let second : pixel_in s.rows 126 y ≡ pixel_of 126 y ws = shown_pixel s ws 126 y e (lit< tt) below in
+    cc
+
+pub shown_plane : (s : Shown) (ws : List PortWrite) (y bit : ℕ) → s ≡ screen_after ws → y < 64 →
+    plane_of (λ x. pixel_in s.rows x y) bit ≡ plane_of (λ x. pixel_of x y ws) bit
+shown_plane s ws y bit e below = plane_of-same (λ x. pixel_in s.rows x y) (λ x. pixel_of x y ws) bit (λ x h. shown_pixel s ws x y e h below)
 
 digits_in-row : (ws : List PortWrite) (y : ℕ) → digits_in (pixels_of ws) y ++ codes "\n" ≡ picture_row y ws
 unfolding digits_in picture_row

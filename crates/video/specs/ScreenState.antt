@@ -36,6 +36,10 @@ row_in rows y = slice_index_or rows y []
 abbrev pub pixel_in : List (List ℕ) → ℕ → ℕ → ℕ
 pixel_in rows x y = slice_index (row_in rows y) x
 
+-- the colours of a row as the pixels of a screen of which each row is that one
+abbrev pub in_each_row : List ℕ → ℕ → ℕ → ℕ
+in_each_row row x y = slice_index row x
+
 -- ---- what is told
 
 -- the palette of a row of pixels: the high bit of pixel 125, and twice that of pixel 126

@@ -1,4 +1,4 @@
-// Pixels, palettes and rows.
+// Pixels, palettes, rows and their planes.
 use super::*;
 
 // a screen that was given some writes, each a port and a byte
@@ -28,6 +28,8 @@ fn draws_at_rises(rt: HostRuntime) {
     last[129] = b'3';
     assert!(rt; screen.row_text(63) == last);
     assert_eq!(rt; screen.palette(63), 1);
+    assert_eq!(rt; screen.plane(63, 0), 1 << 127 | 1 << 125);
+    assert_eq!(rt; screen.plane(63, 1), 1 << 127 | 1 << 125);
     let mut blank = [b'0'; 130];
     blank[1] = b' ';
     for y in 0..63 {
@@ -42,6 +44,28 @@ fn one_pixel(rt: HostRuntime) {
     assert_eq!(rt; screen.pixel(6, 8), 0);
     assert_eq!(rt; screen.palette(8), 0);
     assert_eq!(rt; screen.tone(), 0);
+}
+
+// Pixels 5 and 6 of row 8 get the colours 1 and 2, and then pixel 5 gets 2 as well.
+#[test]
+fn draws_over(rt: HostRuntime) {
+    let mut screen = written(&[
+        (1, 0x80),
+        (4, 0xFA),
+        (5, 0x37),
+        (0, 0x20),
+        (0, 0x00),
+        (1, 0x40),
+        (4, 0xF9),
+        (0, 0x20),
+    ]);
+    assert_eq!(rt; screen.plane(8, 0), 1 << 5);
+    assert_eq!(rt; screen.plane(8, 1), 1 << 6);
+    screen.port(0, 0x00);
+    screen.port(4, 0xFA);
+    screen.port(0, 0x20);
+    assert_eq!(rt; screen.plane(8, 0), 0);
+    assert_eq!(rt; screen.plane(8, 1), 1 << 5 | 1 << 6);
 }
 
 #[test]

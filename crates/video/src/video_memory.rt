@@ -1,4 +1,5 @@
 // The screen: video memory and the latches of its ports.
+use super::pixel_row::PixelRow;
 use std::marker::Model;
 
 /// The screen of the console: video memory of 128 by 64 pixels of 2 bits, and the latches of the ports that write it. The rules are this
@@ -17,23 +18,20 @@ pub struct Screen {
     /// Bit 5 of the byte last written to port 0 is set.
     strobe: bool,
 
-    /// A row a line, from y 0 on, and its pixels from x 0 on. Each is below 4.
-    pixels: [[u8; 128]; 64],
+    /// The rows of pixels, from y 0 on.
+    rows: [PixelRow; 64],
 }
 
 impl Model for Screen {
-    ghost use Rattle.std.specs.Prelude.{ℕ, ◌<◌};
-    ghost use Rattle.video.specs.ScreenState.{Shown, pixel_in};
+    ghost use Rattle.video.specs.ScreenState.{Shown};
 
     ghost Value = { Shown };
 
     ghost view = { λ s. record {
       latches = record { colour = s.colour; column = s.column; row = s.row };
       strobe = s.strobe;
-      rows = s.pixels;
+      rows = s.rows;
     } };
-
-    ghost invariant = { λ s. (x y : ℕ) → pixel_in s.pixels x y < 4 };
 }
 
 impl Screen {
@@ -41,7 +39,8 @@ impl Screen {
     ghost use Rattle.console_spec.specs.declared.PortWrite.{PortWrite};
     ghost use Rattle.console_spec.specs.Display.{pixel_of, palette_of, tone_of};
     ghost use Rattle.console_spec.specs.RunText.{picture_row};
-    ghost use Rattle.video.specs.ScreenState.{pixel_in, palette_in, digits_in, screen_after, drawn, after_write};
+    ghost use Rattle.video.specs.Planes.{plane_of};
+    ghost use Rattle.video.specs.ScreenState.{row_in, pixel_in, palette_in, digits_in, screen_after, drawn, after_write};
 
     /// A screen at power-on: every pixel and every latch is 0.
     pub fn dark() -> Screen
@@ -52,7 +51,7 @@ impl Screen {
             column: 0,
             row: 0,
             strobe: false,
-            pixels: [[0; 128]; 64],
+            rows: [PixelRow::blank(); 64],
         }
     }
 
@@ -87,9 +86,17 @@ impl Screen {
     fn draw(&mut self)
         ensures { self.new ≡ record self.old { rows = drawn self.old.latches self.old.rows } }
     {
-        let x = usize::from((255 - self.column) % 128);
+        let x = (255 - self.column) % 128;
         let y = usize::from((255 - self.row) % 64);
-        self.pixels[y][x] = (255 - self.colour) / 64;
+        self.rows[y].set_pixel(x, (255 - self.colour) / 64);
+    }
+
+    /// The row of pixels at `y`.
+    fn row_at(&self, y: u8) -> &PixelRow
+        requires { y < 64 }
+        ensures { result.now ≡ row_in self.now.rows y }
+    {
+        &self.rows[usize::from(y)]
     }
 
     /// The colour of a pixel, from 0 to 3. `x` is below 128 and `y` below 64.
@@ -101,7 +108,7 @@ impl Screen {
         ensures display { (ws : List PortWrite) → self.now ≡ screen_after ws →
             result ≡ pixel_of x y ws }
     {
-        self.pixels[usize::from(y)][usize::from(x)]
+        self.row_at(y).pixel(x)
     }
 
     /// The palette of a row, from 0 to 3: the high bit of its pixel 125, and twice that of its pixel 126. `y` is below 64.
@@ -112,7 +119,7 @@ impl Screen {
         ensures display { (ws : List PortWrite) → self.now ≡ screen_after ws →
             result ≡ palette_of y ws }
     {
-        self.pixel(125, y) / 2 + 2 * (self.pixel(126, y) / 2)
+        self.row_at(y).palette()
     }
 
     /// The text of a row: the digit of its palette, a blank, and the digits of its 128 pixels from x 0 on. `y` is below 64.
@@ -122,12 +129,19 @@ impl Screen {
         ensures display { (ws : List PortWrite) → self.now ≡ screen_after ws →
             result ++ codes "\n" ≡ picture_row y ws }
     {
-        let mut text = [b' '; 130];
-        text[0] = b'0' + self.palette(y);
-        for x in 0..128 {
-            text[usize::from(x) + 2] = b'0' + self.pixel(x, y);
-        }
-        text
+        self.row_at(y).text()
+    }
+
+    /// A plane of a row: the number of which bit x is bit `bit` of the colour of the pixel at `x` and `y`, for `x` from 0 to 127. `y` is below
+    /// 64, and `bit` is 0 or 1.
+    pub fn plane(&self, y: u8, bit: u8) -> u128
+        requires row { y < 64 }
+        requires bit { bit < 2 }
+        ensures value { result ≡ plane_of (λ x. pixel_in self.now.rows x y) bit }
+        ensures display { (ws : List PortWrite) → self.now ≡ screen_after ws →
+            result ≡ plane_of (λ x. pixel_of x y ws) bit }
+    {
+        self.row_at(y).plane(bit)
     }
 
     /// The number of the tone, from 0 to 3: the high two bits of the latch of port 5.
