@@ -1,5 +1,3 @@
-pub mod WordLaws
-pub mod NumberLaws
 pub mod LineSteps
 pub mod Told
 pub mod FirstFault

@@ -15,9 +15,10 @@ use Rattle.pad_script.specs.declared.statement.Statement.{Statement}
 use Rattle.pad_script.specs.declared.statement.Statement.TheVariants.{Power, Ends, Comes, Shows}
 use Rattle.pad_script.specs.Answers.{made_of}
 use Rattle.pad_script.specs.Limits.{HasLimits}
-use Rattle.pad_script.specs.Words.{is_skipped, lone, words}
+use Rattle.line_words.specs.Words.{is_skipped, lone, words}
 use Rattle.text_lines.specs.Lines.{lines}
-use Rattle.pad_script.specs.Numbers.{byte_of, number_of, within}
+use Rattle.line_words.specs.Numbers.{byte_of, number_of}
+use Rattle.pad_script.specs.Numbers.{within}
 use Rattle.pad_script.specs.Reading.{SaysOfText, script_of}
 use Rattle.pad_script.specs.Statements.{at_frame, event_of, frames, keys_of, keys_with, line_of, power, pulse_of}
 use Rattle.pad_script.specs.Statements.{pulse_with, setting, setting_of, show, statement_of, steps, with_byte}

@@ -5,7 +5,7 @@ use Rattle.hex.specs.Hex.{decode_pairs}
 use Rattle.pad_script.specs.declared.answers.ScriptCause.TheVariants.{Number, NoEnd}
 use Rattle.console_spec.specs.declared.Event.TheVariants.{Keys}
 use Rattle.console_spec.specs.declared.End.TheVariants.{Frames}
-use Rattle.pad_script.specs.Numbers.{decimal_on}
+use Rattle.line_words.specs.Numbers.{decimal_on}
 use Rattle.pad_script.specs.Reading.{script_at_end, no_draft, read_line, read_lines, draft_after, script_of}
 use Rattle.pad_script.specs.Statements.{frames, line_of, power, show, steps}
 

@@ -9,9 +9,10 @@ use Rattle.console_spec.specs.declared.End.TheVariants.{Frames, Steps}
 use Rattle.pad_script.specs.declared.statement.Statement.{Statement}
 use Rattle.pad_script.specs.declared.statement.Statement.TheVariants.{Power, Ends, Comes, Shows}
 use Rattle.pad_script.specs.Answers.{made_of}
-use Rattle.pad_script.specs.Words.{is_skipped, words, lone}
+use Rattle.line_words.specs.Words.{is_skipped, words, lone}
 use Rattle.text_lines.specs.Printable.{is_printable}
-use Rattle.pad_script.specs.Numbers.{byte_of, number_of, within}
+use Rattle.line_words.specs.Numbers.{byte_of, number_of}
+use Rattle.pad_script.specs.Numbers.{within}
 
 -- ---- events
 

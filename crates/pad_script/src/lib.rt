@@ -10,7 +10,6 @@ mod read;
 mod script;
 mod show_list;
 mod statement;
-mod words;
 
 pub use answers::{ScriptAnswer, ScriptCause, ScriptFault};
 pub use event_list::EventList;

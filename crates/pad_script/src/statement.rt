@@ -1,12 +1,12 @@
 // The six forms of a line.
 ghost use Rattle.std.specs.Prelude.{◌≡◌, bytes_eq};
-ghost use Rattle.pad_script.specs.Words.{words};
+ghost use Rattle.line_words.specs.Words.{words};
 ghost use Rattle.pad_script.specs.Statements.{keys_at, pulse_at, power, frames, steps, show, event_of as spelled_event, setting as spelled_setting, statement_of as spelled_statement, line_of as spelled_line};
 
 use super::answers::ScriptCause;
-use super::numbers::{byte_of, number_of, number_within};
+use super::numbers::number_within;
 use super::script::{At, End, Event};
-use super::words::{first_word, is_skipped, only_word};
+use line_words::{byte_of, first_word, is_skipped, number_of, only_word};
 use text_lines::all_printable;
 
 /// The last frame at which a run ends or that is shown.

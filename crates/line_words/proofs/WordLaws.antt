@@ -6,7 +6,7 @@ use Rattle.std.specs.List.{list_all}
 use Rattle.std.proofs.Math.Seq.{drop-cons}
 use Rattle.std.proofs.lemmas.List.{take_all}
 use Rattle.std.proofs.lemmas.Bool.Decides.{nat_tests}
-use Rattle.pad_script.specs.Words.{words, lone}
+use Rattle.line_words.specs.Words.{words, lone}
 use Rattle.text_lines.specs.Lines.{with_first}
 
 -- a byte is no blank

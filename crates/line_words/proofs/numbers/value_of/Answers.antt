@@ -1,7 +1,7 @@
 -- The digits so far make the value.
 use Rattle.std.proofs.Common.{arith}
-use Rattle.pad_script.proofs.NumberLaws.{small_value}
-use Rattle.pad_script.proofs.numbers.value_of.Goals as goal
+use Rattle.line_words.proofs.NumberLaws.{small_value}
+use Rattle.line_words.proofs.numbers.value_of.Goals as goal
 
 pub overflow_mul-value : goal.overflow_mul-value
 overflow_mul-value c =

@@ -1,6 +1,6 @@
 -- No blank stands before this place.
-use Rattle.pad_script.proofs.WordLaws.{NoBlank}
-use Rattle.pad_script.proofs.words.first_word.Given as goal
+use Rattle.line_words.proofs.WordLaws.{NoBlank}
+use Rattle.line_words.proofs.words.first_word.Given as goal
 
 -- no blank has been passed
 abbrev pub invariant-loop-at : goal.invariant-loop-at

@@ -1,8 +1,8 @@
 -- A word without blanks is the only one.
 use Rattle.std.proofs.Common.{◌≡◌, ◌∷◌, sym, ◌∙◌, ap}
-use Rattle.pad_script.specs.Words.{lone, words}
-use Rattle.pad_script.proofs.WordLaws.{not_lone}
-use Rattle.pad_script.proofs.words.only_word.Goals as goal
+use Rattle.line_words.specs.Words.{lone, words}
+use Rattle.line_words.proofs.WordLaws.{not_lone}
+use Rattle.line_words.proofs.words.only_word.Goals as goal
 
 pub returns-in_default-Some : goal.returns-in_default-Some
 returns-in_default-Some c =

@@ -1,6 +1,6 @@
 // The words of a line, and lines that are skipped.
 ghost use Rattle.std.specs.Prelude.{◌≡◌, ◌∷◌, [], option_map, unwrap_or};
-ghost use Rattle.pad_script.specs.Words.{is_skipped as is_not_read, is_space, lone, words};
+ghost use Rattle.line_words.specs.Words.{is_skipped as is_not_read, is_space, lone, words};
 ghost use Rattle.std.specs.List.{list_all};
 
 /// The first word of a text, and what follows the blank behind it.

@@ -2,8 +2,8 @@
 use Rattle.std.proofs.Common.{◌≡◌, arith, get_or}
 use Rattle.std.proofs.lemmas.Bool.Decides.{nat_tests}
 use Rattle.std.proofs.lemmas.List.{take_rest}
-use Rattle.pad_script.proofs.WordLaws.{split_at_blank, whole_word}
-use Rattle.pad_script.proofs.words.first_word.Goals as goal
+use Rattle.line_words.proofs.WordLaws.{split_at_blank, whole_word}
+use Rattle.line_words.proofs.words.first_word.Goals as goal
 
 pub returns-then-byte-eq32 : goal.returns-then-byte-eq32
 returns-then-byte-eq32 c =

@@ -1,7 +1,7 @@
 -- so many digits make a value below that power of ten, and the digits that are left go on from it
 use Rattle.std.proofs.Common.{◌≡◌, ◌<◌, ◌^◌, drop}
-use Rattle.pad_script.specs.Numbers.{decimal_on}
-use Rattle.pad_script.proofs.numbers.value_of.Given as goal
+use Rattle.line_words.specs.Numbers.{decimal_on}
+use Rattle.line_words.proofs.numbers.value_of.Given as goal
 
 abbrev pub invariant-loop-digit : goal.invariant-loop-digit
 invariant-loop-digit l = record {

@@ -1,0 +1,3 @@
+pub mod WordNumbers
+pub mod LineSteps
+mod WorkedCommands

@@ -1,0 +1,74 @@
+// What is wrong with a command file.
+ghost use Rattle.std.specs.Prelude.{◌≡◌};
+ghost use Rattle.chip_debug.specs.Answers.{cause_number};
+
+use std::alloc::AllocFailed;
+use thiserror::Error;
+
+/// What is wrong with a line.
+#[derive(Clone, Copy, Debug, PartialEq, Eq, Error)]
+pub enum DebugCause {
+    /// A byte that isn't printable ASCII, or words that make no command.
+    #[error("no command")]
+    Word,
+    /// The digits of a number are out of form.
+    #[error("not a number")]
+    Number,
+    /// A number is too small or too large for its place.
+    #[error("out of range")]
+    Range,
+    /// With this line's count the file asks for more than 10,000,000 instructions.
+    #[error("too many instructions")]
+    Total,
+}
+
+impl DebugCause {
+    /// The number of the cause, 1 to 4.
+    pub fn number(self) -> u8
+        ensures { result ≡ cause_number self }
+    {
+        match self {
+            DebugCause::Word => 1,
+            DebugCause::Number => 2,
+            DebugCause::Range => 3,
+            DebugCause::Total => 4,
+        }
+    }
+}
+
+/// The first fault of a text. Lines are counted from 1, blank lines and comments too.
+#[derive(Clone, Copy, Debug, PartialEq, Eq, Error)]
+#[error("line {line}: {cause}")]
+pub struct DebugFault {
+    pub line: u32,
+    pub cause: DebugCause,
+}
+
+/// Why a text is no list of commands.
+#[derive(Clone, Copy, Debug, PartialEq, Eq, Error)]
+pub enum DebugAnswer {
+    /// The text is at fault.
+    #[error("{0}")]
+    Fault(DebugFault),
+    /// Memory is missing, at a line that has a command.
+    #[error("out of memory")]
+    Memory,
+}
+
+/// A fault of a line.
+pub(crate) fn fault(line: u32, cause: DebugCause) -> DebugAnswer
+    ensures { result ≡ DebugAnswer.Fault (record { line = line; cause = cause }) }
+{
+    DebugAnswer::Fault(DebugFault { line, cause })
+}
+
+impl<T: Drop> From<AllocFailed<T>> for DebugAnswer {
+    ghost use Rattle.std.specs.Prelude.{◌≡◌};
+    ghost use Rattle.chip_debug.specs.declared.answers.DebugAnswer.TheVariants.{Memory};
+
+    ghost from_gives = { λ _ e. e ≡ Memory };
+
+    fn from(_error: AllocFailed<T>) -> DebugAnswer {
+        DebugAnswer::Memory
+    }
+}

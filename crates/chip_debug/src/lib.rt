@@ -1,0 +1,18 @@
+//! The chip-level debugger (this project's own): the reader of its command file, and a session that carries the commands out on a rack.
+#![tactic(auto)]
+
+mod answers;
+mod command;
+mod command_line;
+mod command_list;
+mod draft;
+mod numbers;
+mod read;
+
+pub use answers::{DebugAnswer, DebugCause, DebugFault};
+pub use command::Command;
+pub use command_list::CommandList;
+pub use read::read_commands;
+
+#[cfg(test)]
+mod tests;

@@ -1,0 +1,50 @@
+// Bytes, addresses and numbers that words spell.
+ghost use Rattle.std.specs.Prelude.{◌≡◌, ◌≤◌, length};
+ghost use Rattle.line_words.specs.Numbers.{byte_of as spelled_byte, address_of as spelled_address, decimal_on, number_of as spelled_number};
+
+use hex::FromHex;
+
+/// The most digits of a decimal number.
+const MOST_DIGITS: usize = 7;
+
+/// The byte of two hexadecimal digits of either case, and `None` where the word isn't two such digits.
+pub fn byte_of(word: &[u8]) -> Option<u8>
+    ensures { result ≡ spelled_byte word.now }
+{
+    let bytes = <[u8; 1] as FromHex>::from_hex(word).ok()?;
+    Some(bytes[0])
+}
+
+/// The address of four hexadecimal digits of either case, and `None` where the word isn't four such digits.
+pub fn address_of(word: &[u8]) -> Option<u16>
+    ensures { result ≡ spelled_address word.now }
+{
+    let bytes = <[u8; 2] as FromHex>::from_hex(word).ok()?;
+    Some(u16::from(bytes[0]) * 256 + u16::from(bytes[1]))
+}
+
+/// The number that at most seven decimal digits make.
+#[tactic(auto, unfolding(crate::specs::Numbers::decimal_on))]
+fn value_of(digits: &[u8]) -> Option<u32>
+    requires { length digits.now ≤ 7 }
+    ensures { result ≡ decimal_on 0 digits.now }
+{
+    let mut value = 0u32;
+    for digit in digits {
+        if !digit.is_ascii_digit() {
+            return None;
+        }
+        value = 10 * value + u32::from(*digit - b'0');
+    }
+    Some(value)
+}
+
+/// The number of one to seven decimal digits, zeros in front allowed, and `None` where the word isn't such a number.
+pub fn number_of(word: &[u8]) -> Option<u32>
+    ensures { result ≡ spelled_number word.now }
+{
+    if word.is_empty() || word.len() > MOST_DIGITS {
+        return None;
+    }
+    value_of(word)
+}
