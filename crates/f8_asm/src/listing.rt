@@ -25,6 +25,13 @@ impl Model for Text {
 }
 
 impl Text {
+    /// The text of a vector's bytes, which is kept as it is.
+    pub fn from_vec(bytes: Vec<u8>) -> Text
+        ensures { result ≡ bytes.items }
+    {
+        Text { bytes }
+    }
+
     /// The text's bytes.
     pub fn as_bytes(&self) -> &[u8]
         ensures { result.now ≡ self.now }

@@ -1,0 +1,16 @@
+mod Marks
+mod NumberLaws
+mod BytesRead
+mod ValuesRead
+mod ScratchpadReads
+mod Within
+mod PartRanges
+mod BitReads
+mod EntryPut
+mod EntriesRead
+mod PartsAgain
+mod ReadFits
+mod EntriesAgain
+mod LineEnds
+pub mod RoundTrip
+mod WorkedCertificates

@@ -1,0 +1,6 @@
+pub mod Answers
+pub mod Parts
+pub mod Entries
+pub mod EntryView
+pub mod CertificateText
+pub mod CertificateLaws
