@@ -1,22 +1,38 @@
 //! Acknowledgements of an interrupt, in which the named chip alone drives, wherever the counters are.
+ghost use Rattle.std.specs.Prelude.{map, IfOk};
+ghost use Rattle.bus_rows.specs.Indexed.{Fits};
+
+use super::bus::{Bus, WAYS, Way, pulse};
 use super::cart::{Cart, empty, psu_at, smi_at};
 use super::seats::{PsuSeat, psu, smi};
 use super::walk::walk;
 use chip_face::{Chip, PageSort};
 use data_bus::Rack;
-use probe::Probe;
 use romc_table::Romc;
 use std::alloc::Global;
 use std::process::Abort;
 use std::test::Fail;
 
-/// A pulse to each of the first three chips, which ask from then on.
-fn pulse_three(rt: &impl Abort, rack: &mut Rack) {
-    for (socket, chip) in rack.iter_mut().enumerate().take(3) {
-        assert_eq!(rt; chip.asks(), false, "socket {socket}");
-        chip.pulse();
-        assert_eq!(rt; chip.asks(), true, "socket {socket}");
+/// The chip in a socket asks for an interrupt.
+fn asks(rack: &Rack, socket: usize) -> bool {
+    match rack.get(socket) {
+        Some(chip) => chip.asks(),
+        None => false,
     }
+}
+
+/// A pulse to a chip, which asks from then on.
+fn pulse_one(rt: &impl Abort, rack: &mut Rack, bus: &Bus, socket: usize) -> Result<(), Fail>
+    requires fits { Fits bus.now.index bus.now.probe (map state rack.old.items) }
+    ensures fits { IfOk result (λ done. Fits bus.now.index bus.now.probe (map state rack.new.items)) }
+{
+    assert_eq!(rt; asks(rack, socket), false, "socket {socket}");
+    if socket >= rack.len() {
+        return Err("no such socket".into());
+    }
+    pulse(rack, bus, socket);
+    assert_eq!(rt; asks(rack, socket), true, "socket {socket}");
+    Ok(())
 }
 
 /// Both halves of the vector of the chip in a socket, whose request then ends.
@@ -24,29 +40,28 @@ fn acknowledge(
     rt: &impl Abort,
     alloc: Global,
     rack: &mut Rack,
-    probe: &mut Probe,
+    bus: &mut Bus,
     socket: u8,
     halves: [&str; 2],
-) -> Result<(), Fail> {
+) -> Result<(), Fail>
+    requires fits { Fits bus.old.index bus.old.probe (map state rack.old.items) }
+    ensures fits { IfOk result (λ done. Fits bus.new.index bus.new.probe (map state rack.new.items)) }
+{
     let rows = [
         (Romc::ACKNOWLEDGE, 0x77, "served 00"),
         (Romc::VECTOR_LOW, 0x77, halves[0]),
         (Romc::VECTOR_HIGH, 0x77, halves[1]),
     ];
-    walk(rt, alloc, rack, probe, Some(socket), &rows)?;
-    let asks = rack.get(usize::from(socket)).map(|chip| chip.asks());
-    assert_eq!(rt; asks, Some(false));
+    walk(rt, alloc, rack, bus, Some(socket), &rows)?;
+    assert_eq!(rt; asks(rack, usize::from(socket)), false);
     Ok(())
 }
 
 /// Two 3851s at 0000 with the vectors 1234 and 5678, and a 3853 that stands by there with the vector 9A3C. All let pulses in. A fetch is
 /// a conflict.
-fn seat_three(
-    rt: &impl Abort,
-    alloc: Global,
-    rack: &mut Rack,
-    probe: &mut Probe,
-) -> Result<(), Fail> {
+fn seat_three(rt: &impl Abort, alloc: Global, rack: &mut Rack, way: Way) -> Result<Bus, Fail>
+    ensures fits { IfOk result (λ bus. Fits bus.index bus.probe (map state rack.new.items)) }
+{
     let cart = Cart {
         psus: &[
             PsuSeat {
@@ -61,7 +76,7 @@ fn seat_three(
         smis: &[smi(2, 0x00, PageSort::Void, 0x9000)],
         ..empty()
     };
-    cart.seat(alloc, rack)?;
+    let mut bus = cart.seat(alloc, rack, way)?;
     let rows = [
         (Romc::IDLE, 0x06, "served 06"),
         (Romc::WRITE_PORT, 0x01, "served 01 socket 0"),
@@ -79,19 +94,21 @@ fn seat_three(
             "conflict romc 00 socket 0 at 0000 socket 1 at 0000",
         ),
     ];
-    walk(rt, alloc, rack, probe, None, &rows)
+    walk(rt, alloc, rack, &mut bus, None, &rows)?;
+    Ok(bus)
 }
 
 /// Three acknowledgements are served all the same. A pulse sets bit 7 of the vector.
-pub(crate) fn all(rt: &impl Abort, alloc: Global, rack: &mut Rack) -> Result<(), Fail> {
-    let mut probe = Probe::new();
-    seat_three(rt, alloc, rack, &mut probe)?;
-    pulse_three(rt, rack);
+fn three(rt: &impl Abort, alloc: Global, rack: &mut Rack, way: Way) -> Result<(), Fail> {
+    let mut bus = seat_three(rt, alloc, rack, way)?;
+    pulse_one(rt, rack, &bus, 0)?;
+    pulse_one(rt, rack, &bus, 1)?;
+    pulse_one(rt, rack, &bus, 2)?;
     acknowledge(
         rt,
         alloc,
         rack,
-        &mut probe,
+        &mut bus,
         1,
         ["served F8 socket 1", "served 56 socket 1"],
     )?;
@@ -99,7 +116,7 @@ pub(crate) fn all(rt: &impl Abort, alloc: Global, rack: &mut Rack) -> Result<(),
         rt,
         alloc,
         rack,
-        &mut probe,
+        &mut bus,
         2,
         ["served BC socket 2", "served 9A socket 2"],
     )?;
@@ -107,7 +124,7 @@ pub(crate) fn all(rt: &impl Abort, alloc: Global, rack: &mut Rack) -> Result<(),
         rt,
         alloc,
         rack,
-        &mut probe,
+        &mut bus,
         0,
         ["served B4 socket 0", "served 12 socket 0"],
     )?;
@@ -118,6 +135,14 @@ pub(crate) fn all(rt: &impl Abort, alloc: Global, rack: &mut Rack) -> Result<(),
         probe: smi_at(0x12B4, 0x9ABC, 0x0000, 0x0000),
         ..empty()
     };
-    ends.check(rt, rack, &probe);
+    ends.check(rt, rack, &bus);
+    Ok(())
+}
+
+/// With every chip asked, and by an index.
+pub(crate) fn all(rt: &impl Abort, alloc: Global, rack: &mut Rack) -> Result<(), Fail> {
+    for way in WAYS {
+        three(rt, alloc, rack, way)?;
+    }
     Ok(())
 }

@@ -1,8 +1,11 @@
 // Worked bus steps on the chips of a small cartridge, one step after another.
+ghost use Rattle.std.specs.Prelude.{map, IfOk};
+ghost use Rattle.bus_rows.specs.Indexed.{Fits};
+
+use super::bus::{Bus, WAYS, Way};
 use super::seats::{PsuSeat, SmiSeat, clear, rom_of, seat_psu, seat_smi};
 use super::walk::{Row, walk};
 use data_bus::Rack;
-use probe::Probe;
 use romc_table::Counters;
 use std::alloc::Global;
 use std::process::Abort;
@@ -80,8 +83,25 @@ pub(crate) fn smi_still(at: u16) -> Counters {
 }
 
 impl Cart<'_> {
-    /// Seats the chips.
-    pub(crate) fn seat(&self, alloc: Global, rack: &mut Rack) -> Result<(), Fail> {
+    /// The address in every counter of the chip in a socket at power-on.
+    pub(crate) fn start_of(&self, socket: usize) -> u16 {
+        for psu in self.psus {
+            if psu.socket == socket {
+                return psu.start;
+            }
+        }
+        for smi in self.smis {
+            if smi.socket == socket {
+                return smi.start;
+            }
+        }
+        0
+    }
+
+    /// Seats the chips and powers them on.
+    pub(crate) fn seat(&self, alloc: Global, rack: &mut Rack, way: Way) -> Result<Bus, Fail>
+        ensures fits { IfOk result (λ bus. Fits bus.index bus.probe (map state rack.new.items)) }
+    {
         clear(alloc, rack)?;
         let rom = rom_of(self.program, self.last)?;
         for psu in self.psus {
@@ -90,32 +110,36 @@ impl Cart<'_> {
         for smi in self.smis {
             seat_smi(alloc, rack, *smi)?;
         }
-        Ok(())
+        if rack.len() > 16 {
+            return Err("more than 16 chips".into());
+        }
+        Ok(Bus::of(rack, self, way))
     }
 
     /// What stands at the end.
-    pub(crate) fn check(&self, rt: &impl Abort, rack: &Rack, probe: &Probe) {
+    pub(crate) fn check(&self, rt: &impl Abort, rack: &mut Rack, bus: &Bus) {
         let name = self.name;
-        assert_eq!(rt; probe.counters(), self.probe, "{name}");
-        for (socket, (chip, want)) in rack.iter().zip(self.chips).enumerate() {
+        assert_eq!(rt; bus.probe.counters(), self.probe, "{name}");
+        for (socket, (chip, want)) in rack.iter_mut().zip(self.chips).enumerate() {
             assert_eq!(rt; chip.counters(), *want, "{name}, socket {socket}");
         }
         for (socket, at, byte) in self.bytes {
-            let held = rack.get(*socket).and_then(|chip| chip.peek(*at));
+            let held = rack.get_mut(*socket).and_then(|chip| chip.peek(*at));
             assert_eq!(rt; held, Some(*byte), "{name}, at {at:04X}");
         }
         for (socket, port, byte) in self.latches {
-            let latch = rack.get(*socket).and_then(|chip| chip.latch(*port));
+            let latch = rack.get_mut(*socket).and_then(|chip| chip.latch(*port));
             assert_eq!(rt; latch, Some(*byte), "{name}, port {port:02X}");
         }
     }
 
-    /// Seats the chips, walks the steps and checks what stands.
+    /// Seats the chips, walks the steps and checks what stands: with every chip asked, and by an index.
     pub(crate) fn play(&self, rt: &impl Abort, alloc: Global, rack: &mut Rack) -> Result<(), Fail> {
-        let mut probe = Probe::new();
-        self.seat(alloc, rack)?;
-        walk(rt, alloc, rack, &mut probe, None, self.rows)?;
-        self.check(rt, rack, &probe);
+        for way in WAYS {
+            let mut bus = self.seat(alloc, rack, way)?;
+            walk(rt, alloc, rack, &mut bus, None, self.rows)?;
+            self.check(rt, rack, &bus);
+        }
         Ok(())
     }
 }

@@ -1,10 +1,8 @@
 //! Whole carts, from reset to the bus step that isn't served. The counters of a chip begin at the number of its socket.
 use super::cart::{Cart, empty, psu_at, psu_still, smi_at};
 use super::seats::{PsuSeat, psu, smi};
-use super::walk::walk;
 use chip_face::PageSort;
 use data_bus::Rack;
-use probe::Probe;
 use romc_table::Romc;
 use std::alloc::Global;
 use std::process::Abort;
@@ -59,11 +57,11 @@ fn exchange_twice<'x>(
         (Romc::FETCH, 0x77, "served 16 socket 0"),
         (Romc::READ_DATA, 0x77, stop),
     ];
-    let mut probe = Probe::new();
-    cart.seat(alloc, rack)?;
-    walk(rt, alloc, rack, &mut probe, None, &rows)?;
-    cart.check(rt, rack, &probe);
-    Ok(())
+    let played = Cart {
+        rows: &rows,
+        ..*cart
+    };
+    played.play(rt, alloc, rack)
 }
 
 /// The 3851 has one data counter and drives at 0010. The 3853 has two, and drives at 2800.

@@ -4,6 +4,8 @@
 #[cfg(test)]
 mod acknowledgements;
 #[cfg(test)]
+mod bus;
+#[cfg(test)]
 mod cart;
 #[cfg(test)]
 mod carts;

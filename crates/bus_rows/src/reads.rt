@@ -1,10 +1,10 @@
 //! Steps in which a chip has to drive a byte of memory or of a counter.
+use super::bus::{WAYS, Way};
 use super::cart::{Cart, empty, psu_at, psu_still, smi_at, smi_still};
 use super::seats::{PsuSeat, psu, smi};
 use super::walk::walk;
 use chip_face::PageSort;
 use data_bus::Rack;
-use probe::Probe;
 use romc_table::Romc;
 use std::alloc::Global;
 use std::process::Abort;
@@ -16,6 +16,33 @@ const READS: [u8; 13] = [
 ];
 
 /// Each such step fails in one way: what is told before and behind its code. None changes anything, so each finds what the first found.
+fn each_fails_by(
+    rt: &impl Abort,
+    alloc: Global,
+    rack: &mut Rack,
+    way: Way,
+    cart: &Cart,
+    fault: &str,
+    behind: &str,
+) -> Result<(), Fail> {
+    let mut bus = cart.seat(alloc, rack, way)?;
+    for number in READS {
+        let romc = Romc::of(number).ok_or("no code")?;
+        let want = format!(in alloc; "{fault} romc {number:02X} {behind}")?;
+        walk(
+            rt,
+            alloc,
+            rack,
+            &mut bus,
+            None,
+            &[(romc, 0x77, want.as_str())],
+        )?;
+    }
+    cart.check(rt, rack, &bus);
+    Ok(())
+}
+
+/// With every chip asked, and by an index.
 fn each_fails(
     rt: &impl Abort,
     alloc: Global,
@@ -24,21 +51,9 @@ fn each_fails(
     fault: &str,
     behind: &str,
 ) -> Result<(), Fail> {
-    let mut probe = Probe::new();
-    cart.seat(alloc, rack)?;
-    for number in READS {
-        let romc = Romc::of(number).ok_or("no code")?;
-        let want = format!(in alloc; "{fault} romc {number:02X} {behind}")?;
-        walk(
-            rt,
-            alloc,
-            rack,
-            &mut probe,
-            None,
-            &[(romc, 0x77, want.as_str())],
-        )?;
+    for way in WAYS {
+        each_fails_by(rt, alloc, rack, way, cart, fault, behind)?;
     }
-    cart.check(rt, rack, &probe);
     Ok(())
 }
 

@@ -6,7 +6,7 @@ use data_bus::Rack;
 use std::alloc::Global;
 use std::test::Fail;
 
-/// A 3851 that is powered on, its interrupts wired.
+/// A 3851, its interrupts wired.
 #[derive(Clone, Copy)]
 pub(crate) struct PsuSeat {
     pub(crate) socket: usize,
@@ -14,18 +14,18 @@ pub(crate) struct PsuSeat {
     pub(crate) ports: u8,
     pub(crate) vector: u16,
 
-    /// The address in every counter.
+    /// The address in every counter at power-on.
     pub(crate) start: u16,
 }
 
-/// A 3853 that is powered on, its interrupts wired. It has one page, with 2B throughout where it is ROM and 00 where it is RAM.
+/// A 3853, its interrupts wired. It has one page, with 2B throughout where it is ROM and 00 where it is RAM.
 #[derive(Clone, Copy)]
 pub(crate) struct SmiSeat {
     pub(crate) socket: usize,
     pub(crate) page: u8,
     pub(crate) sort: PageSort,
 
-    /// The address in every counter.
+    /// The address in every counter at power-on.
     pub(crate) start: u16,
 }
 
@@ -50,20 +50,18 @@ pub(crate) fn smi(socket: usize, page: u8, sort: PageSort, start: u16) -> SmiSea
     }
 }
 
-/// Fits a chip and powers it on.
-fn seat(alloc: Global, chip: &mut Box<dyn Chip>, spec: &ChipSpec, start: u16) -> Result<(), Fail>
+fn seat(alloc: Global, chip: &mut Box<dyn Chip>, spec: &ChipSpec) -> Result<(), Fail>
     requires { IsSpec spec.now }
 {
     chip.fit(alloc, spec)?;
-    chip.power(0, start);
     Ok(())
 }
 
-/// A blank chip in every socket, and all counters 0.
+/// A blank chip in every socket.
 pub(crate) fn clear(alloc: Global, rack: &mut Rack) -> Result<(), Fail> {
     for chip in rack.iter_mut() {
         let blank = ChipSpec::Blank(chip.kind());
-        seat(alloc, chip, &blank, 0)?;
+        seat(alloc, chip, &blank)?;
     }
     Ok(())
 }
@@ -97,7 +95,7 @@ pub(crate) fn seat_psu(
         vector: place.vector,
         wired: true,
     };
-    seat(alloc, &mut rack[place.socket], &spec, place.start)
+    seat(alloc, &mut rack[place.socket], &spec)
 }
 
 pub(crate) fn seat_smi(alloc: Global, rack: &mut Rack, place: SmiSeat) -> Result<(), Fail> {
@@ -117,5 +115,5 @@ pub(crate) fn seat_smi(alloc: Global, rack: &mut Rack, place: SmiSeat) -> Result
         rom,
         wired: true,
     };
-    seat(alloc, &mut rack[place.socket], &spec, place.start)
+    seat(alloc, &mut rack[place.socket], &spec)
 }

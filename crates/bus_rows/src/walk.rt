@@ -1,11 +1,12 @@
 // A worked bus step, and what is said of it as text.
-ghost use Rattle.std.specs.Prelude.{◌≡◌, true, map};
+ghost use Rattle.std.specs.Prelude.{◌≡◌, true, map, IfOk};
 ghost use Rattle.f8_spec.specs.ChipState.{is_asking};
 ghost use Rattle.data_bus.specs.Racks.{NamesAsking};
+ghost use Rattle.bus_rows.specs.Indexed.{Fits};
 
+use super::bus::Bus;
 use chip_face::Chip;
-use data_bus::{BusFault, Cycle, Rack, Served, step};
-use probe::Probe;
+use data_bus::{BusFault, Cycle, Rack, Served};
 use romc_table::Romc;
 use std::alloc::Global;
 use std::fmt::Write;
@@ -82,12 +83,10 @@ fn told_fault(alloc: Global, fault: &BusFault) -> Result<String, Fail> {
 }
 
 /// One bus step, and what is told of it. `Err` where it may not be asked for.
-fn one_step(
-    alloc: Global,
-    rack: &mut Rack,
-    probe: &mut Probe,
-    cycle: Cycle,
-) -> Result<String, Fail> {
+fn one_step(alloc: Global, rack: &mut Rack, bus: &mut Bus, cycle: Cycle) -> Result<String, Fail>
+    requires fits { Fits bus.old.index bus.old.probe (map state rack.old.items) }
+    ensures fits { IfOk result (λ text. Fits bus.new.index bus.new.probe (map state rack.new.items)) }
+{
     if rack.len() > 16 {
         return Err("more than 16 chips".into());
     }
@@ -96,7 +95,7 @@ fn one_step(
     if acknowledges && !names_asking(rack, cycle.first) {
         return Err("the named chip doesn't ask".into());
     }
-    let answer = step(rack, probe, cycle);
+    let answer = bus.step(rack, cycle);
     told(alloc, &answer)
 }
 
@@ -105,10 +104,13 @@ pub(crate) fn walk(
     rt: &impl Abort,
     alloc: Global,
     rack: &mut Rack,
-    probe: &mut Probe,
+    bus: &mut Bus,
     first: Option<u8>,
     rows: &[Row],
-) -> Result<(), Fail> {
+) -> Result<(), Fail>
+    requires fits { Fits bus.old.index bus.old.probe (map state rack.old.items) }
+    ensures fits { IfOk result (λ done. Fits bus.new.index bus.new.probe (map state rack.new.items)) }
+{
     for (place, (romc, byte, want)) in rows.iter().enumerate() {
         let cycle = Cycle {
             romc: *romc,
@@ -116,7 +118,7 @@ pub(crate) fn walk(
             byte: *byte,
             first,
         };
-        let text = one_step(alloc, rack, probe, cycle)?;
+        let text = one_step(alloc, rack, bus, cycle)?;
         assert_eq!(rt; text.as_str(), *want, "row {place}");
     }
     Ok(())

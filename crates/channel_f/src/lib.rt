@@ -16,4 +16,6 @@ pub use top::console;
 #[cfg(test)]
 mod interrupt_tests;
 #[cfg(test)]
+mod question_tests;
+#[cfg(test)]
 mod tests;

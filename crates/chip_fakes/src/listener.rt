@@ -21,12 +21,13 @@ pub struct Listener {
 
 impl Listener {
     ghost use Rattle.f8_spec.specs.declared.chips.ChipKind.TheVariants.{Psu as PsuKind, Smi as SmiKind};
-    ghost use Rattle.chip_fakes.specs.ListenerState.{blank_listener, listener_state, recording_of};
+    ghost use Rattle.chip_fakes.specs.ListenerState.{blank_listener, listener_state, listener_queries, recording_of};
 
     /// A blank 3851 that tells up to `room` steps, at most 1,000,000, or want of memory: the room is taken here.
     pub fn round_psu(alloc: Global, room: u32) -> Result<Listener, Memory>
         requires { room ≤ 1000000 }
         ensures state { IfOk result (λ listener. listener_state listener ≡ blank_listener PsuKind) }
+        ensures asked { IfOk result (λ listener. listener_queries listener ≡ 0) }
         ensures room { IfOk result (λ listener. (recording_of listener).room ≡ room) }
     {
         Ok(Listener {
@@ -39,6 +40,7 @@ impl Listener {
     pub fn round_smi(alloc: Global, room: u32) -> Result<Listener, Memory>
         requires { room ≤ 1000000 }
         ensures state { IfOk result (λ listener. listener_state listener ≡ blank_listener SmiKind) }
+        ensures asked { IfOk result (λ listener. listener_queries listener ≡ 0) }
         ensures room { IfOk result (λ listener. (recording_of listener).room ≡ room) }
     {
         Ok(Listener {
@@ -67,10 +69,12 @@ impl Chip for Listener {
     ghost use Rattle.f8_spec.specs.ChipState.{IsWhole, MayHear, PowersOn, Settles, TakesKeys, TakesPulse, told_step};
     ghost use Rattle.chip_face.specs.Fitting.{Fits, IsSpec, is_blank, kind_of};
     ghost use Rattle.chip_face.specs.Steps.{IsStepLength};
-    ghost use Rattle.chip_fakes.specs.ListenerState.{listener_state, recording_of};
+    ghost use Rattle.chip_fakes.specs.ListenerState.{listener_state, listener_queries, recording_of};
     ghost use Rattle.chip_fakes.specs.Recording.{emptied, recorded};
 
     ghost state = { listener_state };
+
+    ghost queries = { listener_queries };
 
     fn kind(&self) -> ChipKind {
         self.chip.kind()
@@ -85,6 +89,7 @@ impl Chip for Listener {
             ↔ (kind_of spec.now ≢ (listener_state self.old).view.kind) }
         ensures memory { IsErrOf result FitFault.Memory → is_blank spec.now ≡ false }
         ensures err { OnErr result (listener_state self.new ≡ listener_state self.old) }
+        ensures asked { listener_queries self.new ≡ listener_queries self.old }
         ensures recording { recording_of self.new ≡ recording_of self.old }
     {
         self.chip.fit(alloc, spec)
@@ -92,13 +97,14 @@ impl Chip for Listener {
 
     fn power(&mut self, fill: u8, start: u16)
         ensures powers { PowersOn fill start (listener_state self.old) (listener_state self.new) }
+        ensures asked { listener_queries self.new ≡ listener_queries self.old }
         ensures recording { recording_of self.new ≡ emptied (recording_of self.old) }
     {
         self.chip.power(fill, start);
         self.recorder.forget();
     }
 
-    fn offer(&self, romc: Romc, first: bool) -> Option<Offer> {
+    fn offer(&mut self, romc: Romc, first: bool) -> Option<Offer> {
         self.chip.offer(romc, first)
     }
 
@@ -112,6 +118,7 @@ impl Chip for Listener {
           clocks = phi;
           first = first;
         }) (listener_state self.old) (listener_state self.new) }
+        ensures asked { listener_queries self.new ≡ listener_queries self.old }
         ensures recording { recording_of self.new
             ≡ recorded (told_step (record {
               romc = romc;
@@ -128,24 +135,25 @@ impl Chip for Listener {
         self.chip.asks()
     }
 
-    fn counters(&self) -> Counters {
+    fn counters(&mut self) -> Counters {
         self.chip.counters()
     }
 
-    fn peek(&self, at: u16) -> Option<u8> {
+    fn peek(&mut self, at: u16) -> Option<u8> {
         self.chip.peek(at)
     }
 
-    fn takes(&self, at: u16) -> bool {
+    fn takes(&mut self, at: u16) -> bool {
         self.chip.takes(at)
     }
 
-    fn latch(&self, port: u8) -> Option<u8> {
+    fn latch(&mut self, port: u8) -> Option<u8> {
         self.chip.latch(port)
     }
 
     fn keys(&mut self, port: u8, byte: u8)
         ensures takes { TakesKeys port byte (listener_state self.old) (listener_state self.new) }
+        ensures asked { listener_queries self.new ≡ listener_queries self.old }
         ensures recording { recording_of self.new ≡ recording_of self.old }
     {
         self.chip.keys(port, byte);
@@ -153,8 +161,13 @@ impl Chip for Listener {
 
     fn pulse(&mut self)
         ensures takes { TakesPulse (listener_state self.old) (listener_state self.new) }
+        ensures asked { listener_queries self.new ≡ listener_queries self.old }
         ensures recording { recording_of self.new ≡ recording_of self.old }
     {
         self.chip.pulse();
+    }
+
+    fn asked(&self) -> u64 {
+        self.chip.asked()
     }
 }

@@ -17,11 +17,12 @@ pub struct Patched {
 }
 
 impl Patched {
-    ghost use Rattle.chip_fakes.specs.PatchedState.{blank_patched, patched_state};
+    ghost use Rattle.chip_fakes.specs.PatchedState.{blank_patched, patched_state, patched_queries};
 
-    /// A blank 3851 whose patch is this byte at this address.
+    /// A blank 3851 whose patch is this byte at this address. It was put no question.
     pub fn psu(at: u16, byte: u8) -> Patched
-        ensures { patched_state result ≡ blank_patched at byte }
+        ensures state { patched_state result ≡ blank_patched at byte }
+        ensures asked { patched_queries result ≡ 0 }
     {
         Patched {
             psu: Psu::blank(),
@@ -53,9 +54,11 @@ impl Chip for Patched {
     ghost use Rattle.std.specs.Prelude.{◌≢◌, ◌↔◌, false, OnOk, OnErr, IsErrOf};
     ghost use Rattle.f8_spec.specs.ChipState.{IsWhole};
     ghost use Rattle.chip_face.specs.Fitting.{Fits, IsSpec, is_blank, kind_of};
-    ghost use Rattle.chip_fakes.specs.PatchedState.{patched_state};
+    ghost use Rattle.chip_fakes.specs.PatchedState.{patched_state, patched_queries};
 
     ghost state = { patched_state };
+
+    ghost queries = { patched_queries };
 
     fn kind(&self) -> ChipKind {
         self.psu.kind()
@@ -69,6 +72,7 @@ impl Chip for Patched {
             ↔ (kind_of spec.now ≢ (patched_state self.old).view.kind) }
         ensures memory { IsErrOf result FitFault.Memory → is_blank spec.now ≡ false }
         ensures err { OnErr result (patched_state self.new ≡ patched_state self.old) }
+        ensures asked { patched_queries self.new ≡ patched_queries self.old }
     {
         match spec {
             ChipSpec::Psu {
@@ -100,7 +104,7 @@ impl Chip for Patched {
         self.psu.power(fill, start);
     }
 
-    fn offer(&self, romc: Romc, first: bool) -> Option<Offer> {
+    fn offer(&mut self, romc: Romc, first: bool) -> Option<Offer> {
         self.psu.offer(romc, first)
     }
 
@@ -112,19 +116,19 @@ impl Chip for Patched {
         self.psu.asks()
     }
 
-    fn counters(&self) -> Counters {
+    fn counters(&mut self) -> Counters {
         self.psu.counters()
     }
 
-    fn peek(&self, at: u16) -> Option<u8> {
+    fn peek(&mut self, at: u16) -> Option<u8> {
         self.psu.peek(at)
     }
 
-    fn takes(&self, at: u16) -> bool {
+    fn takes(&mut self, at: u16) -> bool {
         self.psu.takes(at)
     }
 
-    fn latch(&self, port: u8) -> Option<u8> {
+    fn latch(&mut self, port: u8) -> Option<u8> {
         self.psu.latch(port)
     }
 
@@ -134,5 +138,9 @@ impl Chip for Patched {
 
     fn pulse(&mut self) {
         self.psu.pulse();
+    }
+
+    fn asked(&self) -> u64 {
+        self.psu.asked()
     }
 }

@@ -16,9 +16,11 @@ impl Chip for Round {
     ghost use Rattle.std.specs.Prelude.{◌≡◌, ◌≢◌, ◌↔◌, false, OnOk, OnErr, IsErrOf};
     ghost use Rattle.f8_spec.specs.ChipState.{IsWhole};
     ghost use Rattle.chip_face.specs.Fitting.{Fits, IsSpec, is_blank, kind_of};
-    ghost use Rattle.chip_fakes.specs.Rounds.{round_state};
+    ghost use Rattle.chip_fakes.specs.Rounds.{round_state, round_queries};
 
     ghost state = { round_state };
+
+    ghost queries = { round_queries };
 
     fn kind(&self) -> ChipKind {
         match self {
@@ -35,6 +37,7 @@ impl Chip for Round {
             ↔ (kind_of spec.now ≢ (round_state self.old).view.kind) }
         ensures memory { IsErrOf result FitFault.Memory → is_blank spec.now ≡ false }
         ensures err { OnErr result (round_state self.new ≡ round_state self.old) }
+        ensures asked { round_queries self.new ≡ round_queries self.old }
     {
         match self {
             Round::OfPsu(psu) => psu.fit(alloc, spec),
@@ -49,7 +52,7 @@ impl Chip for Round {
         }
     }
 
-    fn offer(&self, romc: Romc, first: bool) -> Option<Offer> {
+    fn offer(&mut self, romc: Romc, first: bool) -> Option<Offer> {
         match self {
             Round::OfPsu(psu) => psu.offer(romc, first),
             Round::OfSmi(smi) => smi.offer(romc, first),
@@ -70,28 +73,28 @@ impl Chip for Round {
         }
     }
 
-    fn counters(&self) -> Counters {
+    fn counters(&mut self) -> Counters {
         match self {
             Round::OfPsu(psu) => psu.counters(),
             Round::OfSmi(smi) => smi.counters(),
         }
     }
 
-    fn peek(&self, at: u16) -> Option<u8> {
+    fn peek(&mut self, at: u16) -> Option<u8> {
         match self {
             Round::OfPsu(psu) => psu.peek(at),
             Round::OfSmi(smi) => smi.peek(at),
         }
     }
 
-    fn takes(&self, at: u16) -> bool {
+    fn takes(&mut self, at: u16) -> bool {
         match self {
             Round::OfPsu(psu) => psu.takes(at),
             Round::OfSmi(smi) => smi.takes(at),
         }
     }
 
-    fn latch(&self, port: u8) -> Option<u8> {
+    fn latch(&mut self, port: u8) -> Option<u8> {
         match self {
             Round::OfPsu(psu) => psu.latch(port),
             Round::OfSmi(smi) => smi.latch(port),
@@ -109,6 +112,13 @@ impl Chip for Round {
         match self {
             Round::OfPsu(psu) => psu.pulse(),
             Round::OfSmi(smi) => smi.pulse(),
+        }
+    }
+
+    fn asked(&self) -> u64 {
+        match self {
+            Round::OfPsu(psu) => psu.asked(),
+            Round::OfSmi(smi) => smi.asked(),
         }
     }
 }

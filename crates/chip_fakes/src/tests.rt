@@ -22,6 +22,7 @@ fn patches_one_byte(rt: HostRuntime) -> Result<(), Fail> {
     inside.power(0, 0);
     assert_eq!(rt; inside.peek(0x0400), Some(0x2B));
     assert_eq!(rt; inside.peek(0x0401), Some(0x70));
+    assert_eq!(rt; inside.asked(), 2);
     let beside = &mut rack[1];
     beside.fit(rt.alloc(), &spec)?;
     assert_eq!(rt; beside.peek(0x0401), Some(0x2B));
@@ -41,6 +42,7 @@ fn listens_past_its_room(rt: HostRuntime) -> Result<(), Fail> {
     psu.settle(Romc::IDLE, 0x00, 4, false);
     psu.settle(Romc::RESET, 0x00, 6, false);
     assert_eq!(rt; psu.counters().pc1, 0x1234);
+    assert_eq!(rt; psu.asked(), 1);
 
     let smi = &mut rack[1];
     let spec = ChipSpec::Smi {

@@ -8,6 +8,9 @@ use Rattle.f8_spec.specs.BusArbitration.{answers, place_in, placed, rule_of}
 use Rattle.f8_spec.specs.declared.bus.BusRule.{BusRule}
 use Rattle.f8_spec.specs.declared.bus.BusRule.TheVariants.{Read, Store, PortRead, PortWrite, Vector, NoChip}
 use Rattle.f8_spec.specs.declared.chips.Offer.{Offer}
+use Rattle.f8_spec.specs.declared.bus.Counter.{Counter}
+use Rattle.f8_spec.specs.declared.bus.Counter.TheVariants.{Pc0, Pc1, Dc0, NoCounter}
+use Rattle.data_bus.specs.KnownPlaces.{goes_by_counter}
 use Rattle.data_bus.specs.Polling.{told_place}
 
 -- a place, where the chip answers there
@@ -166,3 +169,23 @@ all_codes = (
 -- each code that there is
 pub code_facts : (romc : ℕ) → romc < 32 → CodeFacts romc
 code_facts romc below = at_below CodeFacts 32 romc all_codes below
+
+-- ---- the codes that go by a counter
+
+abbrev pub is_counter : Counter → Bool
+is_counter Pc0 = true
+is_counter Pc1 = true
+is_counter Dc0 = true
+is_counter NoCounter = false
+
+-- a step with a counter is one in which chips drive or take at it
+abbrev GoesByCounter : ℕ → Type 0
+GoesByCounter romc = is_counter (counter_of romc) ≡ true → goes_by_counter (rule_of romc) ≡ true
+
+-- each of the 32 codes
+all_counters : AllBelow GoesByCounter 32
+unfolding AllBelow
+all_counters = ((((((((((((((((((((((((((((((((tt, (λ is. refl)), (λ is. refl)), (λ is. refl)), (λ is. refl)), (λ is. cc)), (λ is. refl)), (λ is. refl)), (λ is. refl)), (λ is. cc)), (λ is. refl)), (λ is. cc)), (λ is. refl)), (λ is. refl)), (λ is. cc)), (λ is. refl)), (λ is. cc)), (λ is. cc)), (λ is. refl)), (λ is. cc)), (λ is. cc)), (λ is. cc)), (λ is. cc)), (λ is. cc)), (λ is. cc)), (λ is. cc)), (λ is. cc)), (λ is. cc)), (λ is. cc)), (λ is. cc)), (λ is. cc)), (λ is. refl)), (λ is. refl))
+
+pub counter_codes : (romc : ℕ) → romc < 32 → is_counter (counter_of romc) ≡ true → goes_by_counter (rule_of romc) ≡ true
+counter_codes romc below = at_below GoesByCounter 32 romc all_counters below

@@ -1,4 +1,10 @@
 pub mod Racks
 pub mod Polling
+pub mod Allowances
+pub mod KnownAgreement
+pub mod PageIndex
 pub mod Steps
 pub mod SocketsLaw
+pub mod Questions
+pub mod Surveys
+pub mod KnownPlaces

@@ -1,5 +1,6 @@
 // One pass over the chips of a rack, and what it gathers.
-ghost use Rattle.std.specs.Prelude.{◌≡◌, ◌+◌, ◌<◌, ◌≤◌, length, map};
+ghost use Rattle.std.specs.Prelude.{◌≡◌, ◌+◌, ◌<◌, ◌≤◌, [], ◌∷◌, false, None, length, map, sum_by};
+ghost use Rattle.data_bus.specs.Allowances.{allowance_by};
 ghost use Rattle.data_bus.specs.Racks.{AllMayHear, views};
 ghost use Rattle.data_bus.specs.Polling.{no_poll, polled};
 
@@ -35,6 +36,30 @@ impl Poll {
         }
     }
 
+    /// One chip drives or takes, and none stands by.
+    pub(crate) fn of(party: Party, byte: u8) -> Poll
+        ensures { result ≡ record { parties = party ∷ []; byte = byte; bystander = None } }
+    {
+        let mut parties = Parties::new();
+        parties.push(party);
+        Poll {
+            parties,
+            byte,
+            bystander: None,
+        }
+    }
+
+    /// Several chips drive or take, and none stands by.
+    pub(crate) fn conflict(parties: Parties) -> Poll
+        ensures { result ≡ record { parties = parties; byte = 0; bystander = None } }
+    {
+        Poll {
+            parties,
+            byte: 0,
+            bystander: None,
+        }
+    }
+
     /// Counts one more chip's answer.
     fn count(&mut self, socket: u8, answer: Answer)
         requires { length self.old.parties < MOST_CHIPS }
@@ -61,16 +86,20 @@ impl Poll {
     }
 }
 
-/// One pass over the chips: each is asked at most once.
+/// One pass over the chips: each is put three questions at most.
 #[inline(always)]
-fn ask_all(rack: &Rack, question: &Question) -> Poll
-    requires few { length rack.now.items ≤ MOST_CHIPS }
-    requires chosen { AllMayHear question.now.romc question.now.first (map state rack.now.items) }
-    ensures { result ≡ polled question.now.rule question.now.romc question.now.reference
-        question.now.first 0 (views (map state rack.now.items)) no_poll }
+fn ask_all(rack: &mut Rack, question: &Question) -> Poll
+    requires few { length rack.old.items ≤ MOST_CHIPS }
+    requires chosen { AllMayHear question.now.romc question.now.first (map state rack.old.items) }
+    ensures answer { result ≡ polled question.now.rule question.now.romc question.now.reference
+        question.now.first 0 (views (map state rack.old.items)) no_poll }
+    ensures stays { map state rack.new.items ≡ map state rack.old.items }
+    ensures asked { sum_by queries rack.new.items ≤ sum_by queries rack.old.items
+        + allowance_by question.now.rule false (length rack.old.items) }
+    ensures chips { length rack.new.items ≡ length rack.old.items }
 {
     let mut poll = Poll::new();
-    for (i, chip) in rack.iter().enumerate() {
+    for (i, chip) in rack.iter_mut().enumerate() {
         let socket = i as u8;
         let answer = ask(chip, socket, question);
         poll.count(socket, answer);
@@ -81,11 +110,15 @@ fn ask_all(rack: &Rack, question: &Question) -> Poll
 /// What the chips answer in a step. In a step in which no chip drives or takes, none is asked.
 #[tactic(auto, using(crate::proofs::Judging::polled_unasked))]
 #[inline(always)]
-pub(crate) fn gather(rack: &Rack, question: &Question) -> Poll
-    requires few { length rack.now.items ≤ MOST_CHIPS }
-    requires chosen { AllMayHear question.now.romc question.now.first (map state rack.now.items) }
-    ensures { result ≡ polled question.now.rule question.now.romc question.now.reference
-        question.now.first 0 (views (map state rack.now.items)) no_poll }
+pub(crate) fn gather(rack: &mut Rack, question: &Question) -> Poll
+    requires few { length rack.old.items ≤ MOST_CHIPS }
+    requires chosen { AllMayHear question.now.romc question.now.first (map state rack.old.items) }
+    ensures answer { result ≡ polled question.now.rule question.now.romc question.now.reference
+        question.now.first 0 (views (map state rack.old.items)) no_poll }
+    ensures stays { map state rack.new.items ≡ map state rack.old.items }
+    ensures asked { sum_by queries rack.new.items ≤ sum_by queries rack.old.items
+        + allowance_by question.now.rule false (length rack.old.items) }
+    ensures chips { length rack.new.items ≡ length rack.old.items }
 {
     match question.rule {
         BusRule::NoChip => Poll::new(),

@@ -21,8 +21,9 @@ fn clocks(long: bool) -> u8
 fn settle_at(chip: &mut Box<dyn Chip>, socket: u8, cycle: &Cycle, byte: u8)
     requires { MayHear cycle.now.romc (is_first_socket cycle.now.first socket)
         (state chip.old).view }
-    ensures { SettlesStep cycle.now.romc cycle.now.long cycle.now.first byte socket (state chip.old)
-        (state chip.new) }
+    ensures settles { SettlesStep cycle.now.romc cycle.now.long cycle.now.first byte socket
+        (state chip.old) (state chip.new) }
+    ensures asked { queries chip.new ≡ queries chip.old }
 {
     let mark = is_first(cycle.first, socket);
     chip.settle(cycle.romc, byte, clocks(cycle.long), mark);
@@ -35,6 +36,7 @@ pub(crate) fn settle_all(rack: &mut Rack, cycle: &Cycle, byte: u8)
     requires chosen { AllMayHear cycle.now.romc cycle.now.first (map state rack.old.items) }
     ensures settled { RackSettles cycle.now.romc cycle.now.long cycle.now.first byte
         (map state rack.old.items) (map state rack.new.items) }
+    ensures asked { map queries rack.new.items ≡ map queries rack.old.items }
     ensures chips { length rack.new.items ≡ length rack.old.items }
 {
     for (i, chip) in rack.iter_mut().enumerate() {

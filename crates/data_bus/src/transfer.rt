@@ -1,6 +1,8 @@
 // A bus step: asked, decided, and settled.
-ghost use Rattle.std.specs.Prelude.{◌≡◌, ◌≤◌, length, map, IfOk, OnErr};
+ghost use Rattle.std.specs.Prelude.{◌≡◌, ◌≤◌, ◌+◌, false, length, map, sum_by, IfOk, OnErr};
+ghost use Rattle.f8_spec.specs.BusArbitration.{rule_of as rule_by_table};
 ghost use Rattle.probe.specs.ProbeState.{probe_after};
+ghost use Rattle.data_bus.specs.Allowances.{allowance_by};
 ghost use Rattle.data_bus.specs.Racks.{ChosenAsks, RackSettles, RackStays};
 ghost use Rattle.data_bus.specs.Steps.{probe_place, step_answer};
 
@@ -16,7 +18,7 @@ use romc_table::{Counter, Romc, counter_of};
 
 /// The address in the probe's counter, and in a step that goes by no counter the byte last heard, which names the port of a port step.
 #[inline(always)]
-fn reference_of(probe: &Probe, romc: Romc) -> u16
+pub(crate) fn reference_of(probe: &Probe, romc: Romc) -> u16
     ensures { result ≡ probe_place romc probe.now }
 {
     let counters = probe.counters();
@@ -28,13 +30,17 @@ fn reference_of(probe: &Probe, romc: Romc) -> u16
     }
 }
 
-/// What a step is to answer: every chip is asked, at most once, and the bus rule decides. Nothing changes.
+/// What a step is to answer: the chips are asked, and the bus rule decides. Nothing changes but how many questions were put.
 #[tactic(auto, using(crate::proofs::Racks::may_hear_all))]
 #[inline(always)]
-fn ruling(rack: &Rack, probe: &Probe, cycle: &Cycle) -> Result<Served, BusFault>
-    requires few { length rack.now.items ≤ MOST_CHIPS }
-    requires chosen { ChosenAsks cycle.now.romc cycle.now.first (map state rack.now.items) }
-    ensures { result ≡ step_answer cycle.now probe.now (map state rack.now.items) }
+fn ruling(rack: &mut Rack, probe: &Probe, cycle: &Cycle) -> Result<Served, BusFault>
+    requires few { length rack.old.items ≤ MOST_CHIPS }
+    requires chosen { ChosenAsks cycle.now.romc cycle.now.first (map state rack.old.items) }
+    ensures answer { result ≡ step_answer cycle.now probe.now (map state rack.old.items) }
+    ensures stays { map state rack.new.items ≡ map state rack.old.items }
+    ensures asked { sum_by queries rack.new.items ≤ sum_by queries rack.old.items
+        + allowance_by (rule_by_table cycle.now.romc) false (length rack.old.items) }
+    ensures chips { length rack.new.items ≡ length rack.old.items }
 {
     let question = Question {
         romc: cycle.romc,
@@ -46,12 +52,13 @@ fn ruling(rack: &Rack, probe: &Probe, cycle: &Cycle) -> Result<Served, BusFault>
     decide(question.rule, cycle, question.reference, poll)
 }
 
-/// One bus step on a rack of at most 16 chips. Every chip is asked, at most once; the bus rule, which is this project's own, decides; and
-/// where the step is served every chip and the probe hear it, each once, with the one byte. Where it isn't, nothing changes.
+/// One bus step on a rack of at most 16 chips. The chips are asked, each by three questions at most; the bus rule, which is this project's
+/// own, decides; and where the step is served every chip and the probe hear it, each once, with the one byte. Where it isn't, no chip's state
+/// changes, nor does the probe.
 ///
 /// In the codes 0F and 13 `first` has to name the socket of a chip that asks for an interrupt. In the codes 1A and 1B a chip goes by the
 /// last byte that it heard, which names the port; where all have heard the same steps, that is the probe's.
-#[tactic(auto, using(crate::proofs::Racks::may_hear_all, crate::proofs::Racks::stays_all))]
+#[tactic(auto, using(crate::proofs::Racks::may_hear_all, crate::proofs::Racks::stays_all, crate::proofs::Questions::sums_alike))]
 #[inline(always)]
 pub fn step(rack: &mut Rack, probe: &mut Probe, cycle: Cycle) -> Result<Served, BusFault>
     requires few { length rack.old.items ≤ MOST_CHIPS }
@@ -64,9 +71,13 @@ pub fn step(rack: &mut Rack, probe: &mut Probe, cycle: Cycle) -> Result<Served, 
     ensures heard { IfOk result (λ served. probe.new
         ≡ probe_after cycle.romc served.byte probe.old) }
 
-    // Not served: nothing changes.
+    // Not served: no state changes.
     ensures stays { OnErr result (RackStays (map state rack.old.items) (map state rack.new.items)) }
     ensures probe_stays { OnErr result (probe.new ≡ probe.old) }
+
+    // The questions that were put.
+    ensures asked { sum_by queries rack.new.items ≤ sum_by queries rack.old.items
+        + allowance_by (rule_by_table cycle.romc) false (length rack.old.items) }
     ensures chips { length rack.new.items ≡ length rack.old.items }
 {
     let served = ruling(rack, probe, &cycle)?;

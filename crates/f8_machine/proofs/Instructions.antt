@@ -34,6 +34,7 @@ use Rattle.cpu3850.specs.CpuSteps.{CpuState, AreInRange, planned_as, planned}
 use Rattle.cpu3850.specs.Keeping.{KeptRegisters, kept_of, restored, IsRestorable}
 use Rattle.probe.specs.ProbeState.{ProbeState}
 use Rattle.data_bus.specs.declared.fault.BusFault.{BusFault}
+use Rattle.data_bus.specs.declared.index.Index.{Index}
 use Rattle.f8_machine.specs.Carrying.{HoldsInstruction, IsCarriedOut, IsCutShort, planned_before_as}
 use Rattle.f8_machine.specs.RequestsHeld.{IsSettledBy}
 use Rattle.f8_machine.specs.Vectoring.{clocks_of_plan}
@@ -228,14 +229,14 @@ settled_done op x is =
 
 module _ (m : MachineState) (states news : List ChipState) (op : Op) (x : Position)
     (held : decoded m.cpu.opcode ≡ Some op) (r : Represents m states x) where
-  pub done_of : (cpu : CpuState) (probe : ProbeState) (flow : Flow) (clocks : ℕ) (wrote : Option PortWrite)
+  pub done_of : (cpu : CpuState) (probe : ProbeState) (known : Index) (flow : Flow) (clocks : ℕ) (wrote : Option PortWrite)
       (steps : List Heard) (chosen : Option ℕ) → AreInRange m.cpu.registers →
       IsCarriedOut m.cpu cpu probe news steps chosen op x → flow ≡ flow_before_fetch probe.count →
       clocks ≡ clocks_by chosen op (is_taken op m.cpu.registers) →
       wrote ≡ done_write (Some op) (m.phi + clocks) cpu.ports.latches steps →
-      IsDone (record m { probe = probe; cpu = cpu; flow = flow; phi = m.phi + clocks }) news (next x)
+      IsDone (record m { probe = probe; index = known; cpu = cpu; flow = flow; phi = m.phi + clocks }) news (next x)
       (turn_course x) x.flat.state.writes wrote steps
-  done_of cpu probe flow clocks wrote steps chosen range carried moved spent told =
+  done_of cpu probe known flow clocks wrote steps chosen range carried moved spent told =
       let there = r.stands.holds in
       let seats = seats_of x.copies in
       let i = gets_all_at op x in
@@ -292,7 +293,7 @@ module _ (m : MachineState) (states news : List ChipState) (op : Op) (x : Positi
 
   pub faulted_of : (after : MachineState) (fault : BusFault) (long : Bool) (steps : List Heard) →
       IsCutShort steps fault long op x →
-      after ≡ record m { probe = after.probe; mode = Stopped (ByFault fault long) } →
+      after ≡ record m { probe = after.probe; index = after.index; mode = Stopped (ByFault fault long) } →
       IsFaulted m after (next x) (turn_course x) fault long steps
   faulted_of after fault long steps cut kept =
       let trace = course_with x m.cpu.opcode (Some op) r.opcode held ∙ cut.trace in
@@ -309,17 +310,17 @@ module _ (m : MachineState) (states news : List ChipState) (op : Op) (x : Positi
 
 pub done_from : (m k : MachineState) → k ≡ m → (states news : List ChipState) (op : Op) (x : Position) →
     decoded k.cpu.opcode ≡ Some op → Represents m states x →
-    (cpu : CpuState) (probe : ProbeState) (flow : Flow) (clocks : ℕ) (wrote : Option PortWrite) (steps : List Heard)
-    (chosen : Option ℕ) → k.cpu.opcode < 256 → AreInRange k.cpu.registers →
+    (cpu : CpuState) (probe : ProbeState) (known : Index) (flow : Flow) (clocks : ℕ) (wrote : Option PortWrite)
+    (steps : List Heard) (chosen : Option ℕ) → k.cpu.opcode < 256 → AreInRange k.cpu.registers →
     (HoldsInstruction k.cpu k.probe states k.chain op x → IsCarriedOut k.cpu cpu probe news steps chosen op x) →
     flow ≡ flow_before_fetch probe.count → clocks ≡ clocks_by chosen op (is_taken op k.cpu.registers) →
     wrote ≡ done_write (Some op) (k.phi + clocks) cpu.ports.latches steps →
-    IsDone (record k { probe = probe; cpu = cpu; flow = flow; phi = k.phi + clocks }) news (next x)
+    IsDone (record k { probe = probe; index = known; cpu = cpu; flow = flow; phi = k.phi + clocks }) news (next x)
     (turn_course x) x.flat.state.writes wrote steps
-done_from m k same states news op x held r cpu probe flow clocks wrote steps chosen small range carried moved spent
-    told =
+done_from m k same states news op x held r cpu probe known flow clocks wrote steps chosen small range carried moved
+    spent told =
     let there : Represents k states x = subst (λ (y : MachineState). Represents y states x) (sym same) r in
-    done_of k states news op x held there cpu probe flow clocks wrote steps chosen range
+    done_of k states news op x held there cpu probe known flow clocks wrote steps chosen range
     (carried (holds_of k states op x held small range there)) moved spent told
 
 -- what was kept is put back
@@ -330,19 +331,19 @@ restored_same start cpu now kept kept_is now_is restorable =
 
 pub faulted_from : (m k : MachineState) → k ≡ m → (states : List ChipState) (op : Op) (x : Position) →
     decoded k.cpu.opcode ≡ Some op → Represents m states x →
-    (cpu now : CpuState) (probe : ProbeState) (kept : KeptRegisters) (fault : BusFault) (why : StoppedBy) (long : Bool)
-    (steps : List Heard) → k.cpu.opcode < 256 → AreInRange k.cpu.registers →
+    (cpu now : CpuState) (probe : ProbeState) (known : Index) (kept : KeptRegisters) (fault : BusFault)
+    (why : StoppedBy) (long : Bool) (steps : List Heard) → k.cpu.opcode < 256 → AreInRange k.cpu.registers →
     (HoldsInstruction k.cpu k.probe states k.chain op x → IsCutShort steps fault long op x) → kept ≡ kept_of k.cpu →
     now ≡ restored kept cpu → IsRestorable k.cpu cpu → why ≡ ByFault fault long →
-    IsFaulted m (record k { probe = probe; cpu = now; mode = Stopped why }) (next x) (turn_course x) fault long steps
-faulted_from m k same states op x held r cpu now probe kept fault why long steps small range cut kept_is now_is
+    IsFaulted m (record k { probe = probe; index = known; cpu = now; mode = Stopped why }) (next x) (turn_course x) fault long steps
+faulted_from m k same states op x held r cpu now probe known kept fault why long steps small range cut kept_is now_is
     restorable stopped =
     let there : Represents k states x = subst (λ (y : MachineState). Represents y states x) (sym same) r in
-    let after : MachineState = record k { probe = probe; cpu = now; mode = Stopped why } in
-    let put_back : after ≡ record k { probe = probe; mode = Stopped (ByFault fault long) } =
-    ap (λ (c : CpuState). record k { probe = probe; cpu = c; mode = Stopped why })
+    let after : MachineState = record k { probe = probe; index = known; cpu = now; mode = Stopped why } in
+    let put_back : after ≡ record k { probe = probe; index = known; mode = Stopped (ByFault fault long) } =
+    ap (λ (c : CpuState). record k { probe = probe; index = known; cpu = c; mode = Stopped why })
     (restored_same k.cpu cpu now kept kept_is now_is restorable)
-    ∙ ap (λ (h : StoppedBy). record k { probe = probe; mode = Stopped h }) stopped in
+    ∙ ap (λ (h : StoppedBy). record k { probe = probe; index = known; mode = Stopped h }) stopped in
     subst (λ (y : MachineState). IsFaulted y after (next x) (turn_course x) fault long steps) same
     (faulted_of k states states op x held there after fault long steps
     (cut (holds_of k states op x held small range there)) put_back)

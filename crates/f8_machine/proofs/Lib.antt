@@ -1,4 +1,6 @@
 pub mod Chains
+pub mod Counting
+pub mod FitMachines
 pub mod Places
 pub mod StepTests
 pub mod Values

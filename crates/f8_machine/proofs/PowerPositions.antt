@@ -14,6 +14,7 @@ use Rattle.console_spec.specs.Run.{power_position, seats_of}
 use Rattle.data_bus.specs.Racks.{views}
 use Rattle.f8_machine.specs.RackViews.{AreCopies, HoldsFlat, HoldsPorts}
 use Rattle.cpu3850.specs.OwnWrites.{LeaveOwnPorts}
+use Rattle.data_bus.specs.declared.index.Index.{Index}
 use Rattle.f8_machine.specs.MachineState.{powered_machine}
 use Rattle.f8_machine.specs.RequestsHeld.{IsInTime}
 use Rattle.f8_machine.specs.Refinement.{AreWhole, AreAtZero, IsPowered}
@@ -89,10 +90,10 @@ powered_ports fill vs place w port latch lies found once =
       key = ap (λ (l : List ℕ). slice_index l latch) key_bytes ∙ clear_byte w.kind latch ∙ sym (zeros 256 port);
     }
 
-pub powers_pair : (fill : ℕ) (chain : List ℕ) (olds news : List ChipState) → fill < 256 → AreWhole olds →
+pub powers_pair : (fill : ℕ) (chain : List ℕ) (index : Index) (olds news : List ChipState) → fill < 256 → AreWhole olds →
     LeaveOwnPorts (map seat_of (views olds)) → RackPowers fill olds news →
-    IsPowered (powered_machine fill chain) news (power_position (views olds) chain fill)
-powers_pair fill chain olds news small whole free powers =
+    IsPowered (powered_machine fill chain index) news (power_position (views olds) chain fill)
+powers_pair fill chain index olds news small whole free powers =
     let vs = views olds in
     let filled : (k : ℕ) (v : ChipView) → slice_get vs k ≡ Some v → IsFilled v =
     λ k v lies. (view_whole olds whole k v lies).filled in

@@ -15,6 +15,7 @@ use Rattle.cpu3850.specs.CpuSteps.{CpuState}
 use Rattle.probe.specs.ProbeState.{ProbeState}
 use Rattle.data_bus.specs.Racks.{views}
 use Rattle.data_bus.specs.declared.fault.BusFault.{BusFault}
+use Rattle.data_bus.specs.declared.index.Index.{Index}
 use Rattle.f8_machine.specs.RackViews.{AreCopies}
 use Rattle.f8_machine.specs.Faults.{fault_of}
 use Rattle.f8_machine.specs.MachineState.{MachineState, flow_before_fetch}
@@ -63,12 +64,12 @@ settled_reset s unwritten unacknowledged =
     }
 
 reset_done_of : (m : MachineState) (states news : List ChipState) (x : Position) (opcode : ℕ) (probe : ProbeState)
-    (cpu : CpuState) (flow : Flow) (steps : List Heard) → IsPowered m states x →
+    (known : Index) (cpu : CpuState) (flow : Flow) (steps : List Heard) → IsPowered m states x →
     IsFetched opcode probe news steps x → cpu ≡ record m.cpu { opcode = opcode } →
     flow ≡ flow_before_fetch probe.count →
-    IsDone (record m { probe = probe; cpu = cpu; flow = flow; phi = m.phi + 14; mode = Running }) news
+    IsDone (record m { probe = probe; index = known; cpu = cpu; flow = flow; phi = m.phi + 14; mode = Running }) news
     (goes_unless (reset_fault x) (position_after_reset x)) (reset_course x) x.flat.state.writes None steps
-reset_done_of m states news x opcode probe cpu flow steps p is holds moved =
+reset_done_of m states news x opcode probe known cpu flow steps p is holds moved =
     let c = x.flat.state.flow in
     let zero : record c { p = 0 } ≡ c = at_zero c p.at_zero in
     let reference : probe.count ≡ fetched c = is.rack.reference ∙ ap fetched zero in
@@ -107,31 +108,31 @@ reset_done_of m states news x opcode probe cpu flow steps p is holds moved =
 
 -- reset that is done
 pub reset_done : (m k : MachineState) → k ≡ m →
-    (states news : List ChipState) (x : Position) (opcode : ℕ) (probe : ProbeState) (cpu : CpuState) (flow : Flow)
+    (states news : List ChipState) (x : Position) (opcode : ℕ) (probe : ProbeState) (known : Index) (cpu : CpuState) (flow : Flow)
     (steps : List Heard) → IsPowered m states x →
     (IsAtPower k.probe states x → IsFetched opcode probe news steps x) → cpu ≡ record k.cpu { opcode = opcode } →
     flow ≡ flow_before_fetch probe.count →
-    IsDone (record k { probe = probe; cpu = cpu; flow = flow; phi = k.phi + 14; mode = Running }) news
+    IsDone (record k { probe = probe; index = known; cpu = cpu; flow = flow; phi = k.phi + 14; mode = Running }) news
     (goes_unless (reset_fault x) (position_after_reset x)) (reset_course x) x.flat.state.writes None steps
-reset_done m k same states news x opcode probe cpu flow steps p is holds moved =
+reset_done m k same states news x opcode probe known cpu flow steps p is holds moved =
     let there : IsPowered k states x = subst (λ (y : MachineState). IsPowered y states x) (sym same) p in
-    reset_done_of k states news x opcode probe cpu flow steps there (is (at_power k states x there)) holds moved
+    reset_done_of k states news x opcode probe known cpu flow steps there (is (at_power k states x there)) holds moved
 
 -- and reset that is not
 pub reset_cut : (m k : MachineState) → k ≡ m →
-    (states : List ChipState) (x : Position) (probe : ProbeState) (fault : BusFault) (why : StoppedBy) (long : Bool)
-    (steps : List Heard) → IsPowered m states x →
+    (states : List ChipState) (x : Position) (probe : ProbeState) (known : Index) (fault : BusFault) (why : StoppedBy)
+    (long : Bool) (steps : List Heard) → IsPowered m states x →
     (IsAtPower k.probe states x → IsNotFetched steps fault long x) → why ≡ ByFault fault long →
-    IsFaulted m (record k { probe = probe; mode = Stopped why }) (goes_unless (reset_fault x) (position_after_reset x))
+    IsFaulted m (record k { probe = probe; index = known; mode = Stopped why }) (goes_unless (reset_fault x) (position_after_reset x))
     (reset_course x) fault long steps
-reset_cut m k same states x probe fault why long steps p cut stopped =
+reset_cut m k same states x probe known fault why long steps p cut stopped =
     let there : IsPowered k states x = subst (λ (y : MachineState). IsPowered y states x) (sym same) p in
     let is = cut (at_power k states x there) in
-    subst (λ (y : MachineState). IsFaulted y (record k { probe = probe; mode = Stopped why })
+    subst (λ (y : MachineState). IsFaulted y (record k { probe = probe; index = known; mode = Stopped why })
     (goes_unless (reset_fault x) (position_after_reset x)) (reset_course x) fault long steps) same (record {
       turns = ap (λ (f : Option Fault). goes_unless f (position_after_reset x)) is.unserved;
       trace = is.trace ∙ ap (λ (c : Course). record { steps = c.steps; fault = Some (fault_of fault, long) })
           (sym is.trace);
       recorded = is.recorded ∙ ap (λ (c : Course). map heard_of c.steps) (sym is.trace);
-      kept = ap (λ (h : StoppedBy). record k { probe = probe; mode = Stopped h }) stopped;
+      kept = ap (λ (h : StoppedBy). record k { probe = probe; index = known; mode = Stopped h }) stopped;
     })

@@ -4,16 +4,19 @@ use Rattle.f8_spec.specs.ChipState.{ChipState}
 use Rattle.f8_ops.specs.declared.table.TheConstants.{MOST_INTERRUPTED_PHI}
 use Rattle.console_spec.specs.Run.{Position}
 use Rattle.f8_machine.specs.MachineState.{MachineState, IsReset, outcome_again, probe_after_steps, steps_in}
+use Rattle.f8_machine.specs.Questions.{codes_of, followed_all}
 use Rattle.f8_machine.specs.Refinement.{Represents, Refines}
 use Rattle.f8_machine.specs.Rounds.{RackRuns}
 use Rattle.f8_machine.specs.declared.outcome.Outcome.{Outcome}
 use Rattle.f8_machine.specs.declared.outcome.StoppedBy.{StoppedBy}
 
--- The chips and the probe have heard the steps told and nothing else; reset has been, and the sockets of the chips described stay.
+-- The chips and the probe have heard the steps told and nothing else, and the index has followed them; reset has been, and the sockets
+-- of the chips described stay.
 pub record Follows (result : Outcome) (old new : MachineState) (olds news : List ChipState) : Type 0 where
   pub ran : RackRuns (steps_in result) olds news
   pub reference : new.probe ≡ probe_after_steps (steps_in result) old.probe
   pub mode : IsReset new.mode
+  pub index : new.index ≡ followed_all (codes_of (steps_in result)) old.index
   pub chain : new.chain ≡ old.chain
 
 -- An instruction does what the flat machine's next one does, and the clocks go on by no more than those of an instruction with an

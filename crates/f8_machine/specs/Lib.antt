@@ -7,7 +7,9 @@ pub mod HeardSteps
 pub mod BusSteps
 pub mod Rounds
 pub mod PortWrites
+pub mod Questions
 pub mod MachineState
+pub mod Fitting
 pub mod Keying
 pub mod Refinement
 pub mod Advancing

@@ -4,6 +4,7 @@ use Rattle.f8_spec.specs.BusCodes.{Count}
 use Rattle.console_spec.specs.Processor.{Flow}
 use Rattle.probe.specs.ProbeState.{ProbeState, new_probe, probe_after}
 use Rattle.cpu3850.specs.CpuSteps.{CpuState, powered}
+use Rattle.data_bus.specs.declared.index.Index.{Index}
 use Rattle.f8_machine.specs.declared.flow.Flow.{Flow as KeptFlow}
 use Rattle.f8_machine.specs.declared.heard.Heard.{Heard}
 use Rattle.f8_machine.specs.declared.outcome.Mode.{Mode}
@@ -21,7 +22,7 @@ abbrev pub flow_before_fetch : Count → Flow
 flow_before_fetch c = record { p = (c.pc0 + 65535) % 65536; p1 = c.pc1; d0 = c.dc0; d1 = c.dc1 }
 
 -- the probe, the processor, the counters of the flat machine as the last instruction left them, the clocks in Φ, the sockets of the
--- chips described, and what the machine may do
+-- chips described, what the machine may do, and the index of the rack's pages
 pub record MachineState : Type 0 where
   pub probe : ProbeState
   pub cpu : CpuState
@@ -29,6 +30,7 @@ pub record MachineState : Type 0 where
   pub phi : ℕ
   pub chain : List ℕ
   pub mode : Mode
+  pub index : Index
 
 -- the outcome on a machine that was stopped
 abbrev pub outcome_again : StoppedBy → Outcome
@@ -52,13 +54,14 @@ abbrev pub probe_after_steps : List Heard → ProbeState → ProbeState
 probe_after_steps [] p = p
 probe_after_steps (h ∷ later) p = probe_after_steps later (probe_after h.romc h.byte p)
 
--- a machine at power-on
-abbrev pub powered_machine : ℕ → List ℕ → MachineState
-powered_machine fill chain = record {
+-- a machine at power-on, with an index of its rack
+abbrev pub powered_machine : ℕ → List ℕ → Index → MachineState
+powered_machine fill chain index = record {
   probe = new_probe;
   cpu = powered fill;
   flow = record { p = 0; p1 = 0; d0 = 0; d1 = 0 };
   phi = 0;
   chain = chain;
   mode = Powered;
+  index = index;
 }

@@ -110,7 +110,7 @@ pub record IsFaulted (before after : MachineState) (turn : Turn) (course : Cours
   pub turns : turn ≡ Stops (UnservedStop (fault_of fault))
   pub trace : course ≡ record { steps = course.steps; fault = Some (fault_of fault, long) }
   pub recorded : steps ≡ map heard_of course.steps
-  pub kept : after ≡ record before { probe = after.probe; mode = Stopped (ByFault fault long) }
+  pub kept : after ≡ record before { probe = after.probe; index = after.index; mode = Stopped (ByFault fault long) }
 
 -- an opcode that stops the run: nothing is done
 pub record StopsAtReserved (before after : MachineState) (turn : Turn) (at code : ℕ) : Type 0 where

@@ -1,12 +1,14 @@
 //! The bus steps of an instruction.
-ghost use Rattle.std.specs.Prelude.{◌≡◌, ◌<◌, ◌≤◌, [], length, map, IfOk, IfErr, IfSome, OnErr, IsSome, Some, false};
+ghost use Rattle.std.specs.Prelude.{◌≡◌, ◌<◌, ◌≤◌, [], length, map, sum_by, IfOk, IfErr, IfSome, OnErr, IsSome, Some, false};
 ghost use Rattle.f8_spec.specs.Instructions.{decoded, is_shielding};
 ghost use Rattle.f8_spec.specs.declared.instructions.Op.{Op};
 ghost use Rattle.console_spec.specs.Run.{Position};
 ghost use Rattle.cpu3850.specs.CpuSteps.{planned, taken};
 ghost use Rattle.cpu3850.specs.Keeping.{IsRestorable};
+ghost use Rattle.data_bus.specs.PageIndex.{StandsFor};
 ghost use Rattle.f8_machine.specs.Carrying.{HoldsInstruction, IsCarriedOut, IsCutShort, vectored};
 ghost use Rattle.f8_machine.specs.MachineState.{probe_after_steps};
+ghost use Rattle.f8_machine.specs.Questions.{CountsOn, CountsTried};
 ghost use Rattle.f8_machine.specs.Rounds.{RackRuns};
 
 use super::bus_step::bus_step;
@@ -17,7 +19,7 @@ use super::outcome::StoppedBy;
 use super::record::Record;
 use chip_face::{Chip, MOST_CHIPS};
 use cpu3850::{Cpu, Steps};
-use data_bus::{BusFault, Rack};
+use data_bus::{BusFault, Index, Rack};
 use probe::Probe;
 
 /// A bus step that wasn't served, and whether it is a long one.
@@ -56,6 +58,7 @@ fn conclude(cpu: &mut Cpu, index: u8, opcode: u8, chosen: Option<u8>)
 pub(crate) fn carry_out(
     cpu: &mut Cpu,
     probe: &mut Probe,
+    known: &mut Index,
     rack: &mut Rack,
     plan: &Steps,
     chain: &Chain,
@@ -65,6 +68,7 @@ pub(crate) fn carry_out(
     requires plan { plan.now ≡ planned cpu.old }
     requires instruction { IsSome (decoded cpu.old.opcode) }
     requires none { steps.old ≡ [] }
+    requires stands { StandsFor known.old probe.old (map state rack.old.items) }
     ensures done { (op : Op) (x : Position) →
         HoldsInstruction cpu.old probe.old (map state rack.old.items) chain.now op x →
         IfOk result (λ chosen. IsCarriedOut cpu.old cpu.new probe.new
@@ -77,12 +81,19 @@ pub(crate) fn carry_out(
     ensures restorable { OnErr result (IsRestorable cpu.old cpu.new) }
     ensures ran { RackRuns steps.new (map state rack.old.items) (map state rack.new.items) }
     ensures reference { probe.new ≡ probe_after_steps steps.new probe.old }
+    ensures stands { StandsFor known.new probe.new (map state rack.new.items) }
+    ensures counted { IfOk result (λ chosen. CountsOn (length rack.old.items)
+        (record { index = known.old; questions = sum_by queries rack.old.items; steps = steps.old })
+        (record { index = known.new; questions = sum_by queries rack.new.items; steps = steps.new })) }
+    ensures tried { IfErr result (λ unserved. CountsTried (length rack.old.items) unserved.fault
+        (record { index = known.old; questions = sum_by queries rack.old.items; steps = steps.old })
+        (record { index = known.new; questions = sum_by queries rack.new.items; steps = steps.new })) }
     ensures chips { length rack.new.items ≡ length rack.old.items }
 {
     let before = plan.before_last();
     for (index, step) in before.iter().enumerate() {
         let placed = cpu.drive(index as u8);
-        match bus_step(rack, probe, *step, placed, steps) {
+        match bus_step(rack, probe, known, *step, placed, steps) {
             Ok(byte) => cpu.take(index as u8, byte),
             Err(fault) => {
                 return Err(Unserved {
@@ -96,10 +107,10 @@ pub(crate) fn carry_out(
         unreachable!()
     };
     let chosen = choose(cpu, rack, chain);
-    acknowledge_chosen(rack, probe, chosen, steps);
+    acknowledge_chosen(rack, probe, known, chosen, steps);
     let fetch = fetch_by(chosen, last);
     let long = fetch.long;
-    match bus_step(rack, probe, fetch, 0, steps) {
+    match bus_step(rack, probe, known, fetch, 0, steps) {
         Ok(opcode) => {
             conclude(cpu, (plan.len() - 1) as u8, opcode, chosen);
             Ok(chosen)

@@ -1,18 +1,20 @@
 //! The bus steps of an interrupt (Fairchild F8 User's Guide; the list is this project's own).
-ghost use Rattle.std.specs.Prelude.{◌≡◌, ◌<◌, ◌≤◌, ◌+◌, ◌-◌, false, Some, length, map, IfSome};
+ghost use Rattle.std.specs.Prelude.{◌≡◌, ◌<◌, ◌≤◌, ◌+◌, ◌-◌, false, Some, length, map, sum_by, IfSome};
 ghost use Rattle.f8_spec.specs.BusArbitration.{rule_of};
 ghost use Rattle.f8_spec.specs.MicroSteps.{NoByte, Opcode, VectorHigh, VectorLow, long_step, short_step};
 ghost use Rattle.console_spec.specs.BusTrace.{is_access};
 ghost use Rattle.cpu3850.specs.CpuSteps.{bus_step as step_of};
+ghost use Rattle.data_bus.specs.PageIndex.{StandsFor};
 ghost use Rattle.data_bus.specs.Racks.{ChosenAsks, NamesAsking};
 ghost use Rattle.f8_machine.specs.BusSteps.{IsServedBy};
+ghost use Rattle.f8_machine.specs.Questions.{CountsOn};
 ghost use Rattle.f8_machine.specs.Vectoring.{Acknowledges, IsAcknowledged, clocks_of_plan, fetch_by};
 
 use super::bus_step::bus_step_by;
 use super::record::{MOST_HEARD, Record};
 use chip_face::{Chip, MOST_CHIPS};
 use cpu3850::{Romc, Step, Steps};
-use data_bus::Rack;
+use data_bus::{Index, Rack};
 use f8_ops::INTERRUPT_PHI;
 use probe::Probe;
 use romc_table::Driver;
@@ -57,6 +59,7 @@ const FETCH: Step = Step {
 fn sure_step(
     rack: &mut Rack,
     probe: &mut Probe,
+    known: &mut Index,
     step: Step,
     first: Option<u8>,
     steps: &mut Record,
@@ -65,12 +68,17 @@ fn sure_step(
     requires room { length steps.old < MOST_HEARD }
     requires chosen { ChosenAsks step.romc first (map state rack.old.items) }
     requires sure { is_access (rule_of step.romc) ≡ false }
+    requires stands { StandsFor known.old probe.old (map state rack.old.items) }
     ensures served { IsServedBy first step 0 probe.old probe.new
         (map state rack.old.items) (map state rack.new.items) steps.old steps.new result }
     ensures longer { length steps.new ≡ length steps.old + 1 }
+    ensures stands { StandsFor known.new probe.new (map state rack.new.items) }
+    ensures counted { CountsOn (length rack.old.items)
+        (record { index = known.old; questions = sum_by queries rack.old.items; steps = steps.old })
+        (record { index = known.new; questions = sum_by queries rack.new.items; steps = steps.new }) }
     ensures chips { length rack.new.items ≡ length rack.old.items }
 {
-    match bus_step_by(rack, probe, step, 0, first, steps) {
+    match bus_step_by(rack, probe, known, step, 0, first, steps) {
         Ok(byte) => byte,
         Err(_) => unreachable!(),
     }
@@ -79,38 +87,55 @@ fn sure_step(
 /// The acknowledgement of the interrupt of the chip in a socket, which asks.
 // Not inlined, since nearly no end of an instruction comes here.
 #[inline(never)]
-fn acknowledge(rack: &mut Rack, probe: &mut Probe, socket: u8, steps: &mut Record)
+fn acknowledge(
+    rack: &mut Rack,
+    probe: &mut Probe,
+    known: &mut Index,
+    socket: u8,
+    steps: &mut Record,
+)
     requires few { length rack.old.items ≤ MOST_CHIPS }
     requires room { length steps.old + 4 < MOST_HEARD }
     requires asks { NamesAsking (Some socket) (map state rack.old.items) }
+    requires stands { StandsFor known.old probe.old (map state rack.old.items) }
     ensures acknowledged { IsAcknowledged socket probe.old probe.new
         (map state rack.old.items) (map state rack.new.items) steps.old steps.new }
     ensures longer { length steps.new ≡ length steps.old + 4 }
+    ensures stands { StandsFor known.new probe.new (map state rack.new.items) }
+    ensures counted { CountsOn (length rack.old.items)
+        (record { index = known.old; questions = sum_by queries rack.old.items; steps = steps.old })
+        (record { index = known.new; questions = sum_by queries rack.new.items; steps = steps.new }) }
     ensures chips { length rack.new.items ≡ length rack.old.items }
 {
-    sure_step(rack, probe, FREE, None, steps);
-    sure_step(rack, probe, IDLE, None, steps);
-    sure_step(rack, probe, LOW, Some(socket), steps);
-    sure_step(rack, probe, HIGH, Some(socket), steps);
+    sure_step(rack, probe, known, FREE, None, steps);
+    sure_step(rack, probe, known, IDLE, None, steps);
+    sure_step(rack, probe, known, LOW, Some(socket), steps);
+    sure_step(rack, probe, known, HIGH, Some(socket), steps);
 }
 
 /// The steps before the fetch of the next opcode where the interrupt of the chip in a socket is taken, and none where none is.
 pub(crate) fn acknowledge_chosen(
     rack: &mut Rack,
     probe: &mut Probe,
+    known: &mut Index,
     chosen: Option<u8>,
     steps: &mut Record,
 )
     requires few { length rack.old.items ≤ MOST_CHIPS }
     requires room { length steps.old + 4 < MOST_HEARD }
     requires asks { IfSome chosen (λ socket. NamesAsking (Some socket) (map state rack.old.items)) }
+    requires stands { StandsFor known.old probe.old (map state rack.old.items) }
     ensures acknowledged { Acknowledges chosen probe.old probe.new
         (map state rack.old.items) (map state rack.new.items) steps.old steps.new }
     ensures room { length steps.new < MOST_HEARD }
+    ensures stands { StandsFor known.new probe.new (map state rack.new.items) }
+    ensures counted { CountsOn (length rack.old.items)
+        (record { index = known.old; questions = sum_by queries rack.old.items; steps = steps.old })
+        (record { index = known.new; questions = sum_by queries rack.new.items; steps = steps.new }) }
     ensures chips { length rack.new.items ≡ length rack.old.items }
 {
     if let Some(socket) = chosen {
-        acknowledge(rack, probe, socket, steps);
+        acknowledge(rack, probe, known, socket, steps);
     }
 }
 

@@ -12,7 +12,7 @@ use super::wrote::done_write;
 use chip_face::{Chip, Counters, MOST_CHIPS};
 use console_spec::Regs;
 use cpu3850::{Cpu, Steps};
-use data_bus::Rack;
+use data_bus::{Index, Rack};
 use f8_ops::{OWN_PORTS, RESET_PHI, Reserved};
 use probe::Probe;
 use std::marker::Model;
@@ -35,6 +35,9 @@ pub struct Machine {
     /// The sockets of the chips described.
     chain: Chain,
     mode: Mode,
+
+    /// The index of the rack's pages, by which bus steps find the chip that answers.
+    index: Index,
 }
 
 impl Model for Machine {
@@ -49,11 +52,12 @@ impl Model for Machine {
       phi = m.phi;
       chain = m.chain;
       mode = m.mode;
+      index = m.index;
     } };
 }
 
 impl Machine {
-    ghost use Rattle.std.specs.Prelude.{◌≡◌, ◌≤◌, ◌<◌, ◌+◌, ◌^◌, [], length, map, slice_get, IsSome};
+    ghost use Rattle.std.specs.Prelude.{◌≡◌, ◌≤◌, ◌<◌, ◌+◌, ◌^◌, [], length, map, sum_by, slice_get, IsSome};
     ghost use Rattle.f8_spec.specs.Instructions.{decoded};
     ghost use Rattle.f8_spec.specs.BusArbitration.{seat_of};
     ghost use Rattle.cpu3850.specs.OwnWrites.{LeaveOwnPorts};
@@ -61,7 +65,10 @@ impl Machine {
     ghost use Rattle.console_spec.specs.Run.{Position, power_position};
     ghost use Rattle.cpu3850.specs.CpuSteps.{planned};
     ghost use Rattle.probe.specs.ProbeState.{probe_counters};
-    ghost use Rattle.data_bus.specs.Racks.{views};
+    ghost use Rattle.data_bus.specs.Questions.{AskedAtMost};
+    ghost use Rattle.data_bus.specs.Racks.{NumberedZip, views};
+    ghost use Rattle.f8_machine.specs.Fitting.{Fits, tried, tried_in};
+    ghost use Rattle.f8_machine.specs.Questions.{allowances};
     ghost use Rattle.f8_machine.specs.MachineState.{IsReset, powered_machine};
     ghost use Rattle.f8_machine.specs.Refinement.{AreWhole, Represents, IsPowered, ResetRefines};
     ghost use Rattle.f8_machine.specs.Advancing.{Follows, Advances, StaysStopped};
@@ -74,18 +81,22 @@ impl Machine {
     /// Power-on of the machine and of every chip of the rack, of which there are at most 16. The power byte is in the accumulator, in
     /// ISAR modulo 64, in the scratchpad and in all RAM, and the counters of the chip in a socket stand at the power byte in both
     /// halves, and the socket added; the probe's stand at 0. `chain` has the sockets of the chips described. Power-on contents are this
-    /// project's own.
+    /// project's own. Each chip is put at most 512 questions, by which the index of the rack is made.
     pub fn power(fill: u8, chain: Chain, rack: &mut Rack) -> Machine
         requires few { length rack.old.items ≤ MOST_CHIPS }
-        ensures machine { result ≡ powered_machine fill chain }
+        ensures machine { result ≡ powered_machine fill chain result.index }
         ensures powered { RackPowers fill (map state rack.old.items) (map state rack.new.items) }
         ensures pair { AreWhole (map state rack.old.items) →
             LeaveOwnPorts (map seat_of (views (map state rack.old.items))) →
             IsPowered result (map state rack.new.items)
             (power_position (views (map state rack.old.items)) chain fill) }
+        ensures fits { Fits result (map state rack.new.items) }
+        ensures asked { NumberedZip (AskedAtMost 512) 0 (map queries rack.old.items)
+            (map queries rack.new.items) }
         ensures chips { length rack.new.items ≡ length rack.old.items }
     {
         power_all(rack, fill);
+        let index = Index::of(rack);
         Machine {
             probe: Probe::new(),
             cpu: Cpu::power(fill),
@@ -93,6 +104,7 @@ impl Machine {
             phi: 0,
             chain,
             mode: Mode::Powered,
+            index,
         }
     }
 
@@ -100,16 +112,20 @@ impl Machine {
     pub fn reset(&mut self, rack: &mut Rack) -> Outcome
         requires few { length rack.old.items ≤ MOST_CHIPS }
         requires mode { self.old.mode ≡ Mode.Powered }
+        requires fits { Fits self.old (map state rack.old.items) }
         requires phi { self.old.phi < 2 ^ 62 }
         ensures refines { (x : Position) → IsPowered self.old (map state rack.old.items) x →
             ResetRefines result self.old self.new (map state rack.new.items) x }
         ensures follows { Follows result self.old self.new
             (map state rack.old.items) (map state rack.new.items) }
         ensures clocks { self.new.phi ≤ self.old.phi + RESET_PHI }
+        ensures fits { Fits self.new (map state rack.new.items) }
+        ensures asked { sum_by queries rack.new.items ≤ sum_by queries rack.old.items
+            + allowances (length rack.old.items) self.old.index (tried self.old.mode result) }
         ensures chips { length rack.new.items ≡ length rack.old.items }
     {
         let mut steps = Record::new();
-        match fetch_first(rack, &mut self.probe, &mut steps) {
+        match fetch_first(rack, &mut self.probe, &mut self.index, &mut steps) {
             Ok(opcode) => {
                 self.cpu.fetch(opcode);
                 self.flow = Flow::of(self.probe.counters());
@@ -133,11 +149,15 @@ impl Machine {
     pub fn instr(&mut self, rack: &mut Rack) -> Outcome
         requires few { length rack.old.items ≤ MOST_CHIPS }
         requires mode { IsReset self.old.mode }
+        requires fits { Fits self.old (map state rack.old.items) }
         requires phi { self.old.phi < 2 ^ 62 }
         ensures advances { Advances result self.old self.new
             (map state rack.old.items) (map state rack.new.items) }
         ensures follows { Follows result self.old self.new
             (map state rack.old.items) (map state rack.new.items) }
+        ensures fits { Fits self.new (map state rack.new.items) }
+        ensures asked { sum_by queries rack.new.items ≤ sum_by queries rack.old.items
+            + allowances (length rack.old.items) self.old.index (tried self.old.mode result) }
         ensures stopped { (why : StoppedBy) → self.old.mode ≡ Mode.Stopped why →
             StaysStopped why result self.old self.new
             (map state rack.old.items) (map state rack.new.items) }
@@ -153,11 +173,15 @@ impl Machine {
     fn next(&mut self, rack: &mut Rack) -> Outcome
         requires few { length rack.old.items ≤ MOST_CHIPS }
         requires mode { IsReset self.old.mode }
+        requires fits { Fits self.old (map state rack.old.items) }
         requires phi { self.old.phi < 2 ^ 62 }
         ensures advances { Advances result self.old self.new
             (map state rack.old.items) (map state rack.new.items) }
         ensures follows { Follows result self.old self.new
             (map state rack.old.items) (map state rack.new.items) }
+        ensures fits { Fits self.new (map state rack.new.items) }
+        ensures asked { sum_by queries rack.new.items ≤ sum_by queries rack.old.items
+            + allowances (length rack.old.items) self.old.index (tried_in result) }
         ensures chips { length rack.new.items ≡ length rack.old.items }
     {
         match self.cpu.plan() {
@@ -181,11 +205,15 @@ impl Machine {
         requires plan { plan ≡ planned self.old.cpu }
         requires instruction { IsSome (decoded self.old.cpu.opcode) }
         requires mode { IsReset self.old.mode }
+        requires fits { Fits self.old (map state rack.old.items) }
         requires phi { self.old.phi < 2 ^ 62 }
         ensures advances { Advances result self.old self.new
             (map state rack.old.items) (map state rack.new.items) }
         ensures follows { Follows result self.old self.new
             (map state rack.old.items) (map state rack.new.items) }
+        ensures fits { Fits self.new (map state rack.new.items) }
+        ensures asked { sum_by queries rack.new.items ≤ sum_by queries rack.old.items
+            + allowances (length rack.old.items) self.old.index (tried_in result) }
         ensures chips { length rack.new.items ≡ length rack.old.items }
     {
         let code = self.cpu.opcode();
@@ -194,6 +222,7 @@ impl Machine {
         let carried = carry_out(
             &mut self.cpu,
             &mut self.probe,
+            &mut self.index,
             rack,
             &plan,
             &self.chain,
@@ -219,12 +248,15 @@ impl Machine {
     /// as its latch OR this byte. On a port that is no chip's data port nothing changes.
     pub fn keys(&mut self, rack: &mut Rack, port: u8, byte: u8)
         requires few { length rack.old.items ≤ MOST_CHIPS }
+        requires fits { Fits self.old (map state rack.old.items) }
         ensures machine { self.new ≡ keyed_machine port byte self.old }
         ensures keyed { RackKeyed port byte (map state rack.old.items) (map state rack.new.items) }
         ensures powered { (x : Position) → IsPowered self.old (map state rack.old.items) x →
             IsPowered self.new (map state rack.new.items) (with_event (Keys port byte) x) }
         ensures running { (x : Position) → Represents self.old (map state rack.old.items) x →
             Represents self.new (map state rack.new.items) (with_event (Keys port byte) x) }
+        ensures fits { Fits self.new (map state rack.new.items) }
+        ensures asked { map queries rack.new.items ≡ map queries rack.old.items }
         ensures chips { length rack.new.items ≡ length rack.old.items }
     {
         if port < OWN_PORTS {
@@ -238,6 +270,7 @@ impl Machine {
     /// 1 (Mostek 3851 data sheet in outline). Where there is no such chip nothing changes.
     pub fn pulse(&mut self, rack: &mut Rack, chip: u8)
         requires few { length rack.old.items ≤ MOST_CHIPS }
+        requires fits { Fits self.old (map state rack.old.items) }
         ensures machine { self.new ≡ self.old }
         ensures pulsed { RackPulsed (slice_get self.old.chain chip)
             (map state rack.old.items) (map state rack.new.items) }
@@ -245,6 +278,8 @@ impl Machine {
             IsPowered self.new (map state rack.new.items) (with_event (Pulse chip) x) }
         ensures running { (x : Position) → Represents self.old (map state rack.old.items) x →
             Represents self.new (map state rack.new.items) (with_event (Pulse chip) x) }
+        ensures fits { Fits self.new (map state rack.new.items) }
+        ensures asked { map queries rack.new.items ≡ map queries rack.old.items }
         ensures chips { length rack.new.items ≡ length rack.old.items }
     {
         if let Some(&socket) = self.chain.as_slice().get(usize::from(chip)) {

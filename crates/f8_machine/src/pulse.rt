@@ -7,7 +7,8 @@ use data_bus::Rack;
 
 /// A pulse at a chip where its socket is the one chosen. At any other nothing changes.
 fn pulse_if(chip: &mut Box<dyn Chip>, socket: u8, chosen: u8)
-    ensures { PulsesInSocket chosen socket (state chip.old) (state chip.new) }
+    ensures pulses { PulsesInSocket chosen socket (state chip.old) (state chip.new) }
+    ensures asked { queries chip.new ≡ queries chip.old }
 {
     if chosen == socket {
         chip.pulse();
@@ -18,6 +19,7 @@ fn pulse_if(chip: &mut Box<dyn Chip>, socket: u8, chosen: u8)
 pub(crate) fn pulse_at(rack: &mut Rack, chosen: u8)
     requires few { length rack.old.items ≤ MOST_CHIPS }
     ensures pulsed { RackPulses chosen (map state rack.old.items) (map state rack.new.items) }
+    ensures asked { map queries rack.new.items ≡ map queries rack.old.items }
     ensures chips { length rack.new.items ≡ length rack.old.items }
 {
     for (socket, chip) in rack.iter_mut().enumerate() {

@@ -38,3 +38,7 @@ psu_state p = record { view = psu_view p; heard_steps = None; patch = None }
 -- the state of a chip of its kind that holds no address and has no port
 abbrev pub blank_psu : ChipState
 blank_psu = record { view = blank_view PsuKind; heard_steps = None; patch = None }
+
+-- how many questions were put to it
+abbrev pub psu_queries : Psu → ℕ
+psu_queries p = p.asked

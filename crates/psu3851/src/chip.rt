@@ -31,6 +31,9 @@ pub struct Psu {
     /// Control, timer and request.
     interrupts: Interrupts,
     vector: u16,
+
+    /// How many questions were put to the chip.
+    asked: u64,
     rom: [u8; PSU_ROM_SIZE],
     ghost boundary: { base % 1024 ≡ 0 },
     ghost whole: { size % 1024 ≡ 0 },
@@ -38,11 +41,13 @@ pub struct Psu {
 }
 
 impl Psu {
-    ghost use Rattle.psu3851.specs.PsuState.{psu_state, blank_psu};
+    ghost use Rattle.chip_face.specs.Queries.{one_more};
+    ghost use Rattle.psu3851.specs.PsuState.{psu_state, psu_queries, blank_psu};
 
-    /// A 3851 that holds no address and has no port, with its counters at 0.
+    /// A 3851 that holds no address and has no port, with its counters at 0. It was put no question.
     pub fn blank() -> Psu
-        ensures { psu_state result ≡ blank_psu }
+        ensures state { psu_state result ≡ blank_psu }
+        ensures asked { psu_queries result ≡ 0 }
     {
         Psu {
             registers: Registers::at(0),
@@ -54,8 +59,27 @@ impl Psu {
             key_bytes: [0; 2],
             interrupts: Interrupts::new(false),
             vector: 0,
+            asked: 0,
             rom: [0; PSU_ROM_SIZE],
         }
+    }
+
+    /// Makes it blank again. The questions that were put to it stay counted.
+    fn clear(&mut self)
+        ensures state { psu_state self.new ≡ blank_psu }
+        ensures asked { psu_queries self.new ≡ psu_queries self.old }
+    {
+        let asked = self.asked;
+        *self = Psu::blank();
+        self.asked = asked;
+    }
+
+    /// Counts a question.
+    #[inline]
+    fn count(&mut self)
+        ensures { self.new ≡ record self.old { asked = one_more self.old.asked } }
+    {
+        self.asked = self.asked.saturating_add(1);
     }
 }
 
@@ -73,12 +97,25 @@ impl Psu {
         at.wrapping_sub(self.base) < self.size
     }
 
+    /// The byte at an address in the chip's ROM, and `None` at another.
+    #[inline]
+    fn byte(&self, at: u16) -> Option<u8>
+        ensures { result ≡ held_byte (psu_view self.now) at }
+    {
+        let place = at.wrapping_sub(self.base);
+        if place < self.size {
+            Some(self.rom[place as usize])
+        } else {
+            None
+        }
+    }
+
     /// The byte at one of the chip's counters.
     #[inline]
     fn byte_at(&self, at: u16) -> Option<Offer>
         ensures { result ≡ option_map (byte_offer at) (held_byte (psu_view self.now) at) }
     {
-        let byte = self.peek(at)?;
+        let byte = self.byte(at)?;
         Some(Offer { byte, at })
     }
 
@@ -119,7 +156,7 @@ impl Psu {
 impl Psu {
     ghost use Rattle.std.specs.Prelude.{option_and_then};
     ghost use Rattle.f8_spec.specs.ChipState.{data_port, offset_from, port_role, port_written_if};
-    ghost use Rattle.psu3851.specs.PsuState.{psu_view};
+    ghost use Rattle.psu3851.specs.PsuState.{psu_view, psu_queries};
 
     /// The place of a port among the chip's four, and `None` where the chip doesn't have it.
     #[inline]
@@ -144,8 +181,9 @@ impl Psu {
 
     /// A byte for a port, which is lost where the chip doesn't have it. A write to control ends a latched request.
     fn write_port(&mut self, port: u8, byte: u8)
-        ensures { psu_view self.new ≡ port_written_if (port_role (psu_view self.old) port) byte
+        ensures view { psu_view self.new ≡ port_written_if (port_role (psu_view self.old) port) byte
             (psu_view self.old) }
+        ensures asked { psu_queries self.new ≡ psu_queries self.old }
     {
         match self.port_offset(port) {
             Some(0) => self.latches[0] = byte,
@@ -161,13 +199,14 @@ impl Psu {
 impl Psu {
     ghost use Rattle.f8_spec.specs.ChipState.{effect, timer_passed};
     ghost use Rattle.f8_spec.specs.ShiftTimer.{step_period};
-    ghost use Rattle.psu3851.specs.PsuState.{psu_view};
+    ghost use Rattle.psu3851.specs.PsuState.{psu_view, psu_queries};
 
     /// The clocks of the step, which pass before its effect.
     #[inline]
     fn pass(&mut self, phi: u8)
         requires { phi < step_period }
-        ensures { psu_view self.new ≡ timer_passed phi (psu_view self.old) }
+        ensures view { psu_view self.new ≡ timer_passed phi (psu_view self.old) }
+        ensures asked { psu_queries self.new ≡ psu_queries self.old }
     {
         self.interrupts.pass(phi);
     }
@@ -175,7 +214,8 @@ impl Psu {
     /// The effect of the code on ports and request. A 3851 has no RAM, so that a store is lost.
     #[inline]
     fn act(&mut self, romc: Romc, byte: u8, first: bool)
-        ensures { psu_view self.new ≡ effect romc byte first (psu_view self.old) }
+        ensures view { psu_view self.new ≡ effect romc byte first (psu_view self.old) }
+        ensures asked { psu_queries self.new ≡ psu_queries self.old }
     {
         match romc {
             Romc::VECTOR_HIGH if first => self.interrupts.acknowledge(),
@@ -189,9 +229,11 @@ impl Chip for Psu {
     ghost use Rattle.std.specs.Prelude.{◌≢◌, ◌↔◌, OnOk, OnErr, IsErrOf};
     ghost use Rattle.f8_spec.specs.ChipState.{IsWhole};
     ghost use Rattle.chip_face.specs.Fitting.{Fits, IsSpec, kind_of};
-    ghost use Rattle.psu3851.specs.PsuState.{psu_state};
+    ghost use Rattle.psu3851.specs.PsuState.{psu_state, psu_queries};
 
     ghost state = { psu_state };
+
+    ghost queries = { psu_queries };
 
     fn kind(&self) -> ChipKind {
         ChipKind::Psu
@@ -206,10 +248,11 @@ impl Chip for Psu {
             ↔ (kind_of spec.now ≢ (psu_state self.old).view.kind) }
         ensures memory { IsErrOf result FitFault.Memory → ⊥ }
         ensures err { OnErr result (psu_state self.new ≡ psu_state self.old) }
+        ensures asked { psu_queries self.new ≡ psu_queries self.old }
     {
         match spec {
             ChipSpec::Blank(ChipKind::Psu) => {
-                *self = Psu::blank();
+                self.clear();
                 Ok(())
             }
             ChipSpec::Psu {
@@ -219,7 +262,7 @@ impl Chip for Psu {
                 vector,
                 wired,
             } => {
-                *self = Psu::blank();
+                self.clear();
                 self.rom.copy_from_slice(rom.as_slice());
                 self.base = *base;
                 self.size = PSU_ROM_SIZE as u16;
@@ -241,7 +284,8 @@ impl Chip for Psu {
         self.interrupts.power();
     }
 
-    fn offer(&self, romc: Romc, first: bool) -> Option<Offer> {
+    fn offer(&mut self, romc: Romc, first: bool) -> Option<Offer> {
+        self.count();
         let counters = self.registers.counters(false);
         match romc {
             Romc::FETCH
@@ -296,24 +340,23 @@ impl Chip for Psu {
         self.interrupts.asks()
     }
 
-    fn counters(&self) -> Counters {
+    fn counters(&mut self) -> Counters {
+        self.count();
         self.registers.counters(false)
     }
 
-    fn peek(&self, at: u16) -> Option<u8> {
-        let place = at.wrapping_sub(self.base);
-        if place < self.size {
-            Some(self.rom[place as usize])
-        } else {
-            None
-        }
+    fn peek(&mut self, at: u16) -> Option<u8> {
+        self.count();
+        self.byte(at)
     }
 
-    fn takes(&self, _at: u16) -> bool {
+    fn takes(&mut self, _at: u16) -> bool {
+        self.count();
         false
     }
 
-    fn latch(&self, port: u8) -> Option<u8> {
+    fn latch(&mut self, port: u8) -> Option<u8> {
+        self.count();
         let place = self.data_port(port)?;
         Some(self.latches[place])
     }
@@ -326,5 +369,9 @@ impl Chip for Psu {
 
     fn pulse(&mut self) {
         self.interrupts.pulse();
+    }
+
+    fn asked(&self) -> u64 {
+        self.asked
     }
 }

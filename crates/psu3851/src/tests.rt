@@ -24,7 +24,7 @@ fn described(alloc: Global, base: u16, rom: &[u8], wired: bool) -> Result<ChipSp
 }
 
 /// The low byte of the vector of a chip that asks for an interrupt.
-fn vector_of(chip: &Box<dyn Chip>) -> Option<Offer> {
+fn vector_of(chip: &mut Box<dyn Chip>) -> Option<Offer> {
     if chip.asks() {
         chip.offer(Romc::VECTOR_LOW, true)
     } else {
@@ -43,7 +43,8 @@ fn acknowledged(chip: &mut Box<dyn Chip>) -> Option<Offer> {
     }
 }
 
-// A branch at 0000 whose displacement byte, FD, stands at 0001: from there -3 leads to FFFE, which the chip doesn't hold.
+// A branch at 0000 whose displacement byte, FD, stands at 0001: from there -3 leads to FFFE, which the chip doesn't hold. Eight questions
+// are put, each of the five at least once.
 #[test]
 fn branches_from_the_displacement_byte(rt: HostRuntime) -> Result<(), Fail> {
     let mut rom = [0xFF; 1024];
@@ -80,6 +81,8 @@ fn branches_from_the_displacement_byte(rt: HostRuntime) -> Result<(), Fail> {
         }
     );
     assert_eq!(rt; psu.offer(Romc::FETCH, false), None);
+    assert_eq!(rt; psu.latch(4), Some(0x00));
+    assert_eq!(rt; psu.asked(), 8);
     Ok(())
 }
 

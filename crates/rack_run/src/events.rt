@@ -18,6 +18,7 @@ use pad_script::Script;
 /// An event comes, where it is due.
 fn happen_if<P: Player>(player: &mut P, rack: &mut Rack, event: Event, due: bool)
     requires few { length rack.old.items ≤ P.most_chips }
+    requires fits { P.fits player.old (map state rack.old.items) }
     ensures begins { (x : Position) → P.begins player.old (map state rack.old.items) x
         → P.begins player.new (map state rack.new.items)
         (with_events (if due then event ∷ [] else []) x) }
@@ -31,6 +32,7 @@ fn happen_if<P: Player>(player: &mut P, rack: &mut Rack, event: Event, due: bool
         → Come x.chain (if due then event ∷ [] else [])
         (map state rack.old.items) (map state rack.new.items) }
     ensures ready { P.ready player.old → P.ready player.new }
+    ensures fits { P.fits player.new (map state rack.new.items) }
     ensures phi { (P.readout player.new).phi ≡ (P.readout player.old).phi }
     ensures chips { length rack.new.items ≡ length rack.old.items }
 {
@@ -42,6 +44,7 @@ fn happen_if<P: Player>(player: &mut P, rack: &mut Rack, event: Event, due: bool
 /// The events of a frame come, one after another.
 pub(crate) fn happen_at<P: Player>(player: &mut P, rack: &mut Rack, events: &[At], frame: u32)
     requires few { length rack.old.items ≤ P.most_chips }
+    requires fits { P.fits player.old (map state rack.old.items) }
     ensures begins { (x : Position) → P.begins player.old (map state rack.old.items) x
         → P.begins player.new (map state rack.new.items)
         (with_events (events_at frame events.now) x) }
@@ -54,6 +57,7 @@ pub(crate) fn happen_at<P: Player>(player: &mut P, rack: &mut Rack, events: &[At
         → Come x.chain (events_at frame events.now)
         (map state rack.old.items) (map state rack.new.items) }
     ensures ready { P.ready player.old → P.ready player.new }
+    ensures fits { P.fits player.new (map state rack.new.items) }
     ensures phi { (P.readout player.new).phi ≡ (P.readout player.old).phi }
     ensures chips { length rack.new.items ≡ length rack.old.items }
 {
@@ -71,12 +75,14 @@ pub(crate) fn happen_behind<P: Player>(
     fallen: Option<u32>,
 )
     requires few { length rack.old.items ≤ P.most_chips }
+    requires fits { P.fits player.old (map state rack.old.items) }
     ensures behind { (x y : Position) → P.at player.old (map state rack.old.items) y
         → Keeps progress.now y.flat.state
         → fallen ≡ fallen_at x.flat.state y.flat.state
         → HappenBehind (seen script.now) (P.at player.new (map state rack.new.items))
         (map state rack.old.items) (map state rack.new.items) x y }
     ensures ready { P.ready player.old → P.ready player.new }
+    ensures fits { P.fits player.new (map state rack.new.items) }
     ensures phi { (P.readout player.new).phi ≡ (P.readout player.old).phi }
     ensures chips { length rack.new.items ≡ length rack.old.items }
 {

@@ -45,6 +45,8 @@ impl Player for Isa {
 
     ghost ready = { λ isa. Unit {0} };
 
+    ghost fits = { λ isa states. Unit {0} };
+
     fn advance<K: Sink>(
         &mut self,
         _rack: &mut Rack,

@@ -60,6 +60,7 @@ impl Player for Machine {
     ghost use Rattle.f8_spec.specs.ChipState.{ChipState};
     ghost use Rattle.console_spec.specs.Run.{Position};
     ghost use Rattle.console_spec.specs.Telling.{on_rack};
+    ghost use Rattle.f8_machine.specs.Fitting.{Fits};
     ghost use Rattle.f8_machine.specs.MachineState.{MachineState, IsReset};
     ghost use Rattle.f8_machine.specs.Refinement.{IsPowered, Represents};
     ghost use Rattle.rack_run.specs.Machines.{machine_readout, machine_reads};
@@ -76,6 +77,8 @@ impl Player for Machine {
     ghost readout = { λ m. machine_readout m };
 
     ghost ready = { λ m. IsReset m.mode };
+
+    ghost fits = { λ m states. Fits m states };
 
     fn advance<K: Sink>(
         &mut self,

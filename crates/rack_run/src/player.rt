@@ -19,7 +19,7 @@ use outside::Sink;
 /// What carries out a run's instructions. It is lent a rack in each call, of so many chips at most: the flat instruction set alone has none.
 ///
 /// Contracts see the positions that it stands at with the rack, before reset and after it, the way by which it goes on, what it tells of
-/// itself, and when it is ready for an instruction.
+/// itself, when it is ready for an instruction, and that it and the rack fit each other, which they do from power-on on.
 pub(crate) trait Player {
     ghost most_chips: { ℕ };
 
@@ -33,6 +33,8 @@ pub(crate) trait Player {
 
     ghost ready: { Self → Type 0 };
 
+    ghost fits: { Self → List ChipState → Type 0 };
+
     /// The next instruction, with its write, where a port took one; its bus steps are told. Or what cuts the run short there.
     fn advance<K: Sink>(
         &mut self,
@@ -42,6 +44,7 @@ pub(crate) trait Player {
     ) -> Result<Option<PortWrite>, Cut>
         requires few { length rack.old.items ≤ most_chips }
         requires ready { ready self.old }
+        requires fits { fits self.old (map state rack.old.items) }
         requires bounded { (readout self.old).phi < 2 ^ 62 }
         ensures goes { (x : Position) → at self.old (map state rack.old.items) x
             → IfOk result (λ wrote. StepsDone detail (way detail)
@@ -55,11 +58,13 @@ pub(crate) trait Player {
         ensures clocks { (readout self.new).phi ≤ (readout self.old).phi + MOST_INTERRUPTED_PHI }
         ensures onward { (readout self.old).phi ≤ (readout self.new).phi }
         ensures ready { ready self.new }
+        ensures fits { fits self.new (map state rack.new.items) }
         ensures chips { length rack.new.items ≡ length rack.old.items };
 
     /// An event comes.
     fn happen(&mut self, rack: &mut Rack, event: Event)
         requires few { length rack.old.items ≤ most_chips }
+        requires fits { fits self.old (map state rack.old.items) }
         ensures begins { (x : Position) → begins self.old (map state rack.old.items) x
             → begins self.new (map state rack.new.items) (with_event event x) }
         ensures at { (x : Position) → at self.old (map state rack.old.items) x
@@ -69,6 +74,7 @@ pub(crate) trait Player {
         ensures came { (x : Position) → at self.old (map state rack.old.items) x
             → ComesTo x.chain event (map state rack.old.items) (map state rack.new.items) }
         ensures ready { ready self.old → ready self.new }
+        ensures fits { fits self.new (map state rack.new.items) }
         ensures phi { (readout self.new).phi ≡ (readout self.old).phi }
         ensures chips { length rack.new.items ≡ length rack.old.items };
 

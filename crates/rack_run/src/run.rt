@@ -47,6 +47,7 @@ fn turn<P: Player, K: Sink>(
 ) -> Result<(), Cut>
     requires few { length rack.old.items ≤ P.most_chips }
     requires ready { P.ready player.old }
+    requires fits { P.fits player.old (map state rack.old.items) }
     requires bounded { (P.readout player.old).phi + MOST_INTERRUPTED_PHI < 2 ^ 46 }
     requires phi { progress.old.phi ≡ (P.readout player.old).phi }
     requires count { progress.old.count + 1 < 2 ^ 32 }
@@ -66,6 +67,7 @@ fn turn<P: Player, K: Sink>(
     ensures phi { OnOk result (progress.new.phi ≡ (P.readout player.new).phi) }
     ensures count { OnOk result (progress.new.count ≡ progress.old.count + 1) }
     ensures ready { P.ready player.new }
+    ensures fits { P.fits player.new (map state rack.new.items) }
     ensures chips { length rack.new.items ≡ length rack.old.items }
 {
     let wrote = player.advance(rack, sink, detail)?;
@@ -87,6 +89,7 @@ pub(crate) fn run<P: Player, K: Sink>(
 ) -> Result<Ending, SinkFault>
     requires few { length rack.old.items ≤ P.most_chips }
     requires ready { P.ready player.old }
+    requires fits { P.fits player.old (map state rack.old.items) }
     requires bounded { (P.readout player.old).phi ≤ RESET_PHI }
     requires phi { progress.old.phi ≡ (P.readout player.old).phi }
     requires count { progress.old.count ≡ 0 }

@@ -40,3 +40,7 @@ smi_state s = record { view = smi_view s; heard_steps = None; patch = None }
 -- the state of a chip of its kind that holds no address and has no port
 abbrev pub blank_smi : ChipState
 blank_smi = record { view = blank_view SmiKind; heard_steps = None; patch = None }
+
+-- how many questions were put to it
+abbrev pub smi_queries : Smi → ℕ
+smi_queries s = s.asked

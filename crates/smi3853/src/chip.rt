@@ -21,14 +21,19 @@ pub struct Smi {
     /// Control, timer and request.
     interrupts: Interrupts,
     vector: u16,
+
+    /// How many questions were put to the chip.
+    asked: u64,
 }
 
 impl Smi {
-    ghost use Rattle.smi3853.specs.SmiState.{smi_state, blank_smi};
+    ghost use Rattle.chip_face.specs.Queries.{one_more};
+    ghost use Rattle.smi3853.specs.SmiState.{smi_state, smi_queries, blank_smi};
 
-    /// A 3853 that holds no address and has no port, with its counters at 0.
+    /// A 3853 that holds no address and has no port, with its counters at 0. It was put no question.
     pub fn blank() -> Smi
-        ensures { smi_state result ≡ blank_smi }
+        ensures state { smi_state result ≡ blank_smi }
+        ensures asked { smi_queries result ≡ 0 }
     {
         Smi {
             registers: Registers::at(0),
@@ -36,7 +41,26 @@ impl Smi {
             space: None,
             interrupts: Interrupts::new(false),
             vector: 0,
+            asked: 0,
         }
+    }
+
+    /// Makes it blank again. The questions that were put to it stay counted.
+    fn clear(&mut self)
+        ensures state { smi_state self.new ≡ blank_smi }
+        ensures asked { smi_queries self.new ≡ smi_queries self.old }
+    {
+        let asked = self.asked;
+        *self = Smi::blank();
+        self.asked = asked;
+    }
+
+    /// Counts a question.
+    #[inline]
+    fn count(&mut self)
+        ensures { self.new ≡ record self.old { asked = one_more self.old.asked } }
+    {
+        self.asked = self.asked.saturating_add(1);
     }
 }
 
@@ -57,12 +81,31 @@ impl Smi {
         }
     }
 
+    /// The byte at an address in one of the chip's pages, and `None` at another.
+    #[inline]
+    fn byte(&self, at: u16) -> Option<u8>
+        ensures { result ≡ held_byte (smi_view self.now) at }
+    {
+        self.space.as_ref()?.byte(at)
+    }
+
+    /// The address lies in a RAM page of the chip.
+    #[inline]
+    fn has_ram(&self, at: u16) -> bool
+        ensures { result ≡ has_ram_at (smi_view self.now) at }
+    {
+        match &self.space {
+            Some(space) => space.has_ram(at),
+            None => false,
+        }
+    }
+
     /// The byte at one of the chip's counters.
     #[inline]
     fn byte_at(&self, at: u16) -> Option<Offer>
         ensures { result ≡ option_map (byte_offer at) (held_byte (smi_view self.now) at) }
     {
-        let byte = self.peek(at)?;
+        let byte = self.byte(at)?;
         Some(Offer { byte, at })
     }
 
@@ -104,7 +147,7 @@ impl Smi {
         ensures { result ≡ (if has_ram_at (smi_view self.now) at then Some
             (byte_offer at 0) else None) }
     {
-        if self.takes(at) {
+        if self.has_ram(at) {
             Some(Offer { byte: 0, at })
         } else {
             None
@@ -116,7 +159,7 @@ impl Smi {
 impl Smi {
     ghost use Rattle.std.specs.Prelude.{option_and_then};
     ghost use Rattle.f8_spec.specs.ChipState.{offset_from, port_role, port_written_if, stored};
-    ghost use Rattle.smi3853.specs.SmiState.{smi_view};
+    ghost use Rattle.smi3853.specs.SmiState.{smi_view, smi_queries};
 
     /// The place of a port among the chip's four, and `None` where the chip doesn't have it.
     #[inline]
@@ -129,8 +172,9 @@ impl Smi {
 
     /// A byte for a port, which is lost where the chip doesn't have it. A write to control ends a latched request.
     fn write_port(&mut self, port: u8, byte: u8)
-        ensures { smi_view self.new ≡ port_written_if (port_role (smi_view self.old) port) byte
+        ensures view { smi_view self.new ≡ port_written_if (port_role (smi_view self.old) port) byte
             (smi_view self.old) }
+        ensures asked { smi_queries self.new ≡ smi_queries self.old }
     {
         match self.port_offset(port) {
             Some(0) => self.vector = with_high(self.vector, byte),
@@ -144,7 +188,8 @@ impl Smi {
     /// A byte stored at an address, which is lost where the chip has no RAM.
     #[inline]
     fn store(&mut self, at: u16, byte: u8)
-        ensures { smi_view self.new ≡ stored at byte (smi_view self.old) }
+        ensures view { smi_view self.new ≡ stored at byte (smi_view self.old) }
+        ensures asked { smi_queries self.new ≡ smi_queries self.old }
     {
         if let Some(space) = &mut self.space {
             space.store(at, byte);
@@ -156,13 +201,14 @@ impl Smi {
 impl Smi {
     ghost use Rattle.f8_spec.specs.ChipState.{effect, timer_passed};
     ghost use Rattle.f8_spec.specs.ShiftTimer.{step_period};
-    ghost use Rattle.smi3853.specs.SmiState.{smi_view};
+    ghost use Rattle.smi3853.specs.SmiState.{smi_view, smi_queries};
 
     /// The clocks of the step, which pass before its effect.
     #[inline]
     fn pass(&mut self, phi: u8)
         requires { phi < step_period }
-        ensures { smi_view self.new ≡ timer_passed phi (smi_view self.old) }
+        ensures view { smi_view self.new ≡ timer_passed phi (smi_view self.old) }
+        ensures asked { smi_queries self.new ≡ smi_queries self.old }
     {
         self.interrupts.pass(phi);
     }
@@ -170,7 +216,8 @@ impl Smi {
     /// The effect of the code on memory, ports and request.
     #[inline]
     fn act(&mut self, romc: Romc, byte: u8, first: bool)
-        ensures { smi_view self.new ≡ effect romc byte first (smi_view self.old) }
+        ensures view { smi_view self.new ≡ effect romc byte first (smi_view self.old) }
+        ensures asked { smi_queries self.new ≡ smi_queries self.old }
     {
         match romc {
             Romc::STORE_DATA => {
@@ -188,9 +235,11 @@ impl Chip for Smi {
     ghost use Rattle.std.specs.Prelude.{◌≢◌, ◌↔◌, false, OnOk, OnErr, IsErrOf};
     ghost use Rattle.f8_spec.specs.ChipState.{IsWhole};
     ghost use Rattle.chip_face.specs.Fitting.{Fits, IsSpec, is_blank, kind_of};
-    ghost use Rattle.smi3853.specs.SmiState.{smi_state};
+    ghost use Rattle.smi3853.specs.SmiState.{smi_state, smi_queries};
 
     ghost state = { smi_state };
+
+    ghost queries = { smi_queries };
 
     fn kind(&self) -> ChipKind {
         ChipKind::Smi
@@ -205,16 +254,17 @@ impl Chip for Smi {
             ↔ (kind_of spec.now ≢ (smi_state self.old).view.kind) }
         ensures memory { IsErrOf result FitFault.Memory → is_blank spec.now ≡ false }
         ensures err { OnErr result (smi_state self.new ≡ smi_state self.old) }
+        ensures asked { smi_queries self.new ≡ smi_queries self.old }
     {
         match spec {
             ChipSpec::Blank(ChipKind::Smi) => {
-                *self = Smi::blank();
+                self.clear();
                 Ok(())
             }
             ChipSpec::Smi { pages, rom, wired } => {
                 match Space::new(alloc, pages.as_slice(), rom.as_slice()) {
                     Ok(space) => {
-                        *self = Smi::blank();
+                        self.clear();
                         self.space = Some(space);
                         self.interrupts = Interrupts::new(*wired);
                         Ok(())
@@ -236,7 +286,8 @@ impl Chip for Smi {
         }
     }
 
-    fn offer(&self, romc: Romc, first: bool) -> Option<Offer> {
+    fn offer(&mut self, romc: Romc, first: bool) -> Option<Offer> {
+        self.count();
         let counters = self.registers.counters(true);
         match romc {
             Romc::FETCH
@@ -285,22 +336,23 @@ impl Chip for Smi {
         self.interrupts.asks()
     }
 
-    fn counters(&self) -> Counters {
+    fn counters(&mut self) -> Counters {
+        self.count();
         self.registers.counters(true)
     }
 
-    fn peek(&self, at: u16) -> Option<u8> {
-        self.space.as_ref()?.byte(at)
+    fn peek(&mut self, at: u16) -> Option<u8> {
+        self.count();
+        self.byte(at)
     }
 
-    fn takes(&self, at: u16) -> bool {
-        match &self.space {
-            Some(space) => space.has_ram(at),
-            None => false,
-        }
+    fn takes(&mut self, at: u16) -> bool {
+        self.count();
+        self.has_ram(at)
     }
 
-    fn latch(&self, _port: u8) -> Option<u8> {
+    fn latch(&mut self, _port: u8) -> Option<u8> {
+        self.count();
         None
     }
 
@@ -308,5 +360,9 @@ impl Chip for Smi {
 
     fn pulse(&mut self) {
         self.interrupts.pulse();
+    }
+
+    fn asked(&self) -> u64 {
+        self.asked
     }
 }

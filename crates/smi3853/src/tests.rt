@@ -8,12 +8,12 @@ fn hear(chip: &mut Box<dyn Chip>, romc: Romc, byte: u8) {
     chip.settle(romc, byte, 6, false);
 }
 
-fn offered(chip: &Box<dyn Chip>, romc: Romc) -> Option<Offer> {
+fn offered(chip: &mut Box<dyn Chip>, romc: Romc) -> Option<Offer> {
     chip.offer(romc, false)
 }
 
 /// The low byte of the vector of a chip that asks for an interrupt.
-fn vector_of(chip: &Box<dyn Chip>) -> Option<Offer> {
+fn vector_of(chip: &mut Box<dyn Chip>) -> Option<Offer> {
     if chip.asks() {
         chip.offer(Romc::VECTOR_LOW, true)
     } else {
@@ -76,7 +76,8 @@ fn stores_in_ram_alone(rt: HostRuntime) -> Result<(), Fail> {
     Ok(())
 }
 
-// The data counters change places, and the ports 0C and 0D set the vector that a pulse under control 1 gives.
+// The data counters change places, and the ports 0C and 0D set the vector that a pulse under control 1 gives. Each of
+// the five questions is put once.
 #[test]
 fn exchanges_and_vectors(rt: HostRuntime) -> Result<(), Fail> {
     let spec = ChipSpec::Smi {
@@ -117,5 +118,8 @@ fn exchanges_and_vectors(rt: HostRuntime) -> Result<(), Fail> {
             at: 0x12B4
         })
     );
+    assert_eq!(rt; smi.peek(0x0000), None);
+    assert_eq!(rt; smi.takes(0x0000), false);
+    assert_eq!(rt; smi.asked(), 5);
     Ok(())
 }

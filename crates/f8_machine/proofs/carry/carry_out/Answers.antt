@@ -21,6 +21,7 @@ use Rattle.f8_machine.specs.Carrying.{planned_before, planned_before_as, vectore
 use Rattle.f8_machine.specs.BusSteps.{IsPlain}
 use Rattle.f8_machine.specs.Vectoring.{fetch_by}
 use Rattle.f8_machine.proofs.Instructions.{some_of}
+use Rattle.f8_machine.proofs.Counting.{counts_none, counts_both, counts_then_tried}
 use Rattle.f8_machine.proofs.Carried.{before_planned, carried_out, cut_short, last_planned, length-planned}
 use Rattle.f8_machine.proofs.Carried.{remaining_first, remaining_over}
 use Rattle.f8_machine.proofs.RackLaws.{rack_runs_none}
@@ -87,6 +88,8 @@ loop-index-init g c =
       restorable = IsRestorable-start c.args.cpu.now;
       ran = rw c.requires.none (rack_runs_none 0 _);
       reference = rw c.requires.none refl;
+      stands = c.requires.stands;
+      counted = counts_none _ _;
       left = λ op x holds. rw c.requires.none (remaining_first c.args.cpu.now c.args.probe.now _ c.args.chain.now op x
           c.before_last-before.result.now before holds);
     }
@@ -134,6 +137,13 @@ returns-in-Err-clause-reference g c =
     (record { rack = c.loop-index.invariant.ran; reference = c.loop-index.invariant.reference })
     c.in-Err.ensures.refused).reference
 
+pub bus_step-requires-clause-stands : goal.bus_step-requires-clause-stands
+bus_step-requires-clause-stands g c = c.loop-index.invariant.stands
+
+pub returns-in-Err-clause-tried : goal.returns-in-Err-clause-tried
+returns-in-Err-clause-tried g c =
+    counts_then_tried _ _ c.in-Err.fault _ _ _ c.loop-index.invariant.chips c.loop-index.invariant.counted c.in-Err.ensures.tried
+
 pub loop-index-preserved : goal.loop-index-preserved
 loop-index-preserved g c =
     let served = c.in-Ok.ensures.served in
@@ -162,6 +172,8 @@ loop-index-preserved g c =
           c.loop-index.invariant.restorable);
       ran = ran.rack;
       reference = ran.reference;
+      stands = c.bus_step.ensures.stands;
+      counted = counts_both _ _ _ _ _ c.loop-index.invariant.chips c.loop-index.invariant.counted c.in-Ok.ensures.counted;
       left = λ op x holds.
           remaining_more (row_of op) x (gets_all_at op x) (instruction_aim op x) _ c.before_last-before.result.now
           c.index-before-index.result c.loop-index.index c.loop-index.cpu
@@ -327,3 +339,21 @@ returns-in-Err-bus_step-clause-reference g c =
     c.loop-index.steps c.acknowledge_chosen.new.steps
     (record { rack = c.loop-index.invariant.ran; reference = c.loop-index.invariant.reference })
     c.acknowledge_chosen.ensures.acknowledged) c.in-Err-bus_step.ensures.refused).reference
+
+pub acknowledge_chosen-requires-clause-stands : goal.acknowledge_chosen-requires-clause-stands
+acknowledge_chosen-requires-clause-stands g c = c.loop-index.invariant.stands
+
+pub returns-in-Ok-bus_step-clause-counted : goal.returns-in-Ok-bus_step-clause-counted
+returns-in-Ok-bus_step-clause-counted g c =
+    let one = c.loop-index.invariant.chips in
+    let two = c.acknowledge_chosen.ensures.chips ∙ one in
+    counts_both _ _ _ _ _ two (counts_both _ _ _ _ _ one c.loop-index.invariant.counted c.acknowledge_chosen.ensures.counted)
+    c.in-Ok-bus_step.ensures.counted
+
+pub returns-in-Err-bus_step-clause-tried : goal.returns-in-Err-bus_step-clause-tried
+returns-in-Err-bus_step-clause-tried g c =
+    let one = c.loop-index.invariant.chips in
+    let two = c.acknowledge_chosen.ensures.chips ∙ one in
+    counts_then_tried _ _ c.in-Err-bus_step.fault _ _ _ two
+    (counts_both _ _ _ _ _ one c.loop-index.invariant.counted c.acknowledge_chosen.ensures.counted)
+    c.in-Err-bus_step.ensures.tried

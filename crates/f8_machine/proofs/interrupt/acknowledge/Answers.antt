@@ -1,6 +1,7 @@
 -- The chip goes on asking through the steps before its vector's high byte.
-use Rattle.std.proofs.Common.{true, false, refl}
+use Rattle.std.proofs.Common.{true, false, refl, ◌∙◌}
 use Rattle.std.specs.Prelude.{Some, None}
+use Rattle.f8_machine.proofs.Counting.{counts_both}
 use Rattle.f8_machine.proofs.RequestAnswers.{asking_stays}
 use Rattle.f8_machine.proofs.interrupt.acknowledge.Goals as goal
 
@@ -35,3 +36,13 @@ returns-clause-acknowledged g c = record {
   third = c.sure_step-3.ensures.served;
   fourth = c.sure_step-4.ensures.served;
 }
+
+pub returns-clause-counted : goal.returns-clause-counted
+returns-clause-counted g c =
+    let one = c.sure_step.ensures.chips in
+    let two = c.sure_step-2.ensures.chips ∙ one in
+    let three = c.sure_step-3.ensures.chips ∙ two in
+    counts_both _ _ _ _ _ three
+    (counts_both _ _ _ _ _ two
+    (counts_both _ _ _ _ _ one c.sure_step.ensures.counted c.sure_step-2.ensures.counted) c.sure_step-3.ensures.counted)
+    c.sure_step-4.ensures.counted

@@ -1,18 +1,22 @@
 -- Each chip that is reached has had the pulse where it is its own, and the chips behind it are as they were.
-use Rattle.std.proofs.Common.{length, ◌≤◌, ◌≡◌, ◌∙◌, ap, vec_len}
+use Rattle.std.proofs.Common.{length, map, refl, ◌≤◌, ◌≡◌, ◌∙◌, ap, vec_len}
+use Rattle.std.proofs.Math.Seq.{map-set_same}
 use Rattle.data_bus.proofs.Racks.{changed-none, changed-more, changed-written, whole_again}
 use Rattle.f8_machine.specs.RequestsHeld.{PulsesInSocket}
 use Rattle.f8_machine.proofs.pulse.pulse_at.Goals as goal
 
 pub loop-socket-init : goal.loop-socket-init
-loop-socket-init g c = changed-none _ _
+loop-socket-init g c = record { changed = changed-none _ _; asked = refl }
 
 pub loop-socket-preserved : goal.loop-socket-preserved
-loop-socket-preserved g c =
-    changed-more (λ b. (goal.Chip-dyn g (b.vtable, b.value)).state b.value) (PulsesInSocket c.args.chosen)
-    c.deref_mut-chip-items.result.now c.loop-socket.chip-items c.loop-socket.socket c.chip-item.result
-    c.pulse_if.new.chip c.loop-socket-test.true c.loop-socket.auto.chip-items c.loop-socket.invariant
-    c.pulse_if.ensures
+loop-socket-preserved g c = record {
+  changed = changed-more (λ b. (goal.Chip-dyn g (b.vtable, b.value)).state b.value) (PulsesInSocket c.args.chosen)
+      c.deref_mut-chip-items.result.now c.loop-socket.chip-items c.loop-socket.socket c.chip-item.result
+      c.pulse_if.new.chip c.loop-socket-test.true c.loop-socket.auto.chip-items c.loop-socket.invariant.changed
+      c.pulse_if.ensures.pulses;
+  asked = map-set_same (λ b. (goal.Chip-dyn g (b.vtable, b.value)).queries b.value) c.loop-socket.chip-items
+      c.loop-socket.socket c.pulse_if.new.chip c.chip-item.result c.pulse_if.ensures.asked ∙ c.loop-socket.invariant.asked;
+}
 
 pub returns : goal.returns
 returns g c =
@@ -25,6 +29,9 @@ returns g c =
     record {
       pulsed = changed-written (λ b. (goal.Chip-dyn g (b.vtable, b.value)).state b.value) (PulsesInSocket c.args.chosen)
           c.args.rack.now.items c.loop-socket.chip-items _ c.loop-socket.socket count long past
-          (rw c.deref_mut-chip-items.ensures.value at c.loop-socket.invariant);
+          (rw c.deref_mut-chip-items.ensures.value at c.loop-socket.invariant.changed);
+      asked = ap (map (λ b. (goal.Chip-dyn g (b.vtable, b.value)).queries b.value))
+          (whole_again _ c.args.rack.now.items c.loop-socket.chip-items count long)
+          ∙ (rw c.deref_mut-chip-items.ensures.value at c.loop-socket.invariant.asked);
       chips = ap length (whole_again _ c.args.rack.now.items c.loop-socket.chip-items count long) ∙ long;
     }

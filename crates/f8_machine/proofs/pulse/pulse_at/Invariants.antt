@@ -1,10 +1,14 @@
 -- The chips that were reached have had the pulse where it is theirs, and the others are as they were.
-use Rattle.std.proofs.Common.{map}
+use Rattle.std.proofs.Common.{◌≡◌, map}
 use Rattle.data_bus.proofs.Racks.{ChangedBelow}
 use Rattle.f8_machine.specs.RequestsHeld.{PulsesInSocket}
 use Rattle.f8_machine.proofs.pulse.pulse_at.Given as goal
 
 abbrev pub invariant-loop-socket : goal.invariant-loop-socket
-invariant-loop-socket g l = ChangedBelow (PulsesInSocket l.chosen) l.socket
-    (map (λ b. (goal.Chip-dyn g (b.vtable, b.value)).state b.value) l.initial.chip-items)
-    (map (λ b. (goal.Chip-dyn g (b.vtable, b.value)).state b.value) l.chip-items)
+invariant-loop-socket g l = record {
+  changed : ChangedBelow (PulsesInSocket l.chosen) l.socket
+      (map (λ b. (goal.Chip-dyn g (b.vtable, b.value)).state b.value) l.initial.chip-items)
+      (map (λ b. (goal.Chip-dyn g (b.vtable, b.value)).state b.value) l.chip-items);
+  asked : map (λ b. (goal.Chip-dyn g (b.vtable, b.value)).queries b.value) l.chip-items
+      ≡ map (λ b. (goal.Chip-dyn g (b.vtable, b.value)).queries b.value) l.initial.chip-items;
+}

@@ -1,6 +1,8 @@
 -- Each step of reset leads on, or is not served.
-use Rattle.std.proofs.Common.{[], ◌∷◌, refl, sym}
+use Rattle.std.proofs.Common.{[], ◌∷◌, refl, sym, ◌∙◌}
 use Rattle.f8_spec.specs.MicroSteps.{Opcode, NoByte, short_step, long_step}
+use Rattle.f8_machine.specs.declared.carry.Unserved.{Unserved}
+use Rattle.f8_machine.proofs.Counting.{counts_both, counts_if_ok, tried_if_err}
 use Rattle.f8_machine.proofs.RackLaws.{rack_runs_nothing}
 use Rattle.f8_machine.proofs.Resets.{reset_first, reset_more, reset_last, reset_stops, if_ok, if_err_both, rack_served}
 use Rattle.f8_machine.proofs.Resets.{rack_ran}
@@ -35,3 +37,17 @@ returns-clause-ran g c =
     let second = rack_served _ refl _ _ _ _ _ _ _ _ first c.in_ok-quiet_step.ensures.served in
     let third = rack_served _ refl _ _ _ _ _ _ _ _ second c.in_ok-quiet_step-2.ensures.served in
     rack_ran _ refl c.quiet_step-3.result _ _ _ _ _ _ _ third c.quiet_step-3.ensures.served c.quiet_step-3.ensures.refused
+
+pub returns-clause-counted : goal.returns-clause-counted
+returns-clause-counted g c =
+    let one = c.in_ok-quiet_step.ensures.chips in
+    let two = c.in_ok-quiet_step-2.ensures.chips ∙ one in
+    counts_if_ok c.quiet_step-3.result _ _ _ _ _ two
+    (counts_both _ _ _ _ _ one c.in_ok-quiet_step.ensures.counted c.in_ok-quiet_step-2.ensures.counted) c.quiet_step-3.ensures.counted
+
+pub returns-clause-tried : goal.returns-clause-tried
+returns-clause-tried g c =
+    let one = c.in_ok-quiet_step.ensures.chips in
+    let two = c.in_ok-quiet_step-2.ensures.chips ∙ one in
+    tried_if_err (λ (e : Unserved). e.fault) c.quiet_step-3.result _ _ _ _ _ two
+    (counts_both _ _ _ _ _ one c.in_ok-quiet_step.ensures.counted c.in_ok-quiet_step-2.ensures.counted) c.quiet_step-3.ensures.tried

@@ -23,6 +23,7 @@ loop-at-preserved g c =
           λ x a. come_next c.args.frame c.args.events.now c.loop-at.at-index _ x _ _ _ c.loop-at-test.true
           (c.loop-at.invariant.came x a)
           (c.happen_if.ensures.came _ (c.loop-at.invariant.at x a));
+      fits = c.happen_if.ensures.fits;
       ready = λ was. c.happen_if.ensures.ready (c.loop-at.invariant.ready was);
       phi = c.happen_if.ensures.phi ∙ c.loop-at.invariant.phi;
       chips = c.happen_if.ensures.chips ∙ c.loop-at.invariant.chips;

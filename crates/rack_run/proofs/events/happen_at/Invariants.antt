@@ -18,6 +18,7 @@ invariant-loop-at g l =
       came_first : (x : Position) → g.P.Player.begins l.fn.player olds x → Come x.chain events olds nows;
       came : (x : Position) → g.P.Player.at l.fn.player olds x → Come x.chain events olds nows;
       ready : g.P.Player.ready l.fn.player → g.P.Player.ready l.player;
+      fits : g.P.Player.fits l.player nows;
       phi : (g.P.Player.readout l.player).phi ≡ (g.P.Player.readout l.fn.player).phi;
       chips : length l.rack.items ≡ length l.fn.rack.items;
     }

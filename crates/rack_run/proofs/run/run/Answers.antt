@@ -15,6 +15,7 @@ loop-init g c =
           (g.P.Player.at c.args.player.now states) c.args.progress.now states (g.K.Sink.output c.args.sink.now)
           at keeps;
       ready = c.requires.ready;
+      fits = c.requires.fits;
       chips = refl;
       count = c.requires.count;
       phi = c.requires.phi;
@@ -76,6 +77,7 @@ loop-preserved g c =
           here on
           (c.in-Ok.ensures.goes here.here here.at here.keeps);
       ready = c.turn.ensures.ready;
+      fits = c.turn.ensures.fits;
       chips = c.turn.ensures.chips ∙ c.loop.invariant.chips;
       count = c.in-Ok.ensures.count ∙ ap (λ n. n + 1) c.loop.invariant.count;
       phi = c.in-Ok.ensures.phi;

@@ -17,6 +17,7 @@ invariant-loop g l =
           l.progress olds nows
           (g.K.Sink.output l.fn.sink) (g.K.Sink.output l.sink);
       ready : g.P.Player.ready l.player;
+      fits : g.P.Player.fits l.player nows;
       chips : length l.rack.items ≡ length l.fn.rack.items;
       count : l.progress.count ≡ l.counter;
       phi : l.progress.phi ≡ (g.P.Player.readout l.player).phi;

@@ -3,7 +3,9 @@ use Rattle.std.proofs.Common.{◌≡◌, ℕ, ◌+◌, ◌≤◌, ap, sym, subst
 use Rattle.f8_spec.specs.Instructions.{decoded}
 use Rattle.console_spec.specs.Processor.{is_taken}
 use Rattle.f8_machine.specs.MachineState.{MachineState}
+use Rattle.f8_machine.specs.Questions.{codes_of, followed_all}
 use Rattle.f8_machine.specs.Vectoring.{clocks_of_plan}
+use Rattle.f8_machine.proofs.FitMachines.{asked_from, counted_whole, tried_whole}
 use Rattle.f8_machine.proofs.Instructions.{some_of, clocks_planned, few_clocks, write_as_told, done_from, faulted_from}
 use Rattle.f8_machine.proofs.machine.Machine.carry_plan.Goals as goal
 
@@ -19,7 +21,7 @@ returns-in-Ok-clause-advances g c =
     record {
       refines = λ x r.
           done_from c.args.self.now _ c.self.view_is _ _ found.0 x found.1 r
-          c.carry_out-carried.new.cpu c.carry_out-carried.new.probe _ c.clocks_of_plan.result c.done_write-wrote.result
+          c.carry_out-carried.new.cpu c.carry_out-carried.new.probe c.carry_out-carried.new.known _ c.clocks_of_plan.result c.done_write-wrote.result
           c.carry_out-carried.new.steps c.in-Ok.chosen
           (rw c.opcode-code.ensures at c.opcode-code.type_inv)
           c.kept-kept.ensures.ranges (λ holds. c.in-Ok.ensures.done found.0 x holds)
@@ -38,7 +40,7 @@ returns-in-Err-clause-advances g c = record {
   refines = λ x r.
       let found = some_of (decoded c.self.inside.cpu.opcode) (rw (← c.self.view_is) at c.requires.instruction) in
       faulted_from c.args.self.now _ c.self.view_is _ found.0 x found.1 r
-      c.carry_out-carried.new.cpu c.restore.new.self c.carry_out-carried.new.probe c.kept-kept.result
+      c.carry_out-carried.new.cpu c.restore.new.self c.carry_out-carried.new.probe c.carry_out-carried.new.known c.kept-kept.result
       c.in-Err.unserved.fault c.to_stopped_by.result c.in-Err.unserved.long c.carry_out-carried.new.steps
       (rw c.opcode-code.ensures at c.opcode-code.type_inv)
       c.kept-kept.ensures.ranges (λ holds. c.in-Err.ensures.cut found.0 x holds)
@@ -46,3 +48,41 @@ returns-in-Err-clause-advances g c = record {
   clocks = search rules;
   onward = search rules;
 }
+
+pub returns-in-Ok-clause-follows : goal.returns-in-Ok-clause-follows
+returns-in-Ok-clause-follows g c =
+    let counted = counted_whole _ c.self.inside.index c.carry_out-carried.new.known _ _ c.new-steps.result
+    c.carry_out-carried.new.steps c.new-steps.ensures c.in-Ok.ensures.counted in
+    record {
+      ran = search rules;
+      reference = search rules;
+      mode = search rules;
+      index = counted.marks
+          ∙ ap (λ (m : MachineState). followed_all (codes_of c.carry_out-carried.new.steps) m.index) c.self.view_is;
+      chain = search rules;
+    }
+
+pub returns-in-Ok-clause-asked : goal.returns-in-Ok-clause-asked
+returns-in-Ok-clause-asked g c =
+    let counted = counted_whole _ c.self.inside.index c.carry_out-carried.new.known _ _ c.new-steps.result
+    c.carry_out-carried.new.steps c.new-steps.ensures c.in-Ok.ensures.counted in
+    asked_from c.args.self.now _ c.self.view_is _ _ _ _ counted.asked
+
+pub returns-in-Err-clause-follows : goal.returns-in-Err-clause-follows
+returns-in-Err-clause-follows g c =
+    let counted = tried_whole _ c.in-Err.unserved.fault c.self.inside.index c.carry_out-carried.new.known _ _ c.new-steps.result
+    c.carry_out-carried.new.steps c.new-steps.ensures c.in-Err.ensures.tried in
+    record {
+      ran = search rules;
+      reference = search rules;
+      mode = search rules;
+      index = counted.marks
+          ∙ ap (λ (m : MachineState). followed_all (codes_of c.carry_out-carried.new.steps) m.index) c.self.view_is;
+      chain = search rules;
+    }
+
+pub returns-in-Err-clause-asked : goal.returns-in-Err-clause-asked
+returns-in-Err-clause-asked g c =
+    let counted = tried_whole _ c.in-Err.unserved.fault c.self.inside.index c.carry_out-carried.new.known _ _ c.new-steps.result
+    c.carry_out-carried.new.steps c.new-steps.ensures c.in-Err.ensures.tried in
+    asked_from c.args.self.now _ c.self.view_is _ _ _ _ counted.asked

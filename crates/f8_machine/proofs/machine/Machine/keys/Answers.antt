@@ -1,5 +1,6 @@
 -- A key byte keeps what the machine and the rack stand for.
 use Rattle.std.proofs.Common.{◌<◌, rules}
+use Rattle.f8_machine.proofs.FitMachines.{keyed_fits}
 use Rattle.f8_machine.proofs.Keyed.{represents_own, powered_own, represents_others, powered_others}
 use Rattle.f8_machine.proofs.machine.Machine.keys.Goals as goal
 
@@ -24,3 +25,7 @@ returns-else-port-lt-OWN_PORTS-clause-running g c = λ x r.
     let small : c.args.port < 256 = search rules in
     represents_others c.args.self.now _ _ x c.args.port c.args.byte small c.if-port-lt-OWN_PORTS.false
     c.key_all.ensures.keyed r
+
+pub returns-else-port-lt-OWN_PORTS-clause-fits : goal.returns-else-port-lt-OWN_PORTS-clause-fits
+returns-else-port-lt-OWN_PORTS-clause-fits g c =
+    keyed_fits c.args.port c.args.byte c.args.self.now.index c.args.self.now.probe _ _ c.key_all.ensures.keyed c.requires.fits

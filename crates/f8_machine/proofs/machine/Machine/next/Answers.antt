@@ -7,6 +7,7 @@ pub returns-in-Err-clause-follows : goal.returns-in-Err-clause-follows
 returns-in-Err-clause-follows g c = record {
   ran = rack_runs_none 0 _;
   reference = search rules;
+  index = search rules;
   mode = search rules;
   chain = search rules;
 }

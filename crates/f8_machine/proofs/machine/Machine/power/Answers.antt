@@ -1,5 +1,6 @@
 -- Power-on makes the position of power-on.
 use Rattle.std.proofs.Common.{◌<◌, rules}
+use Rattle.f8_machine.proofs.FitMachines.{power_fits}
 use Rattle.f8_machine.proofs.PowerPositions.{powers_pair}
 use Rattle.f8_machine.proofs.machine.Machine.power.Goals as goal
 
@@ -7,4 +8,10 @@ pub returns-clause-pair : goal.returns-clause-pair
 returns-clause-pair g c = λ whole free.
     let small : c.args.fill < 256 = search rules in
     rw (c.new.ensures, c.power.ensures, c.zero.ensures)
-    (powers_pair c.args.fill _ _ _ small whole free c.power_all.ensures.powered)
+    (powers_pair c.args.fill _ c.of-index.result _ _ small whole free
+    (rw c.of-index.ensures.stays c.power_all.ensures.powered))
+
+pub returns-clause-fits : goal.returns-clause-fits
+returns-clause-fits g c =
+    power_fits c.args.fill c.of-index.result _ _ _ _ c.of-index.ensures.stays c.of-index.ensures.lists c.of-index.ensures.marks
+    c.power_all.ensures.powered

@@ -1,6 +1,7 @@
 -- A pulse keeps what the machine and the rack stand for.
 use Rattle.std.proofs.Common.{◌≡◌, Some, None, refl, slice_get}
 use Rattle.std.proofs.lemmas.Option.{slice_get_read, slice_get_past}
+use Rattle.f8_machine.proofs.FitMachines.{pulsed_fits}
 use Rattle.f8_machine.proofs.Pulsed.{represents_pulsed, powered_pulsed}
 use Rattle.f8_machine.proofs.machine.Machine.pulse.Goals as goal
 use Rattle.f8_machine.proofs.machine.Machine.pulse.Goals.{in-Some, in_default}
@@ -25,3 +26,8 @@ returns-clause-powered g c = λ x p. powered_pulsed c.args.self.now _ _ x c.args
 
 pub returns-clause-running : goal.returns-clause-running
 returns-clause-running g c = λ x r. represents_pulsed c.args.self.now _ _ x c.args.chip (returns-clause-pulsed g c) r
+
+pub returns-clause-fits : goal.returns-clause-fits
+returns-clause-fits g c =
+    pulsed_fits (slice_get c.args.self.now.chain c.args.chip) c.args.self.now.index c.args.self.now.probe _ _ (returns-clause-pulsed g c)
+    c.requires.fits

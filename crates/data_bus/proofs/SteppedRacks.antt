@@ -1,0 +1,88 @@
+-- A rack over a served step: its seats stay, what is known of its counters follows the marks, and its counters stay addresses.
+use Rattle.std.proofs.Common.{◌≡◌, ℕ, ◌+◌, ◌<◌, Bool, true, false, List, [], ◌∷◌, map, refl, sym, ap, subst, ◌∙◌}
+use Rattle.std.specs.Prelude.{Option}
+use Rattle.std.specs.List.{list_any}
+use Rattle.std.proofs.lemmas.Bool.{and_from, or_left, or_right, not_from_false}
+use Rattle.f8_spec.specs.BusCodes.{Count, moved_by}
+use Rattle.f8_spec.specs.ChipState.{ChipView, ChipState, has_second_counter}
+use Rattle.f8_spec.specs.BusArbitration.{Seat, seat_of}
+use Rattle.probe.specs.ProbeState.{ProbeState, probe_after}
+use Rattle.data_bus.specs.declared.marks.Marks.{Marks}
+use Rattle.data_bus.specs.Racks.{NumberedZip, SettlesStep, RackSettles, views}
+use Rattle.data_bus.specs.KnownAgreement.{marks_after, CountAgrees, ChipAgrees, AllAgree, AreAddresses, AllAddresses, has_page, parts}
+use Rattle.data_bus.proofs.Agreements.{keeps}
+use Rattle.data_bus.proofs.CounterRanges.{moved_small}
+use Rattle.data_bus.proofs.SteppedChips.{StepsAlong, steps_along}
+
+-- ---- one chip
+
+kind_stays : (old new : ChipView) → seat_of new ≡ seat_of old → new.kind ≡ old.kind
+kind_stays old new seat = ap (λ (s : Seat). s.kind) seat
+
+pages_stay : (old new : ChipView) → seat_of new ≡ seat_of old → new.pages ≡ old.pages
+pages_stay old new seat = ap (λ (s : Seat). s.pages) seat
+
+chip_agrees : (is_parted : Bool) (romc byte : ℕ) (marks : Marks) (reference : Count) (old new : ChipView) →
+    (parts (seat_of old) ≡ true → is_parted ≡ true) → StepsAlong romc byte old new → ChipAgrees marks reference old →
+    ChipAgrees (marks_after is_parted romc marks) (moved_by romc byte true reference) new
+chip_agrees is_parted romc byte marks reference old new parted along agrees page =
+    let kind = kind_stays old new along.seat in
+    let here : has_page old.pages ≡ true = sym (ap has_page (pages_stay old new along.seat)) ∙ page in
+    let alone : has_second_counter old.kind ≡ false → is_parted ≡ true =
+    λ none. parted (and_from _ _ here (not_from_false _ none)) in
+    let kept = keeps is_parted romc byte marks reference old.counters (has_second_counter old.kind) alone (agrees here) in
+    subst (λ k. CountAgrees (marks_after is_parted romc marks) (moved_by romc byte true reference) (has_second_counter k) new.counters) (sym kind)
+    (subst (λ own. CountAgrees (marks_after is_parted romc marks) (moved_by romc byte true reference) (has_second_counter old.kind) own)
+    (sym along.counters) kept)
+
+-- ---- a rack, from a socket on
+
+-- no chip's kind, pages, ports or fixed vector change
+pub seats_stay : (romc : ℕ) (long : Bool) (first : Option ℕ) (byte n : ℕ) (olds news : List ChipState) →
+    NumberedZip (SettlesStep romc long first byte) n olds news → map seat_of (views news) ≡ map seat_of (views olds)
+seats_stay romc long first byte n [] [] settled = refl
+seats_stay romc long first byte n [] (new ∷ news) settled = absurd settled
+seats_stay romc long first byte n (old ∷ olds) [] settled = absurd settled
+seats_stay romc long first byte n (old ∷ olds) (new ∷ news) settled =
+    let along = steps_along romc long first byte n old new settled.0 in
+    ap (λ s. s ∷ map seat_of (views news)) along.seat
+    ∙ ap (λ ss. seat_of old.view ∷ ss) (seats_stay romc long first byte (n + 1) olds news settled.1)
+
+agreement_from : (is_parted : Bool) (romc : ℕ) (long : Bool) (first : Option ℕ) (byte n : ℕ) (marks : Marks) (reference : Count)
+    (olds news : List ChipState) → (list_any parts (map seat_of (views olds)) ≡ true → is_parted ≡ true) →
+    NumberedZip (SettlesStep romc long first byte) n olds news → AllAgree marks reference (views olds) →
+    AllAgree (marks_after is_parted romc marks) (moved_by romc byte true reference) (views news)
+agreement_from is_parted romc long first byte n marks reference [] [] parted settled agree = tt
+agreement_from is_parted romc long first byte n marks reference [] (new ∷ news) parted settled agree = absurd settled
+agreement_from is_parted romc long first byte n marks reference (old ∷ olds) [] parted settled agree = absurd settled
+agreement_from is_parted romc long first byte n marks reference (old ∷ olds) (new ∷ news) parted settled agree = (
+  chip_agrees is_parted romc byte marks reference old.view new.view (λ here. parted (or_left _ _ here))
+      (steps_along romc long first byte n old new settled.0) agree.0,
+  agreement_from is_parted romc long first byte (n + 1) marks reference olds news (λ later. parted (or_right _ _ later)) settled.1 agree.1,
+)
+
+addresses_from : (romc : ℕ) (long : Bool) (first : Option ℕ) (byte n : ℕ) (olds news : List ChipState) → byte < 256 →
+    NumberedZip (SettlesStep romc long first byte) n olds news → AllAddresses (views olds) → AllAddresses (views news)
+addresses_from romc long first byte n [] [] below settled are = tt
+addresses_from romc long first byte n [] (new ∷ news) below settled are = absurd settled
+addresses_from romc long first byte n (old ∷ olds) [] below settled are = absurd settled
+addresses_from romc long first byte n (old ∷ olds) (new ∷ news) below settled are =
+    let along = steps_along romc long first byte n old new settled.0 in (
+      subst AreAddresses (sym along.counters) (moved_small romc byte _ old.view.counters below are.0),
+      addresses_from romc long first byte (n + 1) olds news below settled.1 are.1,
+    )
+
+-- ---- a whole rack
+
+-- the marks stay true of the rack and the probe, where a chip that parts at an exchange is told
+pub agreement_kept : (is_parted : Bool) (romc : ℕ) (long : Bool) (first : Option ℕ) (byte : ℕ) (marks : Marks) (probe : ProbeState)
+    (olds news : List ChipState) → (list_any parts (map seat_of (views olds)) ≡ true → is_parted ≡ true) →
+    RackSettles romc long first byte olds news → AllAgree marks probe.count (views olds) →
+    AllAgree (marks_after is_parted romc marks) (probe_after romc byte probe).count (views news)
+agreement_kept is_parted romc long first byte marks probe olds news parted settled agree =
+    agreement_from is_parted romc long first byte 0 marks probe.count olds news parted settled agree
+
+-- the counters stay addresses
+pub addresses_kept : (romc : ℕ) (long : Bool) (first : Option ℕ) (byte : ℕ) (olds news : List ChipState) → byte < 256 →
+    RackSettles romc long first byte olds news → AllAddresses (views olds) → AllAddresses (views news)
+addresses_kept romc long first byte olds news below settled are = addresses_from romc long first byte 0 olds news below settled are

@@ -1,0 +1,122 @@
+// A bus step by the index of a rack.
+ghost use Rattle.std.specs.Prelude.{◌≡◌, ◌+◌, ◌<◌, ◌≤◌, length, map, sum_by, IfOk, OnErr};
+ghost use Rattle.f8_spec.specs.BusArbitration.{rule_of as rule_by_table};
+ghost use Rattle.f8_spec.specs.BusCodes.{counter_of as counter_by_table};
+ghost use Rattle.probe.specs.ProbeState.{probe_after};
+ghost use Rattle.data_bus.specs.Allowances.{allowance_by};
+ghost use Rattle.data_bus.specs.KnownAgreement.{knows};
+ghost use Rattle.data_bus.specs.KnownPlaces.{GoesBy};
+ghost use Rattle.data_bus.specs.PageIndex.{StandsFor, allowance, followed};
+ghost use Rattle.data_bus.specs.Polling.{no_poll, polled};
+ghost use Rattle.data_bus.specs.Racks.{AllMayHear, ChosenAsks, RackSettles, RackStays, views};
+ghost use Rattle.data_bus.specs.Steps.{step_answer};
+
+use super::ask::Question;
+use super::decide::decide;
+use super::index::Index;
+use super::listed_poll::gather_listed;
+use super::poll::{Poll, gather};
+use super::rule::rule_of;
+use super::settle::settle_all;
+use super::transfer::reference_of;
+use super::{BusFault, Cycle, Rack, Served};
+use chip_face::{Chip, MOST_CHIPS};
+use probe::Probe;
+
+/// What the chips answer in a step: where its counter is known, by the sockets that the index lists, and else by asking every chip.
+#[inline(always)]
+fn gather_by(rack: &mut Rack, index: &Index, question: &Question) -> Poll
+    requires few { length rack.old.items ≤ MOST_CHIPS }
+    requires chosen { AllMayHear question.now.romc question.now.first (map state rack.old.items) }
+    requires code { question.now.romc < 32 }
+    requires rule { question.now.rule ≡ rule_by_table question.now.romc }
+    requires goes { GoesBy index.now question.now.romc question.now.reference
+        (map state rack.old.items) }
+    ensures answer { result ≡ polled question.now.rule question.now.romc question.now.reference
+        question.now.first 0 (views (map state rack.old.items)) no_poll }
+    ensures stays { map state rack.new.items ≡ map state rack.old.items }
+    ensures asked { sum_by queries rack.new.items ≤ sum_by queries rack.old.items
+        + allowance_by question.now.rule
+        (knows (counter_by_table question.now.romc) index.now.marks) (length rack.old.items) }
+    ensures chips { length rack.new.items ≡ length rack.old.items }
+{
+    if index.knows(question.romc) {
+        let sockets = index.sockets_at(question.rule, question.reference);
+        gather_listed(rack, sockets, question)
+    } else {
+        gather(rack, question)
+    }
+}
+
+/// What a step is to answer: by what the chips answer, the bus rule decides. Nothing changes but how many questions were put.
+#[tactic(auto, using(crate::proofs::Racks::may_hear_all))]
+#[inline(always)]
+fn ruling_by(
+    rack: &mut Rack,
+    probe: &Probe,
+    index: &Index,
+    cycle: &Cycle,
+) -> Result<Served, BusFault>
+    requires few { length rack.old.items ≤ MOST_CHIPS }
+    requires chosen { ChosenAsks cycle.now.romc cycle.now.first (map state rack.old.items) }
+    requires stands { StandsFor index.now probe.now (map state rack.old.items) }
+    ensures answer { result ≡ step_answer cycle.now probe.now (map state rack.old.items) }
+    ensures stays { map state rack.new.items ≡ map state rack.old.items }
+    ensures asked { sum_by queries rack.new.items ≤ sum_by queries rack.old.items
+        + allowance cycle.now.romc index.now (length rack.old.items) }
+    ensures chips { length rack.new.items ≡ length rack.old.items }
+{
+    let question = Question {
+        romc: cycle.romc,
+        rule: rule_of(cycle.romc),
+        reference: reference_of(probe, cycle.romc),
+        first: cycle.first,
+    };
+    let poll = gather_by(rack, index, &question);
+    decide(question.rule, cycle, question.reference, poll)
+}
+
+/// One bus step on a rack of at most 16 chips, as [`step`](super::step) makes it, by an index of the rack, which stands for it and the
+/// probe before and after. Where the step is served the index goes on by the table of marks, and else it stays.
+///
+/// No more questions are put than the step's allowance: none where no chip takes part, and one where a chip is named, or where both
+/// halves of the step's counter are known; at the codes 1A and 1B one to each chip, and else four to each at most.
+#[tactic(auto, using(crate::proofs::Racks::may_hear_all, crate::proofs::Racks::stays_all, crate::proofs::Questions::sums_alike))]
+#[inline(always)]
+pub fn step_by(
+    rack: &mut Rack,
+    probe: &mut Probe,
+    index: &mut Index,
+    cycle: Cycle,
+) -> Result<Served, BusFault>
+    requires few { length rack.old.items ≤ MOST_CHIPS }
+    requires chosen { ChosenAsks cycle.romc cycle.first (map state rack.old.items) }
+    requires stands { StandsFor index.old probe.old (map state rack.old.items) }
+    ensures answer { result ≡ step_answer cycle probe.old (map state rack.old.items) }
+
+    // Served: every chip and the probe hear the step.
+    ensures settled { IfOk result (λ served. RackSettles cycle.romc cycle.long cycle.first
+        served.byte (map state rack.old.items) (map state rack.new.items)) }
+    ensures heard { IfOk result (λ served. probe.new
+        ≡ probe_after cycle.romc served.byte probe.old) }
+
+    // Not served: no state changes.
+    ensures stays { OnErr result (RackStays (map state rack.old.items) (map state rack.new.items)) }
+    ensures probe_stays { OnErr result (probe.new ≡ probe.old) }
+
+    // The index.
+    ensures stands { StandsFor index.new probe.new (map state rack.new.items) }
+    ensures marks { IfOk result (λ served. index.new ≡ followed cycle.romc index.old) }
+    ensures index_stays { OnErr result (index.new ≡ index.old) }
+
+    // The questions that were put.
+    ensures asked { sum_by queries rack.new.items ≤ sum_by queries rack.old.items
+        + allowance cycle.romc index.old (length rack.old.items) }
+    ensures chips { length rack.new.items ≡ length rack.old.items }
+{
+    let served = ruling_by(rack, probe, index, &cycle)?;
+    settle_all(rack, &cycle, served.byte);
+    probe.hear(cycle.romc, served.byte);
+    index.follow(cycle.romc);
+    Ok(served)
+}

@@ -1,0 +1,91 @@
+// What the chips answer that are listed as holding the probe's address, where every chip is known to be there.
+ghost use Rattle.std.specs.Prelude.{◌≡◌, ◌+◌, ◌<◌, ◌≤◌, true, length, map, slice_get, sum_by, Some};
+ghost use Rattle.f8_spec.specs.ChipState.{ChipState, MayHear, offered};
+ghost use Rattle.f8_spec.specs.BusArbitration.{is_first as is_first_socket, rule_of as rule_by_table};
+ghost use Rattle.data_bus.specs.KnownPlaces.{AllAt, byte_in, goes_by_counter, party_at};
+ghost use Rattle.data_bus.specs.PageIndex.{Lists, flagged, holding, seats};
+ghost use Rattle.data_bus.specs.Polling.{no_poll, polled};
+ghost use Rattle.data_bus.specs.Racks.{AllMayHear, views};
+
+use super::ask::{Question, is_first, offer_of};
+use super::page_sockets::Sockets;
+use super::poll::Poll;
+use super::{Parties, Rack};
+use chip_face::{Chip, MOST_CHIPS};
+use f8_spec::Party;
+
+/// The parties in the sockets whose flags are set, all at one address.
+fn parties_at(flags: &[bool; MOST_CHIPS], at: u16) -> Parties
+    ensures { result ≡ map (party_at at) (flagged 0 flags.now) }
+{
+    let mut parties = Parties::new();
+    for (i, flag) in flags.iter().enumerate() {
+        if *flag {
+            let socket = i as u8;
+            parties.push(Party { socket, at });
+        }
+    }
+    parties
+}
+
+/// The byte of what one chip offers, by one question.
+#[inline(always)]
+fn byte_of(chip: &mut Box<dyn Chip>, socket: u8, question: &Question) -> u8
+    requires { MayHear question.now.romc (is_first_socket question.now.first socket)
+        (state chip.old).view }
+    ensures answer { result ≡ byte_in (offered question.now.romc
+        (is_first_socket question.now.first socket) (state chip.old).view) }
+    ensures stays { state chip.new ≡ state chip.old }
+    ensures asked { queries chip.new ≤ queries chip.old + 1 }
+{
+    match offer_of(chip, question.romc, is_first(question.first, socket)) {
+        Some(offer) => offer.byte,
+        None => 0,
+    }
+}
+
+/// The byte of what the chip in a socket offers, by one question.
+#[inline(always)]
+fn byte_in_socket(rack: &mut Rack, socket: u8, question: &Question) -> u8
+    requires seated { socket < length rack.old.items }
+    requires chosen { AllMayHear question.now.romc question.now.first (map state rack.old.items) }
+    ensures answer { (s : ChipState) → slice_get (map state rack.old.items) socket ≡ Some s →
+        result ≡ byte_in (offered question.now.romc
+        (is_first_socket question.now.first socket) s.view) }
+    ensures stays { map state rack.new.items ≡ map state rack.old.items }
+    ensures asked { sum_by queries rack.new.items ≤ sum_by queries rack.old.items + 1 }
+    ensures chips { length rack.new.items ≡ length rack.old.items }
+{
+    byte_of(&mut rack[usize::from(socket)], socket, question)
+}
+
+/// The poll of a step that goes by a counter, where every chip is at the probe's address: by the sockets of those that hold it. One chip
+/// is asked at most, and that by one question.
+#[inline(always)]
+pub(crate) fn gather_listed(rack: &mut Rack, sockets: &Sockets, question: &Question) -> Poll
+    requires few { length rack.old.items ≤ MOST_CHIPS }
+    requires chosen { AllMayHear question.now.romc question.now.first (map state rack.old.items) }
+    requires code { question.now.romc < 32 }
+    requires rule { question.now.rule ≡ rule_by_table question.now.romc }
+    requires by_counter { goes_by_counter question.now.rule ≡ true }
+    requires listed { Lists sockets.now (holding question.now.rule question.now.reference 0
+        (seats (map state rack.old.items))) }
+    requires known { AllAt question.now.romc question.now.reference
+        (views (map state rack.old.items)) }
+    ensures answer { result ≡ polled question.now.rule question.now.romc question.now.reference
+        question.now.first 0 (views (map state rack.old.items)) no_poll }
+    ensures stays { map state rack.new.items ≡ map state rack.old.items }
+    ensures asked { sum_by queries rack.new.items ≤ sum_by queries rack.old.items + 1 }
+    ensures chips { length rack.new.items ≡ length rack.old.items }
+{
+    let at = question.reference;
+    match sockets {
+        Sockets::NoOne => Poll::new(),
+        Sockets::One(socket) => {
+            let socket = *socket;
+            let byte = byte_in_socket(rack, socket, question);
+            Poll::of(Party { socket, at }, byte)
+        }
+        Sockets::Several(flags) => Poll::conflict(parties_at(flags, at)),
+    }
+}

@@ -1,0 +1,16 @@
+-- The questions of the step are counted.
+use Rattle.std.proofs.Common.{refl, map}
+use Rattle.f8_machine.proofs.Counting.{counts_by, tried_by}
+use Rattle.f8_machine.proofs.bus_step.bus_step_by.Goals as goal
+
+pub returns-in-Ok-clause-counted : goal.returns-in-Ok-clause-counted
+returns-in-Ok-clause-counted g c =
+    counts_by _ _ c.args.known.now c.step_by.new.index _ _ c.args.steps.now c.push.new.self
+    c.in-Ok.ensures.marks c.in-Ok.ensures.asked c.push.ensures
+
+pub returns-in-Err-clause-tried : goal.returns-in-Err-clause-tried
+returns-in-Err-clause-tried g c =
+    tried_by _
+    (record { romc = c.args.step.romc; long = c.args.step.long; byte = c.args.placed; first = c.args.first }) c.args.probe.now
+    (map (λ b. (goal.Chip-dyn g (b.vtable, b.value)).state b.value) c.args.rack.now.items) c.in-Err.fault c.args.known.now c.step_by.new.index _ _ c.args.steps.now c.args.steps.now
+    c.in-Err.ensures.answer c.in-Err.ensures.index_stays c.in-Err.ensures.asked refl
