@@ -1,11 +1,11 @@
 // The bus rule: whether a step is served, by what the chips answered.
-ghost use Rattle.std.specs.Prelude.{◌≡◌};
+ghost use Rattle.std.specs.Prelude.{◌≡◌, ◌≤◌, length};
 ghost use Rattle.f8_spec.specs.BusCodes.{driver_of as driver_by_table};
-ghost use Rattle.f8_spec.specs.BusArbitration.{Served as ServedBy, Astray, Undriven, byte_by, one_party, port_read_verdict, port_write_verdict, read_verdict, store_verdict, unless_bystander};
+ghost use Rattle.f8_spec.specs.BusArbitration.{Served as ServedBy, Astray, Conflict, Undriven, byte_by, one_party, port_read_verdict, port_write_verdict, read_verdict, store_verdict, unless_bystander};
 ghost use Rattle.data_bus.specs.Steps.{answered, poll_answer};
 
-use super::poll::Poll;
 use super::{BusFault, Cycle, Parties, Served};
+use chip_face::MOST_CHIPS;
 use f8_spec::{BusRule, Party};
 use romc_table::{Driver, Romc, driver_of};
 
@@ -47,6 +47,18 @@ impl Pending {
         })
     }
 
+    /// Not inlined, so that the list of parties takes room in a conflict alone.
+    #[inline(never)]
+    fn conflict(self, parties: &[Party]) -> Result<Served, BusFault>
+        requires { length parties.now ≤ MOST_CHIPS }
+        ensures { result ≡ answered self.romc self.byte (Conflict parties.now) }
+    {
+        Err(BusFault::Conflict {
+            romc: self.romc,
+            parties: Parties::of(parties),
+        })
+    }
+
     /// Served, unless a chip stands by at the probe's address.
     fn unless_bystander(
         self,
@@ -74,52 +86,52 @@ impl Pending {
     }
 
     /// A chip has to drive the byte.
-    fn read(self, parties: Parties, bystander: Option<Party>) -> Result<Served, BusFault>
+    fn read(self, parties: &[Party], bystander: Option<Party>) -> Result<Served, BusFault>
+        requires { length parties.now ≤ MOST_CHIPS }
         ensures { result ≡ answered self.romc self.byte
-            (read_verdict self.reference parties bystander) }
+            (read_verdict self.reference parties.now bystander) }
     {
-        let romc = self.romc;
-        match parties.as_slice() {
+        match parties {
             [] => self.undriven(),
             [party] => self.one_party(*party, bystander),
-            [_, _, ..] => Err(BusFault::Conflict { romc, parties }),
+            [_, _, ..] => self.conflict(parties),
         }
     }
 
     /// A chip may take the byte. One that none takes is lost.
-    fn store(self, parties: Parties, bystander: Option<Party>) -> Result<Served, BusFault>
+    fn store(self, parties: &[Party], bystander: Option<Party>) -> Result<Served, BusFault>
+        requires { length parties.now ≤ MOST_CHIPS }
         ensures { result ≡ answered self.romc self.byte
-            (store_verdict self.reference parties bystander) }
+            (store_verdict self.reference parties.now bystander) }
     {
-        let romc = self.romc;
-        match parties.as_slice() {
+        match parties {
             [] => self.unless_bystander(None, bystander),
             [party] => self.one_party(*party, bystander),
-            [_, _, ..] => Err(BusFault::Conflict { romc, parties }),
+            [_, _, ..] => self.conflict(parties),
         }
     }
 
     /// A chip that has the port has to drive its byte.
-    fn port_read(self, parties: Parties) -> Result<Served, BusFault>
-        ensures { result ≡ answered self.romc self.byte (port_read_verdict self.reference parties) }
+    fn port_read(self, parties: &[Party]) -> Result<Served, BusFault>
+        requires { length parties.now ≤ MOST_CHIPS }
+        ensures { result ≡ answered self.romc self.byte (port_read_verdict self.reference parties.now) }
     {
-        let romc = self.romc;
-        match parties.as_slice() {
+        match parties {
             [] => self.undriven(),
             [party] => self.served(Some(party.socket)),
-            [_, _, ..] => Err(BusFault::Conflict { romc, parties }),
+            [_, _, ..] => self.conflict(parties),
         }
     }
 
     /// A chip that has the port may take the byte.
-    fn port_write(self, parties: Parties) -> Result<Served, BusFault>
-        ensures { result ≡ answered self.romc self.byte (port_write_verdict parties) }
+    fn port_write(self, parties: &[Party]) -> Result<Served, BusFault>
+        requires { length parties.now ≤ MOST_CHIPS }
+        ensures { result ≡ answered self.romc self.byte (port_write_verdict parties.now) }
     {
-        let romc = self.romc;
-        match parties.as_slice() {
+        match parties {
             [] => self.served(None),
             [party] => self.served(Some(party.socket)),
-            [_, _, ..] => Err(BusFault::Conflict { romc, parties }),
+            [_, _, ..] => self.conflict(parties),
         }
     }
 }
@@ -135,26 +147,30 @@ fn bus_byte(romc: Romc, cpu: u8, chip: u8) -> u8
     }
 }
 
-/// Decides a step by what the chips answered.
+/// Decides a step by what the chips answered: those that drive or take, the byte of the only one of them, and the chip that stands by.
 #[inline(always)]
 pub(crate) fn decide(
     rule: BusRule,
     cycle: &Cycle,
     reference: u16,
-    poll: Poll,
+    parties: &[Party],
+    byte: u8,
+    bystander: Option<Party>,
 ) -> Result<Served, BusFault>
-    ensures { result ≡ poll_answer rule cycle.now reference poll }
+    requires { length parties.now ≤ MOST_CHIPS }
+    ensures { result ≡ poll_answer rule cycle.now reference
+        (record { parties = parties.now; byte = byte; bystander = bystander }) }
 {
     let pending = Pending {
         romc: cycle.romc,
-        byte: bus_byte(cycle.romc, cycle.byte, poll.byte),
+        byte: bus_byte(cycle.romc, cycle.byte, byte),
         reference,
     };
     match rule {
-        BusRule::Read => pending.read(poll.parties, poll.bystander),
-        BusRule::Store => pending.store(poll.parties, poll.bystander),
-        BusRule::PortRead => pending.port_read(poll.parties),
-        BusRule::PortWrite => pending.port_write(poll.parties),
+        BusRule::Read => pending.read(parties, bystander),
+        BusRule::Store => pending.store(parties, bystander),
+        BusRule::PortRead => pending.port_read(parties),
+        BusRule::PortWrite => pending.port_write(parties),
         BusRule::Vector => pending.served(cycle.first),
         BusRule::NoChip => pending.served(None),
     }

@@ -11,44 +11,19 @@ ghost use Rattle.data_bus.specs.Polling.{no_poll, polled};
 ghost use Rattle.data_bus.specs.Racks.{AllMayHear, ChosenAsks, RackSettles, RackStays, views};
 ghost use Rattle.data_bus.specs.Steps.{step_answer};
 
-use super::ask::Question;
 use super::decide::decide;
 use super::index::Index;
-use super::listed_poll::gather_listed;
-use super::poll::{Poll, gather};
+use super::listed_poll::ruling_listed;
 use super::rule::rule_of;
 use super::settle::settle_all;
-use super::transfer::reference_of;
+use super::transfer::{reference_of, ruling};
 use super::{BusFault, Cycle, Rack, Served};
 use chip_face::{Chip, MOST_CHIPS};
+use f8_spec::BusRule;
 use probe::Probe;
 
-/// What the chips answer in a step: where its counter is known, by the sockets that the index lists, and else by asking every chip.
-#[inline(always)]
-fn gather_by(rack: &mut Rack, index: &Index, question: &Question) -> Poll
-    requires few { length rack.old.items ≤ MOST_CHIPS }
-    requires chosen { AllMayHear question.now.romc question.now.first (map state rack.old.items) }
-    requires code { question.now.romc < 32 }
-    requires rule { question.now.rule ≡ rule_by_table question.now.romc }
-    requires goes { GoesBy index.now question.now.romc question.now.reference
-        (map state rack.old.items) }
-    ensures answer { result ≡ polled question.now.rule question.now.romc question.now.reference
-        question.now.first 0 (views (map state rack.old.items)) no_poll }
-    ensures stays { map state rack.new.items ≡ map state rack.old.items }
-    ensures asked { sum_by queries rack.new.items ≤ sum_by queries rack.old.items
-        + allowance_by question.now.rule
-        (knows (counter_by_table question.now.romc) index.now.marks) (length rack.old.items) }
-    ensures chips { length rack.new.items ≡ length rack.old.items }
-{
-    if index.knows(question.romc) {
-        let sockets = index.sockets_at(question.rule, question.reference);
-        gather_listed(rack, sockets, question)
-    } else {
-        gather(rack, question)
-    }
-}
-
-/// What a step is to answer: by what the chips answer, the bus rule decides. Nothing changes but how many questions were put.
+/// What a step is to answer: where no chip takes part, by the code alone; where its counter is known, by the sockets that the index lists;
+/// and else by asking every chip. Nothing changes but how many questions were put.
 #[tactic(auto, using(crate::proofs::Racks::may_hear_all))]
 #[inline(always)]
 fn ruling_by(
@@ -66,14 +41,17 @@ fn ruling_by(
         + allowance cycle.now.romc index.now (length rack.old.items) }
     ensures chips { length rack.new.items ≡ length rack.old.items }
 {
-    let question = Question {
-        romc: cycle.romc,
-        rule: rule_of(cycle.romc),
-        reference: reference_of(probe, cycle.romc),
-        first: cycle.first,
-    };
-    let poll = gather_by(rack, index, &question);
-    decide(question.rule, cycle, question.reference, poll)
+    let rule = rule_of(cycle.romc);
+    let reference = reference_of(probe, cycle.romc);
+    if rule == BusRule::NoChip {
+        return decide(rule, cycle, reference, &[], 0, None);
+    }
+    if index.knows(cycle.romc) {
+        let sockets = index.sockets_at(rule, reference);
+        ruling_listed(rack, sockets, rule, reference, cycle)
+    } else {
+        ruling(rack, probe, cycle)
+    }
 }
 
 /// One bus step on a rack of at most 16 chips, as [`step`](super::step) makes it, by an index of the rack, which stands for it and the

@@ -35,6 +35,18 @@ impl Parties {
         }
     }
 
+    /// These parties.
+    pub(crate) fn of(parties: &[Party]) -> Parties
+        requires { length parties.now ≤ MOST_CHIPS }
+        ensures { result ≡ parties.now }
+    {
+        let mut all = Parties::new();
+        for party in parties {
+            all.push(*party);
+        }
+        all
+    }
+
     /// Adds a party behind the others.
     pub fn push(&mut self, party: Party)
         requires { length self.old < MOST_CHIPS }

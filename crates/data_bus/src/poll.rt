@@ -36,30 +36,6 @@ impl Poll {
         }
     }
 
-    /// One chip drives or takes, and none stands by.
-    pub(crate) fn of(party: Party, byte: u8) -> Poll
-        ensures { result ≡ record { parties = party ∷ []; byte = byte; bystander = None } }
-    {
-        let mut parties = Parties::new();
-        parties.push(party);
-        Poll {
-            parties,
-            byte,
-            bystander: None,
-        }
-    }
-
-    /// Several chips drive or take, and none stands by.
-    pub(crate) fn conflict(parties: Parties) -> Poll
-        ensures { result ≡ record { parties = parties; byte = 0; bystander = None } }
-    {
-        Poll {
-            parties,
-            byte: 0,
-            bystander: None,
-        }
-    }
-
     /// Counts one more chip's answer.
     fn count(&mut self, socket: u8, answer: Answer)
         requires { length self.old.parties < MOST_CHIPS }

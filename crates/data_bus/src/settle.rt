@@ -8,6 +8,7 @@ ghost use Rattle.data_bus.specs.Racks.{AllMayHear, RackSettles, SettlesStep};
 use super::ask::is_first;
 use super::{Cycle, Rack};
 use chip_face::{Chip, MOST_CHIPS};
+use romc_table::Romc;
 
 /// The length of a step in Φ.
 fn clocks(long: bool) -> u8
@@ -16,17 +17,21 @@ fn clocks(long: bool) -> u8
     if long { 6 } else { 4 }
 }
 
-/// The chip in a socket hears a served step.
+/// The chip in a socket hears a served step: its code, its length, its byte, and whether it is the chip whose interrupt is acknowledged.
 #[inline(always)]
-fn settle_at(chip: &mut Box<dyn Chip>, socket: u8, cycle: &Cycle, byte: u8)
-    requires { MayHear cycle.now.romc (is_first_socket cycle.now.first socket)
-        (state chip.old).view }
-    ensures settles { SettlesStep cycle.now.romc cycle.now.long cycle.now.first byte socket
-        (state chip.old) (state chip.new) }
+fn settle_at(
+    chip: &mut Box<dyn Chip>,
+    socket: u8,
+    romc: Romc,
+    long: bool,
+    first: Option<u8>,
+    byte: u8,
+)
+    requires { MayHear romc (is_first_socket first socket) (state chip.old).view }
+    ensures settles { SettlesStep romc long first byte socket (state chip.old) (state chip.new) }
     ensures asked { queries chip.new ≡ queries chip.old }
 {
-    let mark = is_first(cycle.first, socket);
-    chip.settle(cycle.romc, byte, clocks(cycle.long), mark);
+    chip.settle(romc, byte, clocks(long), is_first(first, socket));
 }
 
 /// Every chip hears a served step, once.
@@ -39,7 +44,11 @@ pub(crate) fn settle_all(rack: &mut Rack, cycle: &Cycle, byte: u8)
     ensures asked { map queries rack.new.items ≡ map queries rack.old.items }
     ensures chips { length rack.new.items ≡ length rack.old.items }
 {
+    // Each by itself, so that the loop need not read them again for each chip.
+    let romc = cycle.romc;
+    let long = cycle.long;
+    let first = cycle.first;
     for (i, chip) in rack.iter_mut().enumerate() {
-        settle_at(chip, i as u8, cycle, byte);
+        settle_at(chip, i as u8, romc, long, first, byte);
     }
 }

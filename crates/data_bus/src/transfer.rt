@@ -32,8 +32,9 @@ pub(crate) fn reference_of(probe: &Probe, romc: Romc) -> u16
 
 /// What a step is to answer: the chips are asked, and the bus rule decides. Nothing changes but how many questions were put.
 #[tactic(auto, using(crate::proofs::Racks::may_hear_all))]
-#[inline(always)]
-fn ruling(rack: &mut Rack, probe: &Probe, cycle: &Cycle) -> Result<Served, BusFault>
+// Not inlined, so that a step by an index, of which nearly none comes here, has no room for what the chips answer.
+#[inline(never)]
+pub(crate) fn ruling(rack: &mut Rack, probe: &Probe, cycle: &Cycle) -> Result<Served, BusFault>
     requires few { length rack.old.items ≤ MOST_CHIPS }
     requires chosen { ChosenAsks cycle.now.romc cycle.now.first (map state rack.old.items) }
     ensures answer { result ≡ step_answer cycle.now probe.now (map state rack.old.items) }
@@ -49,7 +50,14 @@ fn ruling(rack: &mut Rack, probe: &Probe, cycle: &Cycle) -> Result<Served, BusFa
         first: cycle.first,
     };
     let poll = gather(rack, &question);
-    decide(question.rule, cycle, question.reference, poll)
+    decide(
+        question.rule,
+        cycle,
+        question.reference,
+        poll.parties.as_slice(),
+        poll.byte,
+        poll.bystander,
+    )
 }
 
 /// One bus step on a rack of at most 16 chips. The chips are asked, each by three questions at most; the bus rule, which is this project's

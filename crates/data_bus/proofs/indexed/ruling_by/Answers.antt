@@ -1,9 +1,20 @@
--- What the poll answers is what the bus rule says of the rack.
-use Rattle.std.proofs.Common.{◌∙◌}
+-- Where the step's counter is known, every chip is at the probe's address, and what the listed chips answer is what the bus rule says of
+-- the rack.
+use Rattle.std.proofs.Common.{◌≡◌, true, ◌∙◌, sym}
+use Rattle.f8_spec.specs.BusCodes.{counter_of}
+use Rattle.data_bus.specs.KnownAgreement.{knows}
+use Rattle.data_bus.proofs.KnownPlaces.{places-known}
 use Rattle.data_bus.proofs.Judging.{poll_answer-polled}
 use Rattle.data_bus.proofs.indexed.ruling_by.Goals as goal
 
-pub returns-clause-answer : goal.returns-clause-answer
-returns-clause-answer g c =
-    c.decide.ensures ∙ rw (c.gather_by-poll.ensures.answer, c.rule_of.ensures.table, c.reference_of.ensures)
-    (poll_answer-polled c.args.cycle.now _ _ c.rule_of.ensures.below)
+pub ruling_listed-requires-clause-known : goal.ruling_listed-requires-clause-known
+ruling_listed-requires-clause-known g c =
+    let known : knows (counter_of c.args.cycle.now.romc) c.args.index.now.marks ≡ true = sym c.knows.ensures ∙ c.if-knows.true in
+    places-known c.args.index.now c.args.cycle.now.romc c.reference_of-reference.result _
+    (record { probe = c.args.probe.now; stands = c.requires.stands; place = c.reference_of-reference.ensures }) known
+
+pub returns-then-knows-clause-answer : goal.returns-then-knows-clause-answer
+returns-then-knows-clause-answer g c =
+    c.ruling_listed.ensures.answer
+    ∙ rw (c.rule_of-rule.ensures.table, c.reference_of-reference.ensures)
+    (poll_answer-polled c.args.cycle.now _ _ c.rule_of-rule.ensures.below)

@@ -17,7 +17,7 @@ returns-clause-answer g c = λ s at.
     let here = chip-in (λ b. (goal.Chip-dyn g (b.vtable, b.value)).state b.value) c.args.rack.now.items
     c.args.socket c.from.result c.index_mut.result.now c.requires.seated c.from.ensures c.index_mut.ensures.value in
     c.byte_of.ensures.answer
-    ∙ ap (λ (x : ChipState). byte_in (offered c.args.question.now.romc (is_first c.args.question.now.first c.args.socket) x.view))
+    ∙ ap (λ (x : ChipState). byte_in (offered c.args.cycle.now.romc (is_first c.args.cycle.now.first c.args.socket) x.view))
     (chip-is _ c.args.socket _ s here at)
 
 pub returns-clause-stays : goal.returns-clause-stays
