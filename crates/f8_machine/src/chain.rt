@@ -55,6 +55,16 @@ impl Chain {
         self.as_slice().contains(&socket)
     }
 
+    /// The same sockets once more.
+    pub fn copy(&self) -> Chain
+        ensures { result ≡ self.now }
+    {
+        Chain {
+            sockets: self.sockets,
+            len: self.len,
+        }
+    }
+
     /// All of them.
     pub fn as_slice(&self) -> &[u8]
         ensures value { result.now ≡ self.now }

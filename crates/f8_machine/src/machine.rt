@@ -306,6 +306,20 @@ impl Machine {
             .regs(self.flow.p, self.flow.p1, self.flow.d0, self.flow.d1)
     }
 
+    /// The address of the instruction that comes next, after the last one that was done.
+    pub fn next_address(&self) -> u16
+        ensures { result ≡ self.now.flow.p }
+    {
+        self.flow.p
+    }
+
+    /// The sockets of the chips described.
+    pub fn chain(&self) -> &Chain
+        ensures { result.now ≡ self.now.chain }
+    {
+        &self.chain
+    }
+
     /// The probe's counters. After a bus step that wasn't served they are those after the last served one.
     pub fn reference(&self) -> Counters
         ensures { result ≡ probe_counters self.now.probe }

@@ -1,7 +1,7 @@
 //! What becomes of an instruction, and where a machine is after it.
 ghost use Rattle.std.specs.Prelude.{◌≡◌};
 
-use super::Record;
+use super::{Heard, Record};
 use console_spec::PortWrite;
 use data_bus::BusFault;
 
@@ -24,6 +24,22 @@ pub enum Outcome {
         at: u16,
         code: u8,
     },
+}
+
+impl Outcome {
+    ghost use Rattle.f8_machine.specs.HeardSteps.{HaveBytes};
+    ghost use Rattle.f8_machine.specs.MachineState.{steps_in};
+
+    /// The bus steps that were served.
+    pub fn steps(&self) -> &[Heard]
+        ensures value { result.now ≡ steps_in self.now }
+        ensures bytes { HaveBytes result.now }
+    {
+        match self {
+            Outcome::Done { steps, .. } | Outcome::Fault { steps, .. } => steps.as_slice(),
+            Outcome::Reserved { .. } => &[],
+        }
+    }
 }
 
 /// Where a machine is.

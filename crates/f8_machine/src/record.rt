@@ -1,5 +1,6 @@
 //! The bus steps of an instruction, in a record of its own.
 ghost use Rattle.std.specs.Prelude.{◌≡◌, ◌<◌, ◌≤◌, ◌==◌, ◌++◌, [], ◌∷◌, length};
+ghost use Rattle.f8_machine.specs.HeardSteps.{HaveBytes};
 
 use super::Heard;
 use console_spec::Who;
@@ -20,12 +21,14 @@ impl Model for Record {
     ghost use Rattle.std.specs.Prelude.{List, ◌≤◌, ◌≡◌, length, take};
     ghost use Rattle.f8_machine.specs.declared.heard.Heard.{Heard};
     ghost use Rattle.f8_machine.specs.declared.record.TheConstants.{MOST_HEARD};
+    ghost use Rattle.f8_machine.specs.HeardSteps.{HaveBytes};
 
     ghost Value = { List Heard };
 
     ghost view = { λ r. take r.len r.items };
 
-    ghost invariant = { λ r. (r.len ≤ MOST_HEARD) × (length r.items ≡ MOST_HEARD) };
+    ghost invariant = { λ r.
+        (r.len ≤ MOST_HEARD) × (length r.items ≡ MOST_HEARD) × HaveBytes (take r.len r.items) };
 }
 
 impl Record {
@@ -59,6 +62,7 @@ impl Record {
     pub fn as_slice(&self) -> &[Heard]
         ensures value { result.now ≡ self.now }
         ensures few { length result.now ≤ MOST_HEARD }
+        ensures bytes { HaveBytes result.now }
     {
         let len = self.len;
         &self.items[..len]
