@@ -16,7 +16,7 @@ pub use console_spec::VerdictWord;
 pub use line_buffer::{LINE_ROOM, Line};
 pub use refusal_lines::{
     Reader, error_asm, error_cart, error_hex, error_long, error_rack, error_reader, error_sockets,
-    error_store, error_toml, error_words,
+    error_store, error_toml, error_words, kind_text,
 };
 pub use run_lines::{
     regs_line, scratch_line, stop_done_line, stop_fault_line, stop_reserved_line, total_line,

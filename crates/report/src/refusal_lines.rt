@@ -195,7 +195,8 @@ pub fn error_rack(count: u64) -> Line
     line
 }
 
-fn kind_text(kind: ChipKind) -> &'static [u8]
+/// The number of a kind of chip, of four digits.
+pub fn kind_text(kind: ChipKind) -> &'static [u8]
     ensures text { result.now ≡ spelled_kind kind }
     ensures size { length result.now ≡ 4 }
 {
