@@ -8,8 +8,10 @@ use Rattle.f8_spec.specs.declared.bus.BusRule.TheVariants.{Read, Store, PortRead
 use Rattle.f8_spec.specs.declared.bus.Counter.{Counter}
 use Rattle.f8_spec.specs.declared.bus.Counter.TheVariants.{Pc0, Pc1, Dc0, NoCounter}
 use Rattle.data_bus.specs.KnownAgreement.{AllAddresses, AllAgree, AreAddresses, CountAgrees, knows}
-use Rattle.data_bus.specs.KnownPlaces.{AllAt, GoesBy, goes_by_counter}
-use Rattle.data_bus.specs.PageIndex.{holding}
+use Rattle.probe.specs.ProbeState.{ProbeState}
+use Rattle.data_bus.specs.Steps.{probe_place}
+use Rattle.data_bus.specs.KnownPlaces.{AllAt, goes_by_counter}
+use Rattle.data_bus.specs.PageIndex.{StandsFor, holding}
 use Rattle.data_bus.specs.Racks.{views}
 use Rattle.data_bus.specs.declared.index.Index.{Index}
 use Rattle.data_bus.specs.declared.marks.Marks.{Marks}
@@ -63,11 +65,10 @@ all-at romc marks reference heard (v ∷ vs) known agree are = (
 )
 
 -- where both halves of the step's counter are known, every chip is at the reference
-pub places-known : (index : Index) (romc reference : ℕ) (states : List ChipState) → GoesBy index romc reference states →
-    knows (counter_of romc) index.marks ≡ true → AllAt romc reference (views states)
-places-known index romc reference states goes known =
-    subst (λ (at : ℕ). AllAt romc at (views states)) (sym goes.place)
-    (all-at romc index.marks goes.probe.count goes.probe.last (views states) known goes.stands.marks goes.stands.addresses)
+pub places-known : (index : Index) (romc : ℕ) (probe : ProbeState) (states : List ChipState) → StandsFor index probe states →
+    knows (counter_of romc) index.marks ≡ true → AllAt romc (probe_place romc probe) (views states)
+places-known index romc probe states stands known =
+    all-at romc index.marks probe.count probe.last (views states) known stands.marks stands.addresses
 
 -- and the step goes by a counter
 counted : (counter : Counter) (marks : Marks) → knows counter marks ≡ true → is_counter counter ≡ true

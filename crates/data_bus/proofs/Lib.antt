@@ -19,3 +19,4 @@ pub mod ListedRacks
 pub mod Standing
 pub mod MarksTable
 pub mod WorkedAllowances
+pub mod ServedSteps

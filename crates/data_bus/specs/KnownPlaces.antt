@@ -1,17 +1,13 @@
 -- Steps in which every chip is known to be at the probe's place.
 use Rattle.std.specs.Prelude.{ℕ, ◌<◌, ◌≡◌, Bool, true, false, List, Option, Some, None}
 use Rattle.std.specs.List.{AllByRecursion}
-use Rattle.f8_spec.specs.ChipState.{ChipView, ChipState}
+use Rattle.f8_spec.specs.ChipState.{ChipView}
 use Rattle.f8_spec.specs.BusArbitration.{place_in}
 use Rattle.f8_spec.specs.declared.bus.BusRule.{BusRule}
 use Rattle.f8_spec.specs.declared.bus.BusRule.TheVariants.{Read, Store, PortRead, PortWrite, Vector, NoChip}
 use Rattle.f8_spec.specs.declared.bus.Party.{Party}
 use Rattle.f8_spec.specs.declared.chips.Offer.{Offer}
-use Rattle.probe.specs.ProbeState.{ProbeState}
 use Rattle.data_bus.specs.KnownAgreement.{has_page}
-use Rattle.data_bus.specs.PageIndex.{StandsFor}
-use Rattle.data_bus.specs.Steps.{probe_place}
-use Rattle.data_bus.specs.declared.index.Index.{Index}
 
 -- the steps that go by a counter of the chips
 abbrev pub goes_by_counter : BusRule → Bool
@@ -38,9 +34,3 @@ party_at at socket = record { socket = socket; at = at }
 abbrev pub byte_in : Option Offer → ℕ
 byte_in None = 0
 byte_in (Some offer) = offer.byte
-
--- the index stands for the rack and a probe, by whose place the step goes
-pub record GoesBy (index : Index) (romc reference : ℕ) (states : List ChipState) : Type 0 where
-  pub probe : ProbeState
-  pub stands : StandsFor index probe states
-  pub place : reference ≡ probe_place romc probe

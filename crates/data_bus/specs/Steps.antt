@@ -1,12 +1,15 @@
 -- A bus step on a rack: what it answers.
-use Rattle.std.specs.Prelude.{ℕ, List, Result, Ok, Err}
+use Rattle.std.specs.Prelude.{ℕ, List, Option, Some, None, Result, Ok, Err}
 use Rattle.f8_spec.specs.BusCodes.{driver_of}
 use Rattle.f8_spec.specs.ChipState.{ChipState}
 use Rattle.f8_spec.specs.BusArbitration.{Verdict, Served as ServedBy, Conflict, Undriven, Astray, place_in, judged, byte_by, bus_byte, view_verdict}
 use Rattle.f8_spec.specs.declared.bus.BusRule.{BusRule}
+use Rattle.f8_spec.specs.declared.bus.Party.{Party}
 use Rattle.probe.specs.ProbeState.{ProbeState}
 use Rattle.data_bus.specs.declared.cycle.Cycle.{Cycle}
 use Rattle.data_bus.specs.declared.cycle.Served.{Served}
+use Rattle.data_bus.specs.declared.decide.Ruling.{Ruling}
+use Rattle.data_bus.specs.declared.decide.Ruling.TheVariants.{Served as ServedRuling, Conflict as ConflictRuling, Undriven as UndrivenRuling, Astray as AstrayRuling}
 use Rattle.data_bus.specs.declared.fault.BusFault.{BusFault}
 use Rattle.data_bus.specs.declared.fault.BusFault.TheVariants.{Conflict as ConflictFault, Undriven as UndrivenFault, Astray as AstrayFault}
 use Rattle.data_bus.specs.declared.poll.Poll.{Poll}
@@ -18,6 +21,18 @@ answered romc byte (ServedBy socket) = Ok (record { byte = byte; socket = socket
 answered romc byte (Conflict parties) = Err (ConflictFault romc parties)
 answered romc byte (Undriven at) = Err (UndrivenFault romc at)
 answered romc byte (Astray socket at reference) = Err (AstrayFault romc socket at reference)
+
+-- what the rule says, as a verdict: of which chips, and at which place of the probe
+abbrev pub ruled : ℕ → List Party → Ruling → Verdict
+ruled reference parties (ServedRuling socket) = ServedBy socket
+ruled reference parties ConflictRuling = Conflict parties
+ruled reference parties UndrivenRuling = Undriven reference
+ruled reference parties (AstrayRuling party) = Astray party.socket party.at reference
+
+-- the step as it is served, and none where it isn't
+abbrev pub served_of : Result Served BusFault → Option Served
+served_of (Ok served) = Some served
+served_of (Err fault) = None
 
 -- the place by which the probe goes in a step
 abbrev pub probe_place : ℕ → ProbeState → ℕ

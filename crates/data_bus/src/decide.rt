@@ -1,142 +1,129 @@
 // The bus rule: whether a step is served, by what the chips answered.
-ghost use Rattle.std.specs.Prelude.{◌≡◌, ◌≤◌, length};
+ghost use Rattle.std.specs.Prelude.{◌≡◌, ◌≤◌, ℕ, List, length};
 ghost use Rattle.f8_spec.specs.BusCodes.{driver_of as driver_by_table};
-ghost use Rattle.f8_spec.specs.BusArbitration.{Served as ServedBy, Astray, Conflict, Undriven, byte_by, one_party, port_read_verdict, port_write_verdict, read_verdict, store_verdict, unless_bystander};
-ghost use Rattle.data_bus.specs.Steps.{answered, poll_answer};
+ghost use Rattle.f8_spec.specs.BusArbitration.{byte_by, judged, one_party, port_read_verdict, port_write_verdict, read_verdict, store_verdict, unless_bystander};
+ghost use Rattle.data_bus.specs.Steps.{poll_answer, ruled, served_of};
 
 use super::{BusFault, Cycle, Parties, Served};
 use chip_face::MOST_CHIPS;
 use f8_spec::{BusRule, Party};
 use romc_table::{Driver, Romc, driver_of};
 
-/// A step that is to be decided: its code, its byte where it is served, and the address in the probe's counter, or the port.
-#[derive(Clone, Copy)]
-struct Pending {
-    romc: Romc,
-    byte: u8,
-    reference: u16,
+/// What the bus rule says of a step.
+#[derive(Clone, Copy, Debug, PartialEq, Eq)]
+pub(crate) enum Ruling {
+    /// It is served, by the chip in this socket or by none.
+    Served(Option<u8>),
+
+    /// Several chips drive, or take.
+    Conflict,
+
+    /// No chip drives.
+    Undriven,
+
+    /// This chip isn't at the probe's address; or it holds that address, and does nothing.
+    Astray(Party),
 }
 
-impl Pending {
-    fn served(self, socket: Option<u8>) -> Result<Served, BusFault>
-        ensures { result ≡ answered self.romc self.byte (ServedBy socket) }
-    {
-        Ok(Served {
-            byte: self.byte,
-            socket,
-        })
+/// Served, unless a chip stands by at the probe's address.
+#[inline(always)]
+fn unless_bystander(socket: Option<u8>, bystander: Option<Party>) -> Ruling
+    ensures { (reference : ℕ) (parties : List Party) →
+        ruled reference parties result ≡ unless_bystander reference socket bystander }
+{
+    match bystander {
+        None => Ruling::Served(socket),
+        Some(party) => Ruling::Astray(party),
     }
+}
 
-    fn undriven(self) -> Result<Served, BusFault>
-        ensures { result ≡ answered self.romc self.byte (Undriven self.reference) }
-    {
-        let romc = self.romc;
-        let at = self.reference;
-        Err(BusFault::Undriven { romc, at })
+/// One chip drives or takes: it has to be at the probe's address, and the only one there.
+#[inline(always)]
+fn one_party(reference: u16, party: Party, bystander: Option<Party>) -> Ruling
+    ensures { (parties : List Party) →
+        ruled reference parties result ≡ one_party reference party bystander }
+{
+    if party.at == reference {
+        unless_bystander(Some(party.socket), bystander)
+    } else {
+        Ruling::Astray(party)
     }
+}
 
-    fn astray(self, party: Party) -> Result<Served, BusFault>
-        ensures { result ≡ answered self.romc self.byte
-            (Astray party.socket party.at self.reference) }
-    {
-        Err(BusFault::Astray {
-            romc: self.romc,
-            socket: party.socket,
-            at: party.at,
-            reference: self.reference,
-        })
+/// A chip has to drive the byte.
+#[inline(always)]
+fn read(reference: u16, parties: &[Party], bystander: Option<Party>) -> Ruling
+    ensures { ruled reference parties.now result ≡ read_verdict reference parties.now bystander }
+{
+    match parties {
+        [] => Ruling::Undriven,
+        [party] => one_party(reference, *party, bystander),
+        [_, _, ..] => Ruling::Conflict,
     }
+}
 
-    /// Not inlined, so that the list of parties takes room in a conflict alone.
-    #[inline(never)]
-    fn conflict(self, parties: &[Party]) -> Result<Served, BusFault>
-        requires { length parties.now ≤ MOST_CHIPS }
-        ensures { result ≡ answered self.romc self.byte (Conflict parties.now) }
-    {
-        Err(BusFault::Conflict {
-            romc: self.romc,
-            parties: Parties::of(parties),
-        })
+/// A chip may take the byte. One that none takes is lost.
+#[inline(always)]
+fn store(reference: u16, parties: &[Party], bystander: Option<Party>) -> Ruling
+    ensures { ruled reference parties.now result ≡ store_verdict reference parties.now bystander }
+{
+    match parties {
+        [] => unless_bystander(None, bystander),
+        [party] => one_party(reference, *party, bystander),
+        [_, _, ..] => Ruling::Conflict,
     }
+}
 
-    /// Served, unless a chip stands by at the probe's address.
-    fn unless_bystander(
-        self,
-        socket: Option<u8>,
-        bystander: Option<Party>,
-    ) -> Result<Served, BusFault>
-        ensures { result ≡ answered self.romc self.byte
-            (unless_bystander self.reference socket bystander) }
-    {
-        match bystander {
-            None => self.served(socket),
-            Some(party) => self.astray(party),
-        }
+/// A chip that has the port has to drive its byte.
+#[inline(always)]
+fn port_read(parties: &[Party]) -> Ruling
+    ensures { (reference : ℕ) →
+        ruled reference parties.now result ≡ port_read_verdict reference parties.now }
+{
+    match parties {
+        [] => Ruling::Undriven,
+        [party] => Ruling::Served(Some(party.socket)),
+        [_, _, ..] => Ruling::Conflict,
     }
+}
 
-    /// One chip drives or takes: it has to be at the probe's address, and the only one there.
-    fn one_party(self, party: Party, bystander: Option<Party>) -> Result<Served, BusFault>
-        ensures { result ≡ answered self.romc self.byte (one_party self.reference party bystander) }
-    {
-        if party.at == self.reference {
-            self.unless_bystander(Some(party.socket), bystander)
-        } else {
-            self.astray(party)
-        }
+/// A chip that has the port may take the byte.
+#[inline(always)]
+fn port_write(parties: &[Party]) -> Ruling
+    ensures { (reference : ℕ) → ruled reference parties.now result ≡ port_write_verdict parties.now }
+{
+    match parties {
+        [] => Ruling::Served(None),
+        [party] => Ruling::Served(Some(party.socket)),
+        [_, _, ..] => Ruling::Conflict,
     }
+}
 
-    /// A chip has to drive the byte.
-    fn read(self, parties: &[Party], bystander: Option<Party>) -> Result<Served, BusFault>
-        requires { length parties.now ≤ MOST_CHIPS }
-        ensures { result ≡ answered self.romc self.byte
-            (read_verdict self.reference parties.now bystander) }
-    {
-        match parties {
-            [] => self.undriven(),
-            [party] => self.one_party(*party, bystander),
-            [_, _, ..] => self.conflict(parties),
-        }
-    }
-
-    /// A chip may take the byte. One that none takes is lost.
-    fn store(self, parties: &[Party], bystander: Option<Party>) -> Result<Served, BusFault>
-        requires { length parties.now ≤ MOST_CHIPS }
-        ensures { result ≡ answered self.romc self.byte
-            (store_verdict self.reference parties.now bystander) }
-    {
-        match parties {
-            [] => self.unless_bystander(None, bystander),
-            [party] => self.one_party(*party, bystander),
-            [_, _, ..] => self.conflict(parties),
-        }
-    }
-
-    /// A chip that has the port has to drive its byte.
-    fn port_read(self, parties: &[Party]) -> Result<Served, BusFault>
-        requires { length parties.now ≤ MOST_CHIPS }
-        ensures { result ≡ answered self.romc self.byte (port_read_verdict self.reference parties.now) }
-    {
-        match parties {
-            [] => self.undriven(),
-            [party] => self.served(Some(party.socket)),
-            [_, _, ..] => self.conflict(parties),
-        }
-    }
-
-    /// A chip that has the port may take the byte.
-    fn port_write(self, parties: &[Party]) -> Result<Served, BusFault>
-        requires { length parties.now ≤ MOST_CHIPS }
-        ensures { result ≡ answered self.romc self.byte (port_write_verdict parties.now) }
-    {
-        match parties {
-            [] => self.served(None),
-            [party] => self.served(Some(party.socket)),
-            [_, _, ..] => self.conflict(parties),
-        }
+/// What the rule says where these chips drive or take, and this one stands by. `first` is the socket of the chip whose interrupt is
+/// acknowledged.
+#[inline(always)]
+fn judge(
+    rule: BusRule,
+    first: Option<u8>,
+    reference: u16,
+    parties: &[Party],
+    bystander: Option<Party>,
+) -> Ruling
+    ensures { ruled reference parties.now result
+        ≡ judged rule first reference parties.now bystander }
+{
+    match rule {
+        BusRule::Read => read(reference, parties, bystander),
+        BusRule::Store => store(reference, parties, bystander),
+        BusRule::PortRead => port_read(parties),
+        BusRule::PortWrite => port_write(parties),
+        BusRule::Vector => Ruling::Served(first),
+        BusRule::NoChip => Ruling::Served(None),
     }
 }
 
 /// The byte on the bus: the CPU's, 00 where nobody drives, and else the chip's.
+#[inline(always)]
 fn bus_byte(romc: Romc, cpu: u8, chip: u8) -> u8
     ensures { result ≡ byte_by (driver_by_table romc) cpu chip }
 {
@@ -148,7 +135,6 @@ fn bus_byte(romc: Romc, cpu: u8, chip: u8) -> u8
 }
 
 /// Decides a step by what the chips answered: those that drive or take, the byte of the only one of them, and the chip that stands by.
-#[inline(always)]
 pub(crate) fn decide(
     rule: BusRule,
     cycle: &Cycle,
@@ -161,17 +147,47 @@ pub(crate) fn decide(
     ensures { result ≡ poll_answer rule cycle.now reference
         (record { parties = parties.now; byte = byte; bystander = bystander }) }
 {
-    let pending = Pending {
-        romc: cycle.romc,
-        byte: bus_byte(cycle.romc, cycle.byte, byte),
-        reference,
-    };
-    match rule {
-        BusRule::Read => pending.read(parties, bystander),
-        BusRule::Store => pending.store(parties, bystander),
-        BusRule::PortRead => pending.port_read(parties),
-        BusRule::PortWrite => pending.port_write(parties),
-        BusRule::Vector => pending.served(cycle.first),
-        BusRule::NoChip => pending.served(None),
+    let romc = cycle.romc;
+    match judge(rule, cycle.first, reference, parties, bystander) {
+        Ruling::Served(socket) => Ok(Served {
+            byte: bus_byte(romc, cycle.byte, byte),
+            socket,
+        }),
+        Ruling::Conflict => Err(BusFault::Conflict {
+            romc,
+            parties: Parties::of(parties),
+        }),
+        Ruling::Undriven => Err(BusFault::Undriven {
+            romc,
+            at: reference,
+        }),
+        Ruling::Astray(party) => Err(BusFault::Astray {
+            romc,
+            socket: party.socket,
+            at: party.at,
+            reference,
+        }),
+    }
+}
+
+/// The step as it is served, as [`decide`] says, where no chip stands by; and `None` where it isn't.
+// Beside `decide`, since a step that is served has then no room for a fault with its list of chips.
+#[inline(always)]
+pub(crate) fn served(
+    rule: BusRule,
+    cycle: &Cycle,
+    reference: u16,
+    parties: &[Party],
+    byte: u8,
+) -> Option<Served>
+    ensures { result ≡ served_of (poll_answer rule cycle.now reference
+        (record { parties = parties.now; byte = byte; bystander = None })) }
+{
+    match judge(rule, cycle.first, reference, parties, None) {
+        Ruling::Served(socket) => Some(Served {
+            byte: bus_byte(cycle.romc, cycle.byte, byte),
+            socket,
+        }),
+        Ruling::Conflict | Ruling::Undriven | Ruling::Astray(_) => None,
     }
 }

@@ -1,26 +1,84 @@
 // A bus step by the index of a rack.
-ghost use Rattle.std.specs.Prelude.{◌≡◌, ◌+◌, ◌<◌, ◌≤◌, length, map, sum_by, IfOk, OnErr};
+ghost use Rattle.std.specs.Prelude.{◌≡◌, ◌+◌, ◌<◌, ◌≤◌, length, map, sum_by, IfOk, IfSome, OnErr};
 ghost use Rattle.f8_spec.specs.BusArbitration.{rule_of as rule_by_table};
 ghost use Rattle.f8_spec.specs.BusCodes.{counter_of as counter_by_table};
 ghost use Rattle.probe.specs.ProbeState.{probe_after};
 ghost use Rattle.data_bus.specs.Allowances.{allowance_by};
 ghost use Rattle.data_bus.specs.KnownAgreement.{knows};
-ghost use Rattle.data_bus.specs.KnownPlaces.{GoesBy};
 ghost use Rattle.data_bus.specs.PageIndex.{StandsFor, allowance, followed};
 ghost use Rattle.data_bus.specs.Polling.{no_poll, polled};
 ghost use Rattle.data_bus.specs.Racks.{AllMayHear, ChosenAsks, RackSettles, RackStays, views};
 ghost use Rattle.data_bus.specs.Steps.{step_answer};
 
-use super::decide::decide;
+use super::decide::{decide, served};
 use super::index::Index;
-use super::listed_poll::ruling_listed;
+use super::listed_poll::{byte_in_socket, ruling_listed};
+use super::page_sockets::Sockets;
 use super::rule::rule_of;
 use super::settle::settle_all;
 use super::transfer::{reference_of, ruling};
 use super::{BusFault, Cycle, Rack, Served};
 use chip_face::{Chip, MOST_CHIPS};
-use f8_spec::BusRule;
+use f8_spec::{BusRule, Party};
 use probe::Probe;
+
+/// The step as it is served, where the index tells by whom: where no chip takes part; and where its counter is known and one chip at most
+/// is listed, which is asked for its byte. `None` where it isn't served, or where the index can't tell; then nobody was asked.
+#[tactic(auto, using(crate::proofs::Racks::may_hear_all))]
+#[inline(always)]
+fn served_by(rack: &mut Rack, probe: &Probe, index: &Index, cycle: &Cycle) -> Option<Served>
+    requires few { length rack.old.items ≤ MOST_CHIPS }
+    requires chosen { ChosenAsks cycle.now.romc cycle.now.first (map state rack.old.items) }
+    requires stands { StandsFor index.now probe.now (map state rack.old.items) }
+    ensures answer { IfSome result (λ served.
+        step_answer cycle.now probe.now (map state rack.old.items) ≡ Ok served) }
+    ensures stays { map state rack.new.items ≡ map state rack.old.items }
+    ensures asked { IfSome result (λ served. sum_by queries rack.new.items
+        ≤ sum_by queries rack.old.items
+        + allowance cycle.now.romc index.now (length rack.old.items)) }
+    ensures unasked { result ≡ None →
+        sum_by queries rack.new.items ≡ sum_by queries rack.old.items }
+    ensures chips { length rack.new.items ≡ length rack.old.items }
+{
+    let rule = rule_of(cycle.romc);
+    let reference = reference_of(probe, cycle.romc);
+    if rule == BusRule::NoChip {
+        return served(rule, cycle, reference, &[], 0);
+    }
+    if !index.knows(cycle.romc) {
+        return None;
+    }
+    match index.sockets_at(rule, reference) {
+        Sockets::NoOne => served(rule, cycle, reference, &[], 0),
+        Sockets::One(socket) => {
+            let socket = *socket;
+            let byte = byte_in_socket(rack, socket, cycle);
+            let at = reference;
+            served(rule, cycle, reference, &[Party { socket, at }], byte)
+        }
+        Sockets::Several(_) => None,
+    }
+}
+
+/// Every chip, the probe and the index hear a served step, with its byte.
+#[tactic(auto, using(crate::proofs::Racks::may_hear_all, crate::proofs::Questions::sums_alike))]
+#[inline(always)]
+fn hear_all(rack: &mut Rack, probe: &mut Probe, index: &mut Index, cycle: &Cycle, byte: u8)
+    requires few { length rack.old.items ≤ MOST_CHIPS }
+    requires chosen { ChosenAsks cycle.now.romc cycle.now.first (map state rack.old.items) }
+    requires stands { StandsFor index.old probe.old (map state rack.old.items) }
+    ensures settled { RackSettles cycle.now.romc cycle.now.long cycle.now.first byte
+        (map state rack.old.items) (map state rack.new.items) }
+    ensures heard { probe.new ≡ probe_after cycle.now.romc byte probe.old }
+    ensures stands { StandsFor index.new probe.new (map state rack.new.items) }
+    ensures marks { index.new ≡ followed cycle.now.romc index.old }
+    ensures asked { sum_by queries rack.new.items ≡ sum_by queries rack.old.items }
+    ensures chips { length rack.new.items ≡ length rack.old.items }
+{
+    settle_all(rack, cycle, byte);
+    probe.hear(cycle.romc, byte);
+    index.follow(cycle.romc);
+}
 
 /// What a step is to answer: where no chip takes part, by the code alone; where its counter is known, by the sockets that the index lists;
 /// and else by asking every chip. Nothing changes but how many questions were put.
@@ -54,12 +112,43 @@ fn ruling_by(
     }
 }
 
+/// The step in all other cases, as [`step_by`] makes it: where it isn't served, and where every chip is asked.
+#[tactic(auto, using(crate::proofs::Racks::stays_all))]
+// Not inlined, so that a step whose server the index tells has no room for a fault with its list of chips.
+#[inline(never)]
+fn step_asking(
+    rack: &mut Rack,
+    probe: &mut Probe,
+    index: &mut Index,
+    cycle: &Cycle,
+) -> Result<Served, BusFault>
+    requires few { length rack.old.items ≤ MOST_CHIPS }
+    requires chosen { ChosenAsks cycle.now.romc cycle.now.first (map state rack.old.items) }
+    requires stands { StandsFor index.old probe.old (map state rack.old.items) }
+    ensures answer { result ≡ step_answer cycle.now probe.old (map state rack.old.items) }
+    ensures settled { IfOk result (λ served. RackSettles cycle.now.romc cycle.now.long cycle.now.first
+        served.byte (map state rack.old.items) (map state rack.new.items)) }
+    ensures heard { IfOk result (λ served. probe.new
+        ≡ probe_after cycle.now.romc served.byte probe.old) }
+    ensures stays { OnErr result (RackStays (map state rack.old.items) (map state rack.new.items)) }
+    ensures probe_stays { OnErr result (probe.new ≡ probe.old) }
+    ensures stands { StandsFor index.new probe.new (map state rack.new.items) }
+    ensures marks { IfOk result (λ served. index.new ≡ followed cycle.now.romc index.old) }
+    ensures index_stays { OnErr result (index.new ≡ index.old) }
+    ensures asked { sum_by queries rack.new.items ≤ sum_by queries rack.old.items
+        + allowance cycle.now.romc index.old (length rack.old.items) }
+    ensures chips { length rack.new.items ≡ length rack.old.items }
+{
+    let served = ruling_by(rack, probe, index, cycle)?;
+    hear_all(rack, probe, index, cycle, served.byte);
+    Ok(served)
+}
+
 /// One bus step on a rack of at most 16 chips, as [`step`](super::step) makes it, by an index of the rack, which stands for it and the
 /// probe before and after. Where the step is served the index goes on by the table of marks, and else it stays.
 ///
 /// No more questions are put than the step's allowance: none where no chip takes part, and one where a chip is named, or where both
 /// halves of the step's counter are known; at the codes 1A and 1B one to each chip, and else four to each at most.
-#[tactic(auto, using(crate::proofs::Racks::may_hear_all, crate::proofs::Racks::stays_all, crate::proofs::Questions::sums_alike))]
 #[inline(always)]
 pub fn step_by(
     rack: &mut Rack,
@@ -92,9 +181,11 @@ pub fn step_by(
         + allowance cycle.romc index.old (length rack.old.items) }
     ensures chips { length rack.new.items ≡ length rack.old.items }
 {
-    let served = ruling_by(rack, probe, index, &cycle)?;
-    settle_all(rack, &cycle, served.byte);
-    probe.hear(cycle.romc, served.byte);
-    index.follow(cycle.romc);
-    Ok(served)
+    match served_by(rack, probe, index, &cycle) {
+        Some(served) => {
+            hear_all(rack, probe, index, &cycle, served.byte);
+            Ok(served)
+        }
+        None => step_asking(rack, probe, index, &cycle),
+    }
 }

@@ -29,25 +29,6 @@ fn parties_at(flags: &[bool; MOST_CHIPS], at: u16) -> Parties
     parties
 }
 
-/// What a step is to answer where the chips in the sockets whose flags are set are the parties, all at the reference.
-// Not inlined, so that a step by an index has no room for a list of parties.
-#[inline(never)]
-fn ruling_several(
-    flags: &[bool; MOST_CHIPS],
-    rule: BusRule,
-    reference: u16,
-    cycle: &Cycle,
-) -> Result<Served, BusFault>
-    ensures { result ≡ poll_answer rule cycle.now reference (record {
-      parties = map (party_at reference) (flagged 0 flags.now);
-      byte = 0;
-      bystander = None;
-    }) }
-{
-    let parties = parties_at(flags, reference);
-    decide(rule, cycle, reference, parties.as_slice(), 0, None)
-}
-
 /// The byte of what one chip offers, by one question.
 #[inline(always)]
 fn byte_of(chip: &mut Box<dyn Chip>, socket: u8, cycle: &Cycle) -> u8
@@ -66,7 +47,7 @@ fn byte_of(chip: &mut Box<dyn Chip>, socket: u8, cycle: &Cycle) -> u8
 
 /// The byte of what the chip in a socket offers, by one question.
 #[inline(always)]
-fn byte_in_socket(rack: &mut Rack, socket: u8, cycle: &Cycle) -> u8
+pub(crate) fn byte_in_socket(rack: &mut Rack, socket: u8, cycle: &Cycle) -> u8
     requires seated { socket < length rack.old.items }
     requires chosen { AllMayHear cycle.now.romc cycle.now.first (map state rack.old.items) }
     ensures answer { (s : ChipState) → slice_get (map state rack.old.items) socket ≡ Some s →
@@ -81,7 +62,6 @@ fn byte_in_socket(rack: &mut Rack, socket: u8, cycle: &Cycle) -> u8
 
 /// What a step is to answer that goes by a counter, where every chip is at the probe's address: by the sockets of those that hold it.
 /// One chip is asked at most, and that by one question.
-#[inline(always)]
 pub(crate) fn ruling_listed(
     rack: &mut Rack,
     sockets: &Sockets,
@@ -112,6 +92,9 @@ pub(crate) fn ruling_listed(
             let at = reference;
             decide(rule, cycle, reference, &[Party { socket, at }], byte, None)
         }
-        Sockets::Several(flags) => ruling_several(flags, rule, reference, cycle),
+        Sockets::Several(flags) => {
+            let parties = parties_at(flags, reference);
+            decide(rule, cycle, reference, parties.as_slice(), 0, None)
+        }
     }
 }

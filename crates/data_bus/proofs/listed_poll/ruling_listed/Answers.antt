@@ -31,7 +31,8 @@ returns-in-One-clause-answer g c =
 pub returns-in-Several-clause-answer : goal.returns-in-Several-clause-answer
 returns-in-Several-clause-answer g c =
     let small : c.args.reference < 65536 = search rules in
-    c.ruling_several.ensures
-    ∙ ap (poll_answer c.args.rule c.args.cycle.now c.args.reference)
+    c.decide-in-Several.ensures
+    ∙ rw (c.as_slice.ensures.value, c.parties_at-parties.ensures)
+    (ap (poll_answer c.args.rule c.args.cycle.now c.args.reference)
     (poll-several _ _ _ c.args.cycle.now.first _ c.requires.by_counter c.requires.code c.requires.rule small c.requires.known
-    c.in-Several.flags (rw c.in-Several.is at c.requires.listed))
+    c.in-Several.flags (rw c.in-Several.is at c.requires.listed)))
