@@ -1,5 +1,5 @@
 -- The questions of bus steps are counted, one step after another.
-use Rattle.std.proofs.Common.{◌≡◌, ℕ, ◌+◌, ◌≤◌, List, [], ◌∷◌, ◌++◌, map, refl, sym, ap, subst, ◌∙◌, arith}
+use Rattle.std.proofs.Common.{◌≡◌, ℕ, ◌+◌, ◌≤◌, List, [], ◌∷◌, ◌++◌, refl, sym, ap, ◌∙◌, arith}
 use Rattle.std.proofs.lemmas.List.{map-append}
 use Rattle.std.specs.Prelude.{Result, Ok, Err, IfOk, IfErr}
 use Rattle.f8_spec.specs.ChipState.{ChipState}
@@ -10,7 +10,7 @@ use Rattle.data_bus.specs.declared.cycle.Cycle.{Cycle}
 use Rattle.data_bus.specs.PageIndex.{allowance, followed}
 use Rattle.data_bus.specs.declared.fault.BusFault.{BusFault}
 use Rattle.data_bus.specs.declared.index.Index.{Index}
-use Rattle.f8_machine.specs.Questions.{Asking, Counted, CountedTried, CountsOn, CountsTried, allowances, code_of, codes_of, followed_all}
+use Rattle.f8_machine.specs.Questions.{Asking, Counted, CountsOn, CountsTried, allowances, code_of, codes_of, followed_all}
 use Rattle.f8_machine.specs.declared.heard.Heard.{Heard}
 
 followed_all-more : (codes : List ℕ) (romc : ℕ) (index : Index) →

@@ -1,25 +1,24 @@
 -- A machine and its rack go on fitting each other, and the questions that are put are within the allowances of the steps.
-use Rattle.std.proofs.Common.{◌≡◌, ℕ, ◌+◌, ◌≤◌, ◌<◌, Bool, true, false, List, [], ◌∷◌, ◌++◌, map, refl, sym, ap, subst, ◌∙◌, arith}
-use Rattle.std.specs.Prelude.{◌==◌, if◌then◌else◌, Option, Some, None, slice_get}
+use Rattle.std.proofs.Common.{◌≡◌, ℕ, ◌+◌, ◌≤◌, Bool, true, false, List, [], ◌∷◌, refl, sym, ap, subst, ◌∙◌, arith}
+use Rattle.std.specs.Prelude.{◌==◌, if◌then◌else◌, Option, Some, None}
 use Rattle.f8_spec.specs.BusCodes.{Count, count_at}
-use Rattle.f8_spec.specs.ChipState.{ChipView, ChipState, TakesKeys, data_port, has_counters, has_second_counter, keyed, keyed_at, powered}
-use Rattle.f8_spec.specs.ChipState.{admits_pulses, pulsed}
+use Rattle.f8_spec.specs.ChipState.{ChipView, ChipState, TakesKeys, data_port, has_counters, has_second_counter, keyed_at}
+use Rattle.f8_spec.specs.ChipState.{admits_pulses}
 use Rattle.f8_spec.specs.BusArbitration.{Seat, seat_of}
 use Rattle.f8_spec.specs.declared.chips.ChipKind.{ChipKind}
 use Rattle.f8_spec.specs.declared.chips.ChipKind.TheVariants.{Psu, Smi}
-use Rattle.f8_spec.specs.declared.chips.Page.{Page}
 use Rattle.console_spec.specs.CounterCopies.{power_start}
-use Rattle.probe.specs.ProbeState.{ProbeState, new_probe}
-use Rattle.data_bus.specs.KnownAgreement.{AllAddresses, AllAgree, AreAddresses, ChipAgrees, CountAgrees, has_page, no_marks}
+use Rattle.probe.specs.ProbeState.{ProbeState}
+use Rattle.data_bus.specs.KnownAgreement.{AllAddresses, AllAgree, AreAddresses, CountAgrees, has_page, no_marks}
 use Rattle.data_bus.specs.PageIndex.{IsIndexOf, StandsFor, seats}
 use Rattle.data_bus.specs.Racks.{NumberedZip, views}
 use Rattle.data_bus.specs.declared.fault.BusFault.{BusFault}
 use Rattle.data_bus.specs.declared.index.Index.{Index}
 use Rattle.data_bus.specs.declared.marks.Marks.{Marks}
-use Rattle.f8_machine.specs.Fitting.{Fits, tried, tried_in}
+use Rattle.f8_machine.specs.Fitting.{tried, tried_in}
 use Rattle.f8_machine.specs.Keying.{KeysInSocket}
 use Rattle.f8_machine.specs.MachineState.{IsReset, MachineState}
-use Rattle.f8_machine.specs.Questions.{Asking, Counted, CountedTried, CountsOn, CountsTried, allowances, code_of, codes_of}
+use Rattle.f8_machine.specs.Questions.{Counted, CountedTried, CountsOn, CountsTried, allowances}
 use Rattle.f8_machine.specs.RequestsHeld.{PulsesIf, PulsesInSocket, RackPulsed}
 use Rattle.f8_machine.specs.Rounds.{PowersInSocket, RackPowers}
 use Rattle.f8_machine.specs.declared.heard.Heard.{Heard}

@@ -1,5 +1,5 @@
 -- A machine and the rack that it works on.
-use Rattle.std.specs.Prelude.{ℕ, ◌≡◌, List, [], ◌∷◌, ◌++◌}
+use Rattle.std.specs.Prelude.{ℕ, List, [], ◌∷◌, ◌++◌}
 use Rattle.f8_spec.specs.ChipState.{ChipState}
 use Rattle.data_bus.specs.PageIndex.{StandsFor}
 use Rattle.f8_machine.specs.MachineState.{MachineState}

@@ -1,7 +1,6 @@
 -- The questions that the bus steps of a machine put to the chips of its rack, step by step.
 use Rattle.std.specs.Prelude.{◌≡◌, ℕ, ◌+◌, ◌≤◌, List, [], ◌∷◌, ◌++◌, map}
-use Rattle.f8_spec.specs.ChipState.{ChipState}
-use Rattle.data_bus.specs.PageIndex.{StandsFor, allowance, followed}
+use Rattle.data_bus.specs.PageIndex.{allowance, followed}
 use Rattle.data_bus.specs.declared.fault.BusFault.{BusFault}
 use Rattle.data_bus.specs.declared.fault.BusFault.TheVariants.{Conflict, Undriven, Astray}
 use Rattle.data_bus.specs.declared.index.Index.{Index}

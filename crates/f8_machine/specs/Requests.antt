@@ -1,5 +1,5 @@
 -- A chip's timer and latched request beside the history of a run, by which it has or hasn't a request.
-use Rattle.std.specs.Prelude.{◌≡◌, ℕ, ◌%◌, Bool, false, ◌==◌, ◌&&◌, ◌||◌}
+use Rattle.std.specs.Prelude.{◌≡◌, ℕ, Bool, false, ◌&&◌, ◌||◌}
 use Rattle.f8_spec.specs.ShiftTimer.{TimerState, timer_after, expires_within, ExpiresAsLoaded}
 use Rattle.f8_spec.specs.ChipState.{ChipView, admits_pulses, admits_expiries}
 use Rattle.console_spec.specs.Writes.{latch_of}
