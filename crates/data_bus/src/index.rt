@@ -85,6 +85,6 @@ impl Index {
     pub(crate) fn follow(&mut self, romc: Romc)
         ensures { self.new ≡ followed romc self.old }
     {
-        self.marks = self.marks.after(romc, self.is_parted);
+        self.marks.follow(romc, self.is_parted);
     }
 }

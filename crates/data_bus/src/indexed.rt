@@ -112,9 +112,54 @@ fn ruling_by(
     }
 }
 
+/// One bus step as [`step_by`] makes it, where the index alone tells that it is served and by whom: where no chip takes part; and where its
+/// counter is known and one chip at most holds the probe's address, or has RAM there in a store. In all other cases it does nothing, and
+/// answers `None`.
+///
+/// It puts no more questions than the step's allowance, and none where it answers `None`.
+pub fn step_known(
+    rack: &mut Rack,
+    probe: &mut Probe,
+    index: &mut Index,
+    cycle: Cycle,
+) -> Option<Served>
+    requires few { length rack.old.items ≤ MOST_CHIPS }
+    requires chosen { ChosenAsks cycle.romc cycle.first (map state rack.old.items) }
+    requires stands { StandsFor index.old probe.old (map state rack.old.items) }
+
+    // Done: every chip, the probe and the index hear the step.
+    ensures answer { IfSome result (λ served.
+        step_answer cycle probe.old (map state rack.old.items) ≡ Ok served) }
+    ensures settled { IfSome result (λ served. RackSettles cycle.romc cycle.long cycle.first
+        served.byte (map state rack.old.items) (map state rack.new.items)) }
+    ensures heard { IfSome result (λ served. probe.new
+        ≡ probe_after cycle.romc served.byte probe.old) }
+    ensures marks { IfSome result (λ served. index.new ≡ followed cycle.romc index.old) }
+    ensures asked { IfSome result (λ served. sum_by queries rack.new.items
+        ≤ sum_by queries rack.old.items
+        + allowance cycle.romc index.old (length rack.old.items)) }
+
+    // Not done: nothing changes.
+    ensures stays { result ≡ None →
+        map state rack.new.items ≡ map state rack.old.items }
+    ensures probe_stays { result ≡ None → probe.new ≡ probe.old }
+    ensures index_stays { result ≡ None → index.new ≡ index.old }
+    ensures unasked { result ≡ None →
+        sum_by queries rack.new.items ≡ sum_by queries rack.old.items }
+    ensures stands { StandsFor index.new probe.new (map state rack.new.items) }
+    ensures chips { length rack.new.items ≡ length rack.old.items }
+{
+    match served_by(rack, probe, index, &cycle) {
+        Some(served) => {
+            hear_all(rack, probe, index, &cycle, served.byte);
+            Some(served)
+        }
+        None => None,
+    }
+}
+
 /// The step in all other cases, as [`step_by`] makes it: where it isn't served, and where every chip is asked.
 #[tactic(auto, using(crate::proofs::Racks::stays_all))]
-// Not inlined, so that a step whose server the index tells has no room for a fault with its list of chips.
 #[inline(never)]
 fn step_asking(
     rack: &mut Rack,
@@ -181,11 +226,8 @@ pub fn step_by(
         + allowance cycle.romc index.old (length rack.old.items) }
     ensures chips { length rack.new.items ≡ length rack.old.items }
 {
-    match served_by(rack, probe, index, &cycle) {
-        Some(served) => {
-            hear_all(rack, probe, index, &cycle, served.byte);
-            Ok(served)
-        }
+    match step_known(rack, probe, index, cycle) {
+        Some(served) => Ok(served),
         None => step_asking(rack, probe, index, &cycle),
     }
 }

@@ -79,40 +79,40 @@ impl Marks {
         }
     }
 
-    /// What is known after a served step with this code (Mostek 3851 and 3853 data sheets for what a code does to counters). The byte on
-    /// the bus reaches every chip and the probe alike, so a half that it sets is known from then on, whatever was before.
+    /// A step with this code was served (Mostek 3851 and 3853 data sheets for what a code does to counters). The byte on the bus reaches
+    /// every chip and the probe alike, so a half that it sets is known from then on, whatever was before.
     ///
     /// `is_parted` tells that some chip that holds a page has no second data counter. An exchange of the data counters passes such a chip by.
-    pub fn after(self, romc: Romc, is_parted: bool) -> Marks
-        ensures { result ≡ marks_after is_parted romc self }
+    #[inline(always)]
+    pub fn follow(&mut self, romc: Romc, is_parted: bool)
+        ensures { self.new ≡ marks_after is_parted romc self.old }
     {
-        let mut marks = self;
         match romc {
-            Romc::FETCH | Romc::DISPLACEMENT | Romc::OPERAND => marks.pc0 = self.pc0.carried(),
-            Romc::READ_DATA | Romc::STORE_DATA | Romc::ADD_DATA => marks.dc0 = self.dc0.carried(),
-            Romc::RETURN => marks.pc0 = self.pc1,
+            Romc::FETCH | Romc::DISPLACEMENT | Romc::OPERAND => self.pc0 = self.pc0.carried(),
+            Romc::READ_DATA | Romc::STORE_DATA | Romc::ADD_DATA => self.dc0 = self.dc0.carried(),
+            Romc::RETURN => self.pc0 = self.pc1,
             Romc::RESET => {
-                marks.pc0 = Halves::BOTH;
-                marks.pc1 = self.pc0;
+                self.pc1 = self.pc0;
+                self.pc0 = Halves::BOTH;
             }
-            Romc::JUMP_LOW | Romc::SET_PROGRAM_LOW => marks.pc0.low = true,
-            Romc::SAVE_NEXT => marks.pc1 = self.pc0.carried(),
-            Romc::LOAD_DATA_LOW | Romc::SET_DATA_LOW => marks.dc0.low = true,
+            Romc::JUMP_LOW | Romc::SET_PROGRAM_LOW => self.pc0.low = true,
+            Romc::SAVE_NEXT => self.pc1 = self.pc0.carried(),
+            Romc::LOAD_DATA_LOW | Romc::SET_DATA_LOW => self.dc0.low = true,
             Romc::VECTOR_LOW | Romc::CALL_LOW => {
-                marks.pc0.low = true;
-                marks.pc1 = self.pc0;
+                self.pc1 = self.pc0;
+                self.pc0.low = true;
             }
-            Romc::LOAD_DATA_HIGH | Romc::SET_DATA_HIGH => marks.dc0.high = true,
-            Romc::VECTOR_HIGH | Romc::SET_PROGRAM_HIGH => marks.pc0.high = true,
-            Romc::SET_STACK_HIGH => marks.pc1.high = true,
-            Romc::SET_STACK_LOW => marks.pc1.low = true,
+            Romc::LOAD_DATA_HIGH | Romc::SET_DATA_HIGH => self.dc0.high = true,
+            Romc::VECTOR_HIGH | Romc::SET_PROGRAM_HIGH => self.pc0.high = true,
+            Romc::SET_STACK_HIGH => self.pc1.high = true,
+            Romc::SET_STACK_LOW => self.pc1.low = true,
             Romc::EXCHANGE => {
-                marks.dc0 = if is_parted { Halves::NONE } else { self.dc1 };
-                marks.dc1 = self.dc0;
+                let dc0 = self.dc0;
+                self.dc0 = if is_parted { Halves::NONE } else { self.dc1 };
+                self.dc1 = dc0;
             }
             _ => {}
         }
-        marks
     }
 
     /// The whole address in a counter is known. Of no counter nothing is.

@@ -1,12 +1,15 @@
 -- The questions of the step are counted.
-use Rattle.std.proofs.Common.{refl, map}
+use Rattle.std.proofs.Common.{◌∷◌, ◌++◌, [], ◌∙◌, ap, refl, map}
+use Rattle.f8_machine.specs.declared.heard.Heard.{Heard}
+use Rattle.f8_machine.specs.BusSteps.{heard_served}
 use Rattle.f8_machine.proofs.Counting.{counts_by, tried_by}
 use Rattle.f8_machine.proofs.bus_step.bus_step_by.Goals as goal
 
 pub returns-in-Ok-clause-counted : goal.returns-in-Ok-clause-counted
 returns-in-Ok-clause-counted g c =
-    counts_by _ _ c.args.known.now c.step_by.new.index _ _ c.args.steps.now c.push.new.self
-    c.in-Ok.ensures.marks c.in-Ok.ensures.asked c.push.ensures
+    counts_by _ (heard_served c.args.step c.in-Ok.served.byte c.in-Ok.served.socket) c.args.known.now c.step_by.new.index _ _
+    c.args.steps.now c.push.new.self c.in-Ok.ensures.marks c.in-Ok.ensures.asked
+    (c.push.ensures ∙ ap (λ (h : Heard). c.args.steps.now ++ h ∷ []) c.heard.ensures)
 
 pub returns-in-Err-clause-tried : goal.returns-in-Err-clause-tried
 returns-in-Err-clause-tried g c =
