@@ -1,5 +1,5 @@
 -- What an index that stands for a rack tells of a step.
-use Rattle.std.proofs.Common.{◌≡◌, ℕ, ◌+◌, ◌*◌, ◌/◌, ◌<◌, Bool, true, List, [], ◌∷◌, refl, sym, subst, arith}
+use Rattle.std.proofs.Common.{◌≡◌, ℕ, ◌+◌, ◌*◌, ◌/◌, ◌<◌, Bool, true, List, [], ◌∷◌, refl, arith}
 use Rattle.f8_spec.specs.BusCodes.{Count, counter_of}
 use Rattle.f8_spec.specs.ChipState.{ChipView, ChipState, has_second_counter}
 use Rattle.f8_spec.specs.BusArbitration.{Seat, place_by, place_in, rule_of, would_answer}

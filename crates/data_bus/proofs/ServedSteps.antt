@@ -1,5 +1,5 @@
 -- A step whose counter is known, and which is then answered by the sockets that the index lists.
-use Rattle.std.proofs.Common.{◌≡◌, ℕ, ◌<◌, Bool, true, List, [], ◌∷◌, length, sym, ap, subst, ◌∙◌}
+use Rattle.std.proofs.Common.{◌≡◌, ℕ, ◌<◌, true, List, [], ◌∷◌, length, sym, ap, subst, ◌∙◌}
 use Rattle.std.specs.Prelude.{Option, Some, None, Result, Ok, Err, IfSome, slice_get}
 use Rattle.f8_spec.specs.BusArbitration.{is_first, rule_of}
 use Rattle.f8_spec.specs.BusCodes.{counter_of}

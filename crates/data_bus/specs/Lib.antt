@@ -3,6 +3,7 @@ pub mod Polling
 pub mod Allowances
 pub mod KnownAgreement
 pub mod PageIndex
+pub mod KnownSteps
 pub mod Steps
 pub mod SocketsLaw
 pub mod Questions

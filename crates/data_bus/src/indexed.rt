@@ -1,10 +1,11 @@
 // A bus step by the index of a rack.
-ghost use Rattle.std.specs.Prelude.{◌≡◌, ◌+◌, ◌<◌, ◌≤◌, length, map, sum_by, IfOk, IfSome, OnErr};
+ghost use Rattle.std.specs.Prelude.{◌≡◌, ◌+◌, ◌<◌, ◌≤◌, length, map, sum_by, IfOk, IfSome, OnErr, is_some};
 ghost use Rattle.f8_spec.specs.BusArbitration.{rule_of as rule_by_table};
 ghost use Rattle.f8_spec.specs.BusCodes.{counter_of as counter_by_table};
 ghost use Rattle.probe.specs.ProbeState.{probe_after};
 ghost use Rattle.data_bus.specs.Allowances.{allowance_by};
 ghost use Rattle.data_bus.specs.KnownAgreement.{knows};
+ghost use Rattle.data_bus.specs.KnownSteps.{tells_served};
 ghost use Rattle.data_bus.specs.PageIndex.{StandsFor, allowance, followed};
 ghost use Rattle.data_bus.specs.Polling.{no_poll, polled};
 ghost use Rattle.data_bus.specs.Racks.{AllMayHear, ChosenAsks, RackSettles, RackStays, views};
@@ -38,6 +39,8 @@ fn served_by(rack: &mut Rack, probe: &Probe, index: &Index, cycle: &Cycle) -> Op
         + allowance cycle.now.romc index.now (length rack.old.items)) }
     ensures unasked { result ≡ None →
         sum_by queries rack.new.items ≡ sum_by queries rack.old.items }
+    ensures told { is_some result ≡ tells_served cycle.now.romc index.now probe.now
+        (map state rack.old.items) }
     ensures chips { length rack.new.items ≡ length rack.old.items }
 {
     let rule = rule_of(cycle.romc);
@@ -126,6 +129,10 @@ pub fn step_known(
     requires few { length rack.old.items ≤ MOST_CHIPS }
     requires chosen { ChosenAsks cycle.romc cycle.first (map state rack.old.items) }
     requires stands { StandsFor index.old probe.old (map state rack.old.items) }
+
+    // When it is done.
+    ensures told { is_some result ≡ tells_served cycle.romc index.old probe.old
+        (map state rack.old.items) }
 
     // Done: every chip, the probe and the index hear the step.
     ensures answer { IfSome result (λ served.

@@ -1,5 +1,5 @@
 -- Where the step's counter is known, what the listed chips answer is what the bus rule says of the rack.
-use Rattle.std.proofs.Common.{◌≡◌, ◌<◌, true, false, not, ◌∙◌, sym, ap, arith, rules}
+use Rattle.std.proofs.Common.{◌≡◌, ◌<◌, true, ◌∙◌, sym, ap, arith, rules}
 use Rattle.std.proofs.lemmas.List.{length-map}
 use Rattle.f8_spec.specs.BusCodes.{counter_of}
 use Rattle.data_bus.specs.KnownAgreement.{knows}
