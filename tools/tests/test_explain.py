@@ -139,6 +139,14 @@ class Explain(unittest.TestCase):
         self.assertRegex(told, r'(?s)Reason 7: a data access.*What helps: .*0009 lies in chip 0.*r5 is 03.*The return is not known')
         self.assertIn('`split`', call('explain', 'toomany').told)
 
+    def test_certificates(self):
+        told = self.explained('error cert line 2 cause 4', cert='F8CERT 1 2\n0000\n')
+        self.assertRegex(told, r'cert, line 2\n    0000\nCause 4, Order: .*\nEach point is there once')
+        self.assertIn('Cause 5, End: ', self.explained('error cert line 9 cause 5', cert='F8CERT 1 2\n'))
+        self.assertIn('Reason 3: ', self.explained('unsafe 0000 ---- . 3'))
+        self.assertRegex(self.explained('notclosed start to 0000 ---- .'), 'No state covers the start.*\nThe certificate belongs to another')
+        self.assertRegex(self.explained('notclosed 0000 ---- . to 0001 ---- .'), 'No state covers what holds at the second point.*\nWhat holds')
+
     def test_the_line_may_have_lines_behind_it(self):
         done = call('explain', stdin='verdict none\nstop reserved 2D at 0000\nregs P=0000\ntotal 0 instructions 14 phi\n')
         self.assertIn('Look whether 0000 holds data', done.told)
@@ -163,6 +171,7 @@ class Explain(unittest.TestCase):
         lines += [f'error cart chip 0 key {key} cause {n}'
                   for key, n in (('rom', 1), ('?', 2), ('base', 3), ('base', 4), ('base', 5), ('rom', 7), ('source', 8))]
         lines += [f'error script line 1 cause {n}' for n in range(1, 7)]
+        lines += [f'error cert line 1 cause {n}' for n in range(1, 7)]
         for line in lines:
             self.assertRegex('\n'.join(self.tool.explain(line, self.tool.Files())), r'Cause \d+, \w+: .+ \(docs/\w+\.md\)', line)
         self.assertIn('not found', self.explained('error asm file line 1 column 1 cause 10'))

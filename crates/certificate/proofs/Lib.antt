@@ -14,3 +14,6 @@ mod EntriesAgain
 mod LineEnds
 pub mod RoundTrip
 mod WorkedCertificates
+mod NextStates
+mod Examinations
+pub mod ClosedMaps

@@ -106,7 +106,7 @@ lines_again tracked (e ∷ notes) number before few ascends ahead fits =
 
 -- ---- the text
 
-again : (tracked : List ℕ) (notes : List (Point × AbstractState)) → length tracked ≤ 8 → 1 ≤ length notes → length notes ≤ 65536 →
+pub again : (tracked : List ℕ) (notes : List (Point × AbstractState)) → length tracked ≤ 8 → 1 ≤ length notes → length notes ≤ 65536 →
     IsStrictlySortedBy point_cmp (keys_of notes) → AllFit tracked notes → certificate_of tracked (certificate_text tracked notes) ≡ Ok notes
 unfolding header_at certificate_of certificate_text
 again tracked notes few some most ascends fits =

@@ -3,6 +3,7 @@
 
 mod answers;
 mod entry;
+mod examined;
 mod laws;
 mod parts;
 mod ranges;
@@ -11,7 +12,8 @@ mod values;
 mod write;
 
 pub use answers::{CertAnswer, CertCause, CertFault};
-pub use laws::round_trip_law;
+pub use examined::{VerifyAnswer, verify};
+pub use laws::{closed_map_law, round_trip_law};
 pub use read::read_cert;
 pub use write::write_cert;
 

@@ -1,8 +1,12 @@
-// Certificates as texts: a worked one, each fault, and a map that is written and read again.
+// Certificates as texts: a worked one, each fault, a map that is written and read again; and what is found of some.
+ghost use Rattle.std.specs.Prelude.{◌≡◌, ◌≤◌, IfOk, false, length};
+ghost use Rattle.chip_face.specs.Fitting.{IsSpec, is_blank};
+
 use super::*;
 use abs_domain::{Abs, Bit, Digit, Point, Val, Word};
 use abs_step::{Annotation, start};
-use cartridge::Split;
+use cartridge::{Cart, Split};
+use chip_face::{Bytes, ChipList, ChipSpec};
 use std::alloc::Global;
 use std::collections::BTreeMap;
 use std::test::Fail;
@@ -114,5 +118,71 @@ fn reads_what_it_writes(rt: HostRuntime) -> Result<(), Fail> {
     let notes = read_cert(rt.alloc(), text.as_bytes(), &split)?;
     assert_eq!(rt; notes.len(), 2);
     assert_eq!(rt; notes.as_map().get(&called).copied(), Some(state));
+    Ok(())
+}
+
+/// A 3851 at address 0 with some bytes, and FF behind them.
+fn psu(alloc: Global, code: &[u8]) -> Result<ChipSpec, Fail>
+    requires { length code.now ≤ 16 }
+    ensures spec { IfOk result IsSpec }
+    ensures kept { IfOk result (λ chip. is_blank chip ≡ false) }
+{
+    let mut rom = [0xFF; 1024];
+    for (place, byte) in code.iter().enumerate() {
+        rom[place] = *byte;
+    }
+    Ok(ChipSpec::Psu {
+        base: 0x0000,
+        rom: Bytes::of(alloc, &rom)?,
+        ports: 0x04,
+        vector: 0x0000,
+        wired: false,
+    })
+}
+
+/// What is found of a certificate of such a chip alone, with no register tracked.
+fn found(alloc: Global, code: &[u8], points: &[&[u8]]) -> Result<VerifyAnswer, Fail>
+    requires { length code.now ≤ 16 }
+{
+    let mut chips = Vec::with_capacity(alloc, 1)?;
+    chips.push(psu(alloc, code)?)?;
+    let cart = Cart {
+        split: Split::new(),
+        chips: ChipList::from_vec(chips),
+    };
+    let first: &[u8] = if points.len() == 1 {
+        b"F8CERT 1 1\n"
+    } else {
+        b"F8CERT 1 3\n"
+    };
+    let text = certificate(alloc, first, points)?;
+    let notes = read_cert(alloc, text.as_slice(), &cart.split)?;
+    Ok(verify(alloc, &cart, &notes)?)
+}
+
+// LIS 1, NOP, BR to the NOP; and an opcode that no instruction has
+#[test]
+fn tells_what_is_found(rt: HostRuntime) -> Result<(), Fail> {
+    let code: &[u8] = &[0x71, 0x2B, 0x90, 0xFE];
+    let start: &[u8] = b"0000 ---- . --";
+    let next: &[u8] = b"0001 ---- . 01";
+    let last: &[u8] = b"0002 ---- . 01";
+    let point = Point {
+        at: 0x0000,
+        ret: None,
+        split: [None; 8],
+    };
+    assert_eq!(rt;
+        found(rt.alloc(), code, &[start, next, last])?,
+        VerifyAnswer::Whole
+    );
+    let claimed: &[u8] = b"0001 ---- . 02";
+    let wanted = VerifyAnswer::NotClosed {
+        from: Some(point),
+        to: Point { at: 1, ..point },
+    };
+    assert_eq!(rt; found(rt.alloc(), code, &[start, claimed, last])?, wanted);
+    let wanted = VerifyAnswer::Unsafe { point, reason: 3 };
+    assert_eq!(rt; found(rt.alloc(), &[0x2D], &[start])?, wanted);
     Ok(())
 }

@@ -1,5 +1,5 @@
 -- What a call says, by the files that the store tells.
-use Rattle.std.proofs.Common.{◌≡◌, ◌≢◌, ℕ, ◌+◌, ◌<◌, ◌⊎◌, inl, inr, List, [], ◌∷◌, length, Option, Some, None, Result}
+use Rattle.std.proofs.Common.{◌≡◌, ◌≢◌, ℕ, ◌+◌, ◌<◌, Bool, true, false, ◌⊎◌, inl, inr, List, [], ◌∷◌, length, Option, Some, None, Result}
 use Rattle.std.proofs.Common.{Ok, Err}
 use Rattle.std.proofs.Common.{refl, sym, ◌∙◌, subst, arith}
 use Rattle.std.proofs.lemmas.Option.{slice_get_within}
@@ -9,21 +9,25 @@ use Rattle.console_spec.specs.RunText.{text_of}
 use Rattle.outside.specs.Counts.{Rose}
 use Rattle.outside.specs.SinkRules.{Adds}
 use Rattle.outside.specs.StoreRules.{NamedBytes, Input}
-use Rattle.command_line.specs.CommandLine.{Command, Play, Check, Ref, Asm, Dis, Gen}
+use Rattle.command_line.specs.CommandLine.{Command, Play, Check, Verify, Ref, Asm, Dis, Gen}
 use Rattle.console_spec.specs.Telling.{Telling}
 use Rattle.console_spec.specs.declared.VerdictWord.{VerdictWord}
 use Rattle.cart_checker.specs.Verdicts.{verdict_word}
 use Rattle.cart_checker.specs.declared.verdict.Verdict.{Verdict}
 use Rattle.cart_checker.specs.declared.verdict.Verdict.TheVariants.{Whole as FaultFree, Agreed, Refused as RefusedCart, TooMany}
+use Rattle.cartridge.specs.declared.finish.Cart.{Cart}
+use Rattle.certificate.specs.declared.examined.VerifyAnswer.{VerifyAnswer}
+use Rattle.certificate.specs.declared.examined.VerifyAnswer.TheVariants as found
 use Rattle.loader.specs.declared.refusals.Refusal.{Refusal}
 use Rattle.loader.specs.declared.refusals.Stop.{Stop}
 use Rattle.loader.specs.declared.refusals.Stop.TheVariants.{Refused, Store, Memory}
-use Rattle.loader.specs.Games.{Game, game_of, cart_of, image_by, bytes_by}
+use Rattle.loader.specs.Games.{Game, game_of, cart_of, claim_of, image_by, bytes_by}
 use Rattle.loader.specs.Work.{End, Gives, Refuses, Lacks, Work, gives, ◌>>=◌}
 use Rattle.loader.specs.Works.{HasFiles, Misses, order_of, file_of, Works, outcome_as}
 use Rattle.loader.proofs.WorkLaws.{works_gives, works_done, works_stop}
 use Rattle.channel_f.specs.Answers.{Answer, Due, Plain, Judged, refusal, status_of, run_answer, judged_run, game_run, ref_run}
 use Rattle.channel_f.specs.Answers.{unless_refused, game_due, generated_game, gen_due, play_due, check_answer, check_due}
+use Rattle.channel_f.specs.Answers.{cert_answer, found_answer, verify_answer}
 use Rattle.channel_f.specs.Answers.{ref_answer, asm_answer, dis_answer, words_answer, due_of, refusal_answer}
 use Rattle.channel_f.specs.Commands.{Around, Ends, Says}
 use Rattle.channel_f.specs.Completeness.{due_at, Answered, AnsweredDue, RefusesBehind, RefusesRack, IsComplete}
@@ -384,6 +388,23 @@ check_ordinary rack tracked (Agreed notes) = zero_ordinary rack _
 check_ordinary rack tracked (RefusedCart point state reason) = seven_ordinary rack _
 check_ordinary rack tracked TooMany = seven_ordinary rack _
 
+cert_ordinary : (rack : List ChipState) (tracked : List ℕ) (verdict : Verdict) → IsOrdinary rack (cert_answer tracked verdict)
+cert_ordinary rack tracked (FaultFree notes) = zero_ordinary rack _
+cert_ordinary rack tracked (Agreed notes) = zero_ordinary rack _
+cert_ordinary rack tracked (RefusedCart point state reason) = seven_ordinary rack _
+cert_ordinary rack tracked TooMany = seven_ordinary rack _
+
+judged_ordinary : (rack : List ChipState) (certified : Bool) (cart : Cart) → AreOrdinary rack (check_due certified cart)
+judged_ordinary rack true cart = λ verdict. cert_ordinary rack cart.split verdict
+judged_ordinary rack false cart = λ verdict. check_ordinary rack cart.split verdict
+
+found_ordinary : (rack : List ChipState) (tracked : List ℕ) (points : ℕ) (answer : VerifyAnswer) →
+    IsOrdinary rack (found_answer tracked points answer)
+found_ordinary rack tracked points found.Whole = zero_ordinary rack _
+found_ordinary rack tracked points found.Agreed = zero_ordinary rack _
+found_ordinary rack tracked points (found.NotClosed from to) = seven_ordinary rack _
+found_ordinary rack tracked points (found.Unsafe point reason) = seven_ordinary rack _
+
 -- ---- all commands
 
 pub completed : (old new : Around) (said : ℕ) (command : Option Command) → Says old new said command →
@@ -391,9 +412,12 @@ pub completed : (old new : Around) (said : ℕ) (command : Option Command) → S
 completed old new said (Some (Play cart script traced)) says =
     complete_of old new said (game_of cart script) (play_due traced old.rack) says.outcome
     (game_ordinary (Whole traced) old.rack) says.works says.ends
-completed old new said (Some (Check cart)) says =
-    complete_of old new said (cart_of cart) check_due says.told.outcome
-    (λ cartridge verdict. check_ordinary old.rack cartridge.split verdict) says.told.works says.told.ends
+completed old new said (Some (Check cart certified)) says =
+    complete_of old new said (cart_of cart) (check_due certified) says.told.outcome
+    (λ cartridge. judged_ordinary old.rack certified cartridge) says.told.works says.told.ends
+completed old new said (Some (Verify cart cert)) says =
+    complete_of old new said (claim_of cart cert) (λ claim. Plain (verify_answer claim)) says.told.outcome
+    (λ claim. found_ordinary old.rack claim.cart.split _ _) says.told.works says.told.ends
 completed old new said (Some (Ref cart script)) says =
     complete_of old new said (game_of cart script) (λ game. Plain (ref_answer game)) says.told.outcome
     (λ game. stop_ordinary old.rack (ref_run game).ending.stop _) says.told.works says.told.ends

@@ -6,4 +6,5 @@ mod KeyWords
 pub mod Games
 mod Outcomes
 mod Completeness
+mod CheckedCertificates
 mod WorkedWords

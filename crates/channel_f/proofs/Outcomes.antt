@@ -5,16 +5,16 @@ use Rattle.std.specs.Prelude.{◌||◌, if◌then◌else◌, IsTrue, bytes_eq, c
 use Rattle.outside.specs.SinkRules.{Output}
 use Rattle.outside.specs.StoreRules.{Input}
 use Rattle.outside.proofs.SinkLaws.{adds_none}
-use Rattle.command_line.specs.CommandLine.{Command, Play, Check, Ref, Asm, Dis, Gen, command_of, has_command, play_of}
-use Rattle.command_line.specs.CommandLine.{one_of, two_of, run_of, seed_of}
+use Rattle.command_line.specs.CommandLine.{Command, Play, Check, Verify, Ref, Asm, Dis, Gen, command_of, has_command}
+use Rattle.command_line.specs.CommandLine.{one_of, two_of, run_of, play_of, checking_of, check_of, seed_of}
 use Rattle.loader.specs.declared.refusals.Stop.{Stop}
 use Rattle.loader.specs.declared.refusals.Stop.TheVariants.{Memory}
-use Rattle.loader.specs.Games.{Game, game_of, cart_of, image_by, bytes_by}
+use Rattle.loader.specs.Games.{Game, game_of, cart_of, claim_of, image_by, bytes_by}
 use Rattle.loader.specs.Work.{Work}
 use Rattle.loader.specs.Works.{Works}
 use Rattle.loader.proofs.WorkLaws.{works_memory}
 use Rattle.channel_f.specs.Answers.{Due, Plain, generated_game, gen_due, play_due, check_due, ref_answer, asm_answer, dis_answer}
-use Rattle.channel_f.specs.Answers.{words_answer}
+use Rattle.channel_f.specs.Answers.{verify_answer, words_answer}
 use Rattle.channel_f.specs.Commands.{Around, Told, Tells, TellsGame, Says}
 use Rattle.channel_f.specs.RackAfter.{PlaysGame, RackAfter}
 use Rattle.channel_f.specs.Reports.{Answers, AnswersDue, Reports, Stops}
@@ -52,10 +52,15 @@ module _ (old new : Around) (said : ℕ) where
       Says old new said command
   says_play traced cart script command is tells = rw (← is) tells
 
-  pub says_check : (cart : List ℕ) (command : Option Command) → Some (Check cart) ≡ command →
-      Told old.output new.output old.input new.input said (cart_of cart) check_due → new.rack ≡ old.rack →
+  pub says_check : (cart : List ℕ) (certified : Bool) (command : Option Command) → Some (Check cart certified) ≡ command →
+      Told old.output new.output old.input new.input said (cart_of cart) (check_due certified) → new.rack ≡ old.rack →
       Says old new said command
-  says_check cart command is told same = rw (← is) (record { told = told; same = same })
+  says_check cart certified command is told same = rw (← is) (record { told = told; same = same })
+
+  pub says_verify : (cart cert : List ℕ) (command : Option Command) → Some (Verify cart cert) ≡ command →
+      Told old.output new.output old.input new.input said (claim_of cart cert) (λ claim. Plain (verify_answer claim)) →
+      new.rack ≡ old.rack → Says old new said command
+  says_verify cart cert command is told same = rw (← is) (record { told = told; same = same })
 
   pub says_ref : (cart script : List ℕ) (command : Option Command) → Some (Ref cart script) ≡ command →
       Told old.output new.output old.input new.input said (game_of cart script) (λ game. Plain (ref_answer game)) →
@@ -101,7 +106,8 @@ module _ (now : Around) where
   says_wanting (Some (Play cart script traced)) =
       tells_no_game now now 6 traced (game_of cart script) Memory (works_memory now.input (game_of cart script))
       wanting refl
-  says_wanting (Some (Check cart)) = tells_wanting (cart_of cart) check_due
+  says_wanting (Some (Check cart certified)) = tells_wanting (cart_of cart) (check_due certified)
+  says_wanting (Some (Verify cart cert)) = tells_wanting (claim_of cart cert) (λ claim. Plain (verify_answer claim))
   says_wanting (Some (Ref cart script)) = tells_wanting (game_of cart script) (λ game. Plain (ref_answer game))
   says_wanting (Some (Asm file)) = tells_wanting (image_by file) (λ picture. Plain (asm_answer picture))
   says_wanting (Some (Dis file)) = tells_wanting (bytes_by file) (λ bytes. Plain (dis_answer bytes))
@@ -115,17 +121,19 @@ module _ (now : Around) where
 
 -- ---- words without a command
 
-named_by : (a b c d e f : Bool) (play ref check asm dis gen : Option Command) (command : Command) →
+named_by : (a b c d e f h : Bool) (play ref check verify asm dis gen : Option Command) (command : Command) →
     Some command ≡
-    (if a then play else (if b then ref else (if c then check else (if d then asm else (if e then dis else (if f then gen else None)))))) →
-    IsTrue (a || b || c || d || e || f)
-named_by true b c d e f play ref check asm dis gen command is = refl
-named_by false true c d e f play ref check asm dis gen command is = refl
-named_by false false true d e f play ref check asm dis gen command is = refl
-named_by false false false true e f play ref check asm dis gen command is = refl
-named_by false false false false true f play ref check asm dis gen command is = refl
-named_by false false false false false true play ref check asm dis gen command is = refl
-named_by false false false false false false play ref check asm dis gen command is = cc is
+    (if a then play else (if b then ref else (if c then check else (if d then verify else (if e then asm
+    else (if f then dis else (if h then gen else None))))))) →
+    IsTrue (a || b || c || d || e || f || h)
+named_by true b c d e f h play ref check verify asm dis gen command is = refl
+named_by false true c d e f h play ref check verify asm dis gen command is = refl
+named_by false false true d e f h play ref check verify asm dis gen command is = refl
+named_by false false false true e f h play ref check verify asm dis gen command is = refl
+named_by false false false false true f h play ref check verify asm dis gen command is = refl
+named_by false false false false false true h play ref check verify asm dis gen command is = refl
+named_by false false false false false false true play ref check verify asm dis gen command is = refl
+named_by false false false false false false false play ref check verify asm dis gen command is = cc is
 
 -- what asks for something begins with the word of a command
 pub command_named : (words : List (List ℕ)) (command : Command) → Some command ≡ command_of words →
@@ -133,9 +141,9 @@ pub command_named : (words : List (List ℕ)) (command : Command) → Some comma
 command_named [] command is = cc is
 command_named (name ∷ rest) command is =
     named_by (bytes_eq name (codes "play")) (bytes_eq name (codes "ref")) (bytes_eq name (codes "check"))
-    (bytes_eq name (codes "asm")) (bytes_eq name (codes "dis")) (bytes_eq name (codes "gen")) (option_map play_of (run_of rest))
-    (option_map (λ files. Ref files.0 files.1) (two_of rest)) (option_map Check (one_of rest)) (option_map Asm (one_of rest))
-    (option_map Dis (one_of rest))
+    (bytes_eq name (codes "verify")) (bytes_eq name (codes "asm")) (bytes_eq name (codes "dis")) (bytes_eq name (codes "gen"))
+    (option_map play_of (run_of rest)) (option_map (λ files. Ref files.0 files.1) (two_of rest)) (option_map check_of (checking_of rest))
+    (option_map (λ files. Verify files.0 files.1) (two_of rest)) (option_map Asm (one_of rest)) (option_map Dis (one_of rest))
     (option_map Gen (option_and_then seed_of (one_of rest))) command is
 
 -- other words are refused, and take no memory

@@ -1,5 +1,5 @@
 -- What the program answers: its lines and its status, for some commands by the verdict on a cartridge.
-use Rattle.std.specs.Prelude.{ℕ, Bool, nat_lt, if◌then◌else◌, List, [], ◌∷◌, length, Option, Some, None, option_map}
+use Rattle.std.specs.Prelude.{ℕ, Bool, true, false, nat_lt, if◌then◌else◌, List, [], ◌∷◌, length, Option, Some, None, option_map}
 use Rattle.chip_face.specs.declared.sizes.TheConstants.{MOST_CHIPS}
 use Rattle.f8_spec.specs.ChipState.{ChipState}
 use Rattle.console_spec.specs.Run.{Stop, Done, Unserved, Reserved}
@@ -12,19 +12,23 @@ use Rattle.memory_map.specs.MapOf.{views_of}
 use Rattle.rack_run.specs.Seating.{kinds_of, fitted_views}
 use Rattle.rack_run.specs.Sockets.{chain_of, shortage_of}
 use Rattle.rack_run.specs.declared.sockets.Shortage.{Shortage}
-use Rattle.report.specs.CheckLines.{whole_line, agreed_line, refused_line, toomany_line}
+use Rattle.report.specs.CheckLines.{whole_line, agreed_line, refused_line, toomany_line, notclosed_line, unsafe_line}
 use Rattle.report.specs.RefusalLines.{words_line, rack_line, sockets_line}
 use Rattle.cartridge.specs.declared.finish.Cart.{Cart}
-use Rattle.cart_checker.specs.Verdicts.{verdict_word}
+use Rattle.cart_checker.specs.Verdicts.{verdict_word, analysis_of}
 use Rattle.cart_checker.specs.declared.verdict.Verdict.{Verdict}
 use Rattle.cart_checker.specs.declared.verdict.Verdict.TheVariants.{Whole as FaultFree, Agreed, Refused, TooMany}
+use Rattle.certificate.specs.CertificateText.{certificate_text}
+use Rattle.certificate.specs.Examination.{examined}
+use Rattle.certificate.specs.declared.examined.VerifyAnswer.{VerifyAnswer}
+use Rattle.certificate.specs.declared.examined.VerifyAnswer.TheVariants as found
 use Rattle.f8_asm.specs.Image.{Picture}
 use Rattle.f8_asm.specs.Listing.{listing}
 use Rattle.asm_lines.specs.ImageLines.{image_lines}
-use Rattle.command_line.specs.CommandLine.{Command, Play, Check, Ref, Asm, Dis, Gen}
+use Rattle.command_line.specs.CommandLine.{Command, Play, Check, Verify, Ref, Asm, Dis, Gen}
 use Rattle.loader.specs.declared.purposes.Purpose.{Purpose}
 use Rattle.loader.specs.declared.refusals.Refusal.{Refusal}
-use Rattle.loader.specs.Games.{Game, game_of, cart_of, image_by, bytes_by}
+use Rattle.loader.specs.Games.{Game, Claim, game_of, cart_of, claim_of, image_by, bytes_by}
 use Rattle.loader.specs.Work.{Work, gives, ◌>>=◌}
 use Rattle.channel_f.specs.Manners.{run_by, lines_by}
 use Rattle.channel_f.specs.Refusals.{refusal_line, missing_line}
@@ -106,8 +110,31 @@ check_answer tracked (Agreed notes) = record { status = 0; lines = agreed_line (
 check_answer tracked (Refused point state reason) = record { status = 7; lines = refused_line tracked point reason ∷ [] }
 check_answer tracked TooMany = record { status = 7; lines = toomany_line ∷ [] }
 
-abbrev pub check_due : Cart → Due
-check_due cart = Judged cart (check_answer cart.split)
+-- a text, whose lines are told in one
+abbrev pub text_answer : List ℕ → Answer
+text_answer text = record { status = 0; lines = text ∷ [] }
+
+-- where some map is closed and safe, the certificate of the least one, in place of its line
+abbrev pub cert_answer : List ℕ → Verdict → Answer
+cert_answer tracked (FaultFree notes) = text_answer (certificate_text tracked notes)
+cert_answer tracked (Agreed notes) = text_answer (certificate_text tracked notes)
+cert_answer tracked (Refused point state reason) = check_answer tracked (Refused point state reason)
+cert_answer tracked TooMany = check_answer tracked TooMany
+
+abbrev pub check_due : Bool → Cart → Due
+check_due true cart = Judged cart (cert_answer cart.split)
+check_due false cart = Judged cart (check_answer cart.split)
+
+-- 0 where a map of so many points is closed and safe, and else 7
+abbrev pub found_answer : List ℕ → ℕ → VerifyAnswer → Answer
+found_answer tracked points found.Whole = record { status = 0; lines = whole_line points ∷ [] }
+found_answer tracked points found.Agreed = record { status = 0; lines = agreed_line points ∷ [] }
+found_answer tracked points (found.NotClosed from to) = record { status = 7; lines = notclosed_line tracked from to ∷ [] }
+found_answer tracked points (found.Unsafe point reason) = record { status = 7; lines = unsafe_line tracked point reason ∷ [] }
+
+-- what is found of the map that a certificate claims of a cartridge
+abbrev pub verify_answer : Claim → Answer
+verify_answer claim = found_answer claim.cart.split (length claim.notes) (examined (analysis_of claim.cart) claim.notes)
 
 -- the same chips on the flat instruction set alone
 abbrev pub ref_run : Game → Telling
@@ -119,9 +146,9 @@ ref_answer game = record { status = status_of (ref_run game).ending.stop; lines 
 abbrev pub asm_answer : Picture → Answer
 asm_answer picture = record { status = 0; lines = image_lines picture }
 
--- the lines of the text of some bytes, in one
+-- the text of some bytes
 abbrev pub dis_answer : List ℕ → Answer
-dis_answer bytes = record { status = 0; lines = listing bytes ∷ [] }
+dis_answer bytes = text_answer (listing bytes)
 
 -- words that ask for nothing
 abbrev pub words_answer : Answer
@@ -132,7 +159,8 @@ abbrev pub due_of : List ChipState → Option Command → Work Due
 due_of rack None = gives (Plain words_answer)
 due_of rack (Some (Play cart script traced)) =
     game_of cart script >>= λ game. gives (play_due traced rack game)
-due_of rack (Some (Check cart)) = cart_of cart >>= λ cartridge. gives (check_due cartridge)
+due_of rack (Some (Check cart certified)) = cart_of cart >>= λ cartridge. gives (check_due certified cartridge)
+due_of rack (Some (Verify cart cert)) = claim_of cart cert >>= λ claim. gives (Plain (verify_answer claim))
 due_of rack (Some (Ref cart script)) = game_of cart script >>= λ game. gives (Plain (ref_answer game))
 due_of rack (Some (Asm file)) = image_by file >>= λ picture. gives (Plain (asm_answer picture))
 due_of rack (Some (Dis file)) = bytes_by file >>= λ bytes. gives (Plain (dis_answer bytes))

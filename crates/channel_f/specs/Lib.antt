@@ -7,5 +7,6 @@ pub mod SafeRuns
 pub mod SafeGames
 pub mod RackAfter
 pub mod JudgedRuns
+pub mod CheckedCertificates
 pub mod Commands
 pub mod Completeness

@@ -2,6 +2,7 @@
 use Rattle.std.specs.Prelude.{ℕ, List, codes, Option, Some, None}
 use Rattle.cartridge.specs.Faults.{cause_number as cart_cause}
 use Rattle.cartridge.specs.Keys.{key_word}
+use Rattle.certificate.specs.Answers.{cause_number as cert_cause}
 use Rattle.f8_asm.specs.Answers.{cause_number as asm_cause}
 use Rattle.pad_script.specs.Answers.{cause_number as script_cause}
 use Rattle.report.specs.declared.refusal_lines.Reader.TheVariants as reader
@@ -15,12 +16,14 @@ use Rattle.loader.specs.declared.refusals.Refusal.TheVariants as refusal
 abbrev pub purpose_word : Purpose → List ℕ
 purpose_word purpose.Cart = codes "cart"
 purpose_word purpose.Script = codes "script"
+purpose_word purpose.Cert = codes "cert"
 purpose_word purpose.File = codes "file"
 purpose_word (purpose.Source chip) = codes "source"
 
 abbrev pub purpose_number : Purpose → Option ℕ
 purpose_number purpose.Cart = None
 purpose_number purpose.Script = None
+purpose_number purpose.Cert = None
 purpose_number purpose.File = None
 purpose_number (purpose.Source chip) = Some chip
 
@@ -29,6 +32,7 @@ refusal_line refusal.Document = toml_line
 refusal_line (refusal.Cart fault) = cart_line fault.chip (key_word fault.key) (cart_cause fault.cause)
 refusal_line (refusal.Assembly source fault) = asm_line source fault.line fault.column (asm_cause fault.cause)
 refusal_line (refusal.Script fault) = reader_line reader.Script fault.line (script_cause fault.cause)
+refusal_line (refusal.Cert fault) = reader_line reader.Cert fault.line (cert_cause fault.cause)
 refusal_line refusal.Digits = hex_line
 refusal_line (refusal.Long p) = long_line (purpose_word p) (purpose_number p)
 

@@ -1,30 +1,32 @@
 // What each command answers.
-ghost use Rattle.std.specs.Prelude.{◌≡◌, ◌≤◌, IfOk, map, length};
-ghost use Rattle.loader.specs.Games.{game_of, cart_of, image_by, bytes_by};
+ghost use Rattle.std.specs.Prelude.{◌≡◌, ◌≤◌, ◌⊎◌, IfOk, map, length};
+ghost use Rattle.certificate.specs.CertificateLaws.{AllFit};
+ghost use Rattle.loader.specs.Games.{game_of, cart_of, claim_of, image_by, bytes_by};
 ghost use Rattle.channel_f.specs.Answers.{Plain, generated_game, gen_due, check_due, ref_answer};
-ghost use Rattle.channel_f.specs.Answers.{asm_answer, dis_answer};
+ghost use Rattle.channel_f.specs.Answers.{asm_answer, cert_answer, dis_answer, verify_answer};
 ghost use Rattle.channel_f.specs.Commands.{around, Told, TellsGame};
-ghost use Rattle.loader.specs.Seen.{seen_game};
+ghost use Rattle.loader.specs.Seen.{seen_game, seen_claim};
 ghost use Rattle.pad_script.specs.Limits.{HasLimits};
 ghost use Rattle.channel_f.specs.RackAfter.{PlaysGame};
-ghost use Rattle.channel_f.specs.Reports.{Answers, AnswersDue};
+ghost use Rattle.channel_f.specs.Reports.{Answers, AnswersDue, Reports, Wants};
 ghost use Rattle.channel_f.specs.SafeGames.{KeepsVerdict};
 ghost use Rattle.channel_f.specs.Statuses.{exit_code};
 
-use super::lines_out::{put_picture, put_text, put_verdict};
+use super::lines_out::{put_found, put_picture, put_text, put_verdict};
 use super::manner::Manner;
 use super::playing::{play_game, refer_game};
 use super::refused::put_stop;
 use super::status::Status;
-use cart_checker::check_cart;
+use cart_checker::{Verdict, check_cart};
 use cartridge::{Cart, Split};
+use certificate::{verify, write_cert};
 use chip_face::Chip;
 use console_spec::End;
 use f8_asm::disassemble;
 use f8_machine::Rack;
 use f8_spec::Memory;
 use generator::generated_chips;
-use loader::{Game, load_bytes, load_cart, load_game, load_image};
+use loader::{Claim, Game, load_bytes, load_cart, load_claim, load_game, load_image};
 use outside::{Sink, Store};
 use pad_script::{EventList, Script, ShowList};
 use std::alloc::Global;
@@ -51,30 +53,83 @@ pub fn answer_play<S: Store, K: Sink>(
     }
 }
 
-/// The line of the verdict on a cartridge.
-fn check<K: Sink>(alloc: Global, cart: &Cart, sink: &mut K) -> Status
+/// The certificate of a verdict, or the verdict's line where it has none.
+fn certify<K: Sink>(alloc: Global, split: &Split, verdict: &Verdict, sink: &mut K) -> Status
+    ensures { let due = cert_answer split.now verdict.now in
+        Wants (K.output sink.old) (K.output sink.new) (exit_code result)
+        ⊎ Reports (K.output sink.old) (K.output sink.new) (exit_code result) due.status due.lines }
+{
+    match verdict {
+        Verdict::Whole(notes) | Verdict::Agreed(notes) => match write_cert(alloc, notes, split) {
+            Ok(text) => put_text(sink, &text),
+            Err(Memory) => Status::Memory,
+        },
+        Verdict::Refused { .. } | Verdict::TooMany => put_verdict(sink, split, verdict),
+    }
+}
+
+/// The line of the verdict on a cartridge, or its certificate.
+fn check<K: Sink>(alloc: Global, cart: &Cart, certified: bool, sink: &mut K) -> Status
     ensures { AnswersDue (K.output sink.old) (K.output sink.new) (exit_code result)
-        (check_due cart.now) }
+        (check_due certified cart.now) }
 {
     match check_cart(alloc, cart) {
-        Ok(verdict) => put_verdict(sink, &cart.split, &verdict),
+        Ok(verdict) => {
+            if certified {
+                certify(alloc, &cart.split, &verdict, sink)
+            } else {
+                put_verdict(sink, &cart.split, &verdict)
+            }
+        }
         Err(Memory) => Status::Memory,
     }
 }
 
-/// `check CART`.
+/// `check CART`, with the certificate where it is asked for.
 #[tactic(auto, using(crate::proofs::Outcomes::told_ok, crate::proofs::Outcomes::told_stop))]
 pub fn answer_check<S: Store, K: Sink>(
     alloc: Global,
     cart: &str,
+    certified: bool,
     store: &mut S,
     sink: &mut K,
 ) -> Status
     ensures { Told (K.output sink.old) (K.output sink.new) (S.input store.old) (S.input store.new)
-        (exit_code result) (cart_of cart.now) check_due }
+        (exit_code result) (cart_of cart.now) (check_due certified) }
 {
     match load_cart(alloc, store, cart) {
-        Ok(cart) => check(alloc, &cart, sink),
+        Ok(cart) => check(alloc, &cart, certified, sink),
+        Err(stop) => put_stop(sink, stop),
+    }
+}
+
+/// The line of what is found of a certificate.
+#[tactic(auto, using(crate::proofs::Games::answers_wanting))]
+fn verify_claim<K: Sink>(alloc: Global, claim: &Claim, sink: &mut K) -> Status
+    requires { AllFit claim.now.cart.split claim.now.notes }
+    ensures { Answers (K.output sink.old) (K.output sink.new) (exit_code result)
+        (verify_answer (seen_claim claim.now)) }
+{
+    match verify(alloc, &claim.cart, &claim.notes) {
+        Ok(found) => put_found(sink, &claim.cart.split, claim.notes.len(), &found),
+        Err(Memory) => Status::Memory,
+    }
+}
+
+/// `verify CART CERT`.
+#[tactic(auto, using(crate::proofs::Outcomes::told_ok, crate::proofs::Outcomes::told_stop))]
+pub fn answer_verify<S: Store, K: Sink>(
+    alloc: Global,
+    cart: &str,
+    cert: &str,
+    store: &mut S,
+    sink: &mut K,
+) -> Status
+    ensures { Told (K.output sink.old) (K.output sink.new) (S.input store.old) (S.input store.new)
+        (exit_code result) (claim_of cart.now cert.now) (λ claim. Plain (verify_answer claim)) }
+{
+    match load_claim(alloc, store, cart, cert) {
+        Ok(claim) => verify_claim(alloc, &claim, sink),
         Err(stop) => put_stop(sink, stop),
     }
 }

@@ -10,9 +10,12 @@ mod refused;
 mod status;
 mod top;
 
+pub use laws::checked_certificate_law;
 pub use status::Status;
 pub use top::console;
 
+#[cfg(test)]
+mod certificate_tests;
 #[cfg(test)]
 mod interrupt_tests;
 #[cfg(test)]

@@ -1,8 +1,8 @@
 // The lines that are written, each as one put.
-ghost use Rattle.std.specs.Prelude.{◌≡◌, ◌≢◌, ◌<◌, ℕ, List, [], ◌∷◌, OnOk, OnErr};
+ghost use Rattle.std.specs.Prelude.{◌≡◌, ◌≢◌, ◌<◌, ◌≤◌, ℕ, List, [], ◌∷◌, OnOk, OnErr};
 ghost use Rattle.console_spec.specs.RunText.{stop_line as spelled_stop, text_of};
 ghost use Rattle.rack_run.specs.Endings.{stop_at};
-ghost use Rattle.channel_f.specs.Answers.{status_of, check_answer};
+ghost use Rattle.channel_f.specs.Answers.{status_of, check_answer, found_answer};
 ghost use Rattle.channel_f.specs.Manners.{opening_lines, ending_told, summary_told, closing_told};
 ghost use Rattle.channel_f.specs.Reports.{Reports};
 ghost use Rattle.asm_lines.specs.ImageLines.{image_lines};
@@ -14,6 +14,7 @@ use super::status::Status;
 use asm_lines::{put_image, put_listing};
 use cart_checker::Verdict;
 use cartridge::Split;
+use certificate::VerifyAnswer;
 use f8_asm::{Image, Text};
 use generator::{gen_line, scratch_sum, scratch_sum_line, writes_line};
 use outside::{Sink, SinkFault};
@@ -163,6 +164,44 @@ pub fn put_verdict<K: Sink>(sink: &mut K, split: &Split, verdict: &Verdict) -> S
     put_lines(sink, [line].as_slice(), check_status(verdict))
 }
 
+/// The line of what is found of a certificate with so many points.
+fn found_line(split: &Split, points: usize, found: &VerifyAnswer) -> Line
+    requires { points ≤ 65536 }
+    ensures { (found_answer split.now points found.now).lines ≡ result ∷ [] }
+{
+    match found {
+        VerifyAnswer::Whole => report::whole_line(points as u32),
+        VerifyAnswer::Agreed => report::agreed_line(points as u32),
+        VerifyAnswer::NotClosed { from, to } => report::notclosed_line(from.as_ref(), to, split),
+        VerifyAnswer::Unsafe { point, reason } => report::unsafe_line(point, split, *reason),
+    }
+}
+
+fn found_status(found: &VerifyAnswer) -> Status
+    ensures { (split : List ℕ) (points : ℕ) →
+        exit_code result ≡ (found_answer split points found.now).status }
+{
+    match found {
+        VerifyAnswer::Whole | VerifyAnswer::Agreed => Status::Done,
+        VerifyAnswer::NotClosed { .. } | VerifyAnswer::Unsafe { .. } => Status::NoVerdict,
+    }
+}
+
+/// Writes the line of what is found of a certificate with so many points, and ends with its status.
+pub fn put_found<K: Sink>(
+    sink: &mut K,
+    split: &Split,
+    points: usize,
+    found: &VerifyAnswer,
+) -> Status
+    requires { points ≤ 65536 }
+    ensures { let due = found_answer split.now points found.now in
+        Reports (K.output sink.old) (K.output sink.new) (exit_code result) due.status due.lines }
+{
+    let line = found_line(split, points, found);
+    put_lines(sink, [line].as_slice(), found_status(found))
+}
+
 /// Writes the lines of an image.
 pub fn put_picture<K: Sink>(sink: &mut K, image: &Image) -> Status
     ensures { Reports (K.output sink.old) (K.output sink.new)
@@ -174,7 +213,7 @@ pub fn put_picture<K: Sink>(sink: &mut K, image: &Image) -> Status
     }
 }
 
-/// Writes the lines of a text that was disassembled.
+/// Writes the lines of a text.
 pub fn put_text<K: Sink>(sink: &mut K, text: &Text) -> Status
     ensures { Reports (K.output sink.old) (K.output sink.new)
         (exit_code result) 0 (text.now ∷ []) }

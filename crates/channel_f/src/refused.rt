@@ -22,6 +22,7 @@ fn purpose_word(purpose: Purpose) -> &'static str
     match purpose {
         Purpose::Cart => "cart",
         Purpose::Script => "script",
+        Purpose::Cert => "cert",
         Purpose::File => "file",
         Purpose::Source(_) => "source",
     }
@@ -33,7 +34,7 @@ fn purpose_number(purpose: Purpose) -> Option<u8>
 {
     match purpose {
         Purpose::Source(chip) => Some(chip),
-        Purpose::Cart | Purpose::Script | Purpose::File => None,
+        Purpose::Cart | Purpose::Script | Purpose::Cert | Purpose::File => None,
     }
 }
 
@@ -57,6 +58,11 @@ fn refusal_line(refusal: Refusal) -> Line
         ),
         Refusal::Script(fault) => report::error_reader(
             Reader::Script,
+            fault.line,
+            fault.cause.number(),
+        ),
+        Refusal::Cert(fault) => report::error_reader(
+            Reader::Cert,
             fault.line,
             fault.cause.number(),
         ),

@@ -414,7 +414,7 @@ type PastLimit = (
     &'static str,
 );
 
-const PAST_LIMITS: [PastLimit; 5] = [
+const PAST_LIMITS: [PastLimit; 6] = [
     (
         "script",
         b' ',
@@ -435,6 +435,13 @@ const PAST_LIMITS: [PastLimit; 5] = [
         65_537,
         &["ref", "long", "script"],
         "error long cart\n",
+    ),
+    (
+        "cert",
+        b'0',
+        16_777_217,
+        &["verify", "cart", "cert"],
+        "error long cert\n",
     ),
     ("file", b' ', 262_145, &["asm", "file"], "error long file\n"),
     ("file", b'7', 131_074, &["dis", "file"], "error long file\n"),

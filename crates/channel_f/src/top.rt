@@ -6,7 +6,9 @@ ghost use Rattle.channel_f.specs.Commands.{around, Says};
 ghost use Rattle.channel_f.specs.Completeness.{IsComplete};
 ghost use Rattle.channel_f.specs.Statuses.{exit_code};
 
-use super::commands::{answer_asm, answer_check, answer_dis, answer_gen, answer_play, answer_ref};
+use super::commands::{
+    answer_asm, answer_check, answer_dis, answer_gen, answer_play, answer_ref, answer_verify,
+};
 use super::lines_out::put_lines;
 use super::status::Status;
 use chip_face::Chip;
@@ -16,7 +18,7 @@ use f8_spec::Memory;
 use outside::{Sink, Store};
 use std::alloc::Global;
 
-#[tactic(auto, using(crate::proofs::Outcomes::says_play, crate::proofs::Outcomes::says_check, crate::proofs::Outcomes::says_ref, crate::proofs::Outcomes::says_asm, crate::proofs::Outcomes::says_dis, crate::proofs::Outcomes::says_gen, crate::proofs::Outcomes::says_words, crate::proofs::Outcomes::says_wanting, crate::proofs::Outcomes::command_named, crate::proofs::Outcomes::words_not_memory, crate::proofs::Games::answers_of))]
+#[tactic(auto, using(crate::proofs::Outcomes::says_play, crate::proofs::Outcomes::says_check, crate::proofs::Outcomes::says_verify, crate::proofs::Outcomes::says_ref, crate::proofs::Outcomes::says_asm, crate::proofs::Outcomes::says_dis, crate::proofs::Outcomes::says_gen, crate::proofs::Outcomes::says_words, crate::proofs::Outcomes::says_wanting, crate::proofs::Outcomes::command_named, crate::proofs::Outcomes::words_not_memory, crate::proofs::Games::answers_of))]
 fn answer_words<S: Store, K: Sink>(
     alloc: Global,
     words: &[String],
@@ -40,7 +42,10 @@ fn answer_words<S: Store, K: Sink>(
                 },
             ),
         ) => answer_play(alloc, cart, script, traced, store, sink, rack),
-        Ok(Some(Command::Check { cart })) => answer_check(alloc, cart, store, sink),
+        Ok(Some(Command::Check { cart, certified })) => {
+            answer_check(alloc, cart, certified, store, sink)
+        }
+        Ok(Some(Command::Verify { cart, cert })) => answer_verify(alloc, cart, cert, store, sink),
         Ok(Some(Command::Ref { cart, script })) => answer_ref(alloc, cart, script, store, sink),
         Ok(Some(Command::Asm { file })) => answer_asm(alloc, file, store, sink),
         Ok(Some(Command::Dis { file })) => answer_dis(alloc, file, store, sink),
@@ -57,13 +62,15 @@ fn answer_words<S: Store, K: Sink>(
 /// - `play CART SCRIPT`: the rack is fitted for the chips that the description describes, powered and reset, and runs as the script has it. With
 ///   `--trace` every bus step is told.
 /// - `check CART`: the verdict on the description: that no run of its chips can fail at a bus step, whatever the script, or that this can't be
-///   shown.
+///   shown. With `--cert` what shows it is told in place of the verdict, as a certificate.
+/// - `verify CART CERT`: what is found of a certificate of the description, whoever made it.
 /// - `ref CART SCRIPT`: the same bytes run on the flat instruction set alone, and the rack stays as it was.
 /// - `asm FILE`: the bytes that an assembly text makes, and its names.
 /// - `dis FILE`: the assembly text of a file of hexadecimal digits.
 /// - `gen N`: the rack is fitted for a large cartridge that is generated from the number, and runs for 60 frames. Its run is summed up.
 ///
-/// Each file is read before the next is asked for: the description, then the source of each chip that has one, then the script. The rack is
+/// Each file is read before the next is asked for: the description, then the source of each chip that has one, then the script or the
+/// certificate. The rack is
 /// looked at after all of them, and then its chips are fitted. The first refusal ends the call with its one line. Each line is one put.
 ///
 /// Where the store tells its files and has those that are asked for, what is written is exactly what the flat machine's run says, with `play`
@@ -78,7 +85,7 @@ fn answer_words<S: Store, K: Sink>(
 /// - 4 where the store failed, as one does that hasn't the file,
 /// - 5 where the sink failed,
 /// - 6 where memory was wanting, and then nothing was written; this comes only where the first word is that of a command,
-/// - 7 where `check` can't show that the cartridge is safe,
+/// - 7 where `check` can't show that the cartridge is safe, or `verify` finds that the certificate doesn't,
 /// - 8 at a reserved opcode.
 ///
 /// Where a run of `play` or `gen` began, each chip has heard its bus steps and has taken its key bytes, and nothing else. Where the sink failed at

@@ -1,6 +1,6 @@
 -- Words with what they ask for, each worked out from the rules by hand and computed from the definitions.
 use Rattle.std.proofs.Common.{◌≡◌, true, false, [], ◌∷◌, Some, None, codes, refl}
-use Rattle.command_line.specs.CommandLine.{Play, Ref, Check, Asm, Dis, Gen, command_of}
+use Rattle.command_line.specs.CommandLine.{Play, Ref, Check, Verify, Asm, Dis, Gen, command_of}
 
 pub two_words : command_of (codes "play" ∷ (codes "game.toml" ∷ (codes "run.txt" ∷ []))) ≡ Some (Play (codes "game.toml") (codes "run.txt") false)
 two_words = refl
@@ -39,11 +39,32 @@ flag_with_value = refl
 pub flag_cut_short : command_of (codes "play" ∷ (codes "a" ∷ (codes "b" ∷ (codes "--trac" ∷ [])))) ≡ None
 flag_cut_short = refl
 
-pub checked_cart : command_of (codes "check" ∷ (codes "game.toml" ∷ [])) ≡ Some (Check (codes "game.toml"))
+pub checked_cart : command_of (codes "check" ∷ (codes "game.toml" ∷ [])) ≡ Some (Check (codes "game.toml") false)
 checked_cart = refl
 
-pub check_without_flags : command_of (codes "check" ∷ (codes "--trace" ∷ (codes "game.toml" ∷ []))) ≡ None
-check_without_flags = refl
+pub cert_before : command_of (codes "check" ∷ (codes "--cert" ∷ (codes "game.toml" ∷ []))) ≡ Some (Check (codes "game.toml") true)
+cert_before = refl
+
+pub cert_behind : command_of (codes "check" ∷ (codes "game.toml" ∷ (codes "--cert" ∷ []))) ≡ Some (Check (codes "game.toml") true)
+cert_behind = refl
+
+pub cert_behind_dashes : command_of (codes "check" ∷ (codes "--" ∷ (codes "--cert" ∷ []))) ≡ Some (Check (codes "--cert") false)
+cert_behind_dashes = refl
+
+pub cert_twice : command_of (codes "check" ∷ (codes "--cert" ∷ (codes "a" ∷ (codes "--cert" ∷ [])))) ≡ None
+cert_twice = refl
+
+pub check_not_traced : command_of (codes "check" ∷ (codes "--trace" ∷ (codes "game.toml" ∷ []))) ≡ None
+check_not_traced = refl
+
+pub play_without_cert : command_of (codes "play" ∷ (codes "a" ∷ (codes "b" ∷ (codes "--cert" ∷ [])))) ≡ None
+play_without_cert = refl
+
+pub verified_cart : command_of (codes "verify" ∷ (codes "a" ∷ (codes "b" ∷ []))) ≡ Some (Verify (codes "a") (codes "b"))
+verified_cart = refl
+
+pub verify_without_cert : command_of (codes "verify" ∷ (codes "a" ∷ (codes "--cert" ∷ []))) ≡ None
+verify_without_cert = refl
 
 pub first_dashes_part : command_of (codes "asm" ∷ (codes "--" ∷ (codes "--" ∷ []))) ≡ Some (Asm (codes "--"))
 first_dashes_part = refl

@@ -1,11 +1,11 @@
 -- From what clap ensures of a parse to what the words ask for.
-use Rattle.std.proofs.Common.{◌≡◌, ◌∙◌, ◌⊎◌, inl, inr, zero, suc, List, [], ◌∷◌, map, Option, Some, None, String}
-use Rattle.std.proofs.Common.{string_bytes, IsUtf8, option_map, arith, refl, sym, ap}
+use Rattle.std.proofs.Common.{◌≡◌, ◌∙◌, ◌⊎◌, inl, inr, zero, suc, Bool, true, false, List, [], ◌∷◌, map, Option, Some, None, String}
+use Rattle.std.proofs.Common.{codes, string_bytes, IsUtf8, option_map, arith, refl, sym, ap}
 use Rattle.std.specs.List.{All}
 use Rattle.std.proofs.lemmas.Str.{IsUtf8-string_bytes}
-use Rattle.clap.specs.Walk.{Row}
+use Rattle.clap.specs.Walk.{Row, Text}
 use Rattle.clap.specs.Kinds.{HasKind, Kinds}
-use Rattle.clap.specs.Values.{kind_of}
+use Rattle.clap.specs.Values.{bool_text, kind_of}
 use Rattle.clap.specs.declared.error.Error.{Error}
 use Rattle.clap.specs.declared.error.kind.ErrorKind.TheVariants.{OutOfMemory}
 use Rattle.command_line.proofs.Reading.{rows-given, rows-refused, rows_unless}
@@ -31,3 +31,10 @@ module _ {A B : Type 0} (read : List Row → B) (seen : A → B) (kinds : Kinds)
       go : (o : Option A) → option_map seen o ≡ None → o ≡ None
       go None e = refl
       go (Some x) e = cc
+
+-- what the flag's value reads as
+pub flag_is : (read : Bool) (text : Option Text) (traced : Bool) → text ≡ Some (bool_text traced) →
+    (text ≡ Some (codes "true") → read ≡ true)
+    → (text ≡ Some (codes "false") → read ≡ false) → read ≡ traced
+flag_is read text true is on off = on is
+flag_is read text false is on off = off is

@@ -1,4 +1,4 @@
--- What a parse of clap's makes of all words, where a command has no flag but `--trace`, and no subcommand: it reads the words one by one as
+-- What a parse of clap's makes of all words, where a command has one flag or none, and no subcommand: it reads the words one by one as
 -- `words_of` tells them apart.
 use Rattle.std.proofs.Common.{◌≡◌, ◌∙◌, ◌&&◌, ◌||◌, not, ℕ, Bool, true, false, List, [], ◌∷◌, map, Option, Some, None}
 use Rattle.std.proofs.Common.{IsUtf8, bytes_eq, fold, is_some, option_map, refl, sym, ap, ap₂, subst, arith, true≢false}
@@ -9,7 +9,7 @@ use Rattle.std.proofs.lemmas.List.Elements.{All-drop}
 use Rattle.std.proofs.lemmas.Slice.Eq.{bytes_eq-Decides}
 use Rattle.clap.specs.Walk.{Held, Row, Rule, Step, Text, Walk, after_step, arg_by_index, arg_by_long, finished, idle}
 use Rattle.clap.specs.Walk.{is_multiple, is_pending, long_met, next_position, positional, positional_held, pushed}
-use Rattle.clap.specs.Walk.{settled, takes_several, to_positional, value, walked}
+use Rattle.clap.specs.Walk.{settled, takes_several, to_positional, value, walked, word_met}
 use Rattle.clap.specs.Simple.{App, entered}
 use Rattle.clap.specs.Kinds.{IsAmong, Kinds, or_else}
 use Rattle.clap.specs.Faults.{check_fault, defaults_fault, entered_fault, long_fault, settle_fault, step_fault}
@@ -18,8 +18,8 @@ use Rattle.clap.specs.declared.error.kind.ErrorKind.{ErrorKind}
 use Rattle.clap.proofs.SimpleLemmas.{is_false}
 use Rattle.clap.proofs.WalkLemmas.{both}
 use Rattle.command_line.specs.CommandLine.{Flag, Plain, Word, is_dashed, words_of}
-use Rattle.command_line.proofs.WordSorts.{HasNoOtherFlag, dashed-refused, dashes, is_refusal, is_single, plain-met}
-use Rattle.command_line.proofs.WordSorts.{plain-passes, trace, trace-keeps, trace-met, trace_word}
+use Rattle.command_line.proofs.WordSorts.{HasNoOtherFlag, IsFlag, dashed-refused, dashes, flag_word, is_refusal, is_single, plain-met}
+use Rattle.command_line.proofs.WordSorts.{flag-fault, flag-keeps, flag-met, plain-passes}
 
 -- ---- the end of a walk
 
@@ -167,127 +167,133 @@ module _ (a : App) where
   reading-turn w after word rest [] is goes = reading-next w after word rest is (goes refl)
   reading-turn w after word rest (kind ∷ kinds) is goes = reading-refused w word rest (ap is_refusal is)
 
-  -- ---- the same, over words that are told apart
+  module _ (name : Text) where
+    -- ---- the same, over words that are told apart
 
-  abbrev flag : Option Rule
-  flag = arg_by_long a.top.rules trace
+    abbrev taken : Option Rule
+    taken = arg_by_long a.top.rules name
 
-  abbrev fault_at : Stand → Word → Kinds
-  fault_at s Flag = long_fault a.top.rules a.top.args_override_self flag None (held_at s)
-  fault_at s (Plain word) = step_fault a.top s.position (held_at s) value
+    abbrev fault_at : Stand → Word → Kinds
+    fault_at s Flag = long_fault a.top.rules a.top.args_override_self taken None (held_at s)
+    fault_at s (Plain word) = step_fault a.top s.position (held_at s) value
 
-  abbrev placed : Stand → Text → Walk
-  placed s word = to_positional a.top.rules (arg_by_index a.top.rules s.position) word (walk_at s false) (held_at s)
+    abbrev placed : Stand → Text → Walk
+    placed s word = to_positional a.top.rules (arg_by_index a.top.rules s.position) word (walk_at s false) (held_at s)
 
-  abbrev stand_after : Stand → Word → Stand
-  stand_after s Flag = stand_of (long_met a.top.rules flag None (held_at s)).0 s.position
-  stand_after s (Plain word) = stand_of (placed s word).held (placed s word).position
+    abbrev stand_after : Stand → Word → Stand
+    stand_after s Flag = stand_of (long_met a.top.rules taken None (held_at s)).0 s.position
+    stand_after s (Plain word) = stand_of (placed s word).held (placed s word).position
 
-  abbrev pub told : Stand → List Word → Option (List Row)
-  told s [] = rows_unless (closing (walk_at s false)) (finished a.top.rules (held_at s))
-  told s (word ∷ words) = if is_refusal (fault_at s word) then None else told (stand_after s word) words
+    abbrev pub told : Stand → List Word → Option (List Row)
+    told s [] = rows_unless (closing (walk_at s false)) (finished a.top.rules (held_at s))
+    told s (word ∷ words) = if is_refusal (fault_at s word) then None else told (stand_after s word) words
 
-  module _ (only : HasNoOtherFlag a.top.rules) where
-    placed-is : (s : Stand) (word : Text) (is_trailing : Bool)
-        → after_step a.top.rules word (walk_at s is_trailing) (held_at s) value ≡ walk_at (stand_after s (Plain word))
-        is_trailing
-    placed-is s word is_trailing =
-        settled-down a.top.rules (arg_by_index a.top.rules s.position) word s is_trailing
-        (found-passes _ is_single a.top.rules only.single)
+    module _ (is_flag : IsFlag name) (only : HasNoOtherFlag name a.top.rules) where
+      placed-is : (s : Stand) (word : Text) (is_trailing : Bool)
+          → after_step a.top.rules word (walk_at s is_trailing) (held_at s) value ≡ walk_at (stand_after s (Plain word))
+          is_trailing
+      placed-is s word is_trailing =
+          settled-down a.top.rules (arg_by_index a.top.rules s.position) word s is_trailing
+          (found-passes _ is_single a.top.rules only.single)
 
-    parting-read : (s : Stand) (rest : List Text) →
-        reading (walk_at s false) (dashes ∷ rest) ≡ reading (walk_at s true) rest
-    unfolding walked
-    parting-read s rest = reading-next (walk_at s false) (walk_at s true) dashes rest refl refl
+      parting-read : (s : Stand) (rest : List Text) →
+          reading (walk_at s false) (dashes ∷ rest) ≡ reading (walk_at s true) rest
+      unfolding walked
+      parting-read s rest = reading-next (walk_at s false) (walk_at s true) dashes rest refl refl
 
-    -- behind `--`
-    told-plain : (s : Stand) (rest : List Text) → reading (walk_at s true) rest ≡ told s (map Plain rest)
-    unfolding walk_fault walked
-    told-plain s [] = refl
-    told-plain s (word ∷ rest) =
-        reading-turn (walk_at s true) (walk_at (stand_after s (Plain word)) true) word rest (fault_at s (Plain word))
-        refl (λ _. placed-is s word true)
-        ∙ ap (λ rows. if is_refusal (fault_at s (Plain word)) then None else rows)
-        (told-plain (stand_after s (Plain word)) rest)
+      -- behind `--`
+      told-plain : (s : Stand) (rest : List Text) → reading (walk_at s true) rest ≡ told s (map Plain rest)
+      unfolding walk_fault walked
+      told-plain s [] = refl
+      told-plain s (word ∷ rest) =
+          reading-turn (walk_at s true) (walk_at (stand_after s (Plain word)) true) word rest (fault_at s (Plain word))
+          refl (λ _. placed-is s word true)
+          ∙ ap (λ rows. if is_refusal (fault_at s (Plain word)) then None else rows)
+          (told-plain (stand_after s (Plain word)) rest)
 
-    -- a word that is told apart goes before the others
-    told-more : (s : Stand) (word : Word) (words : Option (List Word))
-        → (if is_refusal (fault_at s word) then None else option_and_then (told (stand_after s word)) words)
-        ≡ option_and_then (told s) (option_map (λ ws. word ∷ ws) words)
-    told-more s word (Some words) = refl
-    told-more s word None = go (is_refusal (fault_at s word))
-      where
-        go : (t : Bool) → ◌≡◌ {A = Option (List Row)} (if t then None else None) None
-        go true = refl
-        go false = refl
+      -- a word that is told apart goes before the others
+      told-more : (s : Stand) (word : Word) (words : Option (List Word))
+          → (if is_refusal (fault_at s word) then None else option_and_then (told (stand_after s word)) words)
+          ≡ option_and_then (told s) (option_map (λ ws. word ∷ ws) words)
+      told-more s word (Some words) = refl
+      told-more s word None = go (is_refusal (fault_at s word))
+        where
+          go : (t : Bool) → ◌≡◌ {A = Option (List Row)} (if t then None else None) None
+          go true = refl
+          go false = refl
 
-    -- ---- the four sorts of words
+      -- ---- the four sorts of words
 
-    flag-turn : (s : Stand) → turn_fault a.top [] (walk_at s false) trace_word ≡ fault_at s Flag
-    flag-turn s = else-same (fault_at s Flag) _
-        (λ none. ap (λ (met : Held × Step). step_fault a.top s.position met.0 met.1)
-        (trace-met a.top.rules a.top.args_override_self s.position (held_at s) only none))
+      abbrev met : Stand → Held × Step
+      met s = word_met a.top.rules [] false idle s.position (flag_word name) (held_at s)
 
-    flag-walked : (s : Stand) → fault_at s Flag ≡ [] →
-        walked a.top.rules [] (walk_at s false) trace_word ≡ walk_at (stand_after s Flag) false
-    unfolding walked
-    flag-walked s none =
-        ap (λ (met : Held × Step). after_step a.top.rules trace_word (walk_at s false) met.0 met.1)
-        (trace-met a.top.rules a.top.args_override_self s.position (held_at s) only none)
-        ∙ stands (long_met a.top.rules flag None (held_at s)).0 s.position false
-        (trace-keeps a.top.rules (held_at s) only)
+      flag-turn : (s : Stand) → turn_fault a.top [] (walk_at s false) (flag_word name) ≡ fault_at s Flag
+      flag-turn s =
+          ap (λ (kinds : Kinds). or_else kinds (step_fault a.top s.position (met s).0 (met s).1)) (flag-fault name is_flag a.top (held_at s))
+          ∙ else-same (fault_at s Flag) (step_fault a.top s.position (met s).0 (met s).1)
+          (λ none. ap (λ (is : Held × Step). step_fault a.top s.position is.0 is.1)
+          (flag-met name is_flag a.top.rules a.top.args_override_self s.position (held_at s) only none))
 
-    plain-turn : (s : Stand) (word : Text) → bytes_eq word dashes ≡ false → is_dashed word ≡ false
-        → turn_fault a.top [] (walk_at s false) word ≡ fault_at s (Plain word)
-    plain-turn s word apart even =
-        ap₂ (λ (kinds : Kinds) (met : Held × Step). or_else kinds (step_fault a.top s.position met.0 met.1))
-        (plain-passes a.top word (held_at s) apart even) (plain-met a.top.rules word s.position (held_at s) apart even)
+      flag-walked : (s : Stand) → fault_at s Flag ≡ [] →
+          walked a.top.rules [] (walk_at s false) (flag_word name) ≡ walk_at (stand_after s Flag) false
+      unfolding walked
+      flag-walked s none =
+          ap (λ (met : Held × Step). after_step a.top.rules (flag_word name) (walk_at s false) met.0 met.1)
+          (flag-met name is_flag a.top.rules a.top.args_override_self s.position (held_at s) only none)
+          ∙ stands (long_met a.top.rules taken None (held_at s)).0 s.position false
+          (flag-keeps name is_flag a.top.rules (held_at s) only)
 
-    plain-walked : (s : Stand) (word : Text) → bytes_eq word dashes ≡ false → is_dashed word ≡ false
-        → walked a.top.rules [] (walk_at s false) word ≡ walk_at (stand_after s (Plain word)) false
-    unfolding walked
-    plain-walked s word apart even =
-        ap (λ (met : Held × Step). after_step a.top.rules word (walk_at s false) met.0 met.1)
-        (plain-met a.top.rules word s.position (held_at s) apart even)
-        ∙ placed-is s word false
+      plain-turn : (s : Stand) (word : Text) → bytes_eq word dashes ≡ false → is_dashed word ≡ false
+          → turn_fault a.top [] (walk_at s false) word ≡ fault_at s (Plain word)
+      plain-turn s word apart even =
+          ap₂ (λ (kinds : Kinds) (met : Held × Step). or_else kinds (step_fault a.top s.position met.0 met.1))
+          (plain-passes a.top word (held_at s) apart even) (plain-met a.top.rules word s.position (held_at s) apart even)
 
-    module _ (s : Stand) (word : Text) (rest : List Text)
-        (on : (s : Stand) → reading (walk_at s false) rest ≡ option_and_then (told s) (words_of rest)) where
-      goes-on : (sort : Word) → turn_fault a.top [] (walk_at s false) word ≡ fault_at s sort
-          → (fault_at s sort ≡ [] → walked a.top.rules [] (walk_at s false) word ≡ walk_at (stand_after s sort) false)
-          → words_of (word ∷ rest) ≡ option_map (λ ws. sort ∷ ws) (words_of rest)
-          → reading (walk_at s false) (word ∷ rest) ≡ option_and_then (told s) (words_of (word ∷ rest))
-      goes-on sort is goes sorted =
-          reading-turn (walk_at s false) (walk_at (stand_after s sort) false) word rest (fault_at s sort) is goes
-          ∙ (ap (λ rows. if is_refusal (fault_at s sort) then None else rows) (on (stand_after s sort)) ∙ told-more s sort (words_of rest))
-          ∙ sym (ap (option_and_then (told s)) sorted)
+      plain-walked : (s : Stand) (word : Text) → bytes_eq word dashes ≡ false → is_dashed word ≡ false
+          → walked a.top.rules [] (walk_at s false) word ≡ walk_at (stand_after s (Plain word)) false
+      unfolding walked
+      plain-walked s word apart even =
+          ap (λ (met : Held × Step). after_step a.top.rules word (walk_at s false) met.0 met.1)
+          (plain-met a.top.rules word s.position (held_at s) apart even)
+          ∙ placed-is s word false
 
-      next-told : IsUtf8 word → (parts : Bool) → bytes_eq word dashes ≡ parts → (flags : Bool) →
-          bytes_eq word trace_word ≡ flags
-          → (dashed : Bool) → is_dashed word ≡ dashed →
-          reading (walk_at s false) (word ∷ rest) ≡ option_and_then (told s) (words_of (word ∷ rest))
-      next-told utf8 true e flags f dashed g =
-          subst (λ word. reading (walk_at s false) (word ∷ rest) ≡ option_and_then (told s) (words_of (word ∷ rest)))
-          (sym ((bytes_eq-Decides word dashes).0 e))
-          (parting-read s rest ∙ told-plain s rest)
-      next-told utf8 false e true f dashed g =
-          let same : trace_word ≡ word = sym ((bytes_eq-Decides word trace_word).0 f) in
-          goes-on Flag (subst (λ word. turn_fault a.top [] (walk_at s false) word ≡ fault_at s Flag) same (flag-turn s))
-          (λ none. subst (λ word. walked a.top.rules [] (walk_at s false) word ≡ walk_at (stand_after s Flag) false) same (flag-walked s none))
-          (rw (e, f) refl)
-      next-told utf8 false e false f true g =
-          let none : words_of (word ∷ rest) ≡ None = rw (e, f, g) refl in
-          reading-refused (walk_at s false) word rest
-          (first-refused _ _ (dashed-refused a.top word (held_at s) refl only utf8 e f g))
-          ∙ sym (ap (option_and_then (told s)) none)
-      next-told utf8 false e false f false g =
-          goes-on (Plain word) (plain-turn s word e g) (λ none. plain-walked s word e g) (rw (e, f, g) refl)
+      module _ (s : Stand) (word : Text) (rest : List Text)
+          (on : (s : Stand) → reading (walk_at s false) rest ≡ option_and_then (told s) (words_of (flag_word name) rest)) where
+        goes-on : (sort : Word) → turn_fault a.top [] (walk_at s false) word ≡ fault_at s sort
+            → (fault_at s sort ≡ [] → walked a.top.rules [] (walk_at s false) word ≡ walk_at (stand_after s sort) false)
+            → words_of (flag_word name) (word ∷ rest) ≡ option_map (λ ws. sort ∷ ws) (words_of (flag_word name) rest)
+            → reading (walk_at s false) (word ∷ rest) ≡ option_and_then (told s) (words_of (flag_word name) (word ∷ rest))
+        goes-on sort is goes sorted =
+            reading-turn (walk_at s false) (walk_at (stand_after s sort) false) word rest (fault_at s sort) is goes
+            ∙ (ap (λ rows. if is_refusal (fault_at s sort) then None else rows) (on (stand_after s sort)) ∙ told-more s sort (words_of (flag_word name) rest))
+            ∙ sym (ap (option_and_then (told s)) sorted)
 
-    pub told-apart : (s : Stand) (words : List Text) → All IsUtf8 words →
-        reading (walk_at s false) words ≡ option_and_then (told s) (words_of words)
-    unfolding walk_fault
-    told-apart s [] utf8 = refl
-    told-apart s (word ∷ rest) utf8 =
-        next-told s word rest (λ s. told-apart s rest (All-drop IsUtf8 1 (word ∷ rest) utf8))
-        (utf8 0 word (omega arith))
-        (bytes_eq word dashes) refl (bytes_eq word trace_word) refl (is_dashed word) refl
+        next-told : IsUtf8 word → (parts : Bool) → bytes_eq word dashes ≡ parts → (flags : Bool) →
+            bytes_eq word (flag_word name) ≡ flags
+            → (dashed : Bool) → is_dashed word ≡ dashed →
+            reading (walk_at s false) (word ∷ rest) ≡ option_and_then (told s) (words_of (flag_word name) (word ∷ rest))
+        next-told utf8 true e flags f dashed g =
+            subst (λ word. reading (walk_at s false) (word ∷ rest) ≡ option_and_then (told s) (words_of (flag_word name) (word ∷ rest)))
+            (sym ((bytes_eq-Decides word dashes).0 e))
+            (parting-read s rest ∙ told-plain s rest)
+        next-told utf8 false e true f dashed g =
+            let same : (flag_word name) ≡ word = sym ((bytes_eq-Decides word (flag_word name)).0 f) in
+            goes-on Flag (subst (λ word. turn_fault a.top [] (walk_at s false) word ≡ fault_at s Flag) same (flag-turn s))
+            (λ none. subst (λ word. walked a.top.rules [] (walk_at s false) word ≡ walk_at (stand_after s Flag) false) same (flag-walked s none))
+            (rw (e, f) refl)
+        next-told utf8 false e false f true g =
+            let none : words_of (flag_word name) (word ∷ rest) ≡ None = rw (e, f, g) refl in
+            reading-refused (walk_at s false) word rest
+            (first-refused _ _ (dashed-refused name is_flag a.top word (held_at s) refl only utf8 e f g))
+            ∙ sym (ap (option_and_then (told s)) none)
+        next-told utf8 false e false f false g =
+            goes-on (Plain word) (plain-turn s word e g) (λ none. plain-walked s word e g) (rw (e, f, g) refl)
+
+      pub told-apart : (s : Stand) (words : List Text) → All IsUtf8 words →
+          reading (walk_at s false) words ≡ option_and_then (told s) (words_of (flag_word name) words)
+      unfolding walk_fault
+      told-apart s [] utf8 = refl
+      told-apart s (word ∷ rest) utf8 =
+          next-told s word rest (λ s. told-apart s rest (All-drop IsUtf8 1 (word ∷ rest) utf8))
+          (utf8 0 word (omega arith))
+          (bytes_eq word dashes) refl (bytes_eq word (flag_word name)) refl (is_dashed word) refl

@@ -7,9 +7,9 @@ use Rattle.std.proofs.lemmas.List.Elements.{All-drop}
 use Rattle.clap.specs.Walk.{Row, Text, first_of}
 use Rattle.clap.specs.Simple.{App, built, is_simple, matches_of, with_rule}
 use Rattle.clap.specs.Faults.{defaults_fault, fault_of, is_simple_and_free}
-use Rattle.command_line.specs.CommandLine.{Flag, Plain, Word, two_in, two_of, words_of}
+use Rattle.command_line.specs.CommandLine.{Flag, Plain, Word, two_in, two_of, trace_flag, words_of}
 use Rattle.command_line.specs.Parsers.{bare_command, wanted_word}
-use Rattle.command_line.proofs.WordSorts.{HasNoOtherFlag}
+use Rattle.command_line.proofs.WordSorts.{HasNoOtherFlag, trace, trace_is}
 use Rattle.command_line.proofs.Reading.{at_first, rows_unless, told, told-apart}
 
 abbrev pub files_app : Text → App
@@ -25,11 +25,11 @@ module _ (name : Text) where
   abbrev app : App
   app = built (files_app name)
 
-  only : HasNoOtherFlag app.top.rules
+  only : HasNoOtherFlag trace app.top.rules
   only = record { long = λ name e. refl; short = λ c. refl; valueless = refl; single = refl }
 
   two_told : (words : List Word) →
-      option_map both_files (told app at_first words) ≡ option_map both_given (two_in words)
+      option_map both_files (told app trace at_first words) ≡ option_map both_given (two_in words)
   unfolding defaults_fault
   two_told [] = refl
   two_told (Flag ∷ words) = refl
@@ -44,11 +44,11 @@ module _ (name : Text) where
       → option_map both_files (rows_unless (fault_of (files_app name) words) (matches_of (files_app name) words))
       ≡ option_map both_given (two_of (drop 1 words))
   two_files_read words utf8 =
-      ap (option_map both_files) (told-apart app only at_first (drop 1 words) (All-drop IsUtf8 1 words utf8))
-      ∙ go (words_of (drop 1 words))
+      ap (option_map both_files) (told-apart app trace trace_is only at_first (drop 1 words) (All-drop IsUtf8 1 words utf8))
+      ∙ go (words_of trace_flag (drop 1 words))
     where
       go : (o : Option (List Word)) →
-          option_map both_files (option_and_then (told app at_first) o) ≡ option_map both_given
+          option_map both_files (option_and_then (told app trace at_first) o) ≡ option_map both_given
           (option_and_then two_in o)
       go None = refl
       go (Some words) = two_told words

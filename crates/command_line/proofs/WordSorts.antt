@@ -1,4 +1,4 @@
--- What a walk of clap's makes of one word, where a command has no flag but `--trace`, and no subcommand.
+-- What a walk of clap's makes of one word, where a command has one flag or none, and no subcommand.
 use Rattle.std.proofs.Common.{◌≡◌, ◌∙◌, ℕ, Bool, true, false, ◌==◌, ◌&&◌, not, List, [], ◌∷◌, Option, Some, None}
 use Rattle.std.proofs.Common.{IsUtf8, codes, bytes_eq, suc, ◌+◌, length, take, arith, refl, sym, ap, subst, true≢false}
 use Rattle.std.specs.Prelude.{encode_utf8_all}
@@ -20,12 +20,28 @@ use Rattle.command_line.specs.CommandLine.{is_dashed}
 abbrev pub dashes : Text
 dashes = codes "--"
 
--- the name of the flag, and its word
+-- the word of a flag by its name
+abbrev pub flag_word : Text → Text
+flag_word flag = 45 ∷ (45 ∷ flag)
+
+-- a name that makes a word: it isn't empty, and has no `=`
+pub record IsFlag (flag : Text) : Type 0 where
+  pub apart : bytes_eq (flag_word flag) dashes ≡ false
+  pub long : long_of (flag_word flag) ≡ Some (flag, None)
+
+-- the two flags
+
 abbrev pub trace : Text
 trace = codes "trace"
 
-abbrev pub trace_word : Text
-trace_word = codes "--trace"
+pub trace_is : IsFlag trace
+trace_is = record { apart = refl; long = refl }
+
+abbrev pub cert : Text
+cert = codes "cert"
+
+pub cert_is : IsFlag cert
+cert_is = record { apart = refl; long = refl }
 
 -- some kind of error comes
 abbrev pub is_refusal : Kinds → Bool
@@ -36,11 +52,11 @@ is_refusal (kind ∷ kinds) = true
 abbrev pub is_single : Rule → Bool
 is_single a = not (is_multiple a) && not a.trailing_var_arg
 
--- the rules have no flag, or `--trace` alone, and it takes no value
-pub record HasNoOtherFlag (rules : List Rule) : Type 0 where
-  pub long : (name : Text) → bytes_eq trace name ≡ false → arg_by_long rules name ≡ None
+-- the rules have no flag, or that of this name alone, and it takes no value
+pub record HasNoOtherFlag (flag : Text) (rules : List Rule) : Type 0 where
+  pub long : (name : Text) → bytes_eq flag name ≡ false → arg_by_long rules name ≡ None
   pub short : (c : ℕ) → arg_by_short rules c ≡ None
-  pub valueless : option_map_or takes_values (arg_by_long rules trace) false ≡ false
+  pub valueless : option_map_or takes_values (arg_by_long rules flag) false ≡ false
   pub single : list_all is_single rules ≡ true
 
 -- ---- a plain word
@@ -89,11 +105,11 @@ first_char y rest utf8 none =
     ap encode_utf8_all (sym whole) ∙ encodes-chars (45 ∷ (y ∷ rest)) utf8 in
     cc
 
-short-refused : (rules : List Rule) (again : Bool) (y : ℕ) (rest : Text) (k : ℕ) (h : Held) → HasNoOtherFlag rules →
+short-refused : (flag : Text) (rules : List Rule) (again : Bool) (y : ℕ) (rest : Text) (k : ℕ) (h : Held) → HasNoOtherFlag flag rules →
     (chars (y ∷ rest) ≡ [] → ⊥)
     → is_refusal (flags_fault rules again (suc k) (y ∷ rest) 0 h) ≡ true
 unfolding flags_fault
-short-refused rules again y rest k h only some = go (chars (y ∷ rest)) refl
+short-refused flag rules again y rest k h only some = go (chars (y ∷ rest)) refl
   where
     go : (cs : List ℕ) → chars (y ∷ rest) ≡ cs → is_refusal (flags_fault rules again (suc k) (y ∷ rest) 0 h) ≡ true
     go [] e = absurd (some e)
@@ -101,30 +117,7 @@ short-refused rules again y rest k h only some = go (chars (y ∷ rest)) refl
         let no : arg_by_short rules c ≡ None = only.short c in
         rw (e, no) refl
 
--- ---- the flag
-
--- where it is taken, it is done with, and nothing waits
-pub trace-met : (rules : List Rule) (again : Bool) (position : ℕ) (h : Held) → HasNoOtherFlag rules →
-    long_fault rules again (arg_by_long rules trace) None h ≡ []
-    → word_met rules [] false idle position trace_word h
-    ≡ ((long_met rules (arg_by_long rules trace) None h).0, next idle)
-trace-met rules again position h only passes = go (arg_by_long rules trace) only.valueless passes
-  where
-    go : (o : Option Rule) → option_map_or takes_values o false ≡ false → long_fault rules again o None h ≡ []
-        → after_flag rules idle trace_word (long_met rules o None h).0 (long_met rules o None h).1
-        ≡ ((long_met rules o None h).0, next idle)
-    go None bare_command passes = cc
-    go (Some a) bare_command passes = rw bare_command refl
-
-pub trace-keeps : (rules : List Rule) (h : Held) → HasNoOtherFlag rules →
-    (long_met rules (arg_by_long rules trace) None h).0.skip ≡ h.skip
-trace-keeps rules h only = go (arg_by_long rules trace) only.valueless
-  where
-    go : (o : Option Rule) → option_map_or takes_values o false ≡ false → (long_met rules o None h).0.skip ≡ h.skip
-    go None bare_command = refl
-    go (Some a) bare_command = rw bare_command refl
-
--- ---- any other dashed word
+-- ---- words that begin with two hyphens
 
 one_more : (n : ℕ) → 1 + n ≡ suc n
 one_more n = omega arith
@@ -139,61 +132,91 @@ all_name (x ∷ xs) lacks = go (x == 61) refl (all_name xs)
     go true e rest = absurd (true≢false (rw e at lacks))
     go false e rest = rw e (ap (λ n. take n (x ∷ xs)) (one_more _) ∙ ap (λ text. x ∷ text) (rest (rw e at lacks)))
 
--- the flag with a value is refused, as is any other name
-long-refused : (rules : List Rule) (again : Bool) (text : Text) (h : Held) → HasNoOtherFlag rules →
-    bytes_eq text trace ≡ false
-    → is_refusal (long_fault rules again (arg_by_long rules (name_and_value text).0) (name_and_value text).1 h) ≡ true
-long-refused rules again text h only apart = by_name (bytes_eq trace (name_and_value text).0) refl
-  where
-    no_value : has_byte 61 text ≡ false → trace ≡ (name_and_value text).0 → ⊥
-    no_value lacks same = true≢false (sym ((bytes_eq-Decides text trace).1 (sym (same ∙ all_name text lacks))) ∙ apart)
+module _ (flag : Text) (is : IsFlag flag) where
+  -- ---- the flag
 
-    valued : (o : Option Rule) → option_map_or takes_values o false ≡ false → (t : Bool) → has_byte 61 text ≡ t
-        → trace ≡ (name_and_value text).0 → is_refusal (long_fault rules again o (name_and_value text).1 h) ≡ true
-    valued None bare_command t e same = refl
-    valued (Some a) bare_command true e same = rw (bare_command, e) refl
-    valued (Some a) bare_command false e same = absurd (no_value e same)
+  -- where it is taken, it is done with, and nothing waits
+  pub flag-met : (rules : List Rule) (again : Bool) (position : ℕ) (h : Held) → HasNoOtherFlag flag rules →
+      long_fault rules again (arg_by_long rules flag) None h ≡ []
+      → word_met rules [] false idle position (flag_word flag) h
+      ≡ ((long_met rules (arg_by_long rules flag) None h).0, next idle)
+  flag-met rules again position h only passes = rw (is.apart, is.long) (go (arg_by_long rules flag) only.valueless passes)
+    where
+      go : (o : Option Rule) → option_map_or takes_values o false ≡ false → long_fault rules again o None h ≡ []
+          → after_flag rules idle (flag_word flag) (long_met rules o None h).0 (long_met rules o None h).1
+          ≡ ((long_met rules o None h).0, next idle)
+      go None bare_command passes = cc
+      go (Some a) bare_command passes = rw bare_command refl
 
-    by_name : (t : Bool) → bytes_eq trace (name_and_value text).0 ≡ t
-        → is_refusal (long_fault rules again (arg_by_long rules (name_and_value text).0) (name_and_value text).1 h)
-        ≡ true
-    by_name false e = let none = only.long (name_and_value text).0 e in rw none refl
-    by_name true e =
-        let same : trace ≡ (name_and_value text).0 = (bytes_eq-Decides trace (name_and_value text).0).0 e in
-        subst (λ name. is_refusal (long_fault rules again (arg_by_long rules name) (name_and_value text).1 h) ≡ true)
-        same
-        (valued (arg_by_long rules trace) only.valueless (has_byte 61 text) refl same)
+  pub flag-fault : (s : Shape) (h : Held) →
+      word_fault s [] false idle (flag_word flag) h ≡ long_fault s.rules s.args_override_self (arg_by_long s.rules flag) None h
+  flag-fault s h = rw (is.apart, is.long) refl
 
--- the word is `-`, y and the rest
-long-or-short : (rules : List Rule) (again : Bool) (y : ℕ) (rest : Text) (h : Held) → h.skip ≡ 0 →
-    HasNoOtherFlag rules → IsUtf8 (45 ∷ (y ∷ rest))
-    → bytes_eq (45 ∷ (y ∷ rest)) dashes ≡ false → bytes_eq (45 ∷ (y ∷ rest)) trace_word ≡ false → (t : Bool) →
-    (y == 45) ≡ t
-    → is_refusal (flag_word_fault rules again (long_of (45 ∷ (y ∷ rest))) (45 ∷ (y ∷ rest)) h) ≡ true
-long-or-short rules again y [] h zero only utf8 apart other true second = absurd (true≢false (rw second at apart))
-long-or-short rules again y (z ∷ zs) h zero only utf8 apart other true second =
-    rw second (long-refused rules again (z ∷ zs) h only (rw second at other))
-long-or-short rules again y rest h zero only utf8 apart other false second =
-    let no_long : long_of (45 ∷ (y ∷ rest)) ≡ None = rw second refl in
-    let flags : short_of (45 ∷ (y ∷ rest)) ≡ Some (y ∷ rest) = rw second refl in
-    rw (no_long, flags, zero)
-    (short-refused rules again y rest (length rest) (record h { skip = 0 }) only (first_char y rest utf8))
+  pub flag-keeps : (rules : List Rule) (h : Held) → HasNoOtherFlag flag rules →
+      (long_met rules (arg_by_long rules flag) None h).0.skip ≡ h.skip
+  flag-keeps rules h only = go (arg_by_long rules flag) only.valueless
+    where
+      go : (o : Option Rule) → option_map_or takes_values o false ≡ false → (long_met rules o None h).0.skip ≡ h.skip
+      go None bare_command = refl
+      go (Some a) bare_command = rw bare_command refl
 
-flag-refused : (rules : List Rule) (again : Bool) (word : Text) (h : Held) → h.skip ≡ 0 → HasNoOtherFlag rules →
-    IsUtf8 word
-    → bytes_eq word dashes ≡ false → bytes_eq word trace_word ≡ false → is_dashed word ≡ true
-    → is_refusal (flag_word_fault rules again (long_of word) word h) ≡ true
-flag-refused rules again [] h zero only utf8 apart other dashed = absurd (true≢false (sym dashed))
-flag-refused rules again (x ∷ []) h zero only utf8 apart other dashed = absurd (true≢false (sym dashed))
-flag-refused rules again (x ∷ (y ∷ rest)) h zero only utf8 apart other dashed =
-    let first : x ≡ 45 = eqb-true x 45 dashed in
-    let same : 45 ∷ (y ∷ rest) ≡ x ∷ (y ∷ rest) = ap (λ n. n ∷ (y ∷ rest)) (sym first) in
-    subst (λ word. is_refusal (flag_word_fault rules again (long_of word) word h) ≡ true) same
-    (long-or-short rules again y rest h zero only (subst IsUtf8 (sym same) utf8) (ap (λ word. bytes_eq word dashes) same ∙ apart)
-    (ap (λ word. bytes_eq word trace_word) same ∙ other) (y == 45) refl)
+  -- ---- any other dashed word
 
-pub dashed-refused : (s : Shape) (word : Text) (h : Held) → h.skip ≡ 0 → HasNoOtherFlag s.rules → IsUtf8 word
-    → bytes_eq word dashes ≡ false → bytes_eq word trace_word ≡ false → is_dashed word ≡ true →
-    is_refusal (word_fault s [] false idle word h) ≡ true
-dashed-refused s word h zero only utf8 apart other dashed =
-    rw apart (flag-refused s.rules s.args_override_self word h zero only utf8 apart other dashed)
+  -- the flag with a value is refused, as is any other name
+  long-refused : (rules : List Rule) (again : Bool) (text : Text) (h : Held) → HasNoOtherFlag flag rules →
+      bytes_eq text flag ≡ false
+      → is_refusal (long_fault rules again (arg_by_long rules (name_and_value text).0) (name_and_value text).1 h) ≡ true
+  long-refused rules again text h only apart = by_name (bytes_eq flag (name_and_value text).0) refl
+    where
+      no_value : has_byte 61 text ≡ false → flag ≡ (name_and_value text).0 → ⊥
+      no_value lacks same = true≢false (sym ((bytes_eq-Decides text flag).1 (sym (same ∙ all_name text lacks))) ∙ apart)
+
+      valued : (o : Option Rule) → option_map_or takes_values o false ≡ false → (t : Bool) → has_byte 61 text ≡ t
+          → flag ≡ (name_and_value text).0 → is_refusal (long_fault rules again o (name_and_value text).1 h) ≡ true
+      valued None bare_command t e same = refl
+      valued (Some a) bare_command true e same = rw (bare_command, e) refl
+      valued (Some a) bare_command false e same = absurd (no_value e same)
+
+      by_name : (t : Bool) → bytes_eq flag (name_and_value text).0 ≡ t
+          → is_refusal (long_fault rules again (arg_by_long rules (name_and_value text).0) (name_and_value text).1 h)
+          ≡ true
+      by_name false e = let none = only.long (name_and_value text).0 e in rw none refl
+      by_name true e =
+          let same : flag ≡ (name_and_value text).0 = (bytes_eq-Decides flag (name_and_value text).0).0 e in
+          subst (λ name. is_refusal (long_fault rules again (arg_by_long rules name) (name_and_value text).1 h) ≡ true)
+          same
+          (valued (arg_by_long rules flag) only.valueless (has_byte 61 text) refl same)
+
+  -- the word is `-`, y and the rest
+  long-or-short : (rules : List Rule) (again : Bool) (y : ℕ) (rest : Text) (h : Held) → h.skip ≡ 0 →
+      HasNoOtherFlag flag rules → IsUtf8 (45 ∷ (y ∷ rest))
+      → bytes_eq (45 ∷ (y ∷ rest)) dashes ≡ false → bytes_eq (45 ∷ (y ∷ rest)) (flag_word flag) ≡ false → (t : Bool) →
+      (y == 45) ≡ t
+      → is_refusal (flag_word_fault rules again (long_of (45 ∷ (y ∷ rest))) (45 ∷ (y ∷ rest)) h) ≡ true
+  long-or-short rules again y [] h zero only utf8 apart other true second = absurd (true≢false (rw second at apart))
+  long-or-short rules again y (z ∷ zs) h zero only utf8 apart other true second =
+      rw second (long-refused rules again (z ∷ zs) h only (rw second at other))
+  long-or-short rules again y rest h zero only utf8 apart other false second =
+      let no_long : long_of (45 ∷ (y ∷ rest)) ≡ None = rw second refl in
+      let flags : short_of (45 ∷ (y ∷ rest)) ≡ Some (y ∷ rest) = rw second refl in
+      rw (no_long, flags, zero)
+      (short-refused flag rules again y rest (length rest) (record h { skip = 0 }) only (first_char y rest utf8))
+
+  flag-refused : (rules : List Rule) (again : Bool) (word : Text) (h : Held) → h.skip ≡ 0 → HasNoOtherFlag flag rules →
+      IsUtf8 word
+      → bytes_eq word dashes ≡ false → bytes_eq word (flag_word flag) ≡ false → is_dashed word ≡ true
+      → is_refusal (flag_word_fault rules again (long_of word) word h) ≡ true
+  flag-refused rules again [] h zero only utf8 apart other dashed = absurd (true≢false (sym dashed))
+  flag-refused rules again (x ∷ []) h zero only utf8 apart other dashed = absurd (true≢false (sym dashed))
+  flag-refused rules again (x ∷ (y ∷ rest)) h zero only utf8 apart other dashed =
+      let first : x ≡ 45 = eqb-true x 45 dashed in
+      let same : 45 ∷ (y ∷ rest) ≡ x ∷ (y ∷ rest) = ap (λ n. n ∷ (y ∷ rest)) (sym first) in
+      subst (λ word. is_refusal (flag_word_fault rules again (long_of word) word h) ≡ true) same
+      (long-or-short rules again y rest h zero only (subst IsUtf8 (sym same) utf8) (ap (λ word. bytes_eq word dashes) same ∙ apart)
+      (ap (λ word. bytes_eq word (flag_word flag)) same ∙ other) (y == 45) refl)
+
+  pub dashed-refused : (s : Shape) (word : Text) (h : Held) → h.skip ≡ 0 → HasNoOtherFlag flag s.rules → IsUtf8 word
+      → bytes_eq word dashes ≡ false → bytes_eq word (flag_word flag) ≡ false → is_dashed word ≡ true →
+      is_refusal (word_fault s [] false idle word h) ≡ true
+  dashed-refused s word h zero only utf8 apart other dashed =
+      rw apart (flag-refused s.rules s.args_override_self word h zero only utf8 apart other dashed)

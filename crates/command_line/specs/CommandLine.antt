@@ -1,4 +1,4 @@
--- The words of the program and what they ask for. The first word is the command. A word behind it is plain, or the flag `--trace`.
+-- The words of the program and what they ask for. The first word is the command. A word behind it is plain, or the command's flag.
 use Rattle.std.specs.Prelude.{ℕ, Bool, true, false, ◌==◌, ◌&&◌, ◌||◌, if◌then◌else◌, nat_le, List, [], ◌∷◌, length, map}
 use Rattle.std.specs.Prelude.{codes, bytes_eq, Option, Some, None, option_map, option_and_then}
 use Rattle.std.specs.Str.{all_ascii_digits}
@@ -8,7 +8,8 @@ use Rattle.std.specs.Str.Parse.{digits_value}
 pub data Command : Type 0 where
   Play : (cart script : List ℕ) (traced : Bool) → Command
   Ref : (cart script : List ℕ) → Command
-  Check : (cart : List ℕ) → Command
+  Check : (cart : List ℕ) (certified : Bool) → Command
+  Verify : (cart cert : List ℕ) → Command
   Asm : (file : List ℕ) → Command
   Dis : (file : List ℕ) → Command
   Gen : (seed : ℕ) → Command
@@ -24,30 +25,37 @@ is_dashed [] = false
 is_dashed (first ∷ []) = false
 is_dashed (first ∷ (second ∷ rest)) = first == 45
 
--- the words behind a command, where none is refused: before the first `--` each dashed word but the flag is, and behind it all are plain
-abbrev pub words_of : List (List ℕ) → Option (List Word)
-words_of [] = Some []
-words_of (word ∷ rest) =
+-- the words behind a command with a flag, where none is refused: before the first `--` each dashed word but the flag is, and behind it all are
+-- plain
+abbrev pub words_of : List ℕ → List (List ℕ) → Option (List Word)
+words_of flag [] = Some []
+words_of flag (word ∷ rest) =
     if bytes_eq word (codes "--") then Some (map Plain rest)
-    else (if bytes_eq word (codes "--trace") then option_map (λ words. Flag ∷ words) (words_of rest)
+    else (if bytes_eq word flag then option_map (λ words. Flag ∷ words) (words_of flag rest)
     else (if is_dashed word then None
-    else option_map (λ words. Plain word ∷ words) (words_of rest)))
+    else option_map (λ words. Plain word ∷ words) (words_of flag rest)))
 
--- one plain word and nothing else
+abbrev pub trace_flag : List ℕ
+trace_flag = codes "--trace"
+
+abbrev pub cert_flag : List ℕ
+cert_flag = codes "--cert"
+
+-- one plain word and nothing else, no flag either
 abbrev pub one_in : List Word → Option (List ℕ)
 one_in (Plain text ∷ []) = Some text
 one_in words = None
 
 abbrev pub one_of : List (List ℕ) → Option (List ℕ)
-one_of words = option_and_then one_in (words_of words)
+one_of words = option_and_then one_in (words_of trace_flag words)
 
--- two plain words and nothing else
+-- two plain words and nothing else, no flag either
 abbrev pub two_in : List Word → Option (List ℕ × List ℕ)
 two_in (Plain first ∷ (Plain second ∷ [])) = Some (first, second)
 two_in words = None
 
 abbrev pub two_of : List (List ℕ) → Option (List ℕ × List ℕ)
-two_of words = option_and_then two_in (words_of words)
+two_of words = option_and_then two_in (words_of trace_flag words)
 
 -- two files, with whether the flag stands among them, once, at any place
 pub record Run : Type 0 where
@@ -63,10 +71,27 @@ run_in (Plain cart ∷ (Plain script ∷ (Flag ∷ []))) = Some (record { cart =
 run_in words = None
 
 abbrev pub run_of : List (List ℕ) → Option Run
-run_of words = option_and_then run_in (words_of words)
+run_of words = option_and_then run_in (words_of trace_flag words)
 
 abbrev pub play_of : Run → Command
 play_of run = Play run.cart run.script run.traced
+
+-- one file, with whether the flag stands beside it, once, on either side
+pub record Checking : Type 0 where
+  pub cart : List ℕ
+  pub certified : Bool
+
+abbrev pub checking_in : List Word → Option Checking
+checking_in (Plain cart ∷ []) = Some (record { cart = cart; certified = false })
+checking_in (Flag ∷ (Plain cart ∷ [])) = Some (record { cart = cart; certified = true })
+checking_in (Plain cart ∷ (Flag ∷ [])) = Some (record { cart = cart; certified = true })
+checking_in words = None
+
+abbrev pub checking_of : List (List ℕ) → Option Checking
+checking_of words = option_and_then checking_in (words_of cert_flag words)
+
+abbrev pub check_of : Checking → Command
+check_of checking = Check checking.cart checking.certified
 
 -- one to ten decimal digits, with leading zeros or without, of a number below 2 ^ 32
 abbrev pub is_seed : List ℕ → Bool
@@ -82,7 +107,8 @@ seed_of text = if is_seed text then Some (digits_value 10 text) else None
 abbrev pub is_command : List ℕ → Bool
 is_command name =
     bytes_eq name (codes "play") || bytes_eq name (codes "ref") || bytes_eq name (codes "check")
-    || bytes_eq name (codes "asm") || bytes_eq name (codes "dis") || bytes_eq name (codes "gen")
+    || bytes_eq name (codes "verify") || bytes_eq name (codes "asm") || bytes_eq name (codes "dis")
+    || bytes_eq name (codes "gen")
 
 abbrev pub has_command : List (List ℕ) → Bool
 has_command [] = false
@@ -93,11 +119,12 @@ abbrev pub asked_by : List ℕ → List (List ℕ) → Option Command
 asked_by name words =
     if bytes_eq name (codes "play") then option_map play_of (run_of words)
     else (if bytes_eq name (codes "ref") then option_map (λ files. Ref files.0 files.1) (two_of words)
-    else (if bytes_eq name (codes "check") then option_map Check (one_of words)
+    else (if bytes_eq name (codes "check") then option_map check_of (checking_of words)
+    else (if bytes_eq name (codes "verify") then option_map (λ files. Verify files.0 files.1) (two_of words)
     else (if bytes_eq name (codes "asm") then option_map Asm (one_of words)
     else (if bytes_eq name (codes "dis") then option_map Dis (one_of words)
     else (if bytes_eq name (codes "gen") then option_map Gen (option_and_then seed_of (one_of words))
-    else None)))))
+    else None))))))
 
 -- what the words ask for, and nothing where they are none of the program's
 abbrev pub command_of : List (List ℕ) → Option Command

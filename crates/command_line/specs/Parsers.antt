@@ -1,5 +1,5 @@
 -- The simple commands that read the words behind each command, as clap's definitions see them.
-use Rattle.std.specs.Prelude.{true, Some, codes}
+use Rattle.std.specs.Prelude.{true, Some}
 use Rattle.clap.specs.Walk.{Rule, Text}
 use Rattle.clap.specs.Simple.{App, new_app, new_rule, on_top}
 use Rattle.clap.specs.declared.builder.action.ArgAction.TheVariants.{Set, SetTrue}
@@ -8,9 +8,9 @@ use Rattle.clap.specs.declared.builder.action.ArgAction.TheVariants.{Set, SetTru
 abbrev pub wanted_word : Text → Rule
 wanted_word id = record (new_rule id) { action = Some Set; required = true }
 
--- the flag `--trace`, which takes no value
-abbrev pub trace : Rule
-trace = record (new_rule (codes "trace")) { long = Some (codes "trace"); action = Some SetTrue }
+-- a flag by its name, which takes no value
+abbrev pub flag : Text → Rule
+flag name = record (new_rule name) { long = Some name; action = Some SetTrue }
 
 -- a command without help and version
 abbrev pub bare_command : Text → App

@@ -26,6 +26,18 @@ pub enum Command<'a> {
     Check {
         /// The description of the cartridge.
         cart: &'a str,
+
+        /// Whether the certificate is shown.
+        certified: bool,
+    },
+
+    /// The verdict on a certificate of the cartridge.
+    Verify {
+        /// The description of the cartridge.
+        cart: &'a str,
+
+        /// The certificate.
+        cert: &'a str,
     },
 
     /// The text of a program, to be assembled.

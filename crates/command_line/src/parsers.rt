@@ -1,7 +1,7 @@
 // The parts of the commands of clap's that read the words.
 ghost use Rattle.std.specs.Prelude.{◌≡◌, false};
 ghost use Rattle.clap.specs.Words.{app_of, rule_of};
-ghost use Rattle.command_line.specs.Parsers.{bare_command, trace, wanted_word};
+ghost use Rattle.command_line.specs.Parsers.{bare_command, flag, wanted_word};
 
 use clap::{Arg, ArgAction, Command};
 use std::alloc::Global;
@@ -23,12 +23,10 @@ pub fn wanted_word<'a>(alloc: Global, id: &'a str) -> Arg<'a>
     Arg::new(alloc, id).required(true).action(ArgAction::Set)
 }
 
-/// The flag `--trace`, once or not at all, with no value.
-pub fn trace(alloc: Global) -> Arg<'static>
-    ensures rule { rule_of result ≡ trace }
+/// A flag by its name, once or not at all, with no value.
+pub fn flag<'a>(alloc: Global, name: &'a str) -> Arg<'a>
+    ensures rule { rule_of result ≡ flag name.entry.now }
     ensures local { result.global ≡ false }
 {
-    Arg::new(alloc, "trace")
-        .long("trace")
-        .action(ArgAction::SetTrue)
+    Arg::new(alloc, name).long(name).action(ArgAction::SetTrue)
 }

@@ -5,7 +5,7 @@ ghost use Rattle.command_line.specs.CommandLine.{play_of, run_of};
 ghost use Rattle.command_line.specs.Seen.{seen_command};
 
 use super::asked::Command;
-use super::parsers::{bare_command, trace, wanted_word};
+use super::parsers::{bare_command, flag, wanted_word};
 use clap::Error;
 use clap::error::ErrorKind;
 use std::alloc::Global;
@@ -24,7 +24,7 @@ pub fn play<'a>(alloc: Global, words: &'a [String]) -> Result<Option<Command<'a>
         return Ok(None);
     };
     let command = bare_command(alloc, name.as_str())
-        .arg(trace(alloc))?
+        .arg(flag(alloc, "trace"))?
         .arg(wanted_word(alloc, "cart"))?
         .arg(wanted_word(alloc, "script"))?;
     let matches = command.try_get_matches_from(words)?;

@@ -5,6 +5,7 @@ ghost use Rattle.command_line.specs.CommandLine.{command_of, has_command};
 ghost use Rattle.command_line.specs.Seen.{seen_command};
 
 use super::asked::Command;
+use super::checking::check;
 use super::files::{one_word, two_files};
 use super::play::play;
 use super::seed::seed_of;
@@ -28,7 +29,8 @@ fn asked_for<'a>(alloc: Global, words: &'a [String]) -> Result<Option<Command<'a
     match name.as_str() {
         "play" => play(alloc, words),
         "ref" => Ok(two_files(alloc, words)?.map(|(cart, script)| Command::Ref { cart, script })),
-        "check" => Ok(one_word(alloc, words)?.map(|cart| Command::Check { cart })),
+        "check" => check(alloc, words),
+        "verify" => Ok(two_files(alloc, words)?.map(|(cart, cert)| Command::Verify { cart, cert })),
         "asm" => Ok(one_word(alloc, words)?.map(|file| Command::Asm { file })),
         "dis" => Ok(one_word(alloc, words)?.map(|file| Command::Dis { file })),
         "gen" => {

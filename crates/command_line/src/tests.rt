@@ -111,7 +111,6 @@ fn seeds_refused(rt: HostRuntime) -> Result<(), Fail> {
 #[test]
 fn files_alone(rt: HostRuntime) -> Result<(), Fail> {
     let lines = [
-        ("check c.toml", Command::Check { cart: "c.toml" }),
         ("asm a.asm", Command::Asm { file: "a.asm" }),
         ("asm ", Command::Asm { file: "" }),
         ("asm -- --", Command::Asm { file: "--" }),
@@ -126,6 +125,24 @@ fn files_alone(rt: HostRuntime) -> Result<(), Fail> {
 }
 
 #[test]
+fn checks(rt: HostRuntime) -> Result<(), Fail> {
+    let lines = [
+        ("check c.toml", "c.toml", false),
+        ("check --cert c.toml", "c.toml", true),
+        ("check c --cert --", "c", true),
+        ("check -- --cert", "--cert", false),
+    ];
+    for (line, cart, certified) in lines {
+        let wanted = Some(Command::Check { cart, certified });
+        assert!(rt; asks(rt.alloc(), line, wanted)?, "{line}");
+    }
+    let (cart, cert) = ("c.toml", "-");
+    let wanted = Some(Command::Verify { cart, cert });
+    assert!(rt; asks(rt.alloc(), "verify c.toml -- -", wanted)?);
+    Ok(())
+}
+
+#[test]
 fn numbers_refused(rt: HostRuntime) -> Result<(), Fail> {
     let lines = [
         "",
@@ -136,6 +153,8 @@ fn numbers_refused(rt: HostRuntime) -> Result<(), Fail> {
         "play -- a b c",
         "ref a",
         "ref a b ",
+        "check --cert",
+        "verify c",
         "asm",
         "asm --",
         "asm a b",
@@ -150,7 +169,7 @@ fn numbers_refused(rt: HostRuntime) -> Result<(), Fail> {
 }
 
 /// Lines of words that ask for nothing.
-const REFUSED: [&str; 34] = [
+const REFUSED: [&str; 39] = [
     "help",
     "--help",
     "-h",
@@ -177,6 +196,11 @@ const REFUSED: [&str; 34] = [
     "ref a b --trace",
     "ref --trace a b",
     "asm --trace a",
+    "asm --cert a",
+    "check --trace c",
+    "check --cert c --cert",
+    "check --cert=x c",
+    "verify c --cert",
     "dis a --trace",
     "play --help",
     "ref -h a b",

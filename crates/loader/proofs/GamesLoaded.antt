@@ -60,7 +60,7 @@ ordered_planned plan =
     ordered_then MOST_CHIPS (filled_up_to MOST_CHIPS plan) (λ filled. gives (finished filled))
     (ordered_up_to MOST_CHIPS plan) (λ filled. ordered_gives MOST_CHIPS (finished filled))
 
-ordered_cart : (name : List ℕ) → IsOrdered MOST_CHIPS (cart_of name)
+pub ordered_cart : (name : List ℕ) → IsOrdered MOST_CHIPS (cart_of name)
 unfolding cart_of
 ordered_cart name =
     ordered_then MOST_CHIPS (ask CartFile name 65536) (λ bytes. reads (description_of bytes) >>= planned_cart)

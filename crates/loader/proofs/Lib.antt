@@ -3,3 +3,4 @@ mod TableRead
 mod ScriptsLoaded
 mod SourcesFilled
 mod GamesLoaded
+mod ClaimsLoaded

@@ -1,5 +1,7 @@
 -- What each command wants of its files. A file is read before the next one is asked for.
 use Rattle.std.specs.Prelude.{ℕ, zero, suc, List, map, Option, Some, None}
+use Rattle.abs_domain.specs.AbstractState.{AbstractState}
+use Rattle.abs_domain.specs.declared.points.Point.{Point}
 use Rattle.chip_face.specs.declared.sizes.TheConstants.{MOST_CHIPS}
 use Rattle.cartridge.specs.Carts.{specification_of}
 use Rattle.cartridge.specs.ChipTables.{DescribedSource}
@@ -8,8 +10,8 @@ use Rattle.cartridge.specs.declared.finish.Cart.{Cart}
 use Rattle.f8_asm.specs.declared.answers.Room.{Room}
 use Rattle.f8_asm.specs.Image.{Picture, everywhere}
 use Rattle.console_spec.specs.Scripts.{Script as RunScript}
-use Rattle.loader.specs.declared.purposes.Purpose.TheVariants.{Cart as CartFile, Script, File, Source}
-use Rattle.loader.specs.Readings.{description_of, image_in, script_in, bytes_in}
+use Rattle.loader.specs.declared.purposes.Purpose.TheVariants.{Cart as CartFile, Script, Cert, File, Source}
+use Rattle.loader.specs.Readings.{description_of, image_in, script_in, notes_in, bytes_in}
 use Rattle.loader.specs.Work.{Work, gives, reads, ask, ◌>>=◌}
 
 -- ---- a cartridge
@@ -59,6 +61,21 @@ pub record Game : Type 0 where
 unfoldable pub game_of : List ℕ → List ℕ → Work Game
 game_of cart script =
     cart_of cart >>= λ cartridge. script_by script >>= λ run. gives (record { script = run; cart = cartridge })
+
+-- ---- what a certificate claims
+
+-- the invariant map of the certificate with this name, where some registers are tracked
+unfoldable pub notes_by : List ℕ → List ℕ → Work (List (Point × AbstractState))
+notes_by tracked cert = ask Cert cert 16777216 >>= λ text. reads (notes_in tracked text)
+
+-- the cartridge, and what is claimed of it
+pub record Claim : Type 0 where
+  pub cart : Cart
+  pub notes : List (Point × AbstractState)
+
+unfoldable pub claim_of : List ℕ → List ℕ → Work Claim
+claim_of cart cert =
+    cart_of cart >>= λ cartridge. notes_by cartridge.split cert >>= λ notes. gives (record { cart = cartridge; notes = notes })
 
 -- ---- one file
 

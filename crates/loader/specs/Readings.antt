@@ -3,6 +3,10 @@ use Rattle.std.specs.Prelude.{◌≡◌, ℕ, if◌then◌else◌, List, Option,
 use Rattle.std.specs.Str.{is_utf8}
 use Rattle.toml.specs.Data.{Members}
 use Rattle.toml.specs.Parse.{parse_document}
+use Rattle.abs_domain.specs.AbstractState.{AbstractState}
+use Rattle.abs_domain.specs.declared.points.Point.{Point}
+use Rattle.certificate.specs.CertificateText.{certificate_of}
+use Rattle.certificate.specs.declared.answers.CertFault.{CertFault}
 use Rattle.cartridge.specs.declared.refusal.CartFault.{CartFault}
 use Rattle.cartridge.specs.Filling.{Planned, plan_of}
 use Rattle.f8_asm.specs.declared.answers.AsmFault.{AsmFault}
@@ -17,7 +21,7 @@ use Rattle.loader.specs.declared.purposes.Purpose.TheVariants.{File}
 use Rattle.loader.specs.declared.refusals.Refusal.{Refusal}
 use Rattle.loader.specs.declared.refusals.Stop.{Stop}
 use Rattle.loader.specs.declared.refusals.Stop.TheVariants.{Refused, Store, Memory}
-use Rattle.loader.specs.declared.refusals.Refusal.TheVariants.{Document, Cart, Assembly, Script as AtScript}
+use Rattle.loader.specs.declared.refusals.Refusal.TheVariants.{Document, Cart, Assembly, Script as AtScript, Cert as AtCert}
 use Rattle.loader.specs.declared.refusals.Refusal.TheVariants.{Digits, Long}
 
 -- an answer, as it is seen, is what is read of bytes; want of memory says nothing of them
@@ -70,6 +74,16 @@ script_told (Err fault) = Err (AtScript fault)
 -- the script of a text
 unfoldable pub script_in : List ℕ → Result Script Refusal
 script_in text = script_told (script_of text)
+
+-- ---- certificates
+
+abbrev pub notes_told : Result (List (Point × AbstractState)) CertFault → Result (List (Point × AbstractState)) Refusal
+notes_told (Ok notes) = Ok notes
+notes_told (Err fault) = Err (AtCert fault)
+
+-- the invariant map of a text, where some registers are tracked
+unfoldable pub notes_in : List ℕ → List ℕ → Result (List (Point × AbstractState)) Refusal
+notes_in tracked text = notes_told (certificate_of tracked text)
 
 -- ---- digits
 

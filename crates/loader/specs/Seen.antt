@@ -1,7 +1,11 @@
--- What the program holds of a run.
+-- What the program holds of a run and of a claim.
 use Rattle.loader.specs.declared.games.Game.{Game}
 use Rattle.pad_script.specs.Reading.{seen}
-use Rattle.loader.specs.Games.{Game as AskedGame}
+use Rattle.loader.specs.declared.claims.Claim.{Claim}
+use Rattle.loader.specs.Games.{Game as AskedGame, Claim as AskedClaim}
 
 abbrev pub seen_game : Game → AskedGame
 seen_game game = record { script = seen game.script; cart = game.cart }
+
+abbrev pub seen_claim : Claim → AskedClaim
+seen_claim claim = record { cart = claim.cart; notes = claim.notes }

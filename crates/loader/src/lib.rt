@@ -2,6 +2,7 @@
 //! next is asked for, and the first that is missing, too long or refused ends it.
 #![tactic(auto)]
 
+mod claims;
 mod fetching;
 mod games;
 mod loading;
@@ -10,9 +11,10 @@ mod readings;
 mod refusals;
 mod sources;
 
+pub use claims::Claim;
 pub use f8_spec::Memory;
 pub use games::Game;
-pub use loading::{load_bytes, load_cart, load_game, load_image};
+pub use loading::{load_bytes, load_cart, load_claim, load_game, load_image};
 pub use purposes::Purpose;
 pub use refusals::{Refusal, Stop};
 

@@ -1,18 +1,21 @@
 // What each command wants of its files.
 ghost use Rattle.std.specs.Prelude.{◌≤◌, IfOk, length};
-ghost use Rattle.loader.specs.Games.{cart_of, script_by, game_of, image_by, bytes_by};
+ghost use Rattle.loader.specs.Games.{cart_of, script_by, game_of, notes_by, claim_of, image_by, bytes_by};
+ghost use Rattle.certificate.specs.CertificateLaws.{AllFit};
 ghost use Rattle.pad_script.specs.Limits.{HasLimits};
 ghost use Rattle.pad_script.specs.Reading.{seen};
-ghost use Rattle.loader.specs.Seen.{seen_game};
+ghost use Rattle.loader.specs.Seen.{seen_game, seen_claim};
 ghost use Rattle.loader.specs.Works.{Works, RefusesFrom, order_of, outcome_as};
 
+use super::claims::Claim;
 use super::fetching::fetch;
 use super::games::Game;
 use super::purposes::Purpose;
-use super::readings::{read_bytes, read_description, read_image, read_run};
+use super::readings::{read_bytes, read_description, read_image, read_notes, read_run};
 use super::refusals::Stop;
 use super::sources::{ASSEMBLY_LIMIT, load_planned};
-use cartridge::Cart;
+use abs_step::Annotation;
+use cartridge::{Cart, Split};
 use f8_asm::{Image, Room};
 use outside::Store;
 use pad_script::Script;
@@ -20,6 +23,9 @@ use std::alloc::Global;
 
 /// The most bytes of a description and of a script.
 const TEXT_LIMIT: u32 = 65_536;
+
+/// The most bytes of a certificate.
+const CERT_LIMIT: u32 = 16_777_216;
 
 /// The most bytes of a file of digits.
 const DIGITS_LIMIT: u32 = 262_144;
@@ -79,6 +85,49 @@ pub fn load_game<S: Store>(
     let cart = load_cart(alloc, store, cart)?;
     let script = load_script(alloc, store, script)?;
     Ok(Game { cart, script })
+}
+
+/// The invariant map of a certificate of a cartridge that tracks some registers.
+#[tactic(auto, using(crate::proofs::ClaimsLoaded::notes_read, crate::proofs::ClaimsLoaded::notes_stop, crate::proofs::ClaimsLoaded::notes_order))]
+fn load_notes<S: Store>(
+    alloc: Global,
+    store: &mut S,
+    split: &Split,
+    cert: &str,
+) -> Result<Annotation, Stop>
+    ensures works { Works (S.input store.old) (S.input store.new)
+        (notes_by split.now cert.now) (outcome_as (λ notes. notes) result) }
+    ensures order { RefusesFrom (order_of Purpose.Cert) result }
+    ensures fits { IfOk result (λ notes. AllFit split.now notes) }
+{
+    let text = fetch(alloc, store, Purpose::Cert, cert, CERT_LIMIT)?;
+    read_notes(alloc, split, text.as_slice())
+}
+
+/// A cartridge with what a certificate claims of it, by the names of the description and the certificate: the description, then the source of
+/// each chip that has one, and then the certificate, each of them fetched and read before the next. A certificate has at most 16,777,216 bytes.
+/// Its states fit their points.
+///
+/// # Errors
+///
+/// As those of `load_game`.
+#[tactic(auto, using(crate::proofs::ClaimsLoaded::claim_loaded, crate::proofs::ClaimsLoaded::claim_without_cart, crate::proofs::ClaimsLoaded::claim_without_notes))]
+pub fn load_claim<S: Store>(
+    alloc: Global,
+    store: &mut S,
+    cart: &str,
+    cert: &str,
+) -> Result<Claim, Stop>
+    ensures works { Works (S.input store.old) (S.input store.new)
+        (claim_of cart.now cert.now) (outcome_as seen_claim result) }
+    ensures fits { IfOk result (λ claim. AllFit claim.cart.split claim.notes) }
+{
+    let cartridge = load_cart(alloc, store, cart)?;
+    let notes = load_notes(alloc, store, &cartridge.split, cert)?;
+    Ok(Claim {
+        cart: cartridge,
+        notes,
+    })
 }
 
 /// The image of an assembly file, which may have all addresses. The file has at most 262,144 bytes.

@@ -6,6 +6,8 @@ pub enum Purpose {
     Cart,
     /// The script of a run.
     Script,
+    /// A certificate of a cartridge.
+    Cert,
     /// The one file of a command.
     File,
     /// The assembly text of a chip's bytes. Chips are counted from 0, in the order of the description.

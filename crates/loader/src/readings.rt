@@ -3,13 +3,16 @@ ghost use Rattle.std.specs.Prelude.{◌≡◌, ◌≤◌, IfOk, length};
 ghost use Rattle.toml.specs.View.{table_view};
 ghost use Rattle.cartridge.specs.Filling.{IsPlan};
 ghost use Rattle.cartridge.specs.Rooms.{LiesIn};
+ghost use Rattle.certificate.specs.CertificateLaws.{AllFit};
 ghost use Rattle.pad_script.specs.Limits.{HasLimits};
 ghost use Rattle.pad_script.specs.Reading.{seen};
-ghost use Rattle.loader.specs.Readings.{Says, bytes_in, table_of, description_of, image_in, script_in};
+ghost use Rattle.loader.specs.Readings.{Says, bytes_in, table_of, description_of, image_in, notes_in, script_in};
 
 use super::purposes::Purpose;
 use super::refusals::{Refusal, Stop};
-use cartridge::{CartAnswer, Plan, read_cart};
+use abs_step::Annotation;
+use cartridge::{CartAnswer, Plan, Split, read_cart};
+use certificate::{CertAnswer, read_cert};
 use f8_asm::{AsmAnswer, Image, Room, assemble};
 use hex_file::{HexAnswer, read_hex};
 use pad_script::{Script, ScriptAnswer, read_script};
@@ -67,6 +70,19 @@ pub fn read_run(alloc: Global, text: &[u8]) -> Result<Script, Stop>
         Ok(script) => Ok(script),
         Err(ScriptAnswer::Fault(fault)) => Err(Stop::Refused(Refusal::Script(fault))),
         Err(ScriptAnswer::Memory) => Err(Stop::Memory),
+    }
+}
+
+/// The invariant map of a certificate's text.
+#[tactic(auto, unfolding(crate::specs::Readings::notes_in))]
+pub fn read_notes(alloc: Global, split: &Split, text: &[u8]) -> Result<Annotation, Stop>
+    ensures says { Says (λ notes. notes) result (notes_in split.now text.now) }
+    ensures fits { IfOk result (λ notes. AllFit split.now notes) }
+{
+    match read_cert(alloc, text, split) {
+        Ok(notes) => Ok(notes),
+        Err(CertAnswer::Fault(fault)) => Err(Stop::Refused(Refusal::Cert(fault))),
+        Err(CertAnswer::Memory) => Err(Stop::Memory),
     }
 }
 

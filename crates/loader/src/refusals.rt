@@ -1,6 +1,7 @@
 // Why a command does not get what it wants of its files.
 use super::purposes::Purpose;
 use cartridge::CartFault;
+use certificate::CertFault;
 use f8_asm::AsmFault;
 use pad_script::ScriptFault;
 use thiserror::Error;
@@ -20,6 +21,9 @@ pub enum Refusal {
     /// The script is at fault.
     #[error("the script is at fault")]
     Script(ScriptFault),
+    /// The certificate is at fault.
+    #[error("the certificate is at fault")]
+    Cert(CertFault),
     /// The file isn't pairs of hexadecimal digits.
     #[error("the file is no hexadecimal digits")]
     Digits,

@@ -1,11 +1,12 @@
 // Each call on files in memory, on its happy path and at its refusals.
 use super::*;
+use certificate::CertCause;
 use outside::{FileList, NamedFile, SureStore};
 use pad_script::{At, Event};
 use std::alloc::Global;
 use std::test::Fail;
 
-const FILES: [(&str, &str); 4] = [
+const FILES: [(&str, &str); 5] = [
     (
         "cart",
         "format = 1\nsplit = [8, 63]\n[[chip]]\nkind = '3851'\nbase = 0x400\nports = 4\nsource = 'code'\n",
@@ -13,6 +14,7 @@ const FILES: [(&str, &str); 4] = [
     ("code", " ORG $0400\nBYTES: DB 1, 2\n"),
     ("script", "power 5A\nat 1 pulse 0\nsteps 7\n"),
     ("digits", "7 12B\t90\r\nfe"),
+    ("cert", "F8CERT 1 2\n"),
 ];
 
 fn store(alloc: Global) -> Result<SureStore, Fail> {
@@ -53,6 +55,21 @@ fn loads_a_cartridge(rt: HostRuntime) -> Result<(), Fail> {
     };
     assert_eq!(rt; cart.chips.len(), 1);
     assert_eq!(rt; cart.split.as_slice(), [8, 63].as_slice());
+    Ok(())
+}
+
+#[test]
+fn refuses_a_certificate_without_points(rt: HostRuntime) -> Result<(), Fail> {
+    let mut store = store(rt.alloc())?;
+    let Err(Stop::Refused(Refusal::Cert(fault))) = load_claim(
+        rt.alloc(),
+        &mut store,
+        "cart",
+        "cert",
+    ) else {
+        panic!(rt; "a line is missing");
+    };
+    assert_eq!(rt; (fault.line, fault.cause), (2, CertCause::End));
     Ok(())
 }
 

@@ -1,5 +1,6 @@
--- The lines of the verdict on a cartridge, as bytes. Every line ends with a line feed, and numbers are decimal.
-use Rattle.std.specs.Prelude.{ℕ, List, [], ◌∷◌, ◌++◌, codes, decimal, flat_map, length, take, Option, Some, None}
+-- The lines of the verdict on a cartridge and on a certificate, as bytes. Every line ends with a line feed, and numbers are decimal.
+use Rattle.std.specs.Prelude.{ℕ, List, [], ◌∷◌, ◌++◌, codes, decimal, flat_map, length, take, Option, Some, None, option_map}
+use Rattle.std.specs.Borrow.{Bor}
 use Rattle.f8_spec.specs.Spelling.{hex2, hex4}
 use Rattle.abs_domain.specs.declared.points.Point.{Point}
 
@@ -45,3 +46,23 @@ refused_line tracked point reason = codes "refused " ++ point_text tracked point
 -- too many points have a state
 unfoldable pub toomany_line : List ℕ
 toomany_line = codes "toomany\n"
+
+-- ---- what an examined map lacks
+
+-- the point that is lent, if there is one
+abbrev pub point_in : Option (Bor Point) → Option Point
+point_in point = option_map (λ (p : Bor Point). p.now) point
+
+-- where states come from: a point, or the start of a run
+abbrev pub origin_text : List ℕ → Option Point → List ℕ
+origin_text tracked None = codes "start"
+origin_text tracked (Some point) = point_text tracked point
+
+-- what holds at a point, by where it comes from, isn't covered
+unfoldable pub notclosed_line : List ℕ → Option Point → Point → List ℕ
+notclosed_line tracked from to =
+    codes "notclosed " ++ origin_text tracked from ++ codes " to " ++ point_text tracked to ++ codes "\n"
+
+-- a state at a point is not safe, for the reason of a number
+unfoldable pub unsafe_line : List ℕ → Point → ℕ → List ℕ
+unsafe_line tracked point reason = codes "unsafe " ++ point_text tracked point ++ codes " " ++ decimal reason ++ codes "\n"

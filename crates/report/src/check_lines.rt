@@ -1,8 +1,9 @@
-// The lines of the verdict on a cartridge.
+// The lines of the verdict on a cartridge and on a certificate.
 ghost use Rattle.std.specs.Prelude.{◌≡◌, ◌+◌, ◌≤◌, ◌++◌, List, Option, ℕ, length};
 ghost use Rattle.report.specs.CheckLines.{return_text, value_text, values_text, point_text};
 ghost use Rattle.report.specs.CheckLines.{whole_line as spelled_whole, agreed_line as spelled_agreed};
 ghost use Rattle.report.specs.CheckLines.{refused_line as spelled_refused, toomany_line as spelled_toomany};
+ghost use Rattle.report.specs.CheckLines.{origin_text, point_in, notclosed_line as spelled_notclosed, unsafe_line as spelled_unsafe};
 
 use super::line_buffer::Line;
 use abs_domain::Point;
@@ -111,5 +112,47 @@ pub fn toomany_line() -> Line
 {
     let mut line = Line::new();
     line.text(b"toomany\n");
+    line
+}
+
+/// Where states come from: a point, or the start of a run.
+fn write_origin(line: &mut Line, from: Option<&Point>, split: &Split)
+    requires { length line.old + 33 ≤ 512 }
+    ensures text { line.new ≡ line.old ++ origin_text split.now (point_in from.entry) }
+    ensures len { length line.new ≤ length line.old + 33 }
+{
+    match from {
+        Some(point) => write_point(line, point, split),
+        None => line.text(b"start"),
+    }
+}
+
+/// `notclosed`: a certificate has no state that covers what holds at the point `to`, behind the state at `from`, or at the start of a run. As
+/// many bytes of registers are told as `split` has.
+#[tactic(auto, unfolding(crate::specs::CheckLines::notclosed_line))]
+pub fn notclosed_line(from: Option<&Point>, to: &Point, split: &Split) -> Line
+    ensures { result ≡ spelled_notclosed split.now (point_in from.entry) to.now }
+{
+    let mut line = Line::new();
+    line.text(b"notclosed ");
+    write_origin(&mut line, from, split);
+    line.text(b" to ");
+    write_point(&mut line, to, split);
+    line.text(b"\n");
+    line
+}
+
+/// `unsafe`: the state of a certificate at this point isn't safe, for the reason of this number, 1 to 12. As many bytes of registers are told
+/// as `split` has.
+#[tactic(auto, unfolding(crate::specs::CheckLines::unsafe_line))]
+pub fn unsafe_line(point: &Point, split: &Split, reason: u8) -> Line
+    ensures { result ≡ spelled_unsafe split.now point.now reason }
+{
+    let mut line = Line::new();
+    line.text(b"unsafe ");
+    write_point(&mut line, point, split);
+    line.text(b" ");
+    line.small(reason);
+    line.text(b"\n");
     line
 }

@@ -11,7 +11,9 @@ mod run_lines;
 mod tests;
 mod told_lines;
 
-pub use check_lines::{agreed_line, refused_line, toomany_line, whole_line};
+pub use check_lines::{
+    agreed_line, notclosed_line, refused_line, toomany_line, unsafe_line, whole_line,
+};
 pub use console_spec::VerdictWord;
 pub use line_buffer::{LINE_ROOM, Line};
 pub use refusal_lines::{

@@ -93,6 +93,8 @@ fn checks(rt: HostRuntime) {
     let mut split = Split::new();
     let untracked = refused_line(&point, &split, 7);
     tells(&rt, &untracked, "refused 0004 ---- . 7\n");
+    let start = notclosed_line(None, &point, &split);
+    tells(&rt, &start, "notclosed start to 0004 ---- .\n");
     point.ret = Some(0x0BCD);
     point.split[0] = Some(0x0A);
     point.split[2] = Some(0xFF);
@@ -101,6 +103,17 @@ fn checks(rt: HostRuntime) {
     split.push(63);
     let tracked = refused_line(&point, &split, 255);
     tells(&rt, &tracked, "refused 0004 0BCD 0A,--,FF 255\n");
+    let reason = unsafe_line(&point, &split, 12);
+    tells(&rt, &reason, "unsafe 0004 0BCD 0A,--,FF 12\n");
+    let mut next = point;
+    next.at = 0xFFFE;
+    next.split[1] = Some(0x00);
+    let open = notclosed_line(Some(&point), &next, &split);
+    tells(
+        &rt,
+        &open,
+        "notclosed 0004 0BCD 0A,--,FF to FFFE 0BCD 0A,00,FF\n",
+    );
 }
 
 #[test]

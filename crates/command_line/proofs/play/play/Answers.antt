@@ -6,7 +6,7 @@ use Rattle.clap.specs.Simple.{app_of, is_simple, matches_of, with_rule}
 use Rattle.clap.specs.Faults.{fault_of, is_simple_and_free}
 use Rattle.clap.specs.Kinds.{HasKind}
 use Rattle.clap.specs.Matches.{found_of}
-use Rattle.clap.specs.Values.{bool_text, kind_of}
+use Rattle.clap.specs.Values.{kind_of}
 use Rattle.clap.specs.declared.error.kind.ErrorKind.TheVariants.{OutOfMemory}
 use Rattle.clap.proofs.TakesLemmas.{passed_up}
 use Rattle.clap.proofs.WalkLemmas.{first_value-rows, one_text-rows}
@@ -14,16 +14,10 @@ use Rattle.command_line.specs.CommandLine.{Play, Run, play_of, run_of}
 use Rattle.command_line.specs.Seen.{seen_command}
 use Rattle.std.specs.Borrow.{Bor}
 use Rattle.clap.specs.Walk.{Row, Text, first_of, one_of, rows_of}
-use Rattle.command_line.proofs.Parsed.{given_is, refused_is, words_utf8}
+use Rattle.command_line.proofs.WordSorts.{trace}
+use Rattle.command_line.proofs.Parsed.{flag_is, given_is, refused_is, words_utf8}
 use Rattle.command_line.proofs.PlayRun.{RunRow, run_given, run_row, play_app, play_free, play_read, play_simple}
 use Rattle.command_line.proofs.play.play.Goals as goal
-
--- what the flag's value reads as
-flag_is : (read : Bool) (text : Option Text) (traced : Bool) → text ≡ Some (bool_text traced) →
-    (text ≡ Some (codes "true") → read ≡ true)
-    → (text ≡ Some (codes "false") → read ≡ false) → read ≡ traced
-flag_is read text true is on off = on is
-flag_is read text false is on off = off is
 
 -- what the flag and the files come to, where they are those of a run
 files_are : (run : Run) (read : Bool) (cart script : Option (Bor Text)) → option_map (λ s. s.now) cart ≡ Some run.cart
@@ -38,8 +32,8 @@ files_are run read (Some a) (Some b) e f g =
 
 run_is : (asked : Option Run) (read : Bool) (cart script : Option (Bor Text)) (rows : List Row) →
     option_map run_given asked ≡ Some (run_row rows)
-    → (one_of (codes "trace") rows ≡ Some (codes "true") → read ≡ true) →
-    (one_of (codes "trace") rows ≡ Some (codes "false") → read ≡ false)
+    → (one_of trace rows ≡ Some (codes "true") → read ≡ true) →
+    (one_of trace rows ≡ Some (codes "false") → read ≡ false)
     → option_map (λ s. s.now) cart ≡ first_of (codes "cart") rows →
     option_map (λ s. s.now) script ≡ first_of (codes "script") rows
     → option_map (λ files. Play files.0.now files.1.now read) (option_zip cart script) ≡ option_map play_of asked
@@ -47,14 +41,14 @@ run_is None read cart script rows e on off f g = cc
 run_is (Some run) read cart script rows e on off f g =
     let found : run_row rows ≡ run_given run = cc in
     files_are run read cart script (f ∙ ap (λ (row : RunRow). row.1) found) (g ∙ ap (λ (row : RunRow). row.2) found)
-    (flag_is read (one_of (codes "trace") rows) run.traced (ap (λ (row : RunRow). row.0) found) on off)
+    (flag_is read (one_of trace rows) run.traced (ap (λ (row : RunRow). row.0) found) on off)
 
 pub returns-in_err-matches-clause-refused : goal.returns-in_err-matches-clause-refused
 returns-in_err-matches-clause-refused c =
     let name = c.as_str.result.now in
     let words = map string_bytes c.args.words.now in
     let flagged =
-    c.in_ok-arg.ensures.shape c.trace.ensures.local ∙ ap₂ with_rule c.bare_command.ensures c.trace.ensures.rule in
+    c.in_ok-arg.ensures.shape c.flag.ensures.local ∙ ap₂ with_rule c.bare_command.ensures c.flag.ensures.rule in
     let first =
     c.in_ok-arg-2.ensures.shape c.wanted_word.ensures.local ∙ ap₂ with_rule flagged c.wanted_word.ensures.rule in
     let app_is : app_of c.in_ok-command.command ≡ play_app name =
@@ -72,7 +66,7 @@ returns-clause-run c =
     let name = c.as_str.result.now in
     let words = map string_bytes c.args.words.now in
     let flagged =
-    c.in_ok-arg.ensures.shape c.trace.ensures.local ∙ ap₂ with_rule c.bare_command.ensures c.trace.ensures.rule in
+    c.in_ok-arg.ensures.shape c.flag.ensures.local ∙ ap₂ with_rule c.bare_command.ensures c.flag.ensures.rule in
     let first =
     c.in_ok-arg-2.ensures.shape c.wanted_word.ensures.local ∙ ap₂ with_rule flagged c.wanted_word.ensures.rule in
     let app_is : app_of c.in_ok-command.command ≡ play_app name =
@@ -84,7 +78,7 @@ returns-clause-run c =
     (c.in_ok-matches.ensures.matches (ap is_simple app_is ∙ play_simple name)).0
     ∙ ap (λ a. matches_of a words) app_is in
     let found = found_of c.in_ok-matches.matches in
-    let flag = one_text-rows found (codes "trace") in
+    let flag = one_text-rows found trace in
     let asked = run_of (drop 1 words) in
     let given = given_is run_row run_given (fault_of (play_app name) words) (matches_of (play_app name) words) asked
     (play_read name words (words_utf8 c.args.words.now)) none in

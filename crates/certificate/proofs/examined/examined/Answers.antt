@@ -1,0 +1,32 @@
+-- Nothing fails.
+use Rattle.std.proofs.Common.{◌≡◌, true, None, sym, ◌∙◌}
+use Rattle.abs_domain.specs.Joins.{is_state_below}
+use Rattle.abs_domain.specs.PointOrder.{point_cmp}
+use Rattle.abs_step.specs.MapView.{view_of}
+use Rattle.abs_step.specs.StatesAtPoints.{states_of}
+use Rattle.abs_step.specs.Successors.{start_point, start_state}
+use Rattle.abs_step.specs.CartridgeAnalysis.{analysis}
+use Rattle.certificate.specs.Examination.{covers, first_failure}
+use Rattle.certificate.proofs.Examinations.{nothing_fails}
+use Rattle.certificate.proofs.NextStates.{free_as}
+use Rattle.certificate.proofs.examined.examined.Goals as goal
+
+pub returns-then-is_fault_free : goal.returns-then-is_fault_free
+returns-then-is_fault_free c =
+    let an = analysis (view_of c.args.map.now) c.args.split.now in
+    let notes = states_of c.args.notes.now.entries in
+    let start : covers point_cmp is_state_below notes start_point start_state ≡ true =
+    rw (c.start.ensures.point, c.start.ensures.state) at (sym c.covers.ensures ∙ c.if-not-covers.false) in
+    let none : first_failure an notes notes ≡ None = sym c.first_failure.ensures ∙ c.in_default.is in
+    sym (nothing_fails an notes _ start none
+    (sym (free_as (view_of c.args.map.now) c.args.notes.now.entries) ∙ sym c.is_fault_free.ensures ∙ c.if-is_fault_free.true))
+
+pub returns-else-is_fault_free : goal.returns-else-is_fault_free
+returns-else-is_fault_free c =
+    let an = analysis (view_of c.args.map.now) c.args.split.now in
+    let notes = states_of c.args.notes.now.entries in
+    let start : covers point_cmp is_state_below notes start_point start_state ≡ true =
+    rw (c.start.ensures.point, c.start.ensures.state) at (sym c.covers.ensures ∙ c.if-not-covers.false) in
+    let none : first_failure an notes notes ≡ None = sym c.first_failure.ensures ∙ c.in_default.is in
+    sym (nothing_fails an notes _ start none
+    (sym (free_as (view_of c.args.map.now) c.args.notes.now.entries) ∙ sym c.is_fault_free.ensures ∙ c.if-is_fault_free.false))
