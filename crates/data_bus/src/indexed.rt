@@ -120,6 +120,7 @@ fn ruling_by(
 /// answers `None`.
 ///
 /// It puts no more questions than the step's allowance, and none where it answers `None`.
+#[inline(always)]
 pub fn step_known(
     rack: &mut Rack,
     probe: &mut Probe,

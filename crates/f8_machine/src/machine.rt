@@ -11,7 +11,7 @@ use super::reset::fetch_first;
 use super::wrote::done_write;
 use chip_face::{Chip, Counters, MOST_CHIPS};
 use console_spec::Regs;
-use cpu3850::{Cpu, Kept, Steps};
+use cpu3850::{Cpu, Steps};
 use data_bus::{Index, Rack};
 use f8_ops::{OWN_PORTS, RESET_PHI, Reserved};
 use probe::Probe;
@@ -64,7 +64,6 @@ impl Machine {
     ghost use Rattle.console_spec.specs.Processor.{told_regs};
     ghost use Rattle.console_spec.specs.Run.{Position, power_position};
     ghost use Rattle.cpu3850.specs.CpuSteps.{planned};
-    ghost use Rattle.cpu3850.specs.Keeping.{restored};
     ghost use Rattle.probe.specs.ProbeState.{probe_counters};
     ghost use Rattle.data_bus.specs.Questions.{AskedAtMost};
     ghost use Rattle.data_bus.specs.Racks.{NumberedZip, views};
@@ -236,24 +235,13 @@ impl Machine {
                 let wrote = done_write(code, self.phi, self.cpu.ports(), steps.as_slice());
                 Outcome::Done { wrote, steps }
             }
-            Err(unserved) => self.stop(kept, unserved, steps),
+            Err(unserved) => {
+                self.cpu.restore(kept);
+                self.mode = Mode::Stopped(unserved.to_stopped_by());
+                let Unserved { fault, long } = unserved;
+                Outcome::Fault { fault, long, steps }
+            }
         }
-    }
-
-    /// A step of the instruction held wasn't served: what its steps changed of the processor is put back, and the machine is stopped.
-    // Not inlined, so that an instruction that is done has no room for a fault.
-    #[inline(never)]
-    fn stop(&mut self, kept: Kept, unserved: Unserved, steps: Record) -> Outcome
-        ensures machine { self.new ≡ record self.old {
-          cpu = restored kept self.old.cpu;
-          mode = Mode.Stopped (StoppedBy.Fault unserved.fault unserved.long);
-        } }
-        ensures outcome { result ≡ Outcome.Fault unserved.fault unserved.long steps }
-    {
-        self.cpu.restore(kept);
-        self.mode = Mode::Stopped(unserved.to_stopped_by());
-        let Unserved { fault, long } = unserved;
-        Outcome::Fault { fault, long, steps }
     }
 
     /// A key byte from outside: at port 0 or 1 it is the processor's own, and at any other port it comes to every chip. The port then reads

@@ -64,8 +64,6 @@ impl StoppedBy {
     ghost use Rattle.f8_machine.specs.MachineState.{outcome_again};
 
     /// The outcome of an instruction on a machine that was stopped: that which stopped it, and no step.
-    // Not inlined, so that an instruction of a machine that isn't stopped has no room for a fault.
-    #[inline(never)]
     pub(crate) fn outcome(&self) -> Outcome
         ensures { result ≡ outcome_again self.now }
     {

@@ -1,12 +1,10 @@
 -- The instruction that is held is the flat machine's next one.
-use Rattle.std.proofs.Common.{◌≡◌, ℕ, ◌+◌, ◌≤◌, refl, ap, sym, subst, ◌∙◌, arith, rules}
+use Rattle.std.proofs.Common.{◌≡◌, ℕ, ◌+◌, ◌≤◌, ap, sym, subst, ◌∙◌, arith, rules}
 use Rattle.f8_spec.specs.Instructions.{decoded}
 use Rattle.console_spec.specs.Processor.{is_taken}
-use Rattle.cpu3850.specs.Keeping.{restored}
 use Rattle.f8_machine.specs.MachineState.{MachineState}
 use Rattle.f8_machine.specs.Questions.{codes_of, followed_all}
 use Rattle.f8_machine.specs.Vectoring.{clocks_of_plan}
-use Rattle.f8_machine.specs.declared.outcome.StoppedBy.TheVariants.{Fault as ByFault}
 use Rattle.f8_machine.proofs.FitMachines.{asked_from, counted_whole, tried_whole}
 use Rattle.f8_machine.proofs.Instructions.{some_of, clocks_planned, few_clocks, write_as_told, done_from, faulted_from}
 use Rattle.f8_machine.proofs.machine.Machine.carry_plan.Goals as goal
@@ -38,19 +36,18 @@ returns-in-Ok-clause-advances g c =
     }
 
 pub returns-in-Err-clause-advances : goal.returns-in-Err-clause-advances
-returns-in-Err-clause-advances g c = rw (c.stop.ensures.machine, c.stop.ensures.outcome) (record {
+returns-in-Err-clause-advances g c = record {
   refines = λ x r.
       let found = some_of (decoded c.self.inside.cpu.opcode) (rw (← c.self.view_is) at c.requires.instruction) in
       faulted_from c.args.self.now _ c.self.view_is _ found.0 x found.1 r
-      c.carry_out-carried.new.cpu (restored c.kept-kept.result c.carry_out-carried.new.cpu) c.carry_out-carried.new.probe
-      c.carry_out-carried.new.known c.kept-kept.result
-      c.in-Err.unserved.fault (ByFault c.in-Err.unserved.fault c.in-Err.unserved.long) c.in-Err.unserved.long c.carry_out-carried.new.steps
+      c.carry_out-carried.new.cpu c.restore.new.self c.carry_out-carried.new.probe c.carry_out-carried.new.known c.kept-kept.result
+      c.in-Err.unserved.fault c.to_stopped_by.result c.in-Err.unserved.long c.carry_out-carried.new.steps
       (rw c.opcode-code.ensures at c.opcode-code.type_inv)
       c.kept-kept.ensures.ranges (λ holds. c.in-Err.ensures.cut found.0 x holds)
-      c.kept-kept.ensures.kept refl c.in-Err.ensures.restorable refl;
+      c.kept-kept.ensures.kept c.restore.ensures c.in-Err.ensures.restorable c.to_stopped_by.ensures;
   clocks = search rules;
   onward = search rules;
-})
+}
 
 pub returns-in-Ok-clause-follows : goal.returns-in-Ok-clause-follows
 returns-in-Ok-clause-follows g c =
@@ -75,17 +72,17 @@ pub returns-in-Err-clause-follows : goal.returns-in-Err-clause-follows
 returns-in-Err-clause-follows g c =
     let counted = tried_whole _ c.in-Err.unserved.fault c.self.inside.index c.carry_out-carried.new.known _ _ c.new-steps.result
     c.carry_out-carried.new.steps c.new-steps.ensures c.in-Err.ensures.tried in
-    rw (c.stop.ensures.machine, c.stop.ensures.outcome) (record {
+    record {
       ran = search rules;
       reference = search rules;
       mode = search rules;
       index = counted.marks
           ∙ ap (λ (m : MachineState). followed_all (codes_of c.carry_out-carried.new.steps) m.index) c.self.view_is;
       chain = search rules;
-    })
+    }
 
 pub returns-in-Err-clause-asked : goal.returns-in-Err-clause-asked
 returns-in-Err-clause-asked g c =
     let counted = tried_whole _ c.in-Err.unserved.fault c.self.inside.index c.carry_out-carried.new.known _ _ c.new-steps.result
     c.carry_out-carried.new.steps c.new-steps.ensures c.in-Err.ensures.tried in
-    rw c.stop.ensures.outcome (asked_from c.args.self.now _ c.self.view_is _ _ _ _ counted.asked)
+    asked_from c.args.self.now _ c.self.view_is _ _ _ _ counted.asked
