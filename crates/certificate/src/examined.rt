@@ -8,7 +8,7 @@ ghost use Rattle.abs_step.specs.MapView.{view_of, chips_view};
 ghost use Rattle.abs_step.specs.Safety.{is_fault_free as spelled_freedom};
 ghost use Rattle.abs_step.specs.StepView.{invariant_at, invariant_of};
 ghost use Rattle.abs_step.specs.StatesAtPoints.{states_of};
-ghost use Rattle.abs_step.specs.Successors.{Fits};
+ghost use Rattle.abs_step.specs.Successors.{Fits, start_point, start_state};
 ghost use Rattle.abs_step.specs.CartridgeAnalysis.{analysis};
 ghost use Rattle.abs_step.specs.ReachedStates.{IsSafelyClosed, HoldsFaultFreeStates};
 ghost use Rattle.certificate.specs.CertificateLaws.{HaveSplit, AllFit};
@@ -49,6 +49,15 @@ fn covers(notes: &BTreeMap<Point, Abs>, point: &Point, state: &Abs) -> bool
         Some(upper) => state.below(upper),
         None => false,
     }
+}
+
+/// The map covers the start.
+fn covers_start(notes: &BTreeMap<Point, Abs>, split: &Split) -> bool
+    ensures { result ≡ spelled_cover point_cmp is_state_below (states_of notes.now.entries)
+        start_point start_state }
+{
+    let (point, state) = start(split);
+    covers(notes, &point, &state)
 }
 
 /// The point of the first state that isn't covered.
@@ -120,11 +129,10 @@ fn examined(notes: &BTreeMap<Point, Abs>, split: &Split, map: &Map) -> VerifyAns
     ensures { result ≡ spelled_answer (analysis (view_of map.now) split.now)
         (states_of notes.now.entries) }
 {
-    let (point, state) = start(split);
-    if !covers(notes, &point, &state) {
+    if !covers_start(notes, split) {
         return VerifyAnswer::NotClosed {
             from: None,
-            to: point,
+            to: start(split).0,
         };
     }
     if let Some(failure) = first_failure(notes, split, map) {

@@ -16,7 +16,7 @@ returns-then-is_fault_free c =
     let an = analysis (view_of c.args.map.now) c.args.split.now in
     let notes = states_of c.args.notes.now.entries in
     let start : covers point_cmp is_state_below notes start_point start_state ≡ true =
-    rw (c.start.ensures.point, c.start.ensures.state) at (sym c.covers.ensures ∙ c.if-not-covers.false) in
+    sym c.covers_start.ensures ∙ c.if-not-covers_start.false in
     let none : first_failure an notes notes ≡ None = sym c.first_failure.ensures ∙ c.in_default.is in
     sym (nothing_fails an notes _ start none
     (sym (free_as (view_of c.args.map.now) c.args.notes.now.entries) ∙ sym c.is_fault_free.ensures ∙ c.if-is_fault_free.true))
@@ -26,7 +26,7 @@ returns-else-is_fault_free c =
     let an = analysis (view_of c.args.map.now) c.args.split.now in
     let notes = states_of c.args.notes.now.entries in
     let start : covers point_cmp is_state_below notes start_point start_state ≡ true =
-    rw (c.start.ensures.point, c.start.ensures.state) at (sym c.covers.ensures ∙ c.if-not-covers.false) in
+    sym c.covers_start.ensures ∙ c.if-not-covers_start.false in
     let none : first_failure an notes notes ≡ None = sym c.first_failure.ensures ∙ c.in_default.is in
     sym (nothing_fails an notes _ start none
     (sym (free_as (view_of c.args.map.now) c.args.notes.now.entries) ∙ sym c.is_fault_free.ensures ∙ c.if-is_fault_free.false))
