@@ -1,14 +1,33 @@
 -- The breaks of a session, and which of them an instruction meets (this project's own).
-use Rattle.std.specs.Prelude.{ℕ, ◌==◌, ◌||◌, ◌&&◌, not, Bool, false, List, Option, Some, None}
+use Rattle.std.specs.Prelude.{ℕ, ◌==◌, ◌||◌, ◌&&◌, not, Bool, true, false, List, Option, Some, None}
 use Rattle.std.specs.List.{list_any, filter, enumerate_from}
 use Rattle.f8_spec.specs.ChipState.{ChipView, told_counters}
 use Rattle.f8_spec.specs.declared.bus.Counters.{Counters}
 use Rattle.f8_machine.specs.Rounds.{is_socket}
 use Rattle.f8_machine.specs.declared.heard.Heard.{Heard}
 use Rattle.chip_debug.specs.declared.breaks.Breaks.{Breaks}
+use Rattle.chip_debug.specs.declared.command.Command.{Command}
+use Rattle.chip_debug.specs.declared.command.Command.TheVariants.{Power, Keys, Pulse, Step, Run, BreakAt, BreakRomc}
+use Rattle.chip_debug.specs.declared.command.Command.TheVariants.{BreakChip, BreakApart, Clear, ShowRegs, ShowChips, Mem}
 
 abbrev pub no_breaks : Breaks
 no_breaks = record { at = None; romc = None; chip = None; apart = false }
+
+-- A second break of one kind takes the place of the first.
+abbrev pub breaks_after : Command → Breaks → Breaks
+breaks_after (BreakAt at) breaks = record breaks { at = Some at }
+breaks_after (BreakRomc romc) breaks = record breaks { romc = Some romc }
+breaks_after (BreakChip socket) breaks = record breaks { chip = Some socket }
+breaks_after BreakApart breaks = record breaks { apart = true }
+breaks_after Clear breaks = no_breaks
+breaks_after (Power fill) breaks = breaks
+breaks_after (Keys port byte) breaks = breaks
+breaks_after (Pulse chip) breaks = breaks
+breaks_after (Step count) breaks = breaks
+breaks_after (Run count) breaks = breaks
+breaks_after ShowRegs breaks = breaks
+breaks_after ShowChips breaks = breaks
+breaks_after (Mem at count) breaks = breaks
 
 -- ---- addresses, codes and sockets
 

@@ -13,7 +13,7 @@ use Rattle.chip_debug.specs.declared.command.Command.{Command}
 use Rattle.chip_debug.specs.declared.command.Command.TheVariants.{Power, Keys, Pulse, Step, Run, BreakAt, BreakRomc}
 use Rattle.chip_debug.specs.declared.command.Command.TheVariants.{BreakChip, BreakApart, Clear, ShowRegs, ShowChips, Mem}
 use Rattle.chip_debug.specs.declared.breaks.Breaks.{Breaks}
-use Rattle.chip_debug.specs.Breaks.{no_breaks, fitted}
+use Rattle.chip_debug.specs.Breaks.{breaks_after, fitted}
 use Rattle.chip_debug.specs.DebugText.{ready_line, ran_line, break_line, chip_line, probe_line, mem_line}
 use Rattle.chip_debug.specs.Scenes.{Scene, Going, started, happened, going}
 
@@ -26,18 +26,18 @@ with_breaks breaks s = record s { breaks = breaks }
 abbrev pub restarted : ℕ → Scene → Scene
 restarted fill s = started fill s.position.chain s.breaks s.chips
 
--- A second break of one kind takes the place of the first.
+-- A command that sets breaks or clears them does so whether the session has stopped or not.
 abbrev pub scene_after : Command → Scene → Scene
 scene_after (Power fill) s = restarted fill s
 scene_after (Keys port byte) s = happened (KeysEvent port byte) s
 scene_after (Pulse chip) s = happened (PulseEvent chip) s
 scene_after (Step count) s = (going false count s).scene
 scene_after (Run count) s = (going true count s).scene
-scene_after (BreakAt at) s = with_breaks (record s.breaks { at = Some at }) s
-scene_after (BreakRomc romc) s = with_breaks (record s.breaks { romc = Some romc }) s
-scene_after (BreakChip socket) s = with_breaks (record s.breaks { chip = Some socket }) s
-scene_after BreakApart s = with_breaks (record s.breaks { apart = true }) s
-scene_after Clear s = with_breaks no_breaks s
+scene_after (BreakAt at) s = with_breaks (breaks_after (BreakAt at) s.breaks) s
+scene_after (BreakRomc romc) s = with_breaks (breaks_after (BreakRomc romc) s.breaks) s
+scene_after (BreakChip socket) s = with_breaks (breaks_after (BreakChip socket) s.breaks) s
+scene_after BreakApart s = with_breaks (breaks_after BreakApart s.breaks) s
+scene_after Clear s = with_breaks (breaks_after Clear s.breaks) s
 scene_after ShowRegs s = s
 scene_after ShowChips s = s
 scene_after (Mem at count) s = s

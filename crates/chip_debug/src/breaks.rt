@@ -3,6 +3,7 @@ ghost use Rattle.std.specs.Prelude.{◌≡◌};
 ghost use Rattle.f8_machine.specs.Rounds.{is_socket};
 ghost use Rattle.chip_debug.specs.Breaks.{is_taker as is_taker_of};
 
+use super::command::Command;
 use console_spec::Who;
 use f8_machine::Heard;
 use romc_table::Romc;
@@ -40,7 +41,7 @@ pub(crate) struct Breaks {
 impl Breaks {
     ghost use Rattle.std.specs.Prelude.{◌≡◌};
     ghost use Rattle.std.specs.List.{list_any};
-    ghost use Rattle.chip_debug.specs.Breaks.{no_breaks, is_wanted, takes_part, meets_step};
+    ghost use Rattle.chip_debug.specs.Breaks.{no_breaks, breaks_after, is_wanted, takes_part, meets_step};
 
     /// No break.
     pub(crate) fn none() -> Breaks
@@ -51,6 +52,33 @@ impl Breaks {
             romc: None,
             chip: None,
             apart: false,
+        }
+    }
+
+    /// The breaks after a command that sets one, which takes the place of one of its kind, or clears all of them. Any other command leaves
+    /// them as they are.
+    pub(crate) fn after(self, command: Command) -> Breaks
+        ensures { result ≡ breaks_after command self }
+    {
+        match command {
+            Command::BreakAt { at } => Breaks {
+                at: Some(at),
+                ..self
+            },
+            Command::BreakRomc { romc } => Breaks {
+                romc: Some(romc),
+                ..self
+            },
+            Command::BreakChip { socket } => Breaks {
+                chip: Some(socket),
+                ..self
+            },
+            Command::BreakApart => Breaks {
+                apart: true,
+                ..self
+            },
+            Command::Clear => Breaks::none(),
+            _ => self,
         }
     }
 

@@ -1,5 +1,5 @@
 // A session: power-on, reset, events and instructions of a machine on its rack, one command after another.
-ghost use Rattle.std.specs.Prelude.{◌≡◌};
+ghost use Rattle.std.specs.Prelude.{◌≡◌, false, true};
 ghost use Rattle.chip_debug.specs.Standing.{halt_in};
 
 use super::breaks::Breaks;
@@ -33,6 +33,25 @@ pub(crate) enum Came {
 pub(crate) struct Ran {
     pub(crate) count: u32,
     pub(crate) broke: bool,
+}
+
+impl Ran {
+    /// So many, of which the last met a break.
+    fn met(count: u32) -> Ran
+        ensures { result ≡ record { count = count; broke = true } }
+    {
+        Ran { count, broke: true }
+    }
+
+    /// So many, and no break was met.
+    fn unmet(count: u32) -> Ran
+        ensures { result ≡ record { count = count; broke = false } }
+    {
+        Ran {
+            count,
+            broke: false,
+        }
+    }
 }
 
 /// A debugger's session on a rack of storage chips, which is lent to each call. Contracts see a `SessionState`.
@@ -89,9 +108,9 @@ impl Session {
     ghost use Rattle.rack_run.specs.Sockets.{chain_of as chain_by};
     ghost use Rattle.rack_run.specs.Texts.{Puts};
     ghost use Rattle.chip_debug.specs.Breaks.{no_breaks, meets_behind as met_behind};
-    ghost use Rattle.chip_debug.specs.Carried.{lines_of, scene_after};
+    ghost use Rattle.chip_debug.specs.Carried.{going_lines, lines_of, restarted, scene_after};
     ghost use Rattle.chip_debug.specs.Limits.{IsCommand, count_of};
-    ghost use Rattle.chip_debug.specs.Scenes.{Scene, happened, started};
+    ghost use Rattle.chip_debug.specs.Scenes.{Scene, going, happened, started};
     ghost use Rattle.chip_debug.specs.Standing.{IsAt, IsGone, IsTurned, most_done};
 
     /// A session with the chips of a cartridge on a rack of at most 16 chips that is fitted for it: power-on with the byte 00, and reset.
@@ -129,6 +148,19 @@ impl Session {
             count: 0,
             breaks,
         }
+    }
+
+    /// Power-on with this byte and reset, of the same rack with the same chips described. Breaks stay.
+    fn restart(&mut self, fill: u8, rack: &mut Rack)
+        requires few { length rack.old.items ≤ MOST_CHIPS }
+        ensures at { (scene : Scene) → IsAt self.old (map state rack.old.items) scene →
+            IsAt self.new (map state rack.new.items) (restarted fill scene) }
+        ensures fits { Fits self.new.machine (map state rack.new.items) }
+        ensures count { self.new.count ≡ 0 }
+        ensures chips { length rack.new.items ≡ length rack.old.items }
+    {
+        let chain = self.machine.chain().copy();
+        *self = Session::start(fill, chain, self.breaks, rack);
     }
 
     /// A key byte or a pulse, which changes nothing where the session has stopped.
@@ -219,32 +251,40 @@ impl Session {
         ensures chips { length rack.new.items ≡ length rack.old.items }
     {
         if self.halt.is_some() {
-            return Ran {
-                count: 0,
-                broke: false,
-            };
+            return Ran::unmet(0);
         }
         for done in 0..count {
             match self.turn(heeds, rack) {
                 Came::Done => {}
-                Came::Met => {
-                    return Ran {
-                        count: done + 1,
-                        broke: true,
-                    };
-                }
-                Came::Stopped => {
-                    return Ran {
-                        count: done,
-                        broke: false,
-                    };
-                }
+                Came::Met => return Ran::met(done + 1),
+                Came::Stopped => return Ran::unmet(done),
             }
         }
-        Ran {
-            count,
-            broke: false,
-        }
+        Ran::unmet(count)
+    }
+
+    /// So many instructions at most, and what came of them.
+    fn go_and_tell<K: Sink>(
+        &mut self,
+        count: u32,
+        heeds: bool,
+        rack: &mut Rack,
+        sink: &mut K,
+    ) -> Result<(), SinkFault>
+        requires few { length rack.old.items ≤ MOST_CHIPS }
+        requires count { self.old.count + count < 2 ^ 32 }
+        requires fits { Fits self.old.machine (map state rack.old.items) }
+        ensures carried { (scene : Scene) → IsAt self.old (map state rack.old.items) scene →
+            IsAt self.new (map state rack.new.items) (going heeds count scene).scene }
+        ensures told { (scene : Scene) → IsAt self.old (map state rack.old.items) scene →
+            Puts result (K.output sink.old) (K.output sink.new)
+            (text_of (going_lines (going heeds count scene))) }
+        ensures fits { Fits self.new.machine (map state rack.new.items) }
+        ensures count { self.new.count ≤ self.old.count + count }
+        ensures chips { length rack.new.items ≡ length rack.old.items }
+    {
+        let ran = self.go(count, heeds, rack);
+        put_going(sink, ran, &self.halt)
     }
 
     /// Carries a command out, and puts its lines, each at once.
@@ -273,8 +313,7 @@ impl Session {
     {
         match *command {
             Command::Power { fill } => {
-                let chain = self.machine.chain().copy();
-                *self = Session::start(fill, chain, self.breaks, rack);
+                self.restart(fill, rack);
                 put_start(sink, &self.halt)
             }
             Command::Keys { port, byte } => {
@@ -285,32 +324,14 @@ impl Session {
                 self.happen(Event::Pulse { chip }, rack);
                 Ok(())
             }
-            Command::Step { count } => {
-                let ran = self.go(count, false, rack);
-                put_going(sink, ran, &self.halt)
-            }
-            Command::Run { count } => {
-                let ran = self.go(count, true, rack);
-                put_going(sink, ran, &self.halt)
-            }
-            Command::BreakAt { at } => {
-                self.breaks.at = Some(at);
-                Ok(())
-            }
-            Command::BreakRomc { romc } => {
-                self.breaks.romc = Some(romc);
-                Ok(())
-            }
-            Command::BreakChip { socket } => {
-                self.breaks.chip = Some(socket);
-                Ok(())
-            }
-            Command::BreakApart => {
-                self.breaks.apart = true;
-                Ok(())
-            }
-            Command::Clear => {
-                self.breaks = Breaks::none();
+            Command::Step { count } => self.go_and_tell(count, false, rack, sink),
+            Command::Run { count } => self.go_and_tell(count, true, rack, sink),
+            Command::BreakAt { .. }
+            | Command::BreakRomc { .. }
+            | Command::BreakChip { .. }
+            | Command::BreakApart
+            | Command::Clear => {
+                self.breaks = self.breaks.after(*command);
                 Ok(())
             }
             Command::ShowRegs => put_regs(
