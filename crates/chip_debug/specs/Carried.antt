@@ -13,7 +13,9 @@ use Rattle.chip_debug.specs.declared.command.Command.{Command}
 use Rattle.chip_debug.specs.declared.command.Command.TheVariants.{Power, Keys, Pulse, Step, Run, BreakAt, BreakRomc}
 use Rattle.chip_debug.specs.declared.command.Command.TheVariants.{BreakChip, BreakApart, Clear, ShowRegs, ShowChips, Mem}
 use Rattle.chip_debug.specs.declared.breaks.Breaks.{Breaks}
-use Rattle.chip_debug.specs.Breaks.{breaks_after, fitted}
+use Rattle.chip_face.specs.declared.specification.ChipSpec.{ChipSpec}
+use Rattle.rack_run.specs.Sockets.{chain_of}
+use Rattle.chip_debug.specs.Breaks.{breaks_after, fitted, no_breaks}
 use Rattle.chip_debug.specs.DebugText.{ready_line, ran_line, break_line, chip_line, probe_line, mem_line}
 use Rattle.chip_debug.specs.Scenes.{Scene, Going, started, happened, going}
 
@@ -110,6 +112,11 @@ lines_of ShowChips s = chips_lines (probe_counters s.probe) s.position.chain s.c
 lines_of (Mem at count) s = mem_line at (bytes_held s.chips at count) ∷ []
 
 -- ---- one command after another
+
+-- the scene at which a session begins, on chips that are fitted for a description: power-on with 00 and reset, with the chain of the chips
+-- described, and no break
+abbrev pub first_scene : List ChipSpec → List ChipView → Scene
+first_scene chips vs = started 0 (chain_of chips (map (λ v. v.kind) vs)) no_breaks vs
 
 abbrev pub scene_by : List Command → Scene → Scene
 scene_by [] s = s

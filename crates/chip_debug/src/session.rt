@@ -1,5 +1,5 @@
 // A session: power-on, reset, events and instructions of a machine on its rack, one command after another.
-ghost use Rattle.std.specs.Prelude.{◌≡◌, false, true};
+ghost use Rattle.std.specs.Prelude.{◌≡◌};
 ghost use Rattle.chip_debug.specs.Standing.{halt_in};
 
 use super::breaks::Breaks;
@@ -36,21 +36,10 @@ pub(crate) struct Ran {
 }
 
 impl Ran {
-    /// So many, of which the last met a break.
-    fn met(count: u32) -> Ran
-        ensures { result ≡ record { count = count; broke = true } }
+    fn ended(count: u32, broke: bool) -> Ran
+        ensures { result ≡ record { count = count; broke = broke } }
     {
-        Ran { count, broke: true }
-    }
-
-    /// So many, and no break was met.
-    fn unmet(count: u32) -> Ran
-        ensures { result ≡ record { count = count; broke = false } }
-    {
-        Ran {
-            count,
-            broke: false,
-        }
+        Ran { count, broke }
     }
 }
 
@@ -251,16 +240,16 @@ impl Session {
         ensures chips { length rack.new.items ≡ length rack.old.items }
     {
         if self.halt.is_some() {
-            return Ran::unmet(0);
+            return Ran::ended(0, false);
         }
         for done in 0..count {
             match self.turn(heeds, rack) {
                 Came::Done => {}
-                Came::Met => return Ran::met(done + 1),
-                Came::Stopped => return Ran::unmet(done),
+                Came::Met => return Ran::ended(done + 1, true),
+                Came::Stopped => return Ran::ended(done, false),
             }
         }
-        Ran::unmet(count)
+        Ran::ended(count, false)
     }
 
     /// So many instructions at most, and what came of them.

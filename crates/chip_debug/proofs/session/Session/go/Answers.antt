@@ -13,7 +13,7 @@ returns-then-is_some-clause-gone g c = λ scene stands.
     gone_stopped c.args.heeds c.args.count scene _ _ _ stands
     (stops_as _ _ scene stands ∙ ap (λ (s : SessionState). is_some s.halt) (sym c.self.view_is) ∙ sym c.is_some.ensures
     ∙ c.if-is_some.true)
-    (ap (λ (r : Ran). r.count) c.unmet.ensures) (ap (λ (r : Ran). r.broke) c.unmet.ensures)
+    (ap (λ (r : Ran). r.count) c.ended.ensures) (ap (λ (r : Ran). r.broke) c.ended.ensures)
 
 pub loop-done-init : goal.loop-done-init
 loop-done-init g c = record {
@@ -44,7 +44,7 @@ returns-in-Met-clause-gone g c = λ scene stands.
     gone_met c.args.heeds c.args.count scene c.loop-done.done _ _ here c.loop-done-test.true
     (stops_as _ _ here.there here.at ∙ ap (λ (o : Option Halt). is_some o) c.loop-done.invariant.running)
     c.turn.result _ _ (c.turn.ensures.turned here.there here.at) _ c.in-Met.is
-    (ap (λ (r : Ran). r.count) c.met.ensures) (ap (λ (r : Ran). r.broke) c.met.ensures)
+    (ap (λ (r : Ran). r.count) c.ended-in-Met.ensures) (ap (λ (r : Ran). r.broke) c.ended-in-Met.ensures)
 
 pub returns-in-Stopped-clause-gone : goal.returns-in-Stopped-clause-gone
 returns-in-Stopped-clause-gone g c = λ scene stands.
@@ -52,10 +52,10 @@ returns-in-Stopped-clause-gone g c = λ scene stands.
     gone_stops c.args.heeds c.args.count scene c.loop-done.done _ _ here c.loop-done-test.true
     (stops_as _ _ here.there here.at ∙ ap (λ (o : Option Halt). is_some o) c.loop-done.invariant.running)
     c.turn.result _ _ (c.turn.ensures.turned here.there here.at) _ c.in-Stopped.is
-    (ap (λ (r : Ran). r.count) c.unmet-in-Stopped.ensures) (ap (λ (r : Ran). r.broke) c.unmet-in-Stopped.ensures)
+    (ap (λ (r : Ran). r.count) c.ended-in-Stopped.ensures) (ap (λ (r : Ran). r.broke) c.ended-in-Stopped.ensures)
 
 pub returns-clause-gone : goal.returns-clause-gone
 returns-clause-gone g c = λ scene stands.
     gone_all c.args.heeds c.args.count scene c.loop-done.done _ _ (c.loop-done.invariant.reached scene stands) _
-    c.loop-done-test.false (ap (λ (r : Ran). r.count) c.unmet-2.ensures)
-    (ap (λ (r : Ran). r.broke) c.unmet-2.ensures)
+    c.loop-done-test.false (ap (λ (r : Ran). r.count) c.ended-2.ensures)
+    (ap (λ (r : Ran). r.broke) c.ended-2.ensures)
