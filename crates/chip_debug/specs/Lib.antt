@@ -4,3 +4,8 @@ pub mod Numbers
 pub mod Commands
 pub mod Reading
 pub mod FirstFault
+pub mod Breaks
+pub mod DebugText
+pub mod Scenes
+pub mod Carried
+pub mod Standing

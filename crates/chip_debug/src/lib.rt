@@ -2,17 +2,23 @@
 #![tactic(auto)]
 
 mod answers;
+mod breaks;
 mod command;
 mod command_line;
 mod command_list;
 mod draft;
 mod numbers;
 mod read;
+mod session;
+mod session_lines;
+mod sockets;
+mod telling;
 
 pub use answers::{DebugAnswer, DebugCause, DebugFault};
 pub use command::Command;
 pub use command_list::CommandList;
 pub use read::read_commands;
+pub use session::Session;
 
 #[cfg(test)]
 mod tests;

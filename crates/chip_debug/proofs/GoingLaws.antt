@@ -1,0 +1,165 @@
+-- Instructions one after another, and where they lead.
+use Rattle.std.proofs.Common.{◌≡◌, ℕ, zero, suc, ◌+◌, ◌<◌, ◌≤◌, Bool, true, false, List, refl, sym, ap, subst, ◌∙◌, arith}
+use Rattle.std.proofs.Common.{zero-add, add_assoc}
+use Rattle.std.specs.Prelude.{◌&&◌, if◌then◌else◌, is_some}
+use Rattle.f8_spec.specs.ChipState.{ChipState}
+use Rattle.chip_debug.specs.declared.session.Came.{Came}
+use Rattle.chip_debug.specs.declared.session.Came.TheVariants.{Done, Met, Stopped}
+use Rattle.chip_debug.specs.declared.session.Ran.{Ran}
+use Rattle.chip_debug.specs.Scenes.{Going, Scene, and_before, going, is_met, next_steps, turned, went}
+use Rattle.chip_debug.specs.Standing.{SessionState, IsAt, IsGone, IsTurned, came_of}
+
+-- ---- one instruction more
+
+-- by whether the session has stopped, whether the instruction stops it, and whether it meets a break
+abbrev going_by : Bool → Bool → Bool → Scene → Going → Going
+going_by stopped stops met s rest =
+    if stopped then went s 0 false else if stops then went (turned s) 0 false else
+    if met then went (turned s) 1 true else and_before 1 rest
+
+going-suc : (heeds : Bool) (n : ℕ) (s : Scene) → going heeds (suc n) s
+    ≡ going_by (is_some s.stop) (is_some (turned s).stop) (heeds && is_met (next_steps s) (turned s)) s
+    (going heeds n (turned s))
+unfolding going
+going-suc heeds n s = refl
+
+going-zero : (heeds : Bool) (s : Scene) → going heeds zero s ≡ went s 0 false
+unfolding going
+going-zero heeds s = refl
+
+pub going-stopped : (heeds : Bool) (n : ℕ) (s : Scene) → is_some s.stop ≡ true → going heeds n s ≡ went s 0 false
+going-stopped heeds zero s stopped = going-zero heeds s
+going-stopped heeds (suc n) s stopped = going-suc heeds n s ∙ rw stopped refl
+
+abbrev came_by : Bool → Bool → Came
+came_by stops met = if stops then Stopped else if met then Met else Done
+
+-- where the instruction is done and meets no break that is heeded
+going-done : (heeds : Bool) (n : ℕ) (s : Scene) → is_some s.stop ≡ false → Done ≡ came_of heeds s →
+    going heeds (suc n) s ≡ and_before 1 (going heeds n (turned s))
+going-done heeds n s running is =
+    going-suc heeds n s
+    ∙ rw running (by (is_some (turned s).stop) (heeds && is_met (next_steps s) (turned s)) is)
+  where
+    by : (stops met : Bool) → Done ≡ came_by stops met →
+        going_by false stops met s (going heeds n (turned s)) ≡ and_before 1 (going heeds n (turned s))
+    by true met e = cc
+    by false true e = cc
+    by false false e = refl
+
+going-met : (heeds : Bool) (n : ℕ) (s : Scene) → is_some s.stop ≡ false → Met ≡ came_of heeds s →
+    going heeds (suc n) s ≡ went (turned s) 1 true
+going-met heeds n s running is =
+    going-suc heeds n s
+    ∙ rw running (by (is_some (turned s).stop) (heeds && is_met (next_steps s) (turned s)) is)
+  where
+    by : (stops met : Bool) → Met ≡ came_by stops met →
+        going_by false stops met s (going heeds n (turned s)) ≡ went (turned s) 1 true
+    by true met e = cc
+    by false true e = refl
+    by false false e = cc
+
+going-stops : (heeds : Bool) (n : ℕ) (s : Scene) → is_some s.stop ≡ false → Stopped ≡ came_of heeds s →
+    going heeds (suc n) s ≡ went (turned s) 0 false
+going-stops heeds n s running is =
+    going-suc heeds n s
+    ∙ rw running (by (is_some (turned s).stop) (heeds && is_met (next_steps s) (turned s)) is)
+  where
+    by : (stops met : Bool) → Stopped ≡ came_by stops met →
+        going_by false stops met s (going heeds n (turned s)) ≡ went (turned s) 0 false
+    by true met e = refl
+    by false true e = cc
+    by false false e = cc
+
+-- ---- the count
+
+before_none : (g : Going) → and_before 0 g ≡ g
+before_none g = ap (λ n. went g.scene n g.broke) (zero-add g.ran)
+
+before_then : (a b : ℕ) (g : Going) → and_before a (and_before b g) ≡ and_before (a + b) g
+before_then a b g = ap (λ n. went g.scene n g.broke) (sym (add_assoc a b g.ran))
+
+-- ---- the loop
+
+-- after so many instructions a session has come to a scene from which the others lead to where all of them do
+pub record Reached (heeds : Bool) (count : ℕ) (first : Scene) (done : ℕ) (s : SessionState)
+    (states : List ChipState) : Type 0 where
+  pub there : Scene
+  pub at : IsAt s states there
+  pub left : ℕ
+  pub all : count ≡ done + left
+  pub rest : going heeds count first ≡ and_before done (going heeds left there)
+
+pub reached_first : (heeds : Bool) (count : ℕ) (scene : Scene) (s : SessionState) (states : List ChipState) →
+    IsAt s states scene → Reached heeds count scene 0 s states
+reached_first heeds count scene s states at = record {
+  there = scene;
+  at = at;
+  left = count;
+  all = sym (zero-add count);
+  rest = sym (before_none (going heeds count scene));
+}
+
+gone_as : (heeds : Bool) (count : ℕ) (scene t : Scene) (n : ℕ) (broke : Bool) (ran : Ran) (s : SessionState)
+    (states : List ChipState) →
+    going heeds count scene ≡ went t n broke → IsAt s states t → ran.count ≡ n → ran.broke ≡ broke →
+    IsGone heeds count ran s states scene
+gone_as heeds count scene t n broke ran s states is at counted met = record {
+  at = subst (λ (g : Going). IsAt s states g.scene) (sym is) at;
+  counted = counted ∙ sym (ap (λ (g : Going). g.ran) is);
+  met = met ∙ sym (ap (λ (g : Going). g.broke) is);
+}
+
+pub gone_stopped : (heeds : Bool) (count : ℕ) (scene : Scene) (ran : Ran) (s : SessionState) (states : List ChipState) →
+    IsAt s states scene → is_some scene.stop ≡ true → ran.count ≡ 0 → ran.broke ≡ false →
+    IsGone heeds count ran s states scene
+gone_stopped heeds count scene ran s states at stopped counted met =
+    gone_as heeds count scene scene 0 false ran s states (going-stopped heeds count scene stopped) at counted met
+
+module _ (heeds : Bool) (count : ℕ) (first : Scene) (done : ℕ) (s : SessionState) (states : List ChipState)
+    (r : Reached heeds count first done s states) where
+  -- all are done
+  pub gone_all : (ran : Ran) → count ≤ done → ran.count ≡ count → ran.broke ≡ false →
+      IsGone heeds count ran s states first
+  gone_all ran past counted met =
+      let none : r.left ≡ 0 = let all = r.all in omega (arith, all) in
+      let is : going heeds count first ≡ went r.there (done + 0) false =
+      r.rest ∙ ap (λ n. and_before done (going heeds n r.there)) none ∙ ap (and_before done) (going-zero heeds r.there) in
+      let counts : ran.count ≡ done + 0 = let all = r.all in omega (arith, all, none, counted) in
+      gone_as heeds count first r.there (done + 0) false ran s states is r.at counts met
+
+  module _ (more : done < count) (running : is_some r.there.stop ≡ false) (came : Came) (after : SessionState)
+      (news : List ChipState) (turns : IsTurned heeds came after news r.there) where
+    left_more : (m : ℕ) × (r.left ≡ suc m)
+    left_more = by r.left r.all
+      where
+        by : (n : ℕ) → count ≡ done + n → (m : ℕ) × (n ≡ suc m)
+        by zero all = absurd (omega (arith, all))
+        by (suc m) all = (m, refl)
+
+    next_is : going heeds count first ≡ and_before done (going heeds (suc left_more.0) r.there)
+    next_is = r.rest ∙ ap (λ n. and_before done (going heeds n r.there)) left_more.1
+
+    pub reached_more : came ≡ Done → Reached heeds count first (done + 1) after news
+    reached_more is = record {
+      there = turned r.there;
+      at = turns.at;
+      left = left_more.0;
+      all = let all = r.all in let left = left_more.1 in omega (arith, all, left);
+      rest = next_is ∙ ap (and_before done) (going-done heeds left_more.0 r.there running (sym is ∙ turns.is))
+          ∙ before_then done 1 (going heeds left_more.0 (turned r.there));
+    }
+
+    pub gone_met : (ran : Ran) → came ≡ Met → ran.count ≡ done + 1 → ran.broke ≡ true →
+        IsGone heeds count ran after news first
+    gone_met ran is counted met =
+        gone_as heeds count first (turned r.there) (done + 1) true ran after news
+        (next_is ∙ ap (and_before done) (going-met heeds left_more.0 r.there running (sym is ∙ turns.is))) turns.at
+        counted met
+
+    pub gone_stops : (ran : Ran) → came ≡ Stopped → ran.count ≡ done → ran.broke ≡ false →
+        IsGone heeds count ran after news first
+    gone_stops ran is counted met =
+        gone_as heeds count first (turned r.there) (done + 0) false ran after news
+        (next_is ∙ ap (and_before done) (going-stops heeds left_more.0 r.there running (sym is ∙ turns.is))) turns.at
+        (omega (arith, counted)) met

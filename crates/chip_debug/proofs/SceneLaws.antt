@@ -1,0 +1,92 @@
+-- A session is at the scene to which reset or an instruction led.
+use Rattle.std.proofs.Common.{◌≡◌, ℕ, List, refl, sym, ap₂, subst, ◌∙◌}
+use Rattle.std.specs.Prelude.{Some, None}
+use Rattle.f8_spec.specs.ChipState.{ChipState}
+use Rattle.console_spec.specs.BusTrace.{Course}
+use Rattle.console_spec.specs.Run.{Position, Turn, Goes, Stops}
+use Rattle.data_bus.specs.Racks.{views}
+use Rattle.f8_machine.specs.Advancing.{Follows}
+use Rattle.f8_machine.specs.HeardSteps.{HaveBytes}
+use Rattle.f8_machine.specs.MachineState.{MachineState, probe_after_steps, steps_in}
+use Rattle.f8_machine.specs.Refinement.{Represents}
+use Rattle.f8_machine.specs.Rounds.{Runs, after_steps}
+use Rattle.f8_machine.specs.declared.outcome.Outcome.{Outcome}
+use Rattle.rack_run.specs.Endings.{stop_of}
+use Rattle.rack_run.specs.Machines.{machine_readout}
+use Rattle.rack_run.specs.Turns.{readout_of}
+use Rattle.rack_run.specs.declared.ending.Halt.{Halt}
+use Rattle.chip_debug.specs.declared.breaks.Breaks.{Breaks}
+use Rattle.chip_debug.specs.Scenes.{Scene, chips_after, hearing, led_by, served_steps}
+use Rattle.chip_debug.specs.Standing.{SessionState, IsAt, IsReady}
+use Rattle.chip_debug.proofs.KeptChips.{runs_keeps}
+use Rattle.chip_debug.proofs.KeptRacks.{views_by, ready_stays}
+
+-- the machine and the rack have what a scene says of the chain, the probe and the chips
+pub record Shows (m : MachineState) (states : List ChipState) (scene : Scene) : Type 0 where
+  pub chain : m.chain ≡ scene.position.chain
+  pub probe : m.probe ≡ scene.probe
+  pub chips : views states ≡ scene.chips
+  pub ready : IsReady states
+
+-- so it is where a session is at the scene
+pub shows_at : (s : SessionState) (states : List ChipState) (scene : Scene) → IsAt s states scene →
+    Shows s.machine states scene
+shows_at s states scene at = record { chain = at.chain; probe = at.probe; chips = at.chips; ready = at.ready }
+
+-- after bus steps
+pub shows_heard : (outcome : Outcome) (m after : MachineState) (olds news : List ChipState) (scene : Scene)
+    (course : Course) →
+    Shows m olds scene → Follows outcome m after olds news → HaveBytes (steps_in outcome) →
+    steps_in outcome ≡ served_steps course → Shows after news (hearing (served_steps course) scene)
+shows_heard outcome m after olds news scene course shows follows bytes heard = record {
+  chain = follows.chain ∙ shows.chain;
+  probe = follows.reference ∙ ap₂ probe_after_steps heard shows.probe;
+  chips = views_by (Runs (steps_in outcome)) (λ k v. after_steps k (steps_in outcome) v) (λ k a b ran. ran.view) 0 olds news follows.ran
+      ∙ ap₂ chips_after heard shows.chips;
+  ready = ready_stays (Runs (steps_in outcome)) (runs_keeps (steps_in outcome) bytes) olds news follows.ran shows.ready;
+}
+
+-- the flat machine goes on
+pub goes_at : (m : MachineState) (states : List ChipState) (scene : Scene) (turn : Turn) (y : Position) (count : ℕ)
+    (breaks : Breaks) →
+    turn ≡ Goes y → Shows m states scene → scene.stop ≡ None → Represents m states y → count ≡ y.flat.state.count →
+    breaks ≡ scene.breaks →
+    IsAt (record { machine = m; halt = None; count = count; breaks = breaks }) states (led_by turn scene)
+goes_at m states scene turn y count breaks goes shows running represents counts same =
+    let went : IsAt (record { machine = m; halt = None; count = count; breaks = breaks }) states (led_by (Goes y) scene) =
+    record {
+      machine = rw running represents;
+      chain = represents.stands.chain;
+      probe = shows.probe;
+      chips = shows.chips;
+      stop = sym running;
+      count = counts;
+      breaks = same;
+      ready = shows.ready;
+    } in
+    subst (λ (t : Turn). IsAt (record { machine = m; halt = None; count = count; breaks = breaks }) states (led_by t scene))
+    (sym goes) went
+
+-- or the session stops
+pub stops_at : (m : MachineState) (states : List ChipState) (scene : Scene) (turn : Turn) (halt : Halt) (count : ℕ)
+    (breaks : Breaks) →
+    turn ≡ Stops (stop_of halt) → Shows m states scene → machine_readout m ≡ readout_of scene.position.flat.state →
+    count ≡ scene.position.flat.state.count →
+    breaks ≡ scene.breaks →
+    IsAt (record { machine = m; halt = Some halt; count = count; breaks = breaks }) states (led_by turn scene)
+stops_at m states scene turn halt count breaks stops shows reads counts same =
+    let stopped : IsAt (record { machine = m; halt = Some halt; count = count; breaks = breaks }) states
+    (led_by (Stops (stop_of halt)) scene) =
+    record {
+      machine = reads;
+      chain = shows.chain;
+      probe = shows.probe;
+      chips = shows.chips;
+      stop = refl;
+      count = counts;
+      breaks = same;
+      ready = shows.ready;
+    } in
+    subst
+    (λ (t : Turn). IsAt (record { machine = m; halt = Some halt; count = count; breaks = breaks }) states (led_by t scene))
+    (sym stops) stopped

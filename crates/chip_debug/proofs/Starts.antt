@@ -1,0 +1,124 @@
+-- Power-on and reset lead to the first scene.
+use Rattle.std.proofs.Common.{◌≡◌, ℕ, ◌<◌, false, List, [], map, sym, ap, subst, ◌∙◌, lit<}
+use Rattle.std.specs.Prelude.{Option, Some, None}
+use Rattle.f8_spec.specs.ChipState.{ChipView, ChipState, powered}
+use Rattle.f8_spec.specs.MicroSteps.{Opcode}
+use Rattle.f8_spec.specs.BusArbitration.{Verdict, Served, Conflict, Undriven, Astray}
+use Rattle.console_spec.specs.AddressSpace.{byte_at}
+use Rattle.console_spec.specs.BusTrace.{course_by, course_of}
+use Rattle.console_spec.specs.CounterCopies.{Copy, power_start}
+use Rattle.console_spec.specs.Processor.{Flow}
+use Rattle.console_spec.specs.Run.{Position, Goes, goes_unless, position_after_reset}
+use Rattle.console_spec.specs.Run.{reset_access, reset_course, reset_fault, reset_gets}
+use Rattle.console_spec.specs.Services.{Fault, access_verdict}
+use Rattle.data_bus.specs.Racks.{views}
+use Rattle.data_bus.specs.declared.index.Index.{Index}
+use Rattle.f8_machine.specs.Advancing.{Follows}
+use Rattle.f8_machine.specs.HeardSteps.{HaveBytes}
+use Rattle.f8_machine.specs.MachineState.{MachineState, powered_machine, steps_in}
+use Rattle.f8_machine.specs.Refinement.{IsPowered, ResetRefines}
+use Rattle.f8_machine.specs.Rounds.{PowersInSocket, RackPowers}
+use Rattle.f8_machine.specs.declared.outcome.Outcome.{Outcome}
+use Rattle.f8_machine.specs.declared.outcome.Outcome.TheVariants.{Done, Fault as FaultOutcome, Reserved}
+use Rattle.rack_run.proofs.MachineTurns.{reads_kept}
+use Rattle.rack_run.proofs.Outcomes.{reset_heard}
+use Rattle.rack_run.proofs.PlayLaws.{powered_reads}
+use Rattle.rack_run.specs.declared.ending.Halt.TheVariants.{Fault as FaultHalt}
+use Rattle.chip_debug.specs.declared.breaks.Breaks.{Breaks}
+use Rattle.chip_debug.specs.Scenes.{Scene, hearing, powered_scene, reset_of, served_steps, started}
+use Rattle.chip_debug.specs.Standing.{SessionState, IsAt, IsReady, halt_in}
+use Rattle.f8_spec.specs.BusArbitration.{seat_of}
+use Rattle.cpu3850.specs.OwnWrites.{LeaveOwnPorts}
+use Rattle.f8_machine.specs.Refinement.{AreWhole}
+use Rattle.chip_debug.specs.Carried.{restarted}
+use Rattle.chip_debug.proofs.KeptChips.{powers_keeps}
+use Rattle.chip_debug.proofs.KeptRacks.{views_by, ready_stays}
+use Rattle.chip_debug.proofs.SceneLaws.{Shows, shows_heard, goes_at, stops_at}
+
+-- ---- the bytes of reset's steps
+
+fetched_bytes : (memory : List ℕ) (c : Flow) (copies : List Copy) (romc : ℕ) (v : Verdict) → byte_at memory 0 < 256 →
+    HaveBytes (served_steps (course_by (reset_gets memory) (record { romc = romc; long = false; source = Opcode }) v
+    (course_of (reset_gets memory) c copies [] [])))
+fetched_bytes memory c copies romc (Served socket) small = (small, tt)
+fetched_bytes memory c copies romc (Conflict parties) small = tt
+fetched_bytes memory c copies romc (Undriven at) small = tt
+fetched_bytes memory c copies romc (Astray socket at reference) small = tt
+
+reset_bytes : (x : Position) → byte_at x.flat.memory 0 < 256 → HaveBytes (served_steps (reset_course x))
+reset_bytes x small = (
+  lit< tt,
+  (
+    lit< tt,
+    fetched_bytes x.flat.memory x.flat.state.flow x.copies 0x00
+        (access_verdict x.flat.state.flow x.copies reset_access) small,
+  ),
+)
+
+-- ---- power-on
+
+-- the scene shows what power-on makes of the machine and of the chips
+pub powered_shows : (fill : ℕ) (chain : List ℕ) (index : Index) (breaks : Breaks) (m : MachineState)
+    (olds news : List ChipState) →
+    fill < 256 → m ≡ powered_machine fill chain index → RackPowers fill olds news → IsReady olds →
+    Shows m news (powered_scene fill chain breaks (views olds))
+powered_shows fill chain index breaks m olds news small is powers ready = record {
+  chain = ap (λ (n : MachineState). n.chain) is;
+  probe = ap (λ (n : MachineState). n.probe) is;
+  chips = views_by (PowersInSocket fill) (λ k v. powered fill (power_start fill k) v) (λ k a b is. is.view) 0 olds news powers;
+  ready = ready_stays (PowersInSocket fill) (powers_keeps fill small) olds news powers ready;
+}
+
+-- ---- reset
+
+-- reset doesn't count
+goes_none : (fault : Option Fault) (x y : Position) → goes_unless fault (position_after_reset x) ≡ Goes y →
+    x.flat.state.count ≡ y.flat.state.count
+goes_none None x y e =
+    let same : position_after_reset x ≡ y = cc in
+    ap (λ (z : Position). z.flat.state.count) same
+goes_none (Some fault) x y e = cc
+
+module _ (scene : Scene) (m after : MachineState) (mids news : List ChipState) (breaks : Breaks)
+    (shows : Shows m mids scene) (running : scene.stop ≡ None) (none : 0 ≡ scene.position.flat.state.count)
+    (same : breaks ≡ scene.breaks) (begins : IsPowered m mids scene.position) where
+  reset_by : (outcome : Outcome) → Follows outcome m after mids news →
+      ResetRefines outcome m after news scene.position →
+      Shows after news (hearing (served_steps (reset_course scene.position)) scene) →
+      IsAt (record { machine = after; halt = halt_in outcome; count = 0; breaks = breaks }) news (reset_of scene)
+  reset_by (Done wrote steps) follows done heard =
+      goes_at after news (hearing (served_steps (reset_course scene.position)) scene)
+      (goes_unless (reset_fault scene.position) (position_after_reset scene.position)) done.after 0 breaks done.turns heard
+      running done.represents
+      (none ∙ goes_none (reset_fault scene.position) scene.position done.after done.turns) same
+  reset_by (FaultOutcome fault long steps) follows faulted heard =
+      stops_at after news (hearing (served_steps (reset_course scene.position)) scene)
+      (goes_unless (reset_fault scene.position) (position_after_reset scene.position)) (FaultHalt fault) 0 breaks
+      faulted.turns heard
+      (reads_kept m after (ap (λ (n : MachineState). n.flow) faulted.kept) (ap (λ (n : MachineState). n.cpu) faulted.kept)
+      (ap (λ (n : MachineState). n.phi) faulted.kept) ∙ powered_reads m mids scene.position begins)
+      none same
+  reset_by (Reserved at code) follows refines heard = absurd refines
+
+  pub reset_at : (outcome : Outcome) → Follows outcome m after mids news →
+      ResetRefines outcome m after news scene.position →
+      IsAt (record { machine = after; halt = halt_in outcome; count = 0; breaks = breaks }) news (reset_of scene)
+  reset_at outcome follows refines =
+      let heard = reset_heard outcome m after news scene.position refines in
+      let bytes : HaveBytes (steps_in outcome) =
+      subst (λ hs. HaveBytes hs) (sym heard) (reset_bytes scene.position (begins.stands.holds.memory.bytes 0)) in
+      reset_by outcome follows refines
+      (shows_heard outcome m after mids news scene (reset_course scene.position) shows follows bytes heard)
+
+-- ---- again
+
+-- power-on and reset of a session at a scene, with the chain and the breaks that it has
+pub restarted_at : (s : SessionState) (olds : List ChipState) (scene : Scene) (fill : ℕ) (chain : List ℕ) (breaks : Breaks)
+    (after : SessionState) (news : List ChipState) → IsAt s olds scene → chain ≡ s.machine.chain → breaks ≡ s.breaks →
+    (AreWhole olds → LeaveOwnPorts (map seat_of (views olds)) → IsAt after news (started fill chain breaks (views olds))) →
+    IsAt after news (restarted fill scene)
+restarted_at s olds scene fill chain breaks after news at same_chain same_breaks starts =
+    subst (λ (vs : List ChipView). IsAt after news (started fill scene.position.chain scene.breaks vs)) at.chips
+    (subst (λ (b : Breaks). IsAt after news (started fill scene.position.chain b (views olds))) (same_breaks ∙ at.breaks)
+    (subst (λ (l : List ℕ). IsAt after news (started fill l breaks (views olds))) (same_chain ∙ at.chain)
+    (starts at.ready.whole at.ready.free)))

@@ -1,0 +1,87 @@
+-- Sessions worked out by hand, computed from the definitions.
+use Rattle.std.proofs.Common.{◌≡◌, ℕ, false, List, [], ◌∷◌, ◌++◌, codes, map, replicate, None, refl}
+use Rattle.std.specs.Fmt.{digits}
+use Rattle.f8_spec.specs.ChipState.{ChipState, blank_view}
+use Rattle.f8_spec.specs.Instructions.{decoded}
+use Rattle.f8_spec.specs.ShiftTimer.{steps_to_expiry}
+use Rattle.f8_spec.specs.declared.chips.ChipKind.TheVariants as kind
+use Rattle.f8_spec.specs.declared.chips.PageSort.TheVariants.{Ram}
+use Rattle.chip_face.specs.declared.specification.ChipSpec.{ChipSpec}
+use Rattle.chip_face.specs.declared.specification.ChipSpec.TheVariants.{Psu, Smi}
+use Rattle.console_spec.specs.FlatMemory.{first_memory}
+use Rattle.console_spec.specs.FlatStep.{chosen_at}
+use Rattle.console_spec.specs.Processor.{own_inputs, effect}
+use Rattle.console_spec.specs.RunText.{stop_line, fault_line}
+use Rattle.rack_run.specs.Seating.{fitted_views, kinds_of}
+use Rattle.rack_run.specs.Sockets.{chain_of}
+use Rattle.chip_debug.specs.declared.command.Command.TheVariants.{Step, Run}
+use Rattle.chip_debug.specs.declared.command.Command.TheVariants.{BreakApart, ShowChips, Mem}
+use Rattle.chip_debug.specs.Breaks.{no_breaks}
+use Rattle.chip_debug.specs.Carried.{told_by}
+use Rattle.chip_debug.specs.DebugText.{ran_line, break_line, chip_line, probe_line, mem_line}
+use Rattle.chip_debug.specs.Scenes.{Scene, going, started}
+
+-- ---- racks
+
+-- twelve sockets for 3851s and two for 3853s
+abbrev own_rack : List ChipState
+own_rack = map (λ kind. record { view = blank_view kind; heard_steps = None; patch = None }) (replicate 12 kind.Psu ++ replicate 2 kind.Smi)
+
+-- power-on with this byte and reset of a description's chips
+abbrev first_scene : ℕ → List ChipSpec → Scene
+first_scene fill chips = started fill (chain_of chips (kinds_of own_rack)) no_breaks (fitted_views chips own_rack)
+
+-- a 3851 at 0 with these bytes
+abbrev psu_with : List ℕ → ℕ → ChipSpec
+psu_with bytes more = Psu 0 (bytes ++ replicate more 255) 4 0 false
+
+-- a 3853 with one page of RAM, from 2800 on
+abbrev ram : ChipSpec
+ram = Smi (record { number = 0x28; sort = Ram } ∷ []) [] false
+
+-- ---- DCI 5, XDC and LM, by which a 3851 reads at its own data counter, which isn't the probe's
+
+abbrev parting : Scene
+parting = first_scene 0 (psu_with (0x2A ∷ 0x00 ∷ 0x05 ∷ 0x2C ∷ 0x16 ∷ []) 1019 ∷ [])
+
+breaks_where_counters_part : told_by (BreakApart ∷ Run 9 ∷ Step 1 ∷ Mem 0 5 ∷ []) parting
+    ≡ codes "ran 2\n"
+    ∷ codes "break\n"
+    ∷ codes "ran 0\n"
+    ∷ codes "stop astray romc 02 socket 0 at 0005 reference 0000\n"
+    ∷ codes "mem 0000 2A 00 05 2C 16\n"
+    ∷ []
+unfolding digits going ran_line break_line mem_line stop_line fault_line own_inputs chosen_at steps_to_expiry effect decoded first_memory
+breaks_where_counters_part = refl
+
+-- ---- with a 3853: four instructions, and the counters of the two chips
+
+abbrev two_kinds : Scene
+two_kinds =
+    first_scene 0
+    (psu_with (0x2A ∷ 0x28 ∷ 0x00 ∷ 0x2C ∷ 0x2A ∷ 0x00 ∷ 0x10 ∷ 0x2C ∷ 0x16 ∷ []) 1015 ∷ ram ∷ [])
+
+shows_chips : told_by (Step 4 ∷ ShowChips ∷ []) two_kinds
+    ≡ codes "ran 4\n"
+    ∷ codes "chip 0 3851 PC0=0009 PC1=0000 DC0=0010\n"
+    ∷ codes "chip 12 3853 PC0=0009 PC1=000C DC0=2800 DC1=0010\n"
+    ∷ codes "probe PC0=0009 PC1=0000 DC0=2800 DC1=0010\n"
+    ∷ []
+unfolding digits going ran_line chip_line probe_line own_inputs chosen_at steps_to_expiry effect decoded first_memory
+shows_chips = refl
+
+-- ---- JMP to JMP at the end of the chip, whose third byte nobody holds: the chips have heard the served steps, and the registers are those
+-- before the instruction
+
+abbrev cut_jump : Scene
+cut_jump =
+    first_scene 0 (Psu 0 (0x29 ∷ 0x03 ∷ 0xFE ∷ replicate 1019 255 ++ 0x29 ∷ 0x08 ∷ []) 4 0 false ∷ [])
+
+after_a_cut_jump : told_by (Step 9 ∷ ShowChips ∷ []) cut_jump
+    ≡ codes "ran 1\n"
+    ∷ codes "stop undriven romc 0C at 0400\n"
+    ∷ codes "chip 0 3851 PC0=0400 PC1=0000 DC0=0000\n"
+    ∷ codes "probe PC0=0400 PC1=0000 DC0=0000 DC1=0000\n"
+    ∷ []
+unfolding digits going ran_line chip_line probe_line stop_line fault_line own_inputs chosen_at steps_to_expiry effect decoded first_memory
+after_a_cut_jump = refl

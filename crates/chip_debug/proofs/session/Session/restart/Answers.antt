@@ -1,0 +1,14 @@
+-- Power-on and reset once more.
+use Rattle.std.proofs.Common.{◌∙◌, ap, map, sym, subst}
+use Rattle.chip_debug.specs.Carried.{restarted}
+use Rattle.chip_debug.specs.Standing.{SessionState, IsAt}
+use Rattle.chip_debug.proofs.Starts.{restarted_at}
+use Rattle.chip_debug.proofs.session.Session.restart.Goals as goal
+
+pub returns-clause-at : goal.returns-clause-at
+returns-clause-at g c = λ scene stands.
+    let news = map (λ b. (goal.Chip-dyn g (b.vtable, b.value)).state b.value) c.start.new.rack.items in
+    let again = restarted_at _ _ scene c.args.fill c.copy-chain.result c.self.inside.breaks c.start.result _ stands
+    (c.copy-chain.ensures ∙ c.chain.ensures ∙ ap (λ (s : SessionState). s.machine.chain) c.self.view_is)
+    (ap (λ (s : SessionState). s.breaks) c.self.view_is) c.start.ensures.at in
+    subst (λ (s : SessionState). IsAt s news (restarted c.args.fill scene)) (sym c.self-2.view_is) again
