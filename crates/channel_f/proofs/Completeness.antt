@@ -9,7 +9,7 @@ use Rattle.console_spec.specs.RunText.{text_of}
 use Rattle.outside.specs.Counts.{Rose}
 use Rattle.outside.specs.SinkRules.{Adds}
 use Rattle.outside.specs.StoreRules.{NamedBytes, Input}
-use Rattle.command_line.specs.CommandLine.{Command, Play, Check, Verify, Ref, Asm, Dis, Gen}
+use Rattle.command_line.specs.CommandLine.{Command, Play, Check, Verify, Ref, Debug, Asm, Dis, Gen}
 use Rattle.console_spec.specs.Telling.{Telling}
 use Rattle.console_spec.specs.declared.VerdictWord.{VerdictWord}
 use Rattle.cart_checker.specs.Verdicts.{verdict_word}
@@ -21,13 +21,15 @@ use Rattle.certificate.specs.declared.examined.VerifyAnswer.TheVariants as found
 use Rattle.loader.specs.declared.refusals.Refusal.{Refusal}
 use Rattle.loader.specs.declared.refusals.Stop.{Stop}
 use Rattle.loader.specs.declared.refusals.Stop.TheVariants.{Refused, Store, Memory}
-use Rattle.loader.specs.Games.{Game, game_of, cart_of, claim_of, image_by, bytes_by}
+use Rattle.chip_face.specs.declared.specification.ChipSpec.{ChipSpec}
+use Rattle.loader.specs.declared.games.Debugging.{Debugging}
+use Rattle.loader.specs.Games.{Game, game_of, cart_of, claim_of, debugging_of, image_by, bytes_by}
 use Rattle.loader.specs.Work.{End, Gives, Refuses, Lacks, Work, gives, ◌>>=◌}
 use Rattle.loader.specs.Works.{HasFiles, Misses, order_of, file_of, Works, outcome_as}
 use Rattle.loader.proofs.WorkLaws.{works_gives, works_done, works_stop}
 use Rattle.channel_f.specs.Answers.{Answer, Due, Plain, Judged, refusal, status_of, run_answer, judged_run, game_run, ref_run}
 use Rattle.channel_f.specs.Answers.{unless_refused, game_due, generated_game, gen_due, play_due, check_answer, check_due}
-use Rattle.channel_f.specs.Answers.{cert_answer, found_answer, verify_answer}
+use Rattle.channel_f.specs.Answers.{debug_answer, debug_due, cert_answer, found_answer, verify_answer}
 use Rattle.channel_f.specs.Answers.{ref_answer, asm_answer, dis_answer, words_answer, due_of, refusal_answer}
 use Rattle.channel_f.specs.Commands.{Around, Ends, Says}
 use Rattle.channel_f.specs.Completeness.{due_at, Answered, AnsweredDue, RefusesBehind, RefusesRack, IsComplete}
@@ -97,9 +99,9 @@ five_not_six said five six = cc
 
 -- what is due with 2 is the refusal of a rack
 record RackRefuses (rack : List ChipState) (due : Answer) : Type 0 where
-  game : Game
+  chips : List ChipSpec
   line : List ℕ
-  is : refusal game rack ≡ Some line
+  is : refusal chips rack ≡ Some line
   lines : due.lines ≡ line ∷ []
 
 -- What is due came to an answer, whose status is none of those.
@@ -157,7 +159,7 @@ module _ (old new : Around) (said : ℕ) (work : Work Due) where
           let refuses = here.of_rack (sym is ∙ two) in
           let whole = ends.whole (λ five. plain.sink (sym is ∙ five)) (λ six. plain.memory (sym is ∙ six)) in
           record {
-            game = refuses.game;
+            chips = refuses.chips;
             line = refuses.line;
             due = refuses.is;
             lines = subst (λ (ls : List (List ℕ)). Adds old.output new.output (text_of ls)) refuses.lines whole;
@@ -368,19 +370,24 @@ run_ordinary : (rack : List ChipState) (manner : Manner) (word : VerdictWord) (r
     IsOrdinary rack (run_answer manner word run)
 run_ordinary rack manner word run = stop_ordinary rack run.ending.stop _
 
--- a game is refused, or its run is told
-unless_ordinary : (rack : List ChipState) (game : Game) (line : Option (List ℕ)) (due : Due) → refusal game rack ≡ line →
-    AreOrdinary rack due → AreOrdinary rack (unless_refused line due)
-unless_ordinary rack game None due is ordinary = ordinary
-unless_ordinary rack game (Some line) due is ordinary = record {
+-- chips are refused, or what is due of them is told
+unless_ordinary : (rack : List ChipState) (chips : List ChipSpec) (line : Option (List ℕ)) (due : Due) →
+    refusal chips rack ≡ line → AreOrdinary rack due → AreOrdinary rack (unless_refused line due)
+unless_ordinary rack chips None due is ordinary = ordinary
+unless_ordinary rack chips (Some line) due is ordinary = record {
   plain = record { store = λ e. cc; sink = λ e. cc; memory = λ e. cc };
-  of_rack = λ two. record { game = game; line = line; is = is; lines = refl };
+  of_rack = λ two. record { chips = chips; line = line; is = is; lines = refl };
 }
 
 game_ordinary : (manner : Manner) (rack : List ChipState) (game : Game) → AreOrdinary rack (game_due manner rack game)
 game_ordinary manner rack game =
-    unless_ordinary rack game (refusal game rack) (judged_run manner game (game_run manner game rack)) refl
+    unless_ordinary rack game.cart.chips (refusal game.cart.chips rack) (judged_run manner game (game_run manner game rack)) refl
     (λ verdict. run_ordinary rack manner (verdict_word verdict) (game_run manner game rack))
+
+debug_ordinary : (rack : List ChipState) (asked : Debugging) → AreOrdinary rack (debug_due rack asked)
+debug_ordinary rack asked =
+    unless_ordinary rack asked.cart.chips (refusal asked.cart.chips rack) (Plain (debug_answer asked rack)) refl
+    (zero_ordinary rack _)
 
 check_ordinary : (rack : List ChipState) (tracked : List ℕ) (verdict : Verdict) → IsOrdinary rack (check_answer tracked verdict)
 check_ordinary rack tracked (FaultFree notes) = zero_ordinary rack _
@@ -421,6 +428,9 @@ completed old new said (Some (Verify cart cert)) says =
 completed old new said (Some (Ref cart script)) says =
     complete_of old new said (game_of cart script) (λ game. Plain (ref_answer game)) says.told.outcome
     (λ game. stop_ordinary old.rack (ref_run game).ending.stop _) says.told.works says.told.ends
+completed old new said (Some (Debug cart commands)) says =
+    complete_of old new said (debugging_of cart commands) (debug_due old.rack) says.outcome (debug_ordinary old.rack)
+    says.works says.ends
 completed old new said (Some (Asm file)) says =
     complete_of old new said (image_by file) (λ picture. Plain (asm_answer picture)) says.told.outcome
     (λ picture. zero_ordinary old.rack _) says.told.works says.told.ends

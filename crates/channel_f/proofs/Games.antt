@@ -312,7 +312,7 @@ unless_wanting None now manner game rack =
 
 pub game_wanting : (now : Output) (manner : Manner) (game : Game) (rack : List ChipState) →
     PlaysGame now now 6 manner game rack rack
-game_wanting now manner game rack = unless_wanting (refusal game rack) now manner game rack
+game_wanting now manner game rack = unless_wanting (refusal game.cart.chips rack) now manner game rack
 
 -- ---- a run on the flat instruction set alone
 

@@ -5,18 +5,20 @@ use Rattle.std.specs.Prelude.{◌||◌, if◌then◌else◌, IsTrue, bytes_eq, c
 use Rattle.outside.specs.SinkRules.{Output}
 use Rattle.outside.specs.StoreRules.{Input}
 use Rattle.outside.proofs.SinkLaws.{adds_none}
-use Rattle.command_line.specs.CommandLine.{Command, Play, Check, Verify, Ref, Asm, Dis, Gen, command_of, has_command}
+use Rattle.command_line.specs.CommandLine.{Command, Play, Check, Verify, Ref, Debug, Asm, Dis, Gen, command_of, has_command}
 use Rattle.command_line.specs.CommandLine.{one_of, two_of, run_of, play_of, checking_of, check_of, seed_of}
 use Rattle.loader.specs.declared.refusals.Stop.{Stop}
 use Rattle.loader.specs.declared.refusals.Stop.TheVariants.{Memory}
-use Rattle.loader.specs.Games.{Game, game_of, cart_of, claim_of, image_by, bytes_by}
+use Rattle.loader.specs.declared.games.Debugging.{Debugging}
+use Rattle.loader.specs.Games.{Game, game_of, cart_of, claim_of, debugging_of, image_by, bytes_by}
 use Rattle.loader.specs.Work.{Work}
 use Rattle.loader.specs.Works.{Works}
 use Rattle.loader.proofs.WorkLaws.{works_memory}
 use Rattle.channel_f.specs.Answers.{Due, Plain, generated_game, gen_due, play_due, check_due, ref_answer, asm_answer, dis_answer}
-use Rattle.channel_f.specs.Answers.{verify_answer, words_answer}
-use Rattle.channel_f.specs.Commands.{Around, Told, Tells, TellsGame, Says}
+use Rattle.channel_f.specs.Answers.{debug_due, verify_answer, words_answer}
+use Rattle.channel_f.specs.Commands.{Around, Told, Tells, TellsDebugging, TellsGame, Says}
 use Rattle.channel_f.specs.RackAfter.{PlaysGame, RackAfter}
+use Rattle.channel_f.specs.RackDebugged.{RackDebugged}
 use Rattle.channel_f.specs.Reports.{Answers, AnswersDue, Reports, Stops}
 use Rattle.channel_f.specs.SafeGames.{KeepsVerdict}
 use Rattle.channel_f.specs.declared.manner.Manner.TheVariants.{Whole, Summary}
@@ -45,6 +47,17 @@ module _ (old new : Around) (said : ℕ) where
   tells_no_game traced work stop works stops same =
       record { outcome = Err stop; works = works; ends = stops; chips = same; safe = tt }
 
+  pub tells_debugging : (work : Work Debugging) (asked : Debugging) → Works old.input new.input work (Ok asked) →
+      AnswersDue old.output new.output said (debug_due old.rack asked) →
+      RackDebugged said (Ok asked) old.rack new.rack → TellsDebugging old new said work
+  tells_debugging work asked works answers chips =
+      record { outcome = Ok asked; works = works; ends = answers; chips = chips }
+
+  pub tells_no_debugging : (work : Work Debugging) (stop : Stop) → Works old.input new.input work (Err stop) →
+      Stops old.output new.output said stop → new.rack ≡ old.rack → TellsDebugging old new said work
+  tells_no_debugging work stop works stops same =
+      record { outcome = Err stop; works = works; ends = stops; chips = same }
+
   -- ---- all commands
 
   pub says_play : (traced : Bool) (cart script : List ℕ) (command : Option Command) →
@@ -66,6 +79,10 @@ module _ (old new : Around) (said : ℕ) where
       Told old.output new.output old.input new.input said (game_of cart script) (λ game. Plain (ref_answer game)) →
       new.rack ≡ old.rack → Says old new said command
   says_ref cart script command is told same = rw (← is) (record { told = told; same = same })
+
+  pub says_debug : (cart commands : List ℕ) (command : Option Command) → Some (Debug cart commands) ≡ command →
+      TellsDebugging old new said (debugging_of cart commands) → Says old new said command
+  says_debug cart commands command is tells = rw (← is) tells
 
   pub says_asm : (file : List ℕ) (command : Option Command) → Some (Asm file) ≡ command →
       Told old.output new.output old.input new.input said (image_by file) (λ picture. Plain (asm_answer picture)) →
@@ -109,6 +126,9 @@ module _ (now : Around) where
   says_wanting (Some (Check cart certified)) = tells_wanting (cart_of cart) (check_due certified)
   says_wanting (Some (Verify cart cert)) = tells_wanting (claim_of cart cert) (λ claim. Plain (verify_answer claim))
   says_wanting (Some (Ref cart script)) = tells_wanting (game_of cart script) (λ game. Plain (ref_answer game))
+  says_wanting (Some (Debug cart commands)) =
+      tells_no_debugging now now 6 (debugging_of cart commands) Memory
+      (works_memory now.input (debugging_of cart commands)) wanting refl
   says_wanting (Some (Asm file)) = tells_wanting (image_by file) (λ picture. Plain (asm_answer picture))
   says_wanting (Some (Dis file)) = tells_wanting (bytes_by file) (λ bytes. Plain (dis_answer bytes))
   says_wanting (Some (Gen seed)) = record {
@@ -121,28 +141,31 @@ module _ (now : Around) where
 
 -- ---- words without a command
 
-named_by : (a b c d e f h : Bool) (play ref check verify asm dis gen : Option Command) (command : Command) →
+named_by : (a b c d e f h i : Bool) (play ref debug check verify asm dis gen : Option Command) (command : Command) →
     Some command ≡
-    (if a then play else (if b then ref else (if c then check else (if d then verify else (if e then asm
-    else (if f then dis else (if h then gen else None))))))) →
-    IsTrue (a || b || c || d || e || f || h)
-named_by true b c d e f h play ref check verify asm dis gen command is = refl
-named_by false true c d e f h play ref check verify asm dis gen command is = refl
-named_by false false true d e f h play ref check verify asm dis gen command is = refl
-named_by false false false true e f h play ref check verify asm dis gen command is = refl
-named_by false false false false true f h play ref check verify asm dis gen command is = refl
-named_by false false false false false true h play ref check verify asm dis gen command is = refl
-named_by false false false false false false true play ref check verify asm dis gen command is = refl
-named_by false false false false false false false play ref check verify asm dis gen command is = cc is
+    (if a then play else (if b then ref else (if c then debug else (if d then check else (if e then verify else (if f then asm
+    else (if h then dis else (if i then gen else None)))))))) →
+    IsTrue (a || b || c || d || e || f || h || i)
+named_by true b c d e f h i play ref debug check verify asm dis gen command is = refl
+named_by false true c d e f h i play ref debug check verify asm dis gen command is = refl
+named_by false false true d e f h i play ref debug check verify asm dis gen command is = refl
+named_by false false false true e f h i play ref debug check verify asm dis gen command is = refl
+named_by false false false false true f h i play ref debug check verify asm dis gen command is = refl
+named_by false false false false false true h i play ref debug check verify asm dis gen command is = refl
+named_by false false false false false false true i play ref debug check verify asm dis gen command is = refl
+named_by false false false false false false false true play ref debug check verify asm dis gen command is = refl
+named_by false false false false false false false false play ref debug check verify asm dis gen command is = cc is
 
 -- what asks for something begins with the word of a command
 pub command_named : (words : List (List ℕ)) (command : Command) → Some command ≡ command_of words →
     IsTrue (has_command words)
 command_named [] command is = cc is
 command_named (name ∷ rest) command is =
-    named_by (bytes_eq name (codes "play")) (bytes_eq name (codes "ref")) (bytes_eq name (codes "check"))
+    named_by (bytes_eq name (codes "play")) (bytes_eq name (codes "ref")) (bytes_eq name (codes "debug"))
+    (bytes_eq name (codes "check"))
     (bytes_eq name (codes "verify")) (bytes_eq name (codes "asm")) (bytes_eq name (codes "dis")) (bytes_eq name (codes "gen"))
-    (option_map play_of (run_of rest)) (option_map (λ files. Ref files.0 files.1) (two_of rest)) (option_map check_of (checking_of rest))
+    (option_map play_of (run_of rest)) (option_map (λ files. Ref files.0 files.1) (two_of rest))
+    (option_map (λ files. Debug files.0 files.1) (two_of rest)) (option_map check_of (checking_of rest))
     (option_map (λ files. Verify files.0 files.1) (two_of rest)) (option_map Asm (one_of rest)) (option_map Dis (one_of rest))
     (option_map Gen (option_and_then seed_of (one_of rest))) command is
 

@@ -29,13 +29,13 @@ no_shortage : (many : Bool) (line : List ℕ) (found : Option Shortage) →
 no_shortage true line found e = absurd (cc e)
 no_shortage false line found e = no_line found e
 
-has_sockets : (game : Game) (rack : List ChipState) → refusal game rack ≡ None → shortage_of game.cart.chips (kinds_of rack) ≡ None
+has_sockets : (game : Game) (rack : List ChipState) → refusal game.cart.chips rack ≡ None → shortage_of game.cart.chips (kinds_of rack) ≡ None
 unfolding refusal
 has_sockets game rack e = no_shortage (nat_lt MOST_CHIPS (length rack)) (rack_line (length rack)) (shortage_of game.cart.chips (kinds_of rack)) e
 
 module _ (law : SafeRunLaw) (said : ℕ) (manner : Manner) (game : Game) (rack : List ChipState) (script : HasScriptBytes game.script)
     (bytes : TellsBytes (chips_view game.cart.chips)) where
-  as_described : refusal game rack ≡ None → HasNoPatches game.cart.chips rack → IsAsDescribed game.cart.chips rack game.script
+  as_described : refusal game.cart.chips rack ≡ None → HasNoPatches game.cart.chips rack → IsAsDescribed game.cart.chips rack game.script
   as_described fits patches = record {
     bytes = bytes;
     enough = has_sockets game rack fits;

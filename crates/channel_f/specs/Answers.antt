@@ -25,10 +25,14 @@ use Rattle.certificate.specs.declared.examined.VerifyAnswer.TheVariants as found
 use Rattle.f8_asm.specs.Image.{Picture}
 use Rattle.f8_asm.specs.Listing.{listing}
 use Rattle.asm_lines.specs.ImageLines.{image_lines}
-use Rattle.command_line.specs.CommandLine.{Command, Play, Check, Verify, Ref, Asm, Dis, Gen}
+use Rattle.chip_face.specs.declared.specification.ChipSpec.{ChipSpec}
+use Rattle.chip_debug.specs.Carried.{first_scene, told_by}
+use Rattle.chip_debug.specs.Scenes.{Scene}
+use Rattle.command_line.specs.CommandLine.{Command, Play, Check, Verify, Ref, Debug, Asm, Dis, Gen}
 use Rattle.loader.specs.declared.purposes.Purpose.{Purpose}
 use Rattle.loader.specs.declared.refusals.Refusal.{Refusal}
-use Rattle.loader.specs.Games.{Game, Claim, game_of, cart_of, claim_of, image_by, bytes_by}
+use Rattle.loader.specs.declared.games.Debugging.{Debugging}
+use Rattle.loader.specs.Games.{Game, Claim, game_of, cart_of, claim_of, debugging_of, image_by, bytes_by}
 use Rattle.loader.specs.Work.{Work, gives, ◌>>=◌}
 use Rattle.channel_f.specs.Manners.{run_by, lines_by}
 use Rattle.channel_f.specs.Refusals.{refusal_line, missing_line}
@@ -51,11 +55,11 @@ pub data Due : Type 0 where
 abbrev pub shortage_line : Shortage → List ℕ
 shortage_line s = sockets_line s.kind s.need s.have
 
--- the line of why a game is not begun on a rack, if it is not
-unfoldable pub refusal : Game → List ChipState → Option (List ℕ)
-refusal game rack =
+-- the line of why the chips of a description are not seated on a rack, if they are not
+unfoldable pub refusal : List ChipSpec → List ChipState → Option (List ℕ)
+refusal chips rack =
     if nat_lt MOST_CHIPS (length rack) then Some (rack_line (length rack))
-    else option_map shortage_line (shortage_of game.cart.chips (kinds_of rack))
+    else option_map shortage_line (shortage_of chips (kinds_of rack))
 
 -- ---- runs
 
@@ -88,10 +92,21 @@ judged_run manner game run = Judged game.cart (λ verdict. run_answer manner (ve
 
 -- a game that the rack has no place for is refused
 abbrev pub game_due : Manner → List ChipState → Game → Due
-game_due manner rack game = unless_refused (refusal game rack) (judged_run manner game (game_run manner game rack))
+game_due manner rack game = unless_refused (refusal game.cart.chips rack) (judged_run manner game (game_run manner game rack))
 
 abbrev pub play_due : Bool → List ChipState → Game → Due
 play_due traced rack game = game_due (Whole traced) rack game
+
+-- the scene at which a session of the debugger begins, on the chips of a rack that are fitted for the cartridge
+abbrev pub debug_scene : Cart → List ChipState → Scene
+debug_scene cart rack = first_scene cart.chips (fitted_views cart.chips rack)
+
+-- 0 once all commands are done, whatever stopped the session
+abbrev pub debug_answer : Debugging → List ChipState → Answer
+debug_answer asked rack = record { status = 0; lines = told_by asked.commands (debug_scene asked.cart rack) }
+
+abbrev pub debug_due : List ChipState → Debugging → Due
+debug_due rack asked = unless_refused (refusal asked.cart.chips rack) (Plain (debug_answer asked rack))
 
 -- the generated cartridge has no register that is tracked, and runs for 60 frames, without keys and shown frames
 abbrev pub generated_game : ℕ → Game
@@ -162,6 +177,7 @@ due_of rack (Some (Play cart script traced)) =
 due_of rack (Some (Check cart certified)) = cart_of cart >>= λ cartridge. gives (check_due certified cartridge)
 due_of rack (Some (Verify cart cert)) = claim_of cart cert >>= λ claim. gives (Plain (verify_answer claim))
 due_of rack (Some (Ref cart script)) = game_of cart script >>= λ game. gives (Plain (ref_answer game))
+due_of rack (Some (Debug cart commands)) = debugging_of cart commands >>= λ asked. gives (debug_due rack asked)
 due_of rack (Some (Asm file)) = image_by file >>= λ picture. gives (Plain (asm_answer picture))
 due_of rack (Some (Dis file)) = bytes_by file >>= λ bytes. gives (Plain (dis_answer bytes))
 due_of rack (Some (Gen seed)) = gives (gen_due rack seed)

@@ -3,14 +3,16 @@ use Rattle.std.specs.Prelude.{◌≡◌, ℕ, Bool, List, Option, Some, None, Re
 use Rattle.f8_spec.specs.ChipState.{ChipState}
 use Rattle.outside.specs.SinkRules.{Output}
 use Rattle.outside.specs.StoreRules.{Input}
-use Rattle.command_line.specs.CommandLine.{Command, Play, Check, Verify, Ref, Asm, Dis, Gen}
+use Rattle.command_line.specs.CommandLine.{Command, Play, Check, Verify, Ref, Debug, Asm, Dis, Gen}
 use Rattle.loader.specs.declared.refusals.Stop.{Stop}
-use Rattle.loader.specs.Games.{Game, game_of, cart_of, claim_of, image_by, bytes_by}
+use Rattle.loader.specs.declared.games.Debugging.{Debugging}
+use Rattle.loader.specs.Games.{Game, game_of, cart_of, claim_of, debugging_of, image_by, bytes_by}
 use Rattle.loader.specs.Work.{Work}
 use Rattle.loader.specs.Works.{Works, outcome_as}
 use Rattle.channel_f.specs.Answers.{Due, Plain, generated_game, gen_due, play_due, check_due, ref_answer, asm_answer, dis_answer}
-use Rattle.channel_f.specs.Answers.{verify_answer, words_answer}
+use Rattle.channel_f.specs.Answers.{debug_due, verify_answer, words_answer}
 use Rattle.channel_f.specs.RackAfter.{PlaysGame, RackAfter}
+use Rattle.channel_f.specs.RackDebugged.{RackDebugged}
 use Rattle.channel_f.specs.Reports.{Answers, AnswersDue, Stops}
 use Rattle.channel_f.specs.SafeGames.{KeepsVerdict, IsSafeRun}
 use Rattle.channel_f.specs.declared.manner.Manner.TheVariants.{Whole, Summary}
@@ -48,6 +50,13 @@ pub record TellsGame (old new : Around) (said : ℕ) (traced : Bool) (work : Wor
   pub chips : RackAfter old.output new.output said (Whole traced) outcome old.rack new.rack
   pub safe : IsSafeRun said (Whole traced) outcome old.rack
 
+-- a command that carries the commands that the files gave out on the rack
+pub record TellsDebugging (old new : Around) (said : ℕ) (work : Work Debugging) : Type 0 where
+  pub outcome : Result Debugging Stop
+  pub works : Works old.input new.input work outcome
+  pub ends : Ends old.output new.output said (outcome_as (debug_due old.rack) outcome)
+  pub chips : RackDebugged said outcome old.rack new.rack
+
 -- a command that plays the generated game on the rack, and asks for no file
 pub record TellsGenerated (old new : Around) (said : ℕ) (seed : ℕ) : Type 0 where
   pub answers : AnswersDue old.output new.output said (gen_due old.rack seed)
@@ -66,6 +75,7 @@ Says old new said (Some (Play cart script traced)) = TellsGame old new said trac
 Says old new said (Some (Check cart certified)) = Tells old new said (cart_of cart) (check_due certified)
 Says old new said (Some (Verify cart cert)) = Tells old new said (claim_of cart cert) (λ claim. Plain (verify_answer claim))
 Says old new said (Some (Ref cart script)) = Tells old new said (game_of cart script) (λ game. Plain (ref_answer game))
+Says old new said (Some (Debug cart commands)) = TellsDebugging old new said (debugging_of cart commands)
 Says old new said (Some (Asm file)) = Tells old new said (image_by file) (λ picture. Plain (asm_answer picture))
 Says old new said (Some (Dis file)) = Tells old new said (bytes_by file) (λ bytes. Plain (dis_answer bytes))
 Says old new said (Some (Gen seed)) = TellsGenerated old new said seed

@@ -5,7 +5,7 @@ use Rattle.outside.specs.Counts.{Rose}
 use Rattle.outside.specs.SinkRules.{Adds}
 use Rattle.outside.specs.StoreRules.{NamedBytes}
 use Rattle.loader.specs.declared.refusals.Refusal.{Refusal}
-use Rattle.loader.specs.Games.{Game}
+use Rattle.chip_face.specs.declared.specification.ChipSpec.{ChipSpec}
 use Rattle.loader.specs.Work.{Ask, End, Gives, Refuses, Lacks, Work}
 use Rattle.loader.specs.Works.{AsksFew, HasFiles, Misses, order_of, file_of}
 use Rattle.cartridge.specs.declared.finish.Cart.{Cart}
@@ -40,11 +40,11 @@ pub record RefusesBehind (old new : Around) (files : List NamedBytes) (asks : Li
   pub lines : Adds old.output new.output (text_of (refusal_answer refusal).lines)
   pub misses : Misses files asks (order_of (file_of refusal))
 
--- the line of a rack that has no place for a game was written
+-- the line of a rack that has no place for the chips of a description was written
 pub record RefusesRack (old new : Around) : Type 0 where
-  pub game : Game
+  pub chips : List ChipSpec
   pub line : List ℕ
-  pub due : refusal game old.rack ≡ Some line
+  pub due : refusal chips old.rack ≡ Some line
   pub lines : Adds old.output new.output (text_of (line ∷ []))
 
 pub record IsComplete (old new : Around) (said : ℕ) (work : Work Due) : Type 0 where

@@ -6,6 +6,7 @@ pub mod Reports
 pub mod SafeRuns
 pub mod SafeGames
 pub mod RackAfter
+pub mod RackDebugged
 pub mod JudgedRuns
 pub mod CheckedCertificates
 pub mod Commands

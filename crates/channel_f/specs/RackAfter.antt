@@ -84,7 +84,7 @@ PlaysUnless (Some line) old new said manner game rack news = news ≡ rack
 PlaysUnless None old new said manner game rack news = Plays old new said manner game rack news
 
 abbrev pub PlaysGame : Output → Output → ℕ → Manner → Game → List ChipState → List ChipState → Type 0
-PlaysGame old new said manner game rack news = PlaysUnless (refusal game rack) old new said manner game rack news
+PlaysGame old new said manner game rack news = PlaysUnless (refusal game.cart.chips rack) old new said manner game rack news
 
 -- where the files gave no game, it leaves it, too
 abbrev pub RackAfter : Output → Output → ℕ → Manner → Result Game Stop → List ChipState → List ChipState → Type 0

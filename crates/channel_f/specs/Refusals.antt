@@ -5,6 +5,7 @@ use Rattle.cartridge.specs.Keys.{key_word}
 use Rattle.certificate.specs.Answers.{cause_number as cert_cause}
 use Rattle.f8_asm.specs.Answers.{cause_number as asm_cause}
 use Rattle.pad_script.specs.Answers.{cause_number as script_cause}
+use Rattle.chip_debug.specs.Answers.{cause_number as debug_cause}
 use Rattle.report.specs.declared.refusal_lines.Reader.TheVariants as reader
 use Rattle.report.specs.RefusalLines.{toml_line, cart_line, asm_line, reader_line, hex_line, long_line, store_line}
 use Rattle.loader.specs.declared.purposes.Purpose.{Purpose}
@@ -17,6 +18,7 @@ abbrev pub purpose_word : Purpose → List ℕ
 purpose_word purpose.Cart = codes "cart"
 purpose_word purpose.Script = codes "script"
 purpose_word purpose.Cert = codes "cert"
+purpose_word purpose.Commands = codes "commands"
 purpose_word purpose.File = codes "file"
 purpose_word (purpose.Source chip) = codes "source"
 
@@ -24,6 +26,7 @@ abbrev pub purpose_number : Purpose → Option ℕ
 purpose_number purpose.Cart = None
 purpose_number purpose.Script = None
 purpose_number purpose.Cert = None
+purpose_number purpose.Commands = None
 purpose_number purpose.File = None
 purpose_number (purpose.Source chip) = Some chip
 
@@ -33,6 +36,7 @@ refusal_line (refusal.Cart fault) = cart_line fault.chip (key_word fault.key) (c
 refusal_line (refusal.Assembly source fault) = asm_line source fault.line fault.column (asm_cause fault.cause)
 refusal_line (refusal.Script fault) = reader_line reader.Script fault.line (script_cause fault.cause)
 refusal_line (refusal.Cert fault) = reader_line reader.Cert fault.line (cert_cause fault.cause)
+refusal_line (refusal.Commands fault) = reader_line reader.Debug fault.line (debug_cause fault.cause)
 refusal_line refusal.Digits = hex_line
 refusal_line (refusal.Long p) = long_line (purpose_word p) (purpose_number p)
 

@@ -24,7 +24,7 @@ pub record GoesWell (said : ℕ) (cart : Cart) (run : Telling) : Type 0 where
 -- It promises this on every rack that has a place for the chips, and of whose chips none has other bytes in its ROM than are described.
 abbrev pub KeepsVerdict : ℕ → Manner → Game → List ChipState → Type 0
 KeepsVerdict said manner game rack =
-    refusal game rack ≡ None → HasNoPatches game.cart.chips rack → said ≢ 6 → GoesWell said game.cart (game_run manner game rack)
+    refusal game.cart.chips rack ≡ None → HasNoPatches game.cart.chips rack → said ≢ 6 → GoesWell said game.cart (game_run manner game rack)
 
 -- where files gave no game, there is no run
 abbrev pub IsSafeRun : ℕ → Manner → Result Game Stop → List ChipState → Type 0

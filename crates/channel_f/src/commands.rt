@@ -1,10 +1,10 @@
 // What each command answers.
 ghost use Rattle.std.specs.Prelude.{◌≡◌, ◌≤◌, ◌⊎◌, IfOk, map, length};
 ghost use Rattle.certificate.specs.CertificateLaws.{AllFit};
-ghost use Rattle.loader.specs.Games.{game_of, cart_of, claim_of, image_by, bytes_by};
+ghost use Rattle.loader.specs.Games.{game_of, cart_of, claim_of, debugging_of, image_by, bytes_by};
 ghost use Rattle.channel_f.specs.Answers.{Plain, generated_game, gen_due, check_due, ref_answer};
 ghost use Rattle.channel_f.specs.Answers.{asm_answer, cert_answer, dis_answer, verify_answer};
-ghost use Rattle.channel_f.specs.Commands.{around, Told, TellsGame};
+ghost use Rattle.channel_f.specs.Commands.{around, Told, TellsDebugging, TellsGame};
 ghost use Rattle.loader.specs.Seen.{seen_game, seen_claim};
 ghost use Rattle.pad_script.specs.Limits.{HasLimits};
 ghost use Rattle.channel_f.specs.RackAfter.{PlaysGame};
@@ -12,6 +12,7 @@ ghost use Rattle.channel_f.specs.Reports.{Answers, AnswersDue, Reports, Wants};
 ghost use Rattle.channel_f.specs.SafeGames.{KeepsVerdict};
 ghost use Rattle.channel_f.specs.Statuses.{exit_code};
 
+use super::debugging::debug;
 use super::lines_out::{put_found, put_picture, put_text, put_verdict};
 use super::manner::Manner;
 use super::playing::{play_game, refer_game};
@@ -26,7 +27,9 @@ use f8_asm::disassemble;
 use f8_machine::Rack;
 use f8_spec::Memory;
 use generator::generated_chips;
-use loader::{Claim, Game, load_bytes, load_cart, load_claim, load_game, load_image};
+use loader::{
+    Claim, Game, load_bytes, load_cart, load_claim, load_debugging, load_game, load_image,
+};
 use outside::{Sink, Store};
 use pad_script::{EventList, Script, ShowList};
 use std::alloc::Global;
@@ -148,6 +151,27 @@ pub fn answer_ref<S: Store, K: Sink>(
 {
     match load_game(alloc, store, cart, script) {
         Ok(game) => refer_game(alloc, &game, sink),
+        Err(stop) => put_stop(sink, stop),
+    }
+}
+
+/// `debug CART COMMANDS`.
+#[tactic(auto, using(crate::proofs::Outcomes::tells_debugging, crate::proofs::Outcomes::tells_no_debugging))]
+pub fn answer_debug<S: Store, K: Sink>(
+    alloc: Global,
+    cart: &str,
+    commands: &str,
+    store: &mut S,
+    sink: &mut K,
+    rack: &mut Rack,
+) -> Status
+    ensures { TellsDebugging
+        (around (K.output sink.old) (S.input store.old) (map state rack.old.items))
+        (around (K.output sink.new) (S.input store.new) (map state rack.new.items))
+        (exit_code result) (debugging_of cart.now commands.now) }
+{
+    match load_debugging(alloc, store, cart, commands) {
+        Ok(asked) => debug(alloc, &asked, sink, rack),
         Err(stop) => put_stop(sink, stop),
     }
 }

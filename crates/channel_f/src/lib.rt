@@ -2,6 +2,7 @@
 #![tactic(auto)]
 
 mod commands;
+mod debugging;
 mod laws;
 mod lines_out;
 mod manner;

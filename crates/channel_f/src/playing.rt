@@ -20,7 +20,7 @@ use super::lines_out::{put_closing, put_ending, put_lines, put_opening};
 use super::manner::Manner;
 use super::status::Status;
 use cart_checker::check_cart;
-use chip_face::{Chip, MOST_CHIPS};
+use chip_face::{Chip, ChipList, MOST_CHIPS};
 use f8_machine::{Chain, Rack};
 use f8_spec::Memory;
 use loader::Game;
@@ -29,16 +29,16 @@ use rack_run::{ReferFault, chain_of, first_shortage, fit_all, play, refer};
 use report::{Line, VerdictWord};
 use std::alloc::Global;
 
-/// The line of why a game isn't begun on a rack: it has more chips than 16, or too few sockets of a kind.
+/// The line of why the chips of a description aren't seated on a rack: it has more chips than 16, or too few sockets of a kind.
 #[tactic(auto, unfolding(crate::specs::Answers::refusal))]
-fn refusal(game: &Game, rack: &Rack) -> Option<Line>
-    ensures line { result ≡ spelled_refusal (seen_game game.now) (map state rack.now.items) }
+pub fn refusal(chips: &ChipList, rack: &Rack) -> Option<Line>
+    ensures line { result ≡ spelled_refusal chips.now (map state rack.now.items) }
     ensures few { result ≡ None → length rack.now.items ≤ MOST_CHIPS }
 {
     if rack.len() > MOST_CHIPS {
         return Some(report::error_rack(rack.len() as u64));
     }
-    let shortage = first_shortage(&game.cart.chips, rack)?;
+    let shortage = first_shortage(chips, rack)?;
     Some(report::error_sockets(shortage.kind, shortage.need, shortage.have))
 }
 
@@ -139,7 +139,7 @@ pub fn play_game<K: Sink>(
     ensures rack { PlaysGame (K.output sink.old) (K.output sink.new) (exit_code result)
         manner (seen_game game.now) (map state rack.old.items) (map state rack.new.items) }
 {
-    match refusal(game, rack) {
+    match refusal(&game.cart.chips, rack) {
         Some(line) => put_lines(sink, [line].as_slice(), Status::Input),
         None => fit_and_play(alloc, game, manner, sink, rack),
     }

@@ -23,6 +23,7 @@ fn purpose_word(purpose: Purpose) -> &'static str
         Purpose::Cart => "cart",
         Purpose::Script => "script",
         Purpose::Cert => "cert",
+        Purpose::Commands => "commands",
         Purpose::File => "file",
         Purpose::Source(_) => "source",
     }
@@ -34,7 +35,7 @@ fn purpose_number(purpose: Purpose) -> Option<u8>
 {
     match purpose {
         Purpose::Source(chip) => Some(chip),
-        Purpose::Cart | Purpose::Script | Purpose::Cert | Purpose::File => None,
+        Purpose::Cart | Purpose::Script | Purpose::Cert | Purpose::Commands | Purpose::File => None,
     }
 }
 
@@ -63,6 +64,11 @@ fn refusal_line(refusal: Refusal) -> Line
         ),
         Refusal::Cert(fault) => report::error_reader(
             Reader::Cert,
+            fault.line,
+            fault.cause.number(),
+        ),
+        Refusal::Commands(fault) => report::error_reader(
+            Reader::Debug,
             fault.line,
             fault.cause.number(),
         ),

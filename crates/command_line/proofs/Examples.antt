@@ -1,6 +1,6 @@
 -- Words with what they ask for, each worked out from the rules by hand and computed from the definitions.
 use Rattle.std.proofs.Common.{◌≡◌, true, false, [], ◌∷◌, Some, None, codes, refl}
-use Rattle.command_line.specs.CommandLine.{Play, Ref, Check, Verify, Asm, Dis, Gen, command_of}
+use Rattle.command_line.specs.CommandLine.{Play, Ref, Debug, Check, Verify, Asm, Dis, Gen, command_of}
 
 pub two_words : command_of (codes "play" ∷ (codes "game.toml" ∷ (codes "run.txt" ∷ []))) ≡ Some (Play (codes "game.toml") (codes "run.txt") false)
 two_words = refl
@@ -38,6 +38,12 @@ flag_with_value = refl
 
 pub flag_cut_short : command_of (codes "play" ∷ (codes "a" ∷ (codes "b" ∷ (codes "--trac" ∷ [])))) ≡ None
 flag_cut_short = refl
+
+pub debugged_cart : command_of (codes "debug" ∷ (codes "game.toml" ∷ (codes "walk.txt" ∷ []))) ≡ Some (Debug (codes "game.toml") (codes "walk.txt"))
+debugged_cart = refl
+
+pub debug_without_flags : command_of (codes "debug" ∷ (codes "a" ∷ (codes "b" ∷ (codes "--trace" ∷ [])))) ≡ None
+debug_without_flags = refl
 
 pub checked_cart : command_of (codes "check" ∷ (codes "game.toml" ∷ [])) ≡ Some (Check (codes "game.toml") false)
 checked_cart = refl

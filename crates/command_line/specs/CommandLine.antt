@@ -8,6 +8,7 @@ use Rattle.std.specs.Str.Parse.{digits_value}
 pub data Command : Type 0 where
   Play : (cart script : List ℕ) (traced : Bool) → Command
   Ref : (cart script : List ℕ) → Command
+  Debug : (cart commands : List ℕ) → Command
   Check : (cart : List ℕ) (certified : Bool) → Command
   Verify : (cart cert : List ℕ) → Command
   Asm : (file : List ℕ) → Command
@@ -106,7 +107,7 @@ seed_of text = if is_seed text then Some (digits_value 10 text) else None
 -- the first word is that of a command
 abbrev pub is_command : List ℕ → Bool
 is_command name =
-    bytes_eq name (codes "play") || bytes_eq name (codes "ref") || bytes_eq name (codes "check")
+    bytes_eq name (codes "play") || bytes_eq name (codes "ref") || bytes_eq name (codes "debug") || bytes_eq name (codes "check")
     || bytes_eq name (codes "verify") || bytes_eq name (codes "asm") || bytes_eq name (codes "dis")
     || bytes_eq name (codes "gen")
 
@@ -119,12 +120,13 @@ abbrev pub asked_by : List ℕ → List (List ℕ) → Option Command
 asked_by name words =
     if bytes_eq name (codes "play") then option_map play_of (run_of words)
     else (if bytes_eq name (codes "ref") then option_map (λ files. Ref files.0 files.1) (two_of words)
+    else (if bytes_eq name (codes "debug") then option_map (λ files. Debug files.0 files.1) (two_of words)
     else (if bytes_eq name (codes "check") then option_map check_of (checking_of words)
     else (if bytes_eq name (codes "verify") then option_map (λ files. Verify files.0 files.1) (two_of words)
     else (if bytes_eq name (codes "asm") then option_map Asm (one_of words)
     else (if bytes_eq name (codes "dis") then option_map Dis (one_of words)
     else (if bytes_eq name (codes "gen") then option_map Gen (option_and_then seed_of (one_of words))
-    else None))))))
+    else None)))))))
 
 -- what the words ask for, and nothing where they are none of the program's
 abbrev pub command_of : List (List ℕ) → Option Command

@@ -22,6 +22,15 @@ pub enum Command<'a> {
         script: &'a str,
     },
 
+    /// A session of the chip-level debugger.
+    Debug {
+        /// The description of the cartridge.
+        cart: &'a str,
+
+        /// The commands of the session.
+        commands: &'a str,
+    },
+
     /// The check of a cartridge.
     Check {
         /// The description of the cartridge.

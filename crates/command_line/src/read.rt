@@ -29,6 +29,10 @@ fn asked_for<'a>(alloc: Global, words: &'a [String]) -> Result<Option<Command<'a
     match name.as_str() {
         "play" => play(alloc, words),
         "ref" => Ok(two_files(alloc, words)?.map(|(cart, script)| Command::Ref { cart, script })),
+        "debug" => {
+            let files = two_files(alloc, words)?;
+            Ok(files.map(|(cart, commands)| Command::Debug { cart, commands }))
+        }
         "check" => check(alloc, words),
         "verify" => Ok(two_files(alloc, words)?.map(|(cart, cert)| Command::Verify { cart, cert })),
         "asm" => Ok(one_word(alloc, words)?.map(|file| Command::Asm { file })),

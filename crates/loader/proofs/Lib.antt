@@ -4,3 +4,4 @@ mod ScriptsLoaded
 mod SourcesFilled
 mod GamesLoaded
 mod ClaimsLoaded
+mod DebuggingsLoaded

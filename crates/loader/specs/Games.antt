@@ -10,8 +10,10 @@ use Rattle.cartridge.specs.declared.finish.Cart.{Cart}
 use Rattle.f8_asm.specs.declared.answers.Room.{Room}
 use Rattle.f8_asm.specs.Image.{Picture, everywhere}
 use Rattle.console_spec.specs.Scripts.{Script as RunScript}
-use Rattle.loader.specs.declared.purposes.Purpose.TheVariants.{Cart as CartFile, Script, Cert, File, Source}
-use Rattle.loader.specs.Readings.{description_of, image_in, script_in, notes_in, bytes_in}
+use Rattle.loader.specs.declared.purposes.Purpose.TheVariants.{Cart as CartFile, Script, Cert, Commands, File, Source}
+use Rattle.chip_debug.specs.declared.command.Command.{Command}
+use Rattle.loader.specs.declared.games.Debugging.{Debugging}
+use Rattle.loader.specs.Readings.{description_of, image_in, script_in, notes_in, commands_in, bytes_in}
 use Rattle.loader.specs.Work.{Work, gives, reads, ask, ◌>>=◌}
 
 -- ---- a cartridge
@@ -76,6 +78,17 @@ pub record Claim : Type 0 where
 unfoldable pub claim_of : List ℕ → List ℕ → Work Claim
 claim_of cart cert =
     cart_of cart >>= λ cartridge. notes_by cartridge.split cert >>= λ notes. gives (record { cart = cartridge; notes = notes })
+
+-- ---- a session of the debugger
+
+-- the commands with this name
+unfoldable pub commands_by : List ℕ → Work (List Command)
+commands_by name = ask Commands name 65536 >>= λ text. reads (commands_in text)
+
+-- the cartridge, and then the commands
+unfoldable pub debugging_of : List ℕ → List ℕ → Work Debugging
+debugging_of cart commands =
+    cart_of cart >>= λ cartridge. commands_by commands >>= λ said. gives (record { cart = cartridge; commands = said })
 
 -- ---- one file
 

@@ -9,6 +9,9 @@ use Rattle.certificate.specs.CertificateText.{certificate_of}
 use Rattle.certificate.specs.declared.answers.CertFault.{CertFault}
 use Rattle.cartridge.specs.declared.refusal.CartFault.{CartFault}
 use Rattle.cartridge.specs.Filling.{Planned, plan_of}
+use Rattle.chip_debug.specs.Reading.{commands_of}
+use Rattle.chip_debug.specs.declared.answers.DebugFault.{DebugFault}
+use Rattle.chip_debug.specs.declared.command.Command.{Command}
 use Rattle.f8_asm.specs.declared.answers.AsmFault.{AsmFault}
 use Rattle.f8_asm.specs.declared.answers.Room.{Room}
 use Rattle.f8_asm.specs.Image.{Picture, image_of}
@@ -22,6 +25,7 @@ use Rattle.loader.specs.declared.refusals.Refusal.{Refusal}
 use Rattle.loader.specs.declared.refusals.Stop.{Stop}
 use Rattle.loader.specs.declared.refusals.Stop.TheVariants.{Refused, Store, Memory}
 use Rattle.loader.specs.declared.refusals.Refusal.TheVariants.{Document, Cart, Assembly, Script as AtScript, Cert as AtCert}
+use Rattle.loader.specs.declared.refusals.Refusal.TheVariants.{Commands as AtCommands}
 use Rattle.loader.specs.declared.refusals.Refusal.TheVariants.{Digits, Long}
 
 -- an answer, as it is seen, is what is read of bytes; want of memory says nothing of them
@@ -84,6 +88,16 @@ notes_told (Err fault) = Err (AtCert fault)
 -- the invariant map of a text, where some registers are tracked
 unfoldable pub notes_in : List ℕ → List ℕ → Result (List (Point × AbstractState)) Refusal
 notes_in tracked text = notes_told (certificate_of tracked text)
+
+-- ---- the debugger's commands
+
+abbrev pub commands_told : Result (List Command) DebugFault → Result (List Command) Refusal
+commands_told (Ok commands) = Ok commands
+commands_told (Err fault) = Err (AtCommands fault)
+
+-- the commands of a text
+unfoldable pub commands_in : List ℕ → Result (List Command) Refusal
+commands_in text = commands_told (commands_of text)
 
 -- ---- digits
 

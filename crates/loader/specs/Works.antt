@@ -59,13 +59,14 @@ StoreFails old new (Err Memory) = new.faults ≡ old.faults
 -- ---- refusals
 
 -- The order in which a command asks for its files: a description, the sources of its chips by their numbers, which are bytes, and then a
--- script or a certificate; or one file.
+-- script, a certificate or the debugger's commands; or one file.
 abbrev pub order_of : Purpose → ℕ
 order_of purpose.Cart = 0
 order_of purpose.File = 0
 order_of (purpose.Source chip) = chip + 1
 order_of purpose.Script = 2 ^ 8 + 1
 order_of purpose.Cert = 2 ^ 8 + 1
+order_of purpose.Commands = 2 ^ 8 + 1
 
 abbrev pub purpose_of_text : Option ℕ → Purpose
 purpose_of_text None = purpose.File
@@ -78,6 +79,7 @@ file_of (refusal.Cart fault) = purpose.Cart
 file_of (refusal.Assembly source fault) = purpose_of_text source
 file_of (refusal.Script fault) = purpose.Script
 file_of (refusal.Cert fault) = purpose.Cert
+file_of (refusal.Commands fault) = purpose.Commands
 file_of refusal.Digits = purpose.File
 file_of (refusal.Long purpose) = purpose
 

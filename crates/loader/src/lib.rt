@@ -13,8 +13,8 @@ mod sources;
 
 pub use claims::Claim;
 pub use f8_spec::Memory;
-pub use games::Game;
-pub use loading::{load_bytes, load_cart, load_claim, load_game, load_image};
+pub use games::{Debugging, Game};
+pub use loading::{load_bytes, load_cart, load_claim, load_debugging, load_game, load_image};
 pub use purposes::Purpose;
 pub use refusals::{Refusal, Stop};
 

@@ -1,6 +1,6 @@
 // What each command wants of its files.
 ghost use Rattle.std.specs.Prelude.{◌≤◌, IfOk, length};
-ghost use Rattle.loader.specs.Games.{cart_of, script_by, game_of, notes_by, claim_of, image_by, bytes_by};
+ghost use Rattle.loader.specs.Games.{cart_of, script_by, game_of, notes_by, claim_of, commands_by, debugging_of, image_by, bytes_by};
 ghost use Rattle.certificate.specs.CertificateLaws.{AllFit};
 ghost use Rattle.pad_script.specs.Limits.{HasLimits};
 ghost use Rattle.pad_script.specs.Reading.{seen};
@@ -9,19 +9,22 @@ ghost use Rattle.loader.specs.Works.{Works, RefusesFrom, order_of, outcome_as};
 
 use super::claims::Claim;
 use super::fetching::fetch;
-use super::games::Game;
+use super::games::{Debugging, Game};
 use super::purposes::Purpose;
-use super::readings::{read_bytes, read_description, read_image, read_notes, read_run};
+use super::readings::{
+    read_bytes, read_description, read_image, read_notes, read_run, read_session,
+};
 use super::refusals::Stop;
 use super::sources::{ASSEMBLY_LIMIT, load_planned};
 use abs_step::Annotation;
 use cartridge::{Cart, Split};
+use chip_debug::CommandList;
 use f8_asm::{Image, Room};
 use outside::Store;
 use pad_script::Script;
 use std::alloc::Global;
 
-/// The most bytes of a description and of a script.
+/// The most bytes of a description, of a script and of commands.
 const TEXT_LIMIT: u32 = 65_536;
 
 /// The most bytes of a certificate.
@@ -127,6 +130,41 @@ pub fn load_claim<S: Store>(
     Ok(Claim {
         cart: cartridge,
         notes,
+    })
+}
+
+/// The commands of the debugger.
+#[tactic(auto, using(crate::proofs::DebuggingsLoaded::commands_read, crate::proofs::DebuggingsLoaded::commands_stop, crate::proofs::DebuggingsLoaded::commands_order))]
+fn load_commands<S: Store>(alloc: Global, store: &mut S, name: &str) -> Result<CommandList, Stop>
+    ensures works { Works (S.input store.old) (S.input store.new)
+        (commands_by name.now) (outcome_as (λ commands. commands) result) }
+    ensures order { RefusesFrom (order_of Purpose.Commands) result }
+{
+    let text = fetch(alloc, store, Purpose::Commands, name, TEXT_LIMIT)?;
+    read_session(alloc, text.as_slice())
+}
+
+/// A session of the debugger by the names of its description and its commands: the description, then the source of each chip that has one,
+/// and then the commands, each of them fetched and read before the next. The commands have at most 65,536 bytes.
+///
+/// # Errors
+///
+/// As those of `load_game`.
+#[tactic(auto, using(crate::proofs::DebuggingsLoaded::debugging_loaded, crate::proofs::DebuggingsLoaded::debugging_without_cart, crate::proofs::DebuggingsLoaded::debugging_without_commands))]
+pub fn load_debugging<S: Store>(
+    alloc: Global,
+    store: &mut S,
+    cart: &str,
+    commands: &str,
+) -> Result<Debugging, Stop>
+    ensures { Works (S.input store.old) (S.input store.new)
+        (debugging_of cart.now commands.now) result }
+{
+    let cartridge = load_cart(alloc, store, cart)?;
+    let commands = load_commands(alloc, store, commands)?;
+    Ok(Debugging {
+        cart: cartridge,
+        commands,
     })
 }
 

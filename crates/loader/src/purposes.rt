@@ -8,6 +8,8 @@ pub enum Purpose {
     Script,
     /// A certificate of a cartridge.
     Cert,
+    /// The commands of the debugger.
+    Commands,
     /// The one file of a command.
     File,
     /// The assembly text of a chip's bytes. Chips are counted from 0, in the order of the description.

@@ -6,13 +6,14 @@ ghost use Rattle.cartridge.specs.Rooms.{LiesIn};
 ghost use Rattle.certificate.specs.CertificateLaws.{AllFit};
 ghost use Rattle.pad_script.specs.Limits.{HasLimits};
 ghost use Rattle.pad_script.specs.Reading.{seen};
-ghost use Rattle.loader.specs.Readings.{Says, bytes_in, table_of, description_of, image_in, notes_in, script_in};
+ghost use Rattle.loader.specs.Readings.{Says, bytes_in, commands_in, table_of, description_of, image_in, notes_in, script_in};
 
 use super::purposes::Purpose;
 use super::refusals::{Refusal, Stop};
 use abs_step::Annotation;
 use cartridge::{CartAnswer, Plan, Split, read_cart};
 use certificate::{CertAnswer, read_cert};
+use chip_debug::{CommandList, DebugAnswer, read_commands};
 use f8_asm::{AsmAnswer, Image, Room, assemble};
 use hex_file::{HexAnswer, read_hex};
 use pad_script::{Script, ScriptAnswer, read_script};
@@ -83,6 +84,19 @@ pub fn read_notes(alloc: Global, split: &Split, text: &[u8]) -> Result<Annotatio
         Ok(notes) => Ok(notes),
         Err(CertAnswer::Fault(fault)) => Err(Stop::Refused(Refusal::Cert(fault))),
         Err(CertAnswer::Memory) => Err(Stop::Memory),
+    }
+}
+
+/// The commands of a text.
+#[tactic(auto, unfolding(crate::specs::Readings::commands_in))]
+pub fn read_session(alloc: Global, text: &[u8]) -> Result<CommandList, Stop>
+    requires { length text.now ≤ 65536 }
+    ensures { Says (λ commands. commands) result (commands_in text.now) }
+{
+    match read_commands(alloc, text) {
+        Ok(commands) => Ok(commands),
+        Err(DebugAnswer::Fault(fault)) => Err(Stop::Refused(Refusal::Commands(fault))),
+        Err(DebugAnswer::Memory) => Err(Stop::Memory),
     }
 }
 

@@ -2,6 +2,7 @@
 use super::purposes::Purpose;
 use cartridge::CartFault;
 use certificate::CertFault;
+use chip_debug::DebugFault;
 use f8_asm::AsmFault;
 use pad_script::ScriptFault;
 use thiserror::Error;
@@ -24,6 +25,9 @@ pub enum Refusal {
     /// The certificate is at fault.
     #[error("the certificate is at fault")]
     Cert(CertFault),
+    /// The debugger's commands are at fault.
+    #[error("the commands are at fault")]
+    Commands(DebugFault),
     /// The file isn't pairs of hexadecimal digits.
     #[error("the file is no hexadecimal digits")]
     Digits,

@@ -1,0 +1,183 @@
+-- The commands of a session, one after another, and what a session on a rack answers.
+use Rattle.std.proofs.Common.{◌≡◌, ◌≢◌, ℕ, zero, suc, ◌+◌, ◌<◌, ◌≤◌, List, [], ◌∷◌, ◌++◌, length, drop, get_or, refl, sym, ap}
+use Rattle.std.proofs.Common.{◌∙◌, subst, arith, inl, inr, map}
+use Rattle.std.specs.Prelude.{◌⊎◌, sum_by, Result, Ok, Err, OnOk, OnErr, Option}
+use Rattle.std.specs.List.{AllByRecursion}
+use Rattle.std.proofs.lemmas.List.{append_assoc, append-nil, drop_more}
+use Rattle.std.proofs.lemmas.List.Sums.{sum_by-cons}
+use Rattle.f8_spec.specs.ChipState.{ChipView, ChipState}
+use Rattle.f8_spec.specs.declared.chips.ChipKind.{ChipKind}
+use Rattle.console_spec.specs.RunText.{text_of}
+use Rattle.data_bus.specs.Racks.{views}
+use Rattle.outside.specs.SinkRules.{Output, Adds, AddsPart}
+use Rattle.outside.proofs.SinkLaws.{PutSoFar, put_so_far_none, adds_none}
+use Rattle.report.proofs.TextLaws.{text_of-nil, text_of-append}
+use Rattle.rack_run.proofs.PutLaws.{so_far_more, so_far_all, so_far_cut}
+use Rattle.rack_run.specs.Seating.{fitted_views, kinds_of, seated, RackFitsInPart}
+use Rattle.rack_run.specs.Sockets.{chain_of}
+use Rattle.rack_run.specs.Texts.{Puts}
+use Rattle.chip_face.specs.declared.specification.ChipSpec.{ChipSpec}
+use Rattle.chip_debug.specs.Breaks.{no_breaks}
+use Rattle.chip_debug.specs.Carried.{first_scene, lines_of, scene_after, scene_by, told_by}
+use Rattle.chip_debug.specs.Limits.{count_of, total_of}
+use Rattle.chip_debug.specs.Scenes.{Scene, started}
+use Rattle.chip_debug.specs.Standing.{SessionState, IsAt}
+use Rattle.chip_debug.specs.declared.command.Command.{Command}
+use Rattle.chip_debug.specs.declared.command.Command.TheVariants.{Power}
+use Rattle.loader.specs.declared.games.Debugging.{Debugging}
+use Rattle.channel_f.specs.Answers.{Answer, debug_answer, debug_scene}
+use Rattle.channel_f.specs.RackDebugged.{CarriedTo, Debugs}
+use Rattle.channel_f.specs.Reports.{Answers, Reports}
+use Rattle.channel_f.proofs.Games.{answers_of, answers_wanting}
+
+-- ---- the commands that are left
+
+pub total_next : (commands : List Command) (i : ℕ) → i < length commands →
+    total_of (drop i commands) ≡ count_of (get_or commands i (Power 0)) + total_of (drop (i + 1) commands)
+total_next commands i within =
+    ap total_of (drop_more commands i (Power 0) within)
+    ∙ sum_by-cons count_of (get_or commands i (Power 0)) (drop (i + 1) commands)
+
+scene_by-append : (done : List Command) (command : Command) (s : Scene) →
+    scene_by (done ++ command ∷ []) s ≡ scene_after command (scene_by done s)
+scene_by-append [] command s = refl
+scene_by-append (c ∷ done) command s = scene_by-append done command (scene_after c s)
+
+-- ---- so far
+
+-- some commands were carried out and told, and the others are left
+pub record Along (commands left : List Command) (first : Scene) (s : SessionState) (states : List ChipState)
+    (a b : Output) : Type 0 where
+  pub done : List Command
+  pub are : commands ≡ done ++ left
+  pub at : IsAt s states (scene_by done first)
+  pub so_far : PutSoFar a b (text_of (told_by commands first)) (text_of (told_by left (scene_by done first)))
+
+pub along_first : (commands : List Command) (first : Scene) (s : SessionState) (states : List ChipState) (a : Output) →
+    IsAt s states first → Along commands commands first s states a a
+along_first commands first s states a at =
+    record { done = []; are = refl; at = at; so_far = put_so_far_none a (text_of (told_by commands first)) }
+
+module _ (commands left : List Command) (command : Command) (later : List Command) (first : Scene) (s after : SessionState)
+    (states news : List ChipState) (a b c : Output) (along : Along commands left first s states a b)
+    (next : left ≡ command ∷ later) where
+  there : Scene
+  there = scene_by along.done first
+
+  begins : text_of (told_by left (scene_by along.done first))
+      ≡ text_of (lines_of command (scene_by along.done first))
+      ++ text_of (told_by later (scene_after command (scene_by along.done first)))
+  begins =
+      ap (λ (l : List Command). text_of (told_by l (scene_by along.done first))) next
+      ∙ text_of-append (lines_of command (scene_by along.done first))
+      (told_by later (scene_after command (scene_by along.done first)))
+
+  are_more : commands ≡ (along.done ++ command ∷ []) ++ later
+  are_more =
+      along.are ∙ ap (λ (l : List Command). along.done ++ l) next ∙ sym (append_assoc along.done (command ∷ []) later)
+
+  at_more : IsAt after news (scene_after command (scene_by along.done first)) →
+      IsAt after news (scene_by (along.done ++ command ∷ []) first)
+  at_more at =
+      subst (λ (scene : Scene). IsAt after news scene) (sym (scene_by-append along.done command first)) at
+
+  pub along_more : IsAt after news (scene_after command (scene_by along.done first)) →
+      Adds b c (text_of (lines_of command (scene_by along.done first))) → Along commands later first after news a c
+  along_more at adds = record {
+    done = along.done ++ command ∷ [];
+    are = are_more;
+    at = at_more at;
+    so_far =
+        subst (λ (scene : Scene). PutSoFar a c (text_of (told_by commands first)) (text_of (told_by later scene)))
+        (sym (scene_by-append along.done command first))
+        (so_far_more a b c (text_of (told_by commands first)) (text_of (told_by left (scene_by along.done first)))
+        (text_of (lines_of command (scene_by along.done first)))
+        (text_of (told_by later (scene_after command (scene_by along.done first)))) along.so_far begins adds);
+  }
+
+  -- the sink fails at one of its lines
+  pub along_cut : {T : Type 0} {F : Type 0} (f : F) →
+      AddsPart b c (text_of (lines_of command (scene_by along.done first))) →
+      text_of (lines_of command (scene_by along.done first)) ≢ [] →
+      Puts {T = T} {E = F} (Err f) a c (text_of (told_by commands first))
+  along_cut f part some =
+      so_far_cut f a b c (text_of (told_by commands first)) (text_of (told_by left (scene_by along.done first)))
+      (text_of (lines_of command (scene_by along.done first)))
+      (text_of (told_by later (scene_after command (scene_by along.done first)))) along.so_far begins some part
+
+  pub carried_cut : IsAt after news (scene_after command (scene_by along.done first)) → CarriedTo commands first news
+  carried_cut at =
+      record { done = along.done ++ command ∷ []; rest = later; are = are_more; chips = (at_more at).chips }
+
+module _ (commands left : List Command) (first : Scene) (s : SessionState) (states : List ChipState) (a b : Output)
+    (along : Along commands left first s states a b) (none : left ≡ []) where
+  all_done : along.done ≡ commands
+  all_done = sym (along.are ∙ ap (λ (l : List Command). along.done ++ l) none ∙ append-nil along.done)
+
+  pub along_all : {T : Type 0} {F : Type 0} (v : T) → Puts {T = T} {E = F} (Ok v) a b (text_of (told_by commands first))
+  along_all v =
+      so_far_all v a b (text_of (told_by commands first)) (text_of (told_by left (scene_by along.done first))) along.so_far
+      (ap (λ (l : List Command). text_of (told_by l (scene_by along.done first))) none ∙ text_of-nil)
+
+  pub whole_all : views states ≡ (scene_by commands first).chips
+  whole_all = along.at.chips ∙ ap (λ (l : List Command). (scene_by l first).chips) all_done
+
+  pub carried_all : CarriedTo commands first states
+  carried_all =
+      record { done = commands; rest = []; are = sym (append-nil commands); chips = whole_all }
+
+-- ---- a session on chips that are fitted
+
+kinds_seen : (states : List ChipState) → kinds_of states ≡ map (λ (v : ChipView). v.kind) (views states)
+kinds_seen [] = refl
+kinds_seen (s ∷ states) = ap (λ (kinds : List ChipKind). s.view.kind ∷ kinds) (kinds_seen states)
+
+pub starts_at : (chips : List ChipSpec) (olds : List ChipState) (s : SessionState) (news : List ChipState) →
+    IsAt s news (started 0 (chain_of chips (kinds_of olds)) no_breaks (views olds)) →
+    IsAt s news (first_scene chips (views olds))
+starts_at chips olds s news at =
+    subst (λ (kinds : List ChipKind). IsAt s news (started 0 (chain_of chips kinds) no_breaks (views olds)))
+    (kinds_seen olds) at
+
+-- ---- what it answers
+
+pub reports_done : (a b : Output) (lines : List (List ℕ)) → Adds a b (text_of lines) → Reports a b 0 0 lines
+reports_done a b lines adds =
+    record { which = inl refl; whole = λ five. adds; part = λ five. cc }
+
+pub reports_cut_short : (a b : Output) (lines : List (List ℕ)) → AddsPart a b (text_of lines) → Reports a b 5 0 lines
+reports_cut_short a b lines part =
+    record { which = inr refl; whole = λ five. absurd (five refl); part = λ five. part }
+
+zero_not_six : (said : ℕ) → (said ≡ 0) ⊎ (said ≡ 5) → said ≡ 6 → ⊥
+zero_not_six said (inl done) six = cc
+zero_not_six said (inr cut) six = cc
+
+zero_is_not_six : ◌≢◌ {A = ℕ} 0 6
+zero_is_not_six e = cc
+
+module _ (a b : Output) (said : ℕ) (asked : Debugging) (rack fitted : List ChipState)
+    (same : views fitted ≡ fitted_views asked.cart.chips rack)
+    (reports : Reports a b said 0 (told_by asked.commands (first_scene asked.cart.chips (views fitted)))) where
+  pub debug_answers : Answers a b said (debug_answer asked rack)
+  debug_answers =
+      answers_of a b said 0 (debug_answer asked rack).lines zero_is_not_six
+      (subst (λ (vs : List ChipView). Reports a b said 0 (told_by asked.commands (first_scene asked.cart.chips vs))) same
+      reports)
+
+  pub debugs : (news : List ChipState) →
+      (said ≡ 0 → views news ≡ (scene_by asked.commands (first_scene asked.cart.chips (views fitted))).chips) →
+      CarriedTo asked.commands (first_scene asked.cart.chips (views fitted)) news → Debugs said asked rack news
+  debugs news whole part = record {
+    wanting = λ six. absurd (zero_not_six said reports.which six);
+    whole = λ done.
+        subst (λ (vs : List ChipView). views news ≡ (scene_by asked.commands (first_scene asked.cart.chips vs)).chips) same
+        (whole done);
+    part = λ six.
+        subst (λ (vs : List ChipView). CarriedTo asked.commands (first_scene asked.cart.chips vs) news) same part;
+  }
+
+pub debugs_wanting : (asked : Debugging) (rack news : List ChipState) →
+    RackFitsInPart (seated asked.cart.chips rack) rack news → Debugs 6 asked rack news
+debugs_wanting asked rack news partly =
+    record { wanting = λ six. partly; whole = λ done. cc; part = λ six. absurd (six refl) }

@@ -1,0 +1,22 @@
+-- Some commands were carried out and told, and the others are left.
+use Rattle.std.proofs.Common.{◌≡◌, ◌≤◌, ◌+◌, drop, length, map}
+use Rattle.f8_machine.specs.Fitting.{Fits}
+use Rattle.chip_debug.specs.Limits.{AreCommands, total_of}
+use Rattle.chip_debug.specs.Scenes.{Scene}
+use Rattle.chip_debug.specs.Standing.{IsAt}
+use Rattle.channel_f.proofs.Debuggings.{Along}
+use Rattle.channel_f.proofs.debugging.carry_out.Given as goal
+
+abbrev pub invariant-loop-command : goal.invariant-loop-command
+invariant-loop-command g l =
+    let olds = map (λ b. (goal.Chip-dyn g (b.vtable, b.value)).state b.value) l.fn.rack.items in
+    let nows = map (λ b. (goal.Chip-dyn g (b.vtable, b.value)).state b.value) l.rack.items in
+    record {
+      along : (scene : Scene) → IsAt l.fn.session olds scene →
+          Along l.commands (drop l.command-index l.commands) scene l.session nows (g.K.Sink.output l.fn.sink)
+          (g.K.Sink.output l.sink);
+      ranges : AreCommands (drop l.command-index l.commands);
+      counted : l.session.count + total_of (drop l.command-index l.commands) ≤ total_of l.commands;
+      fits : Fits l.session.machine nows;
+      chips : length l.rack.items ≡ length l.fn.rack.items;
+    }

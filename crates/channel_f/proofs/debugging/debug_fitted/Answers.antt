@@ -1,0 +1,46 @@
+-- The session begins at the first scene, and the commands are carried out from there.
+use Rattle.std.proofs.Common.{map}
+use Rattle.data_bus.specs.Racks.{views}
+use Rattle.chip_debug.specs.Carried.{first_scene}
+use Rattle.channel_f.proofs.Debuggings.{reports_cut_short, reports_done, starts_at}
+use Rattle.channel_f.proofs.debugging.debug_fitted.Goals as goal
+
+pub returns-in-Ok-clause-reports : goal.returns-in-Ok-clause-reports
+returns-in-Ok-clause-reports g c =
+    let chips = c.args.asked.now.cart.chips in
+    let olds = map (λ b. (goal.Chip-dyn g (b.vtable, b.value)).state b.value) c.args.rack.now.items in
+    let first = first_scene chips (views olds) in
+    let done = c.in-Ok.ensures.told first (starts_at chips olds _ _ c.new-session.ensures.at) in
+    reports_done _ _ _ (rw c.as_slice.ensures.commands at done.ok)
+
+pub returns-in-Ok-clause-whole : goal.returns-in-Ok-clause-whole
+returns-in-Ok-clause-whole g c =
+    let chips = c.args.asked.now.cart.chips in
+    let olds = map (λ b. (goal.Chip-dyn g (b.vtable, b.value)).state b.value) c.args.rack.now.items in
+    let first = first_scene chips (views olds) in
+    let done = c.in-Ok.ensures.whole first (starts_at chips olds _ _ c.new-session.ensures.at) in
+    λ all. rw c.as_slice.ensures.commands at done
+
+pub returns-in-Ok-clause-part : goal.returns-in-Ok-clause-part
+returns-in-Ok-clause-part g c =
+    let chips = c.args.asked.now.cart.chips in
+    let olds = map (λ b. (goal.Chip-dyn g (b.vtable, b.value)).state b.value) c.args.rack.now.items in
+    let first = first_scene chips (views olds) in
+    let done = c.in-Ok.ensures.part first (starts_at chips olds _ _ c.new-session.ensures.at) in
+    rw c.as_slice.ensures.commands at done
+
+pub returns-in-Err-clause-reports : goal.returns-in-Err-clause-reports
+returns-in-Err-clause-reports g c =
+    let chips = c.args.asked.now.cart.chips in
+    let olds = map (λ b. (goal.Chip-dyn g (b.vtable, b.value)).state b.value) c.args.rack.now.items in
+    let first = first_scene chips (views olds) in
+    let done = c.in-Err.ensures.told first (starts_at chips olds _ _ c.new-session.ensures.at) in
+    reports_cut_short _ _ _ (rw c.as_slice.ensures.commands at done.err)
+
+pub returns-in-Err-clause-part : goal.returns-in-Err-clause-part
+returns-in-Err-clause-part g c =
+    let chips = c.args.asked.now.cart.chips in
+    let olds = map (λ b. (goal.Chip-dyn g (b.vtable, b.value)).state b.value) c.args.rack.now.items in
+    let first = first_scene chips (views olds) in
+    let done = c.in-Err.ensures.part first (starts_at chips olds _ _ c.new-session.ensures.at) in
+    rw c.as_slice.ensures.commands at done

@@ -1,0 +1,20 @@
+-- The chips are fitted, and then the session is theirs.
+use Rattle.channel_f.specs.Answers.{debug_answer}
+use Rattle.channel_f.proofs.Debuggings.{debug_answers, debugs, debugs_wanting}
+use Rattle.channel_f.proofs.Games.{answers_wanting}
+use Rattle.channel_f.proofs.debugging.fit_and_debug.Goals as goal
+
+pub returns-in-Ok-clause-answers : goal.returns-in-Ok-clause-answers
+returns-in-Ok-clause-answers g c =
+    debug_answers _ _ _ c.args.asked.now _ _ c.in-Ok.ensures.views c.debug_fitted.ensures.reports
+
+pub returns-in-Ok-clause-rack : goal.returns-in-Ok-clause-rack
+returns-in-Ok-clause-rack g c =
+    debugs _ _ _ c.args.asked.now _ _ c.in-Ok.ensures.views c.debug_fitted.ensures.reports _ c.debug_fitted.ensures.whole
+    c.debug_fitted.ensures.part
+
+pub returns-in-Err-clause-answers : goal.returns-in-Err-clause-answers
+returns-in-Err-clause-answers g c = answers_wanting _ (debug_answer c.args.asked.now _)
+
+pub returns-in-Err-clause-rack : goal.returns-in-Err-clause-rack
+returns-in-Err-clause-rack g c = debugs_wanting c.args.asked.now _ _ c.in-Err.ensures.partly

@@ -1,0 +1,103 @@
+// A session of the debugger on a rack.
+ghost use Rattle.std.specs.Prelude.{◌≡◌, ◌≤◌, length, map, OnErr, OnOk};
+ghost use Rattle.f8_spec.specs.BusArbitration.{seat_of};
+ghost use Rattle.console_spec.specs.RunText.{text_of};
+ghost use Rattle.cpu3850.specs.OwnWrites.{LeaveOwnPorts};
+ghost use Rattle.data_bus.specs.Racks.{views};
+ghost use Rattle.f8_machine.specs.Fitting.{Fits};
+ghost use Rattle.f8_machine.specs.Refinement.{AreWhole};
+ghost use Rattle.rack_run.specs.Texts.{Puts};
+ghost use Rattle.chip_debug.specs.Carried.{first_scene, scene_by, told_by};
+ghost use Rattle.chip_debug.specs.Limits.{AreCommands, most_instructions, total_of};
+ghost use Rattle.chip_debug.specs.Scenes.{Scene};
+ghost use Rattle.chip_debug.specs.Standing.{IsAt};
+ghost use Rattle.channel_f.specs.Answers.{debug_answer, debug_due, refusal as spelled_refusal};
+ghost use Rattle.channel_f.specs.RackDebugged.{CarriedTo, Debugs, DebugsUnless};
+ghost use Rattle.channel_f.specs.Reports.{Answers, AnswersDue, Reports};
+ghost use Rattle.channel_f.specs.Statuses.{exit_code};
+
+use super::lines_out::put_lines;
+use super::playing::refusal;
+use super::status::Status;
+use chip_debug::{Command, Session};
+use chip_face::{Chip, MOST_CHIPS};
+use f8_machine::Rack;
+use f8_spec::Memory;
+use loader::Debugging;
+use outside::{Sink, SinkFault};
+use rack_run::fit_all;
+use std::alloc::Global;
+
+/// The commands of a session that has just begun, one after another.
+fn carry_out<K: Sink>(
+    session: &mut Session,
+    commands: &[Command],
+    sink: &mut K,
+    rack: &mut Rack,
+) -> Result<(), SinkFault>
+    requires few { length rack.old.items ≤ MOST_CHIPS }
+    requires ranges { AreCommands commands.now }
+    requires total { total_of commands.now ≤ most_instructions }
+    requires begun { session.old.count ≡ 0 }
+    requires fits { Fits session.old.machine (map state rack.old.items) }
+    ensures told { (scene : Scene) → IsAt session.old (map state rack.old.items) scene →
+        Puts result (K.output sink.old) (K.output sink.new) (text_of (told_by commands.now scene)) }
+    ensures whole { (scene : Scene) → IsAt session.old (map state rack.old.items) scene →
+        OnOk result (views (map state rack.new.items) ≡ (scene_by commands.now scene).chips) }
+    ensures part { (scene : Scene) → IsAt session.old (map state rack.old.items) scene →
+        CarriedTo commands.now scene (map state rack.new.items) }
+    ensures chips { length rack.new.items ≡ length rack.old.items }
+{
+    for command in commands {
+        session.command(command, rack, sink)?;
+    }
+    Ok(())
+}
+
+/// A session on a rack that is fitted for the cartridge. It takes no memory.
+fn debug_fitted<K: Sink>(asked: &Debugging, sink: &mut K, rack: &mut Rack) -> Status
+    requires few { length rack.old.items ≤ MOST_CHIPS }
+    requires whole { AreWhole (map state rack.old.items) }
+    requires ports { LeaveOwnPorts (map seat_of (views (map state rack.old.items))) }
+    ensures reports { Reports (K.output sink.old) (K.output sink.new) (exit_code result) 0
+        (told_by asked.now.commands (first_scene asked.now.cart.chips
+        (views (map state rack.old.items)))) }
+    ensures whole { exit_code result ≡ 0 → views (map state rack.new.items)
+        ≡ (scene_by asked.now.commands (first_scene asked.now.cart.chips
+        (views (map state rack.old.items)))).chips }
+    ensures part { CarriedTo asked.now.commands (first_scene asked.now.cart.chips
+        (views (map state rack.old.items))) (map state rack.new.items) }
+{
+    let mut session = Session::new(&asked.cart, rack);
+    match carry_out(&mut session, asked.commands.as_slice(), sink, rack) {
+        Ok(()) => Status::Done,
+        Err(SinkFault) => Status::Sink,
+    }
+}
+
+/// A session on a rack that has a place for the cartridge's chips.
+fn fit_and_debug<K: Sink>(alloc: Global, asked: &Debugging, sink: &mut K, rack: &mut Rack) -> Status
+    requires few { length rack.old.items ≤ MOST_CHIPS }
+    ensures answers { Answers (K.output sink.old) (K.output sink.new) (exit_code result)
+        (debug_answer asked.now (map state rack.old.items)) }
+    ensures rack { Debugs (exit_code result) asked.now
+        (map state rack.old.items) (map state rack.new.items) }
+{
+    match fit_all(alloc, &asked.cart.chips, rack) {
+        Ok(()) => debug_fitted(asked, sink, rack),
+        Err(Memory) => Status::Memory,
+    }
+}
+
+/// A session on a rack, if it has a place for the cartridge's chips.
+pub fn debug<K: Sink>(alloc: Global, asked: &Debugging, sink: &mut K, rack: &mut Rack) -> Status
+    ensures answers { AnswersDue (K.output sink.old) (K.output sink.new) (exit_code result)
+        (debug_due (map state rack.old.items) asked.now) }
+    ensures rack { DebugsUnless (spelled_refusal asked.now.cart.chips (map state rack.old.items))
+        (exit_code result) asked.now (map state rack.old.items) (map state rack.new.items) }
+{
+    match refusal(&asked.cart.chips, rack) {
+        Some(line) => put_lines(sink, [line].as_slice(), Status::Input),
+        None => fit_and_debug(alloc, asked, sink, rack),
+    }
+}
