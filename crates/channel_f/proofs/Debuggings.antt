@@ -1,8 +1,7 @@
 -- The commands of a session, one after another, and what a session on a rack answers.
-use Rattle.std.proofs.Common.{◌≡◌, ◌≢◌, ℕ, zero, suc, ◌+◌, ◌<◌, ◌≤◌, List, [], ◌∷◌, ◌++◌, length, drop, get_or, refl, sym, ap}
-use Rattle.std.proofs.Common.{◌∙◌, subst, arith, inl, inr, map}
-use Rattle.std.specs.Prelude.{◌⊎◌, sum_by, Result, Ok, Err, OnOk, OnErr, Option}
-use Rattle.std.specs.List.{AllByRecursion}
+use Rattle.std.proofs.Common.{◌≡◌, ◌≢◌, ℕ, ◌+◌, ◌<◌, List, [], ◌∷◌, ◌++◌, length, drop, get_or, refl, sym, ap}
+use Rattle.std.proofs.Common.{◌∙◌, subst, inl, inr, map}
+use Rattle.std.specs.Prelude.{◌⊎◌, Ok, Err}
 use Rattle.std.proofs.lemmas.List.{append_assoc, append-nil, drop_more}
 use Rattle.std.proofs.lemmas.List.Sums.{sum_by-cons}
 use Rattle.f8_spec.specs.ChipState.{ChipView, ChipState}
@@ -10,7 +9,7 @@ use Rattle.f8_spec.specs.declared.chips.ChipKind.{ChipKind}
 use Rattle.console_spec.specs.RunText.{text_of}
 use Rattle.data_bus.specs.Racks.{views}
 use Rattle.outside.specs.SinkRules.{Output, Adds, AddsPart}
-use Rattle.outside.proofs.SinkLaws.{PutSoFar, put_so_far_none, adds_none}
+use Rattle.outside.proofs.SinkLaws.{PutSoFar, put_so_far_none}
 use Rattle.report.proofs.TextLaws.{text_of-nil, text_of-append}
 use Rattle.rack_run.proofs.PutLaws.{so_far_more, so_far_all, so_far_cut}
 use Rattle.rack_run.specs.Seating.{fitted_views, kinds_of, seated, RackFitsInPart}
@@ -25,10 +24,10 @@ use Rattle.chip_debug.specs.Standing.{SessionState, IsAt}
 use Rattle.chip_debug.specs.declared.command.Command.{Command}
 use Rattle.chip_debug.specs.declared.command.Command.TheVariants.{Power}
 use Rattle.loader.specs.declared.games.Debugging.{Debugging}
-use Rattle.channel_f.specs.Answers.{Answer, debug_answer, debug_scene}
+use Rattle.channel_f.specs.Answers.{debug_answer}
 use Rattle.channel_f.specs.RackDebugged.{CarriedTo, Debugs}
 use Rattle.channel_f.specs.Reports.{Answers, Reports}
-use Rattle.channel_f.proofs.Games.{answers_of, answers_wanting}
+use Rattle.channel_f.proofs.Games.{answers_of}
 
 -- ---- the commands that are left
 

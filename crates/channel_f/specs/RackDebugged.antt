@@ -1,5 +1,5 @@
 -- What becomes of the rack in a session of the debugger: fitting, and then what the commands that were carried out make of the chips.
-use Rattle.std.specs.Prelude.{◌≡◌, ◌≢◌, ℕ, List, [], ◌++◌, Option, Some, None, Result, Ok, Err}
+use Rattle.std.specs.Prelude.{◌≡◌, ◌≢◌, ℕ, List, ◌++◌, Option, Some, None, Result, Ok, Err}
 use Rattle.f8_spec.specs.ChipState.{ChipState}
 use Rattle.chip_debug.specs.Carried.{scene_by}
 use Rattle.chip_debug.specs.Scenes.{Scene}

@@ -18,6 +18,8 @@ pub use top::console;
 #[cfg(test)]
 mod certificate_tests;
 #[cfg(test)]
+mod debug_tests;
+#[cfg(test)]
 mod interrupt_tests;
 #[cfg(test)]
 mod question_tests;

@@ -1,5 +1,5 @@
 -- A turn carries the next command out.
-use Rattle.std.proofs.Common.{◌≡◌, ◌∙◌, ◌+◌, ◌<◌, ◌≤◌, [], arith, drop, length, refl}
+use Rattle.std.proofs.Common.{◌∙◌, ◌≤◌, [], arith, length, refl}
 use Rattle.std.proofs.lemmas.List.{drop_all, drop_more}
 use Rattle.std.proofs.lemmas.Result.{err_from_is_err_and}
 use Rattle.chip_debug.specs.declared.command.Command.TheVariants.{Power}
