@@ -147,6 +147,11 @@ class Explain(unittest.TestCase):
         self.assertRegex(self.explained('notclosed start to 0000 ---- .'), 'No state covers the start.*\nThe certificate belongs to another')
         self.assertRegex(self.explained('notclosed 0000 ---- . to 0001 ---- .'), 'No state covers what holds at the second point.*\nWhat holds')
 
+    def test_commands_of_the_debugger(self):
+        told = self.explained('error debug line 2 cause 1', commands='step 4\nstop 5\n')
+        self.assertRegex(told, r'commands, line 2\n    stop 5\nCause 1, Word: .*\nIs `step` meant\?\nThe form: `step N`\.')
+        self.assertNotIn('show chips', self.explained('error script line 1 cause 1', script='stop 5\n'))
+
     def test_the_line_may_have_lines_behind_it(self):
         done = call('explain', stdin='verdict none\nstop reserved 2D at 0000\nregs P=0000\ntotal 0 instructions 14 phi\n')
         self.assertIn('Look whether 0000 holds data', done.told)
@@ -172,6 +177,7 @@ class Explain(unittest.TestCase):
                   for key, n in (('rom', 1), ('?', 2), ('base', 3), ('base', 4), ('base', 5), ('rom', 7), ('source', 8))]
         lines += [f'error script line 1 cause {n}' for n in range(1, 7)]
         lines += [f'error cert line 1 cause {n}' for n in range(1, 7)]
+        lines += [f'error debug line 1 cause {n}' for n in range(1, 5)]
         for line in lines:
             self.assertRegex('\n'.join(self.tool.explain(line, self.tool.Files())), r'Cause \d+, \w+: .+ \(docs/\w+\.md\)', line)
         self.assertIn('not found', self.explained('error asm file line 1 column 1 cause 10'))
