@@ -43,7 +43,7 @@ impl Model for Progress {
 impl Progress {
     ghost use Rattle.std.specs.Prelude.{◌≡◌, ◌≤◌, ◌<◌, ◌+◌, ◌^◌, []};
     ghost use Rattle.console_spec.specs.Scripts.{frame_clocks};
-    ghost use Rattle.video.specs.ScreenState.{screen_after};
+    ghost use Rattle.video.specs.ScreenState.{screen_after, after_write};
     ghost use Rattle.rack_run.specs.Progressing.{ProgressState, progress_with, frame_at, ends_at};
 
     /// After reset, with its clocks in Φ: nothing was written, and no instruction was done.
@@ -63,7 +63,25 @@ impl Progress {
         }
     }
 
+    /// A port takes a write, that of an instruction which is counted.
+    // Not inlined, so that `step` is small without it.
+    #[inline(never)]
+    fn take(&mut self, write: PortWrite)
+        requires { self.old.writes < self.old.count }
+        ensures { self.new ≡ record self.old {
+          screen = after_write write.port write.byte self.old.screen;
+          writes = self.old.writes + 1;
+          bytes = self.old.bytes + write.byte;
+        } }
+    {
+        self.board.write(write);
+        self.writes += 1;
+        self.bytes += u64::from(write.byte);
+    }
+
     /// An instruction is done, with its write and the clocks at its end, in Φ: the frame that falls there, if one does.
+    // Each run has one call of it, at each of its instructions.
+    #[inline(always)]
     pub(crate) fn step(&mut self, wrote: Option<PortWrite>, phi: u64) -> Option<u32>
         requires onward { self.old.phi ≤ phi }
         requires near { phi ≤ self.old.phi + frame_clocks }
@@ -74,9 +92,7 @@ impl Progress {
     {
         self.count += 1;
         if let Some(write) = wrote {
-            self.board.write(write);
-            self.writes += 1;
-            self.bytes += u64::from(write.byte);
+            self.take(write);
         }
         let fallen = self.board.frame_due(phi);
         if let Some(frame) = fallen {
