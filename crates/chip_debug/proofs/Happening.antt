@@ -11,9 +11,11 @@ use Rattle.f8_machine.specs.Keying.{KeysInSocket, RackKeyed, RackKeyedBy, is_own
 use Rattle.f8_machine.specs.MachineState.{MachineState}
 use Rattle.f8_machine.specs.Refinement.{Represents}
 use Rattle.f8_machine.specs.RequestsHeld.{PulsesIf, PulsesInSocket, RackPulsed}
+use Rattle.f8_machine.specs.declared.heard.Heard.{Heard}
 use Rattle.chip_debug.specs.Scenes.{Scene, chips_with, happened, happening, pulsed_in}
-use Rattle.chip_debug.specs.Standing.{SessionState, IsAt, IsReady}
+use Rattle.chip_debug.specs.Standing.{SessionState, HaveHeard, IsAt, IsReady}
 use Rattle.chip_debug.proofs.KeptChips.{keys_keeps, pulses_keeps}
+use Rattle.chip_debug.proofs.KeptHearing.{heard_stays, keys_heard, pulses_heard}
 use Rattle.chip_debug.proofs.KeptRacks.{views_by, ready_stays}
 
 -- ---- the chips
@@ -25,22 +27,25 @@ keys_views port byte n [] (y ∷ ys) all = absurd all
 keys_views port byte n (x ∷ xs) [] all = absurd all
 keys_views port byte n (x ∷ xs) (y ∷ ys) all = ap₂ (λ v vs. v ∷ vs) all.0.view (keys_views port byte (n + 1) xs ys all.1)
 
--- what a key byte, or a pulse, makes of the views, and that the rack stays ready
-pub record Comes (vs : List ChipView) (news : List ChipState) : Type 0 where
+-- what a key byte, or a pulse, makes of the views; what the chips heard stays, and the rack stays ready
+pub record Comes (vs : List ChipView) (olds news : List ChipState) : Type 0 where
   pub are : views news ≡ vs
+  pub heard : (steps : List Heard) → HaveHeard steps 0 olds → HaveHeard steps 0 news
   pub ready : IsReady news
 
-comes_not : (olds news : List ChipState) → news ≡ olds → IsReady olds → Comes (views olds) news
+comes_not : (olds news : List ChipState) → news ≡ olds → IsReady olds → Comes (views olds) olds news
 comes_not olds news same ready = record {
   are = ap views same;
+  heard = λ steps had. subst (λ (l : List ChipState). HaveHeard steps 0 l) (sym same) had;
   ready = subst (λ (l : List ChipState). IsReady l) (sym same) ready;
 }
 
 keys_by : (own : Bool) (port byte : ℕ) (olds news : List ChipState) → RackKeyedBy own port byte olds news →
-    IsReady olds → Comes (if own then views olds else map (keyed port byte) (views olds)) news
+    IsReady olds → Comes (if own then views olds else map (keyed port byte) (views olds)) olds news
 keys_by true port byte olds news same ready = comes_not olds news same ready
 keys_by false port byte olds news all ready = record {
   are = keys_views port byte 0 olds news all;
+  heard = λ steps had. heard_stays (KeysInSocket port byte) steps steps (keys_heard port byte steps) 0 olds news all had;
   ready = ready_stays (KeysInSocket port byte) (keys_keeps port byte) olds news all ready;
 }
 
@@ -53,10 +58,11 @@ pulse_view chosen socket old new pulses = by (chosen == socket) pulses
     by false same = ap (λ (s : ChipState). s.view) same
 
 pulses_by : (socket : Option ℕ) (olds news : List ChipState) → RackPulsed socket olds news → IsReady olds →
-    Comes (pulsed_in socket (views olds)) news
+    Comes (pulsed_in socket (views olds)) olds news
 pulses_by None olds news same ready = comes_not olds news same ready
 pulses_by (Some chosen) olds news all ready = record {
   are = views_by (PulsesInSocket chosen) (λ k v. if chosen == k then pulsed v else v) (pulse_view chosen) 0 olds news all;
+  heard = λ steps had. heard_stays (PulsesInSocket chosen) steps steps (pulses_heard chosen steps) 0 olds news all had;
   ready = ready_stays (PulsesInSocket chosen) (pulses_keeps chosen) olds news all ready;
 }
 
@@ -92,7 +98,7 @@ module _ (s : SessionState) (after : MachineState) (olds news : List ChipState) 
     (halt : s.halt ≡ None) (running : scene.stop ≡ None) where
   came_at : (event : Event) → Represents after news (with_event event scene.position) →
       after.probe ≡ s.machine.probe →
-      Comes (chips_with scene.position.chain event scene.chips) news →
+      Comes (chips_with scene.position.chain event scene.chips) olds news →
       IsAt (record s { machine = after }) news (happened event scene)
   came_at event represents probe comes =
       let came : IsAt (record s { machine = after }) news (happening None event scene) = record {
@@ -100,6 +106,7 @@ module _ (s : SessionState) (after : MachineState) (olds news : List ChipState) 
         chain = represents.stands.chain;
         probe = probe ∙ at.probe;
         chips = comes.are;
+        heard = comes.heard scene.heard at.heard;
         stop = at.stop;
         count = at.count ∙ sym (event_count event scene.position);
         breaks = at.breaks;
@@ -113,7 +120,7 @@ module _ (s : SessionState) (after : MachineState) (olds news : List ChipState) 
       IsAt (record s { machine = after }) news (happened (Keys port byte) scene)
   keys_at port byte is keyed_all goes =
       came_at (Keys port byte) (goes (rw running at at.machine)) (keyed_same port byte s.machine after is).probe
-      (subst (λ (vs : List ChipView). Comes (if is_own port then vs else map (keyed port byte) vs) news) at.chips
+      (subst (λ (vs : List ChipView). Comes (if is_own port then vs else map (keyed port byte) vs) olds news) at.chips
       (keys_by (is_own port) port byte olds news keyed_all at.ready))
 
   pub pulse_at : (chip : ℕ) → after ≡ s.machine → RackPulsed (slice_get s.machine.chain chip) olds news →
@@ -122,6 +129,6 @@ module _ (s : SessionState) (after : MachineState) (olds news : List ChipState) 
       IsAt (record s { machine = after }) news (happened (Pulse chip) scene)
   pulse_at chip is pulsed_all goes =
       came_at (Pulse chip) (goes (rw running at at.machine)) (ap (λ (m : MachineState). m.probe) is)
-      (subst (λ (vs : List ChipView). Comes (pulsed_in (slice_get scene.position.chain chip) vs) news) at.chips
+      (subst (λ (vs : List ChipView). Comes (pulsed_in (slice_get scene.position.chain chip) vs) olds news) at.chips
       (pulses_by (slice_get scene.position.chain chip) olds news
       (subst (λ (chain : List ℕ). RackPulsed (slice_get chain chip) olds news) at.chain pulsed_all) at.ready))

@@ -3,6 +3,7 @@ pub mod LineSteps
 pub mod KeptBytes
 pub mod KeptChips
 pub mod KeptRacks
+pub mod KeptHearing
 pub mod SceneLaws
 pub mod Starts
 pub mod Turned

@@ -1,5 +1,5 @@
 -- A session is at the scene to which reset or an instruction led.
-use Rattle.std.proofs.Common.{◌≡◌, ℕ, List, refl, sym, ap₂, subst, ◌∙◌}
+use Rattle.std.proofs.Common.{◌≡◌, ℕ, List, ◌++◌, refl, sym, ap₂, subst, ◌∙◌}
 use Rattle.std.specs.Prelude.{Some, None}
 use Rattle.f8_spec.specs.ChipState.{ChipState}
 use Rattle.console_spec.specs.BusTrace.{Course}
@@ -10,6 +10,7 @@ use Rattle.f8_machine.specs.HeardSteps.{HaveBytes}
 use Rattle.f8_machine.specs.MachineState.{MachineState, probe_after_steps, steps_in}
 use Rattle.f8_machine.specs.Refinement.{Represents}
 use Rattle.f8_machine.specs.Rounds.{Runs, after_steps}
+use Rattle.f8_machine.specs.declared.heard.Heard.{Heard}
 use Rattle.f8_machine.specs.declared.outcome.Outcome.{Outcome}
 use Rattle.rack_run.specs.Endings.{stop_of}
 use Rattle.rack_run.specs.Machines.{machine_readout}
@@ -17,8 +18,9 @@ use Rattle.rack_run.specs.Turns.{readout_of}
 use Rattle.rack_run.specs.declared.ending.Halt.{Halt}
 use Rattle.chip_debug.specs.declared.breaks.Breaks.{Breaks}
 use Rattle.chip_debug.specs.Scenes.{Scene, chips_after, hearing, led_by, served_steps}
-use Rattle.chip_debug.specs.Standing.{SessionState, IsAt, IsReady}
+use Rattle.chip_debug.specs.Standing.{SessionState, HaveHeard, IsAt, IsReady}
 use Rattle.chip_debug.proofs.KeptChips.{runs_keeps}
+use Rattle.chip_debug.proofs.KeptHearing.{heard_stays, runs_heard}
 use Rattle.chip_debug.proofs.KeptRacks.{views_by, ready_stays}
 
 -- the machine and the rack have what a scene says of the chain, the probe and the chips
@@ -26,12 +28,14 @@ pub record Shows (m : MachineState) (states : List ChipState) (scene : Scene) : 
   pub chain : m.chain ≡ scene.position.chain
   pub probe : m.probe ≡ scene.probe
   pub chips : views states ≡ scene.chips
+  pub heard : HaveHeard scene.heard 0 states
   pub ready : IsReady states
 
 -- so it is where a session is at the scene
 pub shows_at : (s : SessionState) (states : List ChipState) (scene : Scene) → IsAt s states scene →
     Shows s.machine states scene
-shows_at s states scene at = record { chain = at.chain; probe = at.probe; chips = at.chips; ready = at.ready }
+shows_at s states scene at =
+    record { chain = at.chain; probe = at.probe; chips = at.chips; heard = at.heard; ready = at.ready }
 
 -- after bus steps
 pub shows_heard : (outcome : Outcome) (m after : MachineState) (olds news : List ChipState) (scene : Scene)
@@ -43,6 +47,9 @@ shows_heard outcome m after olds news scene course shows follows bytes heard = r
   probe = follows.reference ∙ ap₂ probe_after_steps heard shows.probe;
   chips = views_by (Runs (steps_in outcome)) (λ k v. after_steps k (steps_in outcome) v) (λ k a b ran. ran.view) 0 olds news follows.ran
       ∙ ap₂ chips_after heard shows.chips;
+  heard = subst (λ (steps : List Heard). HaveHeard (scene.heard ++ steps) 0 news) heard
+      (heard_stays (Runs (steps_in outcome)) scene.heard (scene.heard ++ steps_in outcome)
+      (runs_heard (steps_in outcome) scene.heard) 0 olds news follows.ran shows.heard);
   ready = ready_stays (Runs (steps_in outcome)) (runs_keeps (steps_in outcome) bytes) olds news follows.ran shows.ready;
 }
 
@@ -59,6 +66,7 @@ goes_at m states scene turn y count breaks goes shows running represents counts 
       chain = represents.stands.chain;
       probe = shows.probe;
       chips = shows.chips;
+      heard = shows.heard;
       stop = sym running;
       count = counts;
       breaks = same;
@@ -82,6 +90,7 @@ stops_at m states scene turn halt count breaks stops shows reads counts same =
       chain = shows.chain;
       probe = shows.probe;
       chips = shows.chips;
+      heard = shows.heard;
       stop = refl;
       count = counts;
       breaks = same;

@@ -32,6 +32,7 @@ use Rattle.cpu3850.specs.OwnWrites.{LeaveOwnPorts}
 use Rattle.f8_machine.specs.Refinement.{AreWhole}
 use Rattle.chip_debug.specs.Carried.{restarted}
 use Rattle.chip_debug.proofs.KeptChips.{powers_keeps}
+use Rattle.chip_debug.proofs.KeptHearing.{powers_heard}
 use Rattle.chip_debug.proofs.KeptRacks.{views_by, ready_stays}
 use Rattle.chip_debug.proofs.SceneLaws.{Shows, shows_heard, goes_at, stops_at}
 
@@ -66,6 +67,7 @@ powered_shows fill chain index breaks m olds news small is powers ready = record
   chain = ap (λ (n : MachineState). n.chain) is;
   probe = ap (λ (n : MachineState). n.probe) is;
   chips = views_by (PowersInSocket fill) (λ k v. powered fill (power_start fill k) v) (λ k a b is. is.view) 0 olds news powers;
+  heard = powers_heard fill 0 olds news powers;
   ready = ready_stays (PowersInSocket fill) (powers_keeps fill small) olds news powers ready;
 }
 

@@ -1,5 +1,5 @@
 -- What a session has come to, and what each command makes of it.
-use Rattle.std.specs.Prelude.{ℕ, zero, suc, ◌+◌, ◌==◌, ◌&&◌, Bool, true, false, if◌then◌else◌, List, map, slice_get}
+use Rattle.std.specs.Prelude.{ℕ, zero, suc, ◌+◌, ◌==◌, ◌&&◌, Bool, true, false, if◌then◌else◌, List, [], ◌++◌, map, slice_get}
 use Rattle.std.specs.Prelude.{Option, Some, None, is_some}
 use Rattle.std.specs.List.{enumerate_from}
 use Rattle.f8_spec.specs.ChipState.{ChipView, powered as powered_view, keyed, pulsed}
@@ -19,11 +19,13 @@ use Rattle.chip_debug.specs.declared.breaks.Breaks.{Breaks}
 use Rattle.chip_debug.specs.Breaks.{are_met}
 
 -- Where the flat machine and the copies of its counters stand after the last instruction that was done, or after power-on where reset was
--- not; the chips and the probe as they are now, after all served steps; what stopped the session, if anything did; and its breaks.
+-- not; the chips and the probe as they are now, after all served steps, and these steps themselves since power-on; what stopped the
+-- session, if anything did; and its breaks.
 pub record Scene : Type 0 where
   pub position : Position
   pub chips : List ChipView
   pub probe : ProbeState
+  pub heard : List Heard
   pub stop : Option Stop
   pub breaks : Breaks
 
@@ -39,7 +41,8 @@ chips_after steps vs = map (λ x. after_steps x.0 steps x.1) (enumerate_from 0 v
 
 -- the chips and the probe hear the steps
 abbrev pub hearing : List Heard → Scene → Scene
-hearing steps s = record s { chips = chips_after steps s.chips; probe = probe_after_steps steps s.probe }
+hearing steps s =
+    record s { chips = chips_after steps s.chips; probe = probe_after_steps steps s.probe; heard = s.heard ++ steps }
 
 -- and the flat machine goes on, or the session stops
 abbrev pub led_by : Turn → Scene → Scene
@@ -57,6 +60,7 @@ powered_scene fill chain breaks vs = record {
   position = power_position vs chain fill;
   chips = chips_powered fill vs;
   probe = new_probe;
+  heard = [];
   stop = None;
   breaks = breaks;
 }

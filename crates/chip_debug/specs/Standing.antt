@@ -1,6 +1,7 @@
 -- A session as contracts see it, and what it and its rack stand for.
-use Rattle.std.specs.Prelude.{ℕ, ◌≡◌, ◌≤◌, ◌+◌, ◌*◌, ◌&&◌, Bool, if◌then◌else◌, List, map, Option, Some, None, option_map, is_some}
-use Rattle.f8_spec.specs.ChipState.{ChipState}
+use Rattle.std.specs.Prelude.{ℕ, ◌≡◌, ◌≤◌, ◌+◌, ◌*◌, ◌&&◌, Bool, if◌then◌else◌, List, [], ◌∷◌, map}
+use Rattle.std.specs.Prelude.{Option, Some, None, option_map, is_some}
+use Rattle.f8_spec.specs.ChipState.{ChipState, HeardStep, told_step}
 use Rattle.f8_spec.specs.BusArbitration.{seat_of}
 use Rattle.console_spec.specs.Run.{Position, Stop}
 use Rattle.cpu3850.specs.OwnWrites.{LeaveOwnPorts}
@@ -10,6 +11,8 @@ use Rattle.f8_machine.specs.declared.outcome.Outcome.{Outcome}
 use Rattle.f8_machine.specs.declared.outcome.Outcome.TheVariants.{Done as DoneOutcome, Fault as FaultOutcome, Reserved as ReservedOutcome}
 use Rattle.f8_ops.specs.declared.table.TheConstants.{MOST_INTERRUPTED_PHI, RESET_PHI}
 use Rattle.f8_machine.specs.Refinement.{Represents, AreWhole}
+use Rattle.f8_machine.specs.Rounds.{heard_in}
+use Rattle.f8_machine.specs.declared.heard.Heard.{Heard}
 use Rattle.rack_run.specs.Endings.{stop_of}
 use Rattle.rack_run.specs.Machines.{machine_readout}
 use Rattle.rack_run.specs.Turns.{readout_of}
@@ -55,12 +58,23 @@ pub record IsReady (states : List ChipState) : Type 0 where
   pub whole : AreWhole states
   pub free : LeaveOwnPorts (map seat_of (views states))
 
+-- where the chip in a socket tells what it heard since power-on, it heard these steps and nothing else
+abbrev pub HasHeard : List Heard → ℕ → ChipState → Type 0
+HasHeard steps socket s =
+    (told : List HeardStep) → s.heard_steps ≡ Some told → told ≡ map (λ h. told_step (heard_in socket h)) steps
+
+-- and so it is with the chips from a socket on
+abbrev pub HaveHeard : List Heard → ℕ → List ChipState → Type 0
+HaveHeard steps socket [] = Unit {0}
+HaveHeard steps socket (s ∷ states) = HasHeard steps socket s × HaveHeard steps (socket + 1) states
+
 -- a session with its rack is at a scene
 pub record IsAt (s : SessionState) (states : List ChipState) (scene : Scene) : Type 0 where
   pub machine : MachineAt scene.stop s.machine states scene.position
   pub chain : s.machine.chain ≡ scene.position.chain
   pub probe : s.machine.probe ≡ scene.probe
   pub chips : views states ≡ scene.chips
+  pub heard : HaveHeard scene.heard 0 states
   pub stop : option_map stop_of s.halt ≡ scene.stop
   pub count : s.count ≡ scene.position.flat.state.count
   pub breaks : s.breaks ≡ scene.breaks
