@@ -25,7 +25,7 @@ use Rattle.chip_debug.specs.declared.command.Command.{Command}
 use Rattle.chip_debug.specs.declared.command.Command.TheVariants.{Power}
 use Rattle.loader.specs.declared.games.Debugging.{Debugging}
 use Rattle.channel_f.specs.Answers.{debug_answer}
-use Rattle.channel_f.specs.RackDebugged.{CarriedTo, Debugs}
+use Rattle.channel_f.specs.RackDebugged.{AreOf, CarriedTo, Debugs}
 use Rattle.channel_f.specs.Reports.{Answers, Reports}
 use Rattle.channel_f.proofs.Games.{answers_of}
 
@@ -41,6 +41,10 @@ scene_by-append : (done : List Command) (command : Command) (s : Scene) →
     scene_by (done ++ command ∷ []) s ≡ scene_after command (scene_by done s)
 scene_by-append [] command s = refl
 scene_by-append (c ∷ done) command s = scene_by-append done command (scene_after c s)
+
+-- where a session is at a scene, the chips are the scene's
+are_of : (s : SessionState) (states : List ChipState) (scene : Scene) → IsAt s states scene → AreOf scene states
+are_of s states scene at = record { chips = at.chips; heard = at.heard }
 
 -- ---- so far
 
@@ -106,7 +110,12 @@ module _ (commands left : List Command) (command : Command) (later : List Comman
 
   pub carried_cut : IsAt after news (scene_after command (scene_by along.done first)) → CarriedTo commands first news
   carried_cut at =
-      record { done = along.done ++ command ∷ []; rest = later; are = are_more; chips = (at_more at).chips }
+      record {
+        done = along.done ++ command ∷ [];
+        rest = later;
+        are = are_more;
+        chips = are_of after news (scene_by (along.done ++ command ∷ []) first) (at_more at);
+      }
 
 module _ (commands left : List Command) (first : Scene) (s : SessionState) (states : List ChipState) (a b : Output)
     (along : Along commands left first s states a b) (none : left ≡ []) where
@@ -118,8 +127,10 @@ module _ (commands left : List Command) (first : Scene) (s : SessionState) (stat
       so_far_all v a b (text_of (told_by commands first)) (text_of (told_by left (scene_by along.done first))) along.so_far
       (ap (λ (l : List Command). text_of (told_by l (scene_by along.done first))) none ∙ text_of-nil)
 
-  pub whole_all : views states ≡ (scene_by commands first).chips
-  whole_all = along.at.chips ∙ ap (λ (l : List Command). (scene_by l first).chips) all_done
+  pub whole_all : AreOf (scene_by commands first) states
+  whole_all =
+      subst (λ (l : List Command). AreOf (scene_by l first) states) all_done
+      (are_of s states (scene_by along.done first) along.at)
 
   pub carried_all : CarriedTo commands first states
   carried_all =
@@ -165,12 +176,12 @@ module _ (a b : Output) (said : ℕ) (asked : Debugging) (rack fitted : List Chi
       reports)
 
   pub debugs : (news : List ChipState) →
-      (said ≡ 0 → views news ≡ (scene_by asked.commands (first_scene asked.cart.chips (views fitted))).chips) →
+      (said ≡ 0 → AreOf (scene_by asked.commands (first_scene asked.cart.chips (views fitted))) news) →
       CarriedTo asked.commands (first_scene asked.cart.chips (views fitted)) news → Debugs said asked rack news
   debugs news whole part = record {
     wanting = λ six. absurd (zero_not_six said reports.which six);
     whole = λ done.
-        subst (λ (vs : List ChipView). views news ≡ (scene_by asked.commands (first_scene asked.cart.chips vs)).chips) same
+        subst (λ (vs : List ChipView). AreOf (scene_by asked.commands (first_scene asked.cart.chips vs)) news) same
         (whole done);
     part = λ six.
         subst (λ (vs : List ChipView). CarriedTo asked.commands (first_scene asked.cart.chips vs) news) same part;

@@ -3,6 +3,7 @@ use Rattle.std.specs.Prelude.{◌≡◌, ◌≢◌, ℕ, List, ◌++◌, Option,
 use Rattle.f8_spec.specs.ChipState.{ChipState}
 use Rattle.chip_debug.specs.Carried.{scene_by}
 use Rattle.chip_debug.specs.Scenes.{Scene}
+use Rattle.chip_debug.specs.Standing.{HaveHeard}
 use Rattle.chip_debug.specs.declared.command.Command.{Command}
 use Rattle.data_bus.specs.Racks.{views}
 use Rattle.loader.specs.declared.games.Debugging.{Debugging}
@@ -10,17 +11,22 @@ use Rattle.loader.specs.declared.refusals.Stop.{Stop}
 use Rattle.rack_run.specs.Seating.{seated, RackFitsInPart}
 use Rattle.channel_f.specs.Answers.{debug_scene, refusal}
 
+-- the chips are those of a scene, and each that tells what it heard since power-on heard the scene's bus steps and nothing else
+pub record AreOf (scene : Scene) (states : List ChipState) : Type 0 where
+  pub chips : views states ≡ scene.chips
+  pub heard : HaveHeard scene.heard 0 states
+
 -- Some of the commands were carried out whole, from the first on, and the chips are those of the scene that they lead to.
 pub record CarriedTo (commands : List Command) (scene : Scene) (news : List ChipState) : Type 0 where
   pub done : List Command
   pub rest : List Command
   pub are : commands ≡ done ++ rest
-  pub chips : views news ≡ (scene_by done scene).chips
+  pub chips : AreOf (scene_by done scene) news
 
 -- all of them unless the sink failed; and where memory was wanting, the first chips may have been fitted, and no more became of any
 pub record Debugs (said : ℕ) (asked : Debugging) (rack news : List ChipState) : Type 0 where
   pub wanting : said ≡ 6 → RackFitsInPart (seated asked.cart.chips rack) rack news
-  pub whole : said ≡ 0 → views news ≡ (scene_by asked.commands (debug_scene asked.cart rack)).chips
+  pub whole : said ≡ 0 → AreOf (scene_by asked.commands (debug_scene asked.cart rack)) news
   pub part : said ≢ 6 → CarriedTo asked.commands (debug_scene asked.cart rack) news
 
 -- chips that are refused leave the rack as it was

@@ -12,7 +12,7 @@ ghost use Rattle.chip_debug.specs.Limits.{AreCommands, most_instructions, total_
 ghost use Rattle.chip_debug.specs.Scenes.{Scene};
 ghost use Rattle.chip_debug.specs.Standing.{IsAt};
 ghost use Rattle.channel_f.specs.Answers.{debug_answer, debug_due, refusal as spelled_refusal};
-ghost use Rattle.channel_f.specs.RackDebugged.{CarriedTo, Debugs, DebugsUnless};
+ghost use Rattle.channel_f.specs.RackDebugged.{AreOf, CarriedTo, Debugs, DebugsUnless};
 ghost use Rattle.channel_f.specs.Reports.{Answers, AnswersDue, Reports};
 ghost use Rattle.channel_f.specs.Statuses.{exit_code};
 
@@ -43,7 +43,7 @@ fn carry_out<K: Sink>(
     ensures told { (scene : Scene) → IsAt session.old (map state rack.old.items) scene →
         Puts result (K.output sink.old) (K.output sink.new) (text_of (told_by commands.now scene)) }
     ensures whole { (scene : Scene) → IsAt session.old (map state rack.old.items) scene →
-        OnOk result (views (map state rack.new.items) ≡ (scene_by commands.now scene).chips) }
+        OnOk result (AreOf (scene_by commands.now scene) (map state rack.new.items)) }
     ensures part { (scene : Scene) → IsAt session.old (map state rack.old.items) scene →
         CarriedTo commands.now scene (map state rack.new.items) }
     ensures chips { length rack.new.items ≡ length rack.old.items }
@@ -62,9 +62,9 @@ fn debug_fitted<K: Sink>(asked: &Debugging, sink: &mut K, rack: &mut Rack) -> St
     ensures reports { Reports (K.output sink.old) (K.output sink.new) (exit_code result) 0
         (told_by asked.now.commands (first_scene asked.now.cart.chips
         (views (map state rack.old.items)))) }
-    ensures whole { exit_code result ≡ 0 → views (map state rack.new.items)
-        ≡ (scene_by asked.now.commands (first_scene asked.now.cart.chips
-        (views (map state rack.old.items)))).chips }
+    ensures whole { exit_code result ≡ 0 → AreOf (scene_by asked.now.commands
+        (first_scene asked.now.cart.chips (views (map state rack.old.items))))
+        (map state rack.new.items) }
     ensures part { CarriedTo asked.now.commands (first_scene asked.now.cart.chips
         (views (map state rack.old.items))) (map state rack.new.items) }
 {
