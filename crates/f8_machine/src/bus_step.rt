@@ -1,10 +1,11 @@
 //! One bus step of a machine.
-ghost use Rattle.std.specs.Prelude.{◌≡◌, ◌<◌, ◌≤◌, length, map, sum_by, IfOk, IfErr, IfSome};
+ghost use Rattle.std.specs.Prelude.{◌≡◌, ◌<◌, ◌≤◌, length, map, sum_by, IfOk, IfErr, IfSome, OnErr};
 ghost use Rattle.data_bus.specs.PageIndex.{StandsFor};
 ghost use Rattle.data_bus.specs.Racks.{ChosenAsks};
 ghost use Rattle.f8_machine.specs.BusSteps.{IsPlain, IsServed, IsServedBy, IsRefused, IsRefusedBy, heard_served};
 ghost use Rattle.f8_machine.specs.Questions.{CountsOn, CountsTried};
 
+use super::carry::Unserved;
 use super::heard::{Heard, taker, who_drove};
 use super::record::{MOST_HEARD, Record};
 use chip_face::{Chip, MOST_CHIPS};
@@ -70,6 +71,10 @@ fn known_step(
     }
 }
 
+/// A bus step wasn't served; what there is to say of it stands where the caller has a place for it.
+#[derive(Clone, Copy, Debug, PartialEq, Eq)]
+pub(crate) struct NotServed;
+
 /// One bus step as [`bus_step`] does it, whatever the index tells.
 #[tactic(auto, using(crate::proofs::BusAnswers::none_chosen))]
 #[inline(never)]
@@ -80,30 +85,41 @@ fn whole_step(
     step: &Step,
     placed: u8,
     steps: &mut Record,
-) -> Result<u8, BusFault>
+    unserved: &mut Unserved,
+) -> Result<u8, NotServed>
     requires few { length rack.old.items ≤ MOST_CHIPS }
     requires room { length steps.old < MOST_HEARD }
     requires stands { StandsFor known.old probe.old (map state rack.old.items) }
     requires plain { IsPlain step.now.romc }
     ensures served { IfOk result (λ byte. IsServed step.now placed probe.old probe.new
         (map state rack.old.items) (map state rack.new.items) steps.old steps.new byte) }
-    ensures refused { IfErr result (λ fault. IsRefused step.now fault probe.old probe.new
+    ensures refused { OnErr result (IsRefused step.now unserved.new.fault probe.old probe.new
         (map state rack.old.items) (map state rack.new.items) steps.old steps.new) }
+    ensures long { OnErr result (unserved.new.long ≡ step.now.long) }
     ensures stands { StandsFor known.new probe.new (map state rack.new.items) }
     ensures counted { IfOk result (λ byte. CountsOn (length rack.old.items)
         (record { index = known.old; questions = sum_by queries rack.old.items; steps = steps.old })
         (record { index = known.new; questions = sum_by queries rack.new.items; steps = steps.new })) }
-    ensures tried { IfErr result (λ fault. CountsTried (length rack.old.items) fault
+    ensures tried { OnErr result (CountsTried (length rack.old.items) unserved.new.fault
         (record { index = known.old; questions = sum_by queries rack.old.items; steps = steps.old })
         (record { index = known.new; questions = sum_by queries rack.new.items; steps = steps.new })) }
     ensures chips { length rack.new.items ≡ length rack.old.items }
 {
-    bus_step_by(rack, probe, known, *step, placed, None, steps)
+    match bus_step_by(rack, probe, known, *step, placed, None, steps) {
+        Ok(byte) => Ok(byte),
+        Err(fault) => {
+            *unserved = Unserved {
+                fault,
+                long: step.long,
+            };
+            Err(NotServed)
+        }
+    }
 }
 
 /// One bus step of an instruction or of reset, with the byte that the CPU places, which counts where nobody else drives. A step that is
-/// served is told behind the others, and its byte is answered; one that isn't changes no chip's state. The index goes on by served steps,
-/// and the questions that are put are counted.
+/// served is told behind the others, and its byte is answered; one that isn't changes no chip's state, and `unserved` tells it. The index
+/// goes on by served steps, and the questions that are put are counted.
 #[inline(always)]
 pub(crate) fn bus_step(
     rack: &mut Rack,
@@ -112,27 +128,29 @@ pub(crate) fn bus_step(
     step: Step,
     placed: u8,
     steps: &mut Record,
-) -> Result<u8, BusFault>
+    unserved: &mut Unserved,
+) -> Result<u8, NotServed>
     requires few { length rack.old.items ≤ MOST_CHIPS }
     requires room { length steps.old < MOST_HEARD }
     requires stands { StandsFor known.old probe.old (map state rack.old.items) }
     requires plain { IsPlain step.romc }
     ensures served { IfOk result (λ byte. IsServed step placed probe.old probe.new
         (map state rack.old.items) (map state rack.new.items) steps.old steps.new byte) }
-    ensures refused { IfErr result (λ fault. IsRefused step fault probe.old probe.new
+    ensures refused { OnErr result (IsRefused step unserved.new.fault probe.old probe.new
         (map state rack.old.items) (map state rack.new.items) steps.old steps.new) }
+    ensures long { OnErr result (unserved.new.long ≡ step.long) }
     ensures stands { StandsFor known.new probe.new (map state rack.new.items) }
     ensures counted { IfOk result (λ byte. CountsOn (length rack.old.items)
         (record { index = known.old; questions = sum_by queries rack.old.items; steps = steps.old })
         (record { index = known.new; questions = sum_by queries rack.new.items; steps = steps.new })) }
-    ensures tried { IfErr result (λ fault. CountsTried (length rack.old.items) fault
+    ensures tried { OnErr result (CountsTried (length rack.old.items) unserved.new.fault
         (record { index = known.old; questions = sum_by queries rack.old.items; steps = steps.old })
         (record { index = known.new; questions = sum_by queries rack.new.items; steps = steps.new })) }
     ensures chips { length rack.new.items ≡ length rack.old.items }
 {
     match known_step(rack, probe, known, &step, placed, steps) {
         Some(byte) => Ok(byte),
-        None => whole_step(rack, probe, known, &step, placed, steps),
+        None => whole_step(rack, probe, known, &step, placed, steps, unserved),
     }
 }
 

@@ -1,5 +1,5 @@
 //! The bus steps of an instruction.
-ghost use Rattle.std.specs.Prelude.{◌≡◌, ◌<◌, ◌≤◌, [], length, map, sum_by, IfOk, IfErr, IfSome, OnErr, IsSome, Some, false};
+ghost use Rattle.std.specs.Prelude.{◌≡◌, ◌<◌, ◌≤◌, [], length, map, sum_by, IfOk, IfSome, OnErr, IsSome, Some, false};
 ghost use Rattle.f8_spec.specs.Instructions.{decoded, is_shielding};
 ghost use Rattle.f8_spec.specs.declared.instructions.Op.{Op};
 ghost use Rattle.console_spec.specs.Run.{Position};
@@ -11,7 +11,7 @@ ghost use Rattle.f8_machine.specs.MachineState.{probe_after_steps};
 ghost use Rattle.f8_machine.specs.Questions.{CountsOn, CountsTried};
 ghost use Rattle.f8_machine.specs.Rounds.{RackRuns};
 
-use super::bus_step::bus_step;
+use super::bus_step::{NotServed, bus_step};
 use super::chain::Chain;
 use super::choose::choose;
 use super::interrupt::{acknowledge_chosen, fetch_by};
@@ -21,6 +21,7 @@ use chip_face::{Chip, MOST_CHIPS};
 use cpu3850::{Cpu, Steps};
 use data_bus::{BusFault, Index, Rack};
 use probe::Probe;
+use romc_table::Romc;
 
 /// A bus step that wasn't served, and whether it is a long one.
 #[derive(Debug, Drop)]
@@ -30,6 +31,17 @@ pub(crate) struct Unserved {
 }
 
 impl Unserved {
+    /// A place for one, before a step isn't served. Nobody reads what stands there till then.
+    pub(crate) fn place() -> Unserved {
+        Unserved {
+            fault: BusFault::Undriven {
+                romc: Romc::FETCH,
+                at: 0,
+            },
+            long: false,
+        }
+    }
+
     /// What it stops a machine with.
     pub(crate) fn to_stopped_by(&self) -> StoppedBy
         ensures { result ≡ StoppedBy.Fault self.now.fault self.now.long }
@@ -53,8 +65,8 @@ fn conclude(cpu: &mut Cpu, index: u8, opcode: u8, chosen: Option<u8>)
 }
 
 /// The bus steps of the instruction that the processor holds, each told in `steps`. Requests for an interrupt are sampled as its last
-/// step begins; the answer is the socket of the chip whose interrupt is taken in place of it. Where a step isn't served the processor
-/// differs from what it was in nothing but what can be put back.
+/// step begins; the answer is the socket of the chip whose interrupt is taken in place of it. Where a step isn't served `unserved`
+/// tells it, and the processor differs from what it was in nothing but what can be put back.
 pub(crate) fn carry_out(
     cpu: &mut Cpu,
     probe: &mut Probe,
@@ -63,7 +75,8 @@ pub(crate) fn carry_out(
     plan: &Steps,
     chain: &Chain,
     steps: &mut Record,
-) -> Result<Option<u8>, Unserved>
+    unserved: &mut Unserved,
+) -> Result<Option<u8>, NotServed>
     requires few { length rack.old.items ≤ MOST_CHIPS }
     requires plan { plan.now ≡ planned cpu.old }
     requires instruction { IsSome (decoded cpu.old.opcode) }
@@ -75,7 +88,7 @@ pub(crate) fn carry_out(
         (map state rack.new.items) steps.new chosen op x) }
     ensures cut { (op : Op) (x : Position) →
         HoldsInstruction cpu.old probe.old (map state rack.old.items) chain.now op x →
-        IfErr result (λ unserved. IsCutShort steps.new unserved.fault unserved.long op x) }
+        OnErr result (IsCutShort steps.new unserved.new.fault unserved.new.long op x) }
     ensures open { (op : Op) → decoded cpu.old.opcode ≡ Some op →
         IfOk result (λ chosen. IfSome chosen (λ socket. is_shielding op ≡ false)) }
     ensures restorable { OnErr result (IsRestorable cpu.old cpu.new) }
@@ -85,7 +98,7 @@ pub(crate) fn carry_out(
     ensures counted { IfOk result (λ chosen. CountsOn (length rack.old.items)
         (record { index = known.old; questions = sum_by queries rack.old.items; steps = steps.old })
         (record { index = known.new; questions = sum_by queries rack.new.items; steps = steps.new })) }
-    ensures tried { IfErr result (λ unserved. CountsTried (length rack.old.items) unserved.fault
+    ensures tried { OnErr result (CountsTried (length rack.old.items) unserved.new.fault
         (record { index = known.old; questions = sum_by queries rack.old.items; steps = steps.old })
         (record { index = known.new; questions = sum_by queries rack.new.items; steps = steps.new })) }
     ensures chips { length rack.new.items ≡ length rack.old.items }
@@ -93,15 +106,8 @@ pub(crate) fn carry_out(
     let before = plan.before_last();
     for (index, step) in before.iter().enumerate() {
         let placed = cpu.drive(index as u8);
-        match bus_step(rack, probe, known, *step, placed, steps) {
-            Ok(byte) => cpu.take(index as u8, byte),
-            Err(fault) => {
-                return Err(Unserved {
-                    fault,
-                    long: step.long,
-                });
-            }
-        }
+        let byte = bus_step(rack, probe, known, *step, placed, steps, unserved)?;
+        cpu.take(index as u8, byte);
     }
     let Some(last) = plan.last() else {
         unreachable!()
@@ -109,12 +115,7 @@ pub(crate) fn carry_out(
     let chosen = choose(cpu, rack, chain);
     acknowledge_chosen(rack, probe, known, chosen, steps);
     let fetch = fetch_by(chosen, last);
-    let long = fetch.long;
-    match bus_step(rack, probe, known, fetch, 0, steps) {
-        Ok(opcode) => {
-            conclude(cpu, (plan.len() - 1) as u8, opcode, chosen);
-            Ok(chosen)
-        }
-        Err(fault) => Err(Unserved { fault, long }),
-    }
+    let opcode = bus_step(rack, probe, known, fetch, 0, steps, unserved)?;
+    conclude(cpu, (plan.len() - 1) as u8, opcode, chosen);
+    Ok(chosen)
 }

@@ -1,5 +1,6 @@
 //! The machine: power, reset, instructions, key bytes and pulses.
 use super::all_chips::{key_all, power_all};
+use super::bus_step::NotServed;
 use super::carry::{Unserved, carry_out};
 use super::chain::Chain;
 use super::flow::Flow;
@@ -144,7 +145,7 @@ impl Machine {
     /// The next instruction, with the interrupt at its end, on a machine that was reset. Where a bus step of it isn't served, the
     /// registers and the clocks are those before it, while the probe and the chips have heard its served steps; and from then on each
     /// call answers the same, with no step, and changes nothing. So it does at an opcode that is reserved.
-    // Not inlined, so that an outcome is built in its caller's place, and isn't copied there piece by piece.
+    // One function, and not inlined, since each call that gives an outcome copies it.
     #[inline(never)]
     pub fn instr(&mut self, rack: &mut Rack) -> Outcome
         requires few { length rack.old.items ≤ MOST_CHIPS }
@@ -163,62 +164,21 @@ impl Machine {
             (map state rack.old.items) (map state rack.new.items) }
         ensures chips { length rack.new.items ≡ length rack.old.items }
     {
-        match &self.mode {
-            Mode::Stopped(why) => why.outcome(),
-            _ => self.next(rack),
+        if let Mode::Stopped(why) = &self.mode {
+            return why.outcome();
         }
-    }
-
-    /// The next instruction of a machine that isn't stopped.
-    fn next(&mut self, rack: &mut Rack) -> Outcome
-        requires few { length rack.old.items ≤ MOST_CHIPS }
-        requires mode { IsReset self.old.mode }
-        requires fits { Fits self.old (map state rack.old.items) }
-        requires phi { self.old.phi < 2 ^ 62 }
-        ensures advances { Advances result self.old self.new
-            (map state rack.old.items) (map state rack.new.items) }
-        ensures follows { Follows result self.old self.new
-            (map state rack.old.items) (map state rack.new.items) }
-        ensures fits { Fits self.new (map state rack.new.items) }
-        ensures asked { sum_by queries rack.new.items ≤ sum_by queries rack.old.items
-            + allowances (length rack.old.items) self.old.index (tried_in result) }
-        ensures chips { length rack.new.items ≡ length rack.old.items }
-    {
-        match self.cpu.plan() {
-            Ok(plan) => self.carry_plan(rack, plan),
+        let plan = match self.cpu.plan() {
+            Ok(plan) => plan,
             Err(Reserved { code }) => {
-                self.mode = Mode::Stopped(StoppedBy::Reserved {
-                    at: self.flow.p,
-                    code,
-                });
-                Outcome::Reserved {
-                    at: self.flow.p,
-                    code,
-                }
+                let at = self.flow.p;
+                self.mode = Mode::Stopped(StoppedBy::Reserved { at, code });
+                return Outcome::Reserved { at, code };
             }
-        }
-    }
-
-    /// The steps of the instruction that is held. Where one isn't served, what they changed of the processor is put back.
-    fn carry_plan(&mut self, rack: &mut Rack, plan: Steps) -> Outcome
-        requires few { length rack.old.items ≤ MOST_CHIPS }
-        requires plan { plan ≡ planned self.old.cpu }
-        requires instruction { IsSome (decoded self.old.cpu.opcode) }
-        requires mode { IsReset self.old.mode }
-        requires fits { Fits self.old (map state rack.old.items) }
-        requires phi { self.old.phi < 2 ^ 62 }
-        ensures advances { Advances result self.old self.new
-            (map state rack.old.items) (map state rack.new.items) }
-        ensures follows { Follows result self.old self.new
-            (map state rack.old.items) (map state rack.new.items) }
-        ensures fits { Fits self.new (map state rack.new.items) }
-        ensures asked { sum_by queries rack.new.items ≤ sum_by queries rack.old.items
-            + allowances (length rack.old.items) self.old.index (tried_in result) }
-        ensures chips { length rack.new.items ≡ length rack.old.items }
-    {
+        };
         let code = self.cpu.opcode();
         let kept = self.cpu.kept();
         let mut steps = Record::new();
+        let mut unserved = Unserved::place();
         let carried = carry_out(
             &mut self.cpu,
             &mut self.probe,
@@ -227,6 +187,7 @@ impl Machine {
             &plan,
             &self.chain,
             &mut steps,
+            &mut unserved,
         );
         match carried {
             Ok(chosen) => {
@@ -235,7 +196,7 @@ impl Machine {
                 let wrote = done_write(code, self.phi, self.cpu.ports(), steps.as_slice());
                 Outcome::Done { wrote, steps }
             }
-            Err(unserved) => {
+            Err(NotServed) => {
                 self.cpu.restore(kept);
                 self.mode = Mode::Stopped(unserved.to_stopped_by());
                 let Unserved { fault, long } = unserved;

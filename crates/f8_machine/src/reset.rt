@@ -8,7 +8,7 @@ ghost use Rattle.f8_machine.specs.Questions.{CountsOn, CountsTried};
 ghost use Rattle.f8_machine.specs.Resetting.{IsAtPower, IsFetched, IsNotFetched};
 ghost use Rattle.f8_machine.specs.Rounds.{RackRuns};
 
-use super::bus_step::bus_step;
+use super::bus_step::{NotServed, bus_step};
 use super::carry::Unserved;
 use super::record::{MOST_HEARD, Record};
 use chip_face::{Chip, MOST_CHIPS};
@@ -63,10 +63,10 @@ fn quiet_step(
         (record { index = known.new; questions = sum_by queries rack.new.items; steps = steps.new })) }
     ensures chips { length rack.new.items ≡ length rack.old.items }
 {
-    let long = step.long;
-    match bus_step(rack, probe, known, step, 0, steps) {
+    let mut unserved = Unserved::place();
+    match bus_step(rack, probe, known, step, 0, steps, &mut unserved) {
         Ok(byte) => Ok(byte),
-        Err(fault) => Err(Unserved { fault, long }),
+        Err(NotServed) => Err(unserved),
     }
 }
 

@@ -25,6 +25,7 @@ use Rattle.f8_machine.proofs.Counting.{counts_none, counts_both, counts_then_tri
 use Rattle.f8_machine.proofs.Carried.{before_planned, carried_out, cut_short, last_planned, length-planned}
 use Rattle.f8_machine.proofs.Carried.{remaining_first, remaining_over}
 use Rattle.f8_machine.proofs.RackLaws.{rack_runs_none}
+use Rattle.f8_machine.proofs.Resets.{on_err}
 use Rattle.f8_machine.proofs.RackRuns.{ran_chosen, ran_more, ran_still}
 use Rattle.f8_machine.proofs.Remains.{planned_before_plain, split_plan, remaining_more, remaining_stops}
 use Rattle.f8_machine.proofs.Starts.{instruction_aim}
@@ -106,53 +107,51 @@ pub take-requires : goal.take-requires
 take-requires g c =
     rw c.loop-index.invariant.plan (omega (arith, c.loop-index.invariant.longer, c.loop-index-test.true))
 
-pub returns-in-Err-clause-cut : goal.returns-in-Err-clause-cut
-returns-in-Err-clause-cut g c = λ op x holds.
+pub returns-in_err-byte-clause-cut : goal.returns-in_err-byte-clause-cut
+returns-in_err-byte-clause-cut g c = λ op x holds.
     let stopped = remaining_stops (row_of op) x (gets_all_at op x) (instruction_aim op x) _
     c.before_last-before.result.now c.index-before-index.result c.loop-index.index
     c.loop-index.cpu c.loop-index.probe _ c.loop-index.steps
-    c.in-Err.fault c.bus_step.new.probe _ c.bus_step.new.steps c.loop-index-test.true c.index-before-index.is
-    c.in-Err.ensures.refused (c.loop-index.invariant.left op x holds) in
-    record {
+    c.bus_step.new.unserved.fault c.bus_step.new.probe _ c.bus_step.new.steps c.loop-index-test.true c.index-before-index.is
+    c.in_err-byte.ensures.refused (c.loop-index.invariant.left op x holds) in
+    on_err c.from_residual.result _ (record {
       unserved = stopped.fault_is;
       so_far = stopped.so_far;
       recorded = stopped.recorded;
-      trace = stopped.course_is;
-    }
+      trace = rw c.in_err-byte.ensures.long stopped.course_is;
+    })
 
-pub returns-in-Err-clause-restorable : goal.returns-in-Err-clause-restorable
-returns-in-Err-clause-restorable g c = c.loop-index.invariant.restorable
-
-pub returns-in-Err-clause-ran : goal.returns-in-Err-clause-ran
-returns-in-Err-clause-ran g c =
-    (ran_still c.args.probe.now _ c.index-before-index.result c.in-Err.fault c.loop-index.probe c.bus_step.new.probe _ _
+pub returns-in_err-byte-clause-ran : goal.returns-in_err-byte-clause-ran
+returns-in_err-byte-clause-ran g c =
+    (ran_still c.args.probe.now _ c.index-before-index.result c.bus_step.new.unserved.fault c.loop-index.probe c.bus_step.new.probe _ _
     c.loop-index.steps c.bus_step.new.steps
     (record { rack = c.loop-index.invariant.ran; reference = c.loop-index.invariant.reference })
-    c.in-Err.ensures.refused).rack
+    c.in_err-byte.ensures.refused).rack
 
-pub returns-in-Err-clause-reference : goal.returns-in-Err-clause-reference
-returns-in-Err-clause-reference g c =
-    (ran_still c.args.probe.now _ c.index-before-index.result c.in-Err.fault c.loop-index.probe c.bus_step.new.probe _ _
+pub returns-in_err-byte-clause-reference : goal.returns-in_err-byte-clause-reference
+returns-in_err-byte-clause-reference g c =
+    (ran_still c.args.probe.now _ c.index-before-index.result c.bus_step.new.unserved.fault c.loop-index.probe c.bus_step.new.probe _ _
     c.loop-index.steps c.bus_step.new.steps
     (record { rack = c.loop-index.invariant.ran; reference = c.loop-index.invariant.reference })
-    c.in-Err.ensures.refused).reference
+    c.in_err-byte.ensures.refused).reference
 
 pub bus_step-requires-clause-stands : goal.bus_step-requires-clause-stands
 bus_step-requires-clause-stands g c = c.loop-index.invariant.stands
 
-pub returns-in-Err-clause-tried : goal.returns-in-Err-clause-tried
-returns-in-Err-clause-tried g c =
-    counts_then_tried _ _ c.in-Err.fault _ _ _ c.loop-index.invariant.chips c.loop-index.invariant.counted c.in-Err.ensures.tried
+pub returns-in_err-byte-clause-tried : goal.returns-in_err-byte-clause-tried
+returns-in_err-byte-clause-tried g c =
+    on_err c.from_residual.result _
+    (counts_then_tried _ _ c.bus_step.new.unserved.fault _ _ _ c.loop-index.invariant.chips c.loop-index.invariant.counted c.in_err-byte.ensures.tried)
 
 pub loop-index-preserved : goal.loop-index-preserved
 loop-index-preserved g c =
-    let served = c.in-Ok.ensures.served in
+    let served = c.in_ok-byte.ensures.served in
     let codes = subst ArePlain (split_plan c.before_last-before.result.now c.loop-index.index
     c.index-before-index.result c.loop-index-test.true c.index-before-index.is) c.loop-index.invariant.plain in
     let more : c.loop-index.index + 1 < length (planned c.loop-index.cpu) =
     rw c.loop-index.invariant.plan (shorter _ _ c.loop-index.index c.loop-index.invariant.longer
     c.loop-index-test.true) in
-    let ran = ran_more c.args.probe.now _ c.index-before-index.result c.drive-placed.result c.in-Ok.byte
+    let ran = ran_more c.args.probe.now _ c.index-before-index.result c.drive-placed.result c.in_ok-byte.byte
     c.loop-index.probe c.bus_step.new.probe _ _ c.loop-index.steps c.bus_step.new.steps codes.0
     (record { rack = c.loop-index.invariant.ran; reference = c.loop-index.invariant.reference }) served in
     record {
@@ -162,23 +161,23 @@ loop-index-preserved g c =
           ∙ ap (λ n. n + 1) c.loop-index.invariant.count;
       within = omega (arith, c.loop-index-test.true);
       plain = codes.1;
-      plan = ap planned c.take.ensures ∙ planned-taken c.loop-index.index c.in-Ok.byte c.loop-index.cpu more
+      plan = ap planned c.take.ensures ∙ planned-taken c.loop-index.index c.in_ok-byte.byte c.loop-index.cpu more
           ∙ c.loop-index.invariant.plan;
       longer = c.loop-index.invariant.longer;
       opcode = ap (λ (k : CpuState). k.opcode) c.take.ensures
-          ∙ opcode-taken c.loop-index.index c.in-Ok.byte c.loop-index.cpu more ∙ c.loop-index.invariant.opcode;
+          ∙ opcode-taken c.loop-index.index c.in_ok-byte.byte c.loop-index.cpu more ∙ c.loop-index.invariant.opcode;
       restorable = subst (λ (cpu : CpuState). IsRestorable c.args.cpu.now cpu) (sym c.take.ensures)
-          (IsRestorable-taken c.args.cpu.now c.loop-index.cpu c.loop-index.index c.in-Ok.byte more
+          (IsRestorable-taken c.args.cpu.now c.loop-index.cpu c.loop-index.index c.in_ok-byte.byte more
           c.loop-index.invariant.restorable);
       ran = ran.rack;
       reference = ran.reference;
       stands = c.bus_step.ensures.stands;
-      counted = counts_both _ _ _ _ _ c.loop-index.invariant.chips c.loop-index.invariant.counted c.in-Ok.ensures.counted;
+      counted = counts_both _ _ _ _ _ c.loop-index.invariant.chips c.loop-index.invariant.counted c.in_ok-byte.ensures.counted;
       left = λ op x holds.
           remaining_more (row_of op) x (gets_all_at op x) (instruction_aim op x) _ c.before_last-before.result.now
           c.index-before-index.result c.loop-index.index c.loop-index.cpu
           c.loop-index.probe _ c.loop-index.steps
-          c.drive-placed.result c.in-Ok.byte c.take.new.self c.bus_step.new.probe _ c.bus_step.new.steps codes.0
+          c.drive-placed.result c.in_ok-byte.byte c.take.new.self c.bus_step.new.probe _ c.bus_step.new.steps codes.0
           c.loop-index-test.true
           c.index-before-index.is c.drive-placed.ensures c.take.ensures served
           (c.loop-index.invariant.left op x holds);
@@ -229,8 +228,8 @@ last_at : (index before planned last : ℕ) → index ≤ before → before ≤ 
     planned ≡ last + 1 → index ≡ last
 last_at index before planned last within past longer is = omega arith
 
-pub returns-in-Ok-bus_step-clause-done : goal.returns-in-Ok-bus_step-clause-done
-returns-in-Ok-bus_step-clause-done g c = λ op x holds.
+pub returns-clause-done : goal.returns-clause-done
+returns-clause-done g c = λ op x holds.
     let past : length c.before_last-before.result.now ≤ c.loop-index.index = search rules in
     let ended = remaining_over (row_of op) x (gets_all_at op x) (instruction_aim op x) _
     c.before_last-before.result.now c.loop-index.index c.loop-index.cpu c.loop-index.probe _ c.loop-index.steps past
@@ -247,9 +246,9 @@ returns-in-Ok-bus_step-clause-done g c = λ op x holds.
     c.fetch_by-fetch.ensures
     (last_is c.args.cpu.now c.args.plan.now op _ c.in-Some.last c.requires.plan holds.instruction c.last.ensures
     c.in-Some.is)
-    c.in-Ok-bus_step.opcode c.conclude.new.cpu c.in-Ok-bus_step.ensures.served
+    c.in_ok-opcode.opcode c.conclude.new.cpu c.in_ok-opcode.ensures.served
     (c.conclude.ensures ∙ ap (λ (n : ℕ). vectored c.choose-chosen.result
-    (taken n c.in-Ok-bus_step.opcode c.loop-index.cpu)) index_is)
+    (taken n c.in_ok-opcode.opcode c.loop-index.cpu)) index_is)
 
 -- only an instruction that doesn't shield its end is interrupted
 open_by : (op : Op) (icb : Bool) (states : List ChipState) (chain : List ℕ) →
@@ -274,40 +273,40 @@ open_from op code start icb states chain chosen e same held =
     (sym (e ∙ ap (λ (found : Option Op). chosen_by found icb states chain) (ap decoded same ∙ held)))
     (open_by op icb states chain)
 
-pub returns-in-Ok-bus_step-clause-open : goal.returns-in-Ok-bus_step-clause-open
-returns-in-Ok-bus_step-clause-open g c = λ op held.
+pub returns-clause-open : goal.returns-clause-open
+returns-clause-open g c = λ op held.
     open_from op c.loop-index.cpu.opcode c.args.cpu.now.opcode c.loop-index.cpu.registers.status.icb _
     c.args.chain.now c.choose-chosen.result c.choose-chosen.ensures.chosen c.loop-index.invariant.opcode held
 
-pub returns-in-Ok-bus_step-clause-ran : goal.returns-in-Ok-bus_step-clause-ran
-returns-in-Ok-bus_step-clause-ran g c =
-    (ran_more c.args.probe.now _ c.fetch_by-fetch.result 0 c.in-Ok-bus_step.opcode c.acknowledge_chosen.new.probe
+pub returns-clause-ran : goal.returns-clause-ran
+returns-clause-ran g c =
+    (ran_more c.args.probe.now _ c.fetch_by-fetch.result 0 c.in_ok-opcode.opcode c.acknowledge_chosen.new.probe
     c.bus_step-2.new.probe _ _ c.acknowledge_chosen.new.steps c.bus_step-2.new.steps
     (fetch_plain c.args.cpu.now c.args.plan.now c.requires.instruction _ c.in-Some.last c.fetch_by-fetch.result
     c.choose-chosen.result c.requires.plan c.last.ensures c.in-Some.is c.fetch_by-fetch.ensures)
     (ran_chosen c.args.probe.now _ c.choose-chosen.result c.loop-index.probe c.acknowledge_chosen.new.probe _ _
     c.loop-index.steps c.acknowledge_chosen.new.steps
     (record { rack = c.loop-index.invariant.ran; reference = c.loop-index.invariant.reference })
-    c.acknowledge_chosen.ensures.acknowledged) c.in-Ok-bus_step.ensures.served).rack
+    c.acknowledge_chosen.ensures.acknowledged) c.in_ok-opcode.ensures.served).rack
 
-pub returns-in-Ok-bus_step-clause-reference : goal.returns-in-Ok-bus_step-clause-reference
-returns-in-Ok-bus_step-clause-reference g c =
-    (ran_more c.args.probe.now _ c.fetch_by-fetch.result 0 c.in-Ok-bus_step.opcode c.acknowledge_chosen.new.probe
+pub returns-clause-reference : goal.returns-clause-reference
+returns-clause-reference g c =
+    (ran_more c.args.probe.now _ c.fetch_by-fetch.result 0 c.in_ok-opcode.opcode c.acknowledge_chosen.new.probe
     c.bus_step-2.new.probe _ _ c.acknowledge_chosen.new.steps c.bus_step-2.new.steps
     (fetch_plain c.args.cpu.now c.args.plan.now c.requires.instruction _ c.in-Some.last c.fetch_by-fetch.result
     c.choose-chosen.result c.requires.plan c.last.ensures c.in-Some.is c.fetch_by-fetch.ensures)
     (ran_chosen c.args.probe.now _ c.choose-chosen.result c.loop-index.probe c.acknowledge_chosen.new.probe _ _
     c.loop-index.steps c.acknowledge_chosen.new.steps
     (record { rack = c.loop-index.invariant.ran; reference = c.loop-index.invariant.reference })
-    c.acknowledge_chosen.ensures.acknowledged) c.in-Ok-bus_step.ensures.served).reference
+    c.acknowledge_chosen.ensures.acknowledged) c.in_ok-opcode.ensures.served).reference
 
-pub returns-in-Err-bus_step-clause-cut : goal.returns-in-Err-bus_step-clause-cut
-returns-in-Err-bus_step-clause-cut g c = λ op x holds.
+pub returns-in_err-opcode-clause-cut : goal.returns-in_err-opcode-clause-cut
+returns-in_err-opcode-clause-cut g c = λ op x holds.
     let past : length c.before_last-before.result.now ≤ c.loop-index.index = search rules in
     let ended = remaining_over (row_of op) x (gets_all_at op x) (instruction_aim op x) _
     c.before_last-before.result.now c.loop-index.index c.loop-index.cpu c.loop-index.probe _ c.loop-index.steps past
     (c.loop-index.invariant.left op x holds) in
-    cut_short c.args.cpu.now c.loop-index.cpu c.args.chain.now op x c.loop-index.index c.loop-index.probe
+    on_err c.from_residual-in_err-opcode.result _ (cut_short c.args.cpu.now c.loop-index.cpu c.args.chain.now op x c.loop-index.index c.loop-index.probe
     c.acknowledge_chosen.new.probe c.bus_step-2.new.probe _ _ _ c.loop-index.steps c.acknowledge_chosen.new.steps
     c.bus_step-2.new.steps c.choose-chosen.result c.fetch_by-fetch.result c.in-Some.last c.args.probe.now _ holds
     c.loop-index.invariant.opcode
@@ -317,43 +316,40 @@ returns-in-Err-bus_step-clause-cut g c = λ op x holds.
     c.fetch_by-fetch.ensures
     (last_is c.args.cpu.now c.args.plan.now op _ c.in-Some.last c.requires.plan holds.instruction c.last.ensures
     c.in-Some.is)
-    c.in-Err-bus_step.fault c.fetch_by-fetch.result.long c.in-Err-bus_step.ensures.refused refl
+    c.bus_step-2.new.unserved.fault c.bus_step-2.new.unserved.long c.in_err-opcode.ensures.refused c.in_err-opcode.ensures.long)
 
-pub returns-in-Err-bus_step-clause-restorable : goal.returns-in-Err-bus_step-clause-restorable
-returns-in-Err-bus_step-clause-restorable g c = c.loop-index.invariant.restorable
-
-pub returns-in-Err-bus_step-clause-ran : goal.returns-in-Err-bus_step-clause-ran
-returns-in-Err-bus_step-clause-ran g c =
-    (ran_still c.args.probe.now _ c.fetch_by-fetch.result c.in-Err-bus_step.fault c.acknowledge_chosen.new.probe
+pub returns-in_err-opcode-clause-ran : goal.returns-in_err-opcode-clause-ran
+returns-in_err-opcode-clause-ran g c =
+    (ran_still c.args.probe.now _ c.fetch_by-fetch.result c.bus_step-2.new.unserved.fault c.acknowledge_chosen.new.probe
     c.bus_step-2.new.probe _ _ c.acknowledge_chosen.new.steps c.bus_step-2.new.steps
     (ran_chosen c.args.probe.now _ c.choose-chosen.result c.loop-index.probe c.acknowledge_chosen.new.probe _ _
     c.loop-index.steps c.acknowledge_chosen.new.steps
     (record { rack = c.loop-index.invariant.ran; reference = c.loop-index.invariant.reference })
-    c.acknowledge_chosen.ensures.acknowledged) c.in-Err-bus_step.ensures.refused).rack
+    c.acknowledge_chosen.ensures.acknowledged) c.in_err-opcode.ensures.refused).rack
 
-pub returns-in-Err-bus_step-clause-reference : goal.returns-in-Err-bus_step-clause-reference
-returns-in-Err-bus_step-clause-reference g c =
-    (ran_still c.args.probe.now _ c.fetch_by-fetch.result c.in-Err-bus_step.fault c.acknowledge_chosen.new.probe
+pub returns-in_err-opcode-clause-reference : goal.returns-in_err-opcode-clause-reference
+returns-in_err-opcode-clause-reference g c =
+    (ran_still c.args.probe.now _ c.fetch_by-fetch.result c.bus_step-2.new.unserved.fault c.acknowledge_chosen.new.probe
     c.bus_step-2.new.probe _ _ c.acknowledge_chosen.new.steps c.bus_step-2.new.steps
     (ran_chosen c.args.probe.now _ c.choose-chosen.result c.loop-index.probe c.acknowledge_chosen.new.probe _ _
     c.loop-index.steps c.acknowledge_chosen.new.steps
     (record { rack = c.loop-index.invariant.ran; reference = c.loop-index.invariant.reference })
-    c.acknowledge_chosen.ensures.acknowledged) c.in-Err-bus_step.ensures.refused).reference
+    c.acknowledge_chosen.ensures.acknowledged) c.in_err-opcode.ensures.refused).reference
 
 pub acknowledge_chosen-requires-clause-stands : goal.acknowledge_chosen-requires-clause-stands
 acknowledge_chosen-requires-clause-stands g c = c.loop-index.invariant.stands
 
-pub returns-in-Ok-bus_step-clause-counted : goal.returns-in-Ok-bus_step-clause-counted
-returns-in-Ok-bus_step-clause-counted g c =
+pub returns-clause-counted : goal.returns-clause-counted
+returns-clause-counted g c =
     let one = c.loop-index.invariant.chips in
     let two = c.acknowledge_chosen.ensures.chips ∙ one in
     counts_both _ _ _ _ _ two (counts_both _ _ _ _ _ one c.loop-index.invariant.counted c.acknowledge_chosen.ensures.counted)
-    c.in-Ok-bus_step.ensures.counted
+    c.in_ok-opcode.ensures.counted
 
-pub returns-in-Err-bus_step-clause-tried : goal.returns-in-Err-bus_step-clause-tried
-returns-in-Err-bus_step-clause-tried g c =
+pub returns-in_err-opcode-clause-tried : goal.returns-in_err-opcode-clause-tried
+returns-in_err-opcode-clause-tried g c =
     let one = c.loop-index.invariant.chips in
     let two = c.acknowledge_chosen.ensures.chips ∙ one in
-    counts_then_tried _ _ c.in-Err-bus_step.fault _ _ _ two
+    on_err c.from_residual-in_err-opcode.result _ (counts_then_tried _ _ c.bus_step-2.new.unserved.fault _ _ _ two
     (counts_both _ _ _ _ _ one c.loop-index.invariant.counted c.acknowledge_chosen.ensures.counted)
-    c.in-Err-bus_step.ensures.tried
+    c.in_err-opcode.ensures.tried)
