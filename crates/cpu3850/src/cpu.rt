@@ -93,10 +93,6 @@ impl Cpu {
             unreachable!()
         };
         let is_last = index == held.last_step;
-        let read = self.ports.read(held.op, byte);
-        if index == held.effect_at {
-            self.ports.put(held.op, self.registers.accumulator);
-        }
         match held.row {
             Row::StackToK | Row::DataToPair => {
                 if index < 2 {
@@ -105,6 +101,8 @@ impl Cpu {
             }
             _ => {
                 if index == held.effect_at {
+                    let read = self.ports.read(held.op, byte);
+                    self.ports.put(held.op, self.registers.accumulator);
                     self.registers
                         .execute(held.op, if is_last { 0 } else { read });
                 }

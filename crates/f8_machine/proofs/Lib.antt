@@ -46,3 +46,4 @@ pub mod PowerPositions
 pub mod Keyed
 pub mod Pulsed
 pub mod OwnPorts
+pub mod OwnWrites

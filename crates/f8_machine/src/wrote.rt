@@ -22,10 +22,19 @@ fn chip_write(phi: u64, steps: &[Heard]) -> Option<PortWrite>
     }
 }
 
+/// The opcodes of `OUTS` lie between these.
+const FIRST_OUTS: u8 = 0xB0;
+
+const LAST_OUTS: u8 = 0xBF;
+
 /// The write of an instruction that is done, by its opcode, the clocks at its end, the processor's own latches then, and its steps.
 pub(crate) fn done_write(code: u8, phi: u64, latches: [u8; 2], steps: &[Heard]) -> Option<PortWrite>
     ensures { result ≡ done_write (decoded code) phi latches steps.now }
 {
+    // Nearly all instructions are others, and aren't decoded again for it.
+    if code < FIRST_OUTS || LAST_OUTS < code {
+        return chip_write(phi, steps);
+    }
     match decode(code) {
         Ok(Op::Outs { n }) if n < OWN_PORTS => Some(PortWrite {
             phi,
