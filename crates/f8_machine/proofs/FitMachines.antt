@@ -1,6 +1,7 @@
 -- A machine and its rack go on fitting each other, and the questions that are put are within the allowances of the steps.
 use Rattle.std.proofs.Common.{◌≡◌, ℕ, ◌+◌, ◌≤◌, Bool, true, false, List, [], ◌∷◌, refl, sym, ap, subst, ◌∙◌, arith}
 use Rattle.std.specs.Prelude.{◌==◌, if◌then◌else◌, Option, Some, None}
+use Rattle.std.specs.List.{list_any}
 use Rattle.f8_spec.specs.BusCodes.{Count, count_at}
 use Rattle.f8_spec.specs.ChipState.{ChipView, ChipState, TakesKeys, data_port, has_counters, has_second_counter, keyed_at}
 use Rattle.f8_spec.specs.ChipState.{admits_pulses}
@@ -9,7 +10,7 @@ use Rattle.f8_spec.specs.declared.chips.ChipKind.{ChipKind}
 use Rattle.f8_spec.specs.declared.chips.ChipKind.TheVariants.{Psu, Smi}
 use Rattle.console_spec.specs.CounterCopies.{power_start}
 use Rattle.probe.specs.ProbeState.{ProbeState}
-use Rattle.data_bus.specs.KnownAgreement.{AllAddresses, AllAgree, AreAddresses, CountAgrees, has_page, no_marks}
+use Rattle.data_bus.specs.KnownAgreement.{AllAddresses, AllAgree, AreAddresses, CountAgrees, has_page, no_marks, parts}
 use Rattle.data_bus.specs.PageIndex.{IsIndexOf, StandsFor, seats}
 use Rattle.data_bus.specs.Racks.{NumberedZip, views}
 use Rattle.data_bus.specs.declared.fault.BusFault.{BusFault}
@@ -27,6 +28,7 @@ use Rattle.f8_machine.specs.declared.outcome.Mode.TheVariants.{Powered, Running,
 use Rattle.f8_machine.specs.declared.outcome.Outcome.{Outcome}
 use Rattle.f8_machine.specs.declared.outcome.StoppedBy.{StoppedBy}
 use Rattle.f8_machine.proofs.Counting.{counted_none}
+use Rattle.f8_machine.proofs.FirstViews.{seat_of-powered}
 
 -- ---- power-on
 
@@ -64,6 +66,20 @@ power_fits fill index probe olds mids news same lists unknown powers =
       marks = subst (λ (marks : Marks). AllAgree marks probe.count (views mids)) (sym unknown) (nothing_known probe.count (views mids));
       addresses = powered_addresses fill 0 olds mids powers;
     })
+
+powered_seats : (fill n : ℕ) (olds news : List ChipState) → NumberedZip (PowersInSocket fill) n olds news → seats news ≡ seats olds
+powered_seats fill n [] [] powers = refl
+powered_seats fill n [] (new ∷ news) powers = absurd powers
+powered_seats fill n (old ∷ olds) [] powers = absurd powers
+powered_seats fill n (old ∷ olds) (new ∷ news) powers =
+    ap (λ (s : Seat). s ∷ seats news) (ap seat_of powers.0.view ∙ seat_of-powered fill (power_start fill n) old.view)
+    ∙ ap (λ (l : List Seat). seat_of old.view ∷ l) (powered_seats fill (n + 1) olds news powers.1)
+
+-- whether a chip parts from the probe at an exchange, as before power-on
+pub power_parted : (fill : ℕ) (index : Index) (olds mids : List ChipState) → IsIndexOf index (seats mids) → RackPowers fill olds mids →
+    index.is_parted ≡ list_any parts (seats olds)
+power_parted fill index olds mids lists powers =
+    lists.parted ∙ ap (λ (l : List Seat). list_any parts l) (powered_seats fill 0 olds mids powers)
 
 -- ---- what changes neither a chip's seat nor its counters
 

@@ -1,9 +1,14 @@
 -- The questions that the bus steps of a machine put to the chips of its rack, step by step.
-use Rattle.std.specs.Prelude.{◌≡◌, ℕ, ◌+◌, ◌≤◌, List, [], ◌∷◌, ◌++◌, map}
-use Rattle.data_bus.specs.PageIndex.{allowance, followed}
+use Rattle.std.specs.Prelude.{◌≡◌, ℕ, ◌+◌, ◌≤◌, Bool, List, [], ◌∷◌, ◌++◌, map}
+use Rattle.f8_spec.specs.BusCodes.{counter_of}
+use Rattle.f8_spec.specs.BusArbitration.{rule_of}
+use Rattle.data_bus.specs.Allowances.{allowance_by}
+use Rattle.data_bus.specs.KnownAgreement.{knows, marks_after}
+use Rattle.data_bus.specs.PageIndex.{followed}
 use Rattle.data_bus.specs.declared.fault.BusFault.{BusFault}
 use Rattle.data_bus.specs.declared.fault.BusFault.TheVariants.{Conflict, Undriven, Astray}
 use Rattle.data_bus.specs.declared.index.Index.{Index}
+use Rattle.data_bus.specs.declared.marks.Marks.{Marks}
 use Rattle.f8_machine.specs.declared.heard.Heard.{Heard}
 
 -- ---- steps
@@ -22,10 +27,17 @@ abbrev pub followed_all : List ℕ → Index → Index
 followed_all [] index = index
 followed_all (romc ∷ later) index = followed_all later (followed romc index)
 
--- how many questions the steps may put to a rack of so many chips, one after another
+-- How many questions steps with these codes may put to a rack of so many chips, one after another, by what is known before them. The flag
+-- says that a chip that holds a page has no second data counter.
+abbrev pub allowed : ℕ → Bool → Marks → List ℕ → ℕ
+allowed chips is_parted marks [] = 0
+allowed chips is_parted marks (romc ∷ later) =
+    allowance_by (rule_of romc) (knows (counter_of romc) marks) chips
+    + allowed chips is_parted (marks_after is_parted romc marks) later
+
+-- the same by an index
 abbrev pub allowances : ℕ → Index → List ℕ → ℕ
-allowances chips index [] = 0
-allowances chips index (romc ∷ later) = allowance romc index chips + allowances chips (followed romc index) later
+allowances chips index codes = allowed chips index.is_parted index.marks codes
 
 -- ---- what has been asked since a beginning
 

@@ -66,6 +66,9 @@ impl Machine {
     ghost use Rattle.console_spec.specs.Run.{Position, power_position};
     ghost use Rattle.cpu3850.specs.CpuSteps.{planned};
     ghost use Rattle.probe.specs.ProbeState.{probe_counters};
+    ghost use Rattle.std.specs.List.{list_any};
+    ghost use Rattle.data_bus.specs.KnownAgreement.{no_marks, parts};
+    ghost use Rattle.data_bus.specs.PageIndex.{seats};
     ghost use Rattle.data_bus.specs.Questions.{AskedAtMost};
     ghost use Rattle.data_bus.specs.Racks.{NumberedZip, views};
     ghost use Rattle.f8_machine.specs.Fitting.{Fits, tried, tried_in};
@@ -82,7 +85,8 @@ impl Machine {
     /// Power-on of the machine and of every chip of the rack, of which there are at most 16. The power byte is in the accumulator, in
     /// ISAR modulo 64, in the scratchpad and in all RAM, and the counters of the chip in a socket stand at the power byte in both
     /// halves, and the socket added; the probe's stand at 0. `chain` has the sockets of the chips described. Power-on contents are this
-    /// project's own. Each chip is put at most 512 questions, by which the index of the rack is made.
+    /// project's own. Each chip is put at most 512 questions, by which the index of the rack is made; of the chips' counters the index
+    /// knows nothing then.
     pub fn power(fill: u8, chain: Chain, rack: &mut Rack) -> Machine
         requires few { length rack.old.items ≤ MOST_CHIPS }
         ensures machine { result ≡ powered_machine fill chain result.index }
@@ -92,6 +96,9 @@ impl Machine {
             IsPowered result (map state rack.new.items)
             (power_position (views (map state rack.old.items)) chain fill) }
         ensures fits { Fits result (map state rack.new.items) }
+        ensures marks { result.index.marks ≡ no_marks }
+        ensures parted { result.index.is_parted
+            ≡ list_any parts (seats (map state rack.old.items)) }
         ensures asked { NumberedZip (AskedAtMost 512) 0 (map queries rack.old.items)
             (map queries rack.new.items) }
         ensures chips { length rack.new.items ≡ length rack.old.items }
