@@ -1,6 +1,6 @@
 use super::*;
 use f8_asm::{Image, Room, assemble, disassemble};
-use outside::{CallList, MemSink, SinkFault, SureSink};
+use outside::{Cut, CutList, MemSink, SinkFault, SureSink};
 use std::alloc::Global;
 use std::test::Fail;
 
@@ -65,19 +65,22 @@ fn listing_lines(rt: HostRuntime) -> Result<(), Fail> {
     Ok(())
 }
 
-/// Each line is one put: where the third fails, two lines were written.
+/// A sink that fails at this call, and takes so many bytes of its line first.
+fn failing_sink(alloc: Global, call: u64, sent: u32) -> Result<MemSink, Fail> {
+    let mut cuts = Vec::new(alloc);
+    cuts.push(Cut { call, sent })?;
+    Ok(MemSink::new(alloc, 1_024, CutList::from_vec(cuts))?)
+}
+
+/// Each line is one put: where the third fails, two lines were written, and the part of the third that went out first.
 #[test]
 fn stops_at_a_failing_sink(rt: HostRuntime) -> Result<(), Fail> {
-    let mut failing = Vec::new(rt.alloc());
-    failing.push(3)?;
-    let mut sink = MemSink::new(rt.alloc(), 1_024, CallList::from_vec(failing))?;
+    let mut sink = failing_sink(rt.alloc(), 3, 5)?;
     let image = image_of(rt.alloc(), "ONE: NOP\nORG 2\nTWO: NOP\n")?;
     assert!(rt; matches!(put_image(&mut sink, &image), Err(SinkFault)));
-    assert_eq!(rt; sink.bytes(), b"0000 2B\n0002 2B\n".as_slice());
+    assert_eq!(rt; sink.bytes(), b"0000 2B\n0002 2B\nsym O".as_slice());
 
-    let mut failing = Vec::new(rt.alloc());
-    failing.push(2)?;
-    let mut sink = MemSink::new(rt.alloc(), 1_024, CallList::from_vec(failing))?;
+    let mut sink = failing_sink(rt.alloc(), 2, 0)?;
     let text = disassemble(rt.alloc(), &[0x71, 0x2D, 0x20])?;
     assert!(rt; matches!(put_listing(&mut sink, &text), Err(SinkFault)));
     assert_eq!(rt; sink.bytes(), b"ORG $0000\n".as_slice());

@@ -2,7 +2,7 @@
 use super::console;
 use chip_fakes::{Listener, Patched};
 use f8_machine::Rack;
-use outside::{CallList, FileList, MemSink, MemStore, NamedFile, SureSink, SureStore};
+use outside::{CallList, FileList, MemStore, NamedFile, SureSink, SureStore};
 use psu3851::Psu;
 use smi3853::Smi;
 use std::alloc::Global;
@@ -544,58 +544,6 @@ fn refuses_racks_without_a_place(rt: HostRuntime) -> Result<(), Fail> {
         let (status, sink) = answered(rt.alloc(), &files, &["play", "cart", "script"], &mut rack)?;
         assert_eq!(rt; status, 2);
         assert_eq!(rt; sink.bytes(), text.as_bytes());
-    }
-    Ok(())
-}
-
-/// Words, the room of a sink, the calls that are to fail, and what is written.
-type SinkRow = (&'static [&'static str], u32, &'static [u64], &'static [u8]);
-
-/// A call fails, and nothing of its line goes out, within a frame too; or the room ends within the second line.
-const SINK_FAULTS: [SinkRow; 6] = [
-    (
-        &["play", "cart", "drawn"],
-        1024,
-        &[4],
-        b"verdict whole\nframe 1 phi 29830 tone 0\n\
-          0 00000000000000000000000000000000000000000000000000000000000000000000000000000000000000000000000000000000000000000000000000000000\n",
-    ),
-    (&["gen", "1"], 1024, &[2], b"gen 1\n"),
-    (
-        &["play", "cart", "script"],
-        1024,
-        &[3],
-        b"verdict whole\nstop done\n",
-    ),
-    (&["play", "cart", "script"], 18, &[], b"verdict whole\nstop"),
-    (&["asm", "code"], 1024, &[2], b"0000 2B90FE\n"),
-    (&["dis", "digits"], 1024, &[3], b"ORG $0000\nLIS 1\n"),
-];
-
-#[test]
-fn stops_at_a_failing_sink(rt: HostRuntime) -> Result<(), Fail> {
-    let files = [
-        ("cart", LOOP_CART),
-        ("script", "steps 0\n"),
-        ("drawn", "show 1\nframes 1\n"),
-        ("code", "LOOP: NOP\nBR LOOP\n"),
-        ("digits", "712D"),
-    ];
-    let mut rack = rack_of!(rt, 12, Psu::blank(), 0, Smi::blank());
-    for (words, room, failing, text) in SINK_FAULTS {
-        let words = words_of(rt.alloc(), words)?;
-        let failing = calls_of(rt.alloc(), failing)?;
-        let mut sink = MemSink::new(rt.alloc(), room, failing)?;
-        let mut store = SureStore::new(files_of(rt.alloc(), &files)?);
-        let status = console(
-            rt.alloc(),
-            words.as_slice(),
-            &mut store,
-            &mut sink,
-            &mut rack,
-        );
-        assert_eq!(rt; status, 5, "{words:?}");
-        assert_eq!(rt; sink.bytes(), text, "{words:?}");
     }
     Ok(())
 }

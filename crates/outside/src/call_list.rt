@@ -1,10 +1,10 @@
-// A list of the calls that are to fail.
+// A list of the calls of a store that are to fail.
 ghost use Rattle.std.specs.Prelude.{◌≡◌, ◌==◌};
 ghost use Rattle.std.specs.List.{list_any};
 
 use std::marker::Model;
 
-/// The calls of a sink or a store that are to fail, by their numbers from 1 on. Contracts see the list.
+/// The calls of a store that are to fail, by their numbers from 1 on. Contracts see the list.
 #[derive(Drop)]
 pub struct CallList {
     calls: Vec<u64>,

@@ -3,6 +3,7 @@
 
 mod call_list;
 mod counted_reader;
+mod cut_list;
 mod file_list;
 mod file_store;
 mod memory_sinks;
@@ -12,6 +13,7 @@ mod sink;
 mod store;
 
 pub use call_list::CallList;
+pub use cut_list::{Cut, CutList};
 pub use f8_spec::Memory;
 pub use file_list::{FileList, NamedFile};
 pub use file_store::FileStore;

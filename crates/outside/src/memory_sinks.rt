@@ -4,20 +4,20 @@ ghost use Rattle.outside.specs.MemorySinks.{output_of, takes_whole, after_put};
 ghost use Rattle.outside.specs.MemorySinks.{sure_output_of, after_sure_put};
 ghost use Rattle.outside.specs.SinkRules.{Adds, AddsPart};
 
-use super::call_list::CallList;
+use super::cut_list::CutList;
 use super::sink::{Sink, SinkFault};
 use f8_spec::Memory;
 use std::alloc::Global;
 use std::marker::Model;
 
-/// A sink in memory that can fail: at the calls that are listed, and where its room is full.
+/// A sink in memory that can fail: at the calls that are listed, once a first part of the piece went out, and where its room is full.
 ///
 /// Contracts see its bytes, its room, the calls that are to fail, the number of calls and the count of faults.
 #[derive(Drop)]
 pub struct MemSink {
     bytes: Vec<u8>,
     room: usize,
-    failing: CallList,
+    failing: CutList,
     calls: u64,
     faults: u64,
 }
@@ -41,7 +41,7 @@ impl Model for MemSink {
 
 impl MemSink {
     /// An empty sink with room for `room` bytes, which is reserved at once, and the calls that are to fail.
-    pub fn new(alloc: Global, room: u32, failing: CallList) -> Result<MemSink, Memory>
+    pub fn new(alloc: Global, room: u32, failing: CutList) -> Result<MemSink, Memory>
         ensures { IfOk result (λ sink.
             sink ≡ record { bytes = []; room = room; failing = failing; calls = 0; faults = 0 }) }
     {
@@ -76,16 +76,17 @@ impl Sink for MemSink {
         ensures after { self.new ≡ after_put self.old piece.now }
     {
         self.calls = self.calls.saturating_add(1);
-        if self.failing.has(self.calls) {
-            self.faults = self.faults.saturating_add(1);
-            return Err(SinkFault);
-        }
         let left = self.room - self.bytes.len();
-        if piece.len() <= left {
-            let _ = self.bytes.extend_from_slice(piece);
-            return Ok(());
-        }
-        let _ = self.bytes.extend_from_slice(piece.split_at(left).0);
+        let most = match self.failing.sent_at(self.calls) {
+            Some(sent) => left.min(sent as usize),
+            None if piece.len() <= left => {
+                let _ = self.bytes.extend_from_slice(piece);
+                return Ok(());
+            }
+            None => left,
+        };
+        let sent = piece.split_at(most.min(piece.len())).0;
+        let _ = self.bytes.extend_from_slice(sent);
         self.faults = self.faults.saturating_add(1);
         Err(SinkFault)
     }

@@ -1,6 +1,6 @@
 use super::{
-    CallList, FetchFault, FileList, FileStore, MemSink, MemStore, NamedFile, OutSink, Sink, Store,
-    SureSink, SureStore,
+    CallList, Cut, CutList, FetchFault, FileList, FileStore, MemSink, MemStore, NamedFile, OutSink,
+    Sink, Store, SureSink, SureStore,
 };
 use std::alloc::Global;
 use std::io::Write;
@@ -86,17 +86,30 @@ fn reads_files_of_the_system(rt: HostRuntime) -> Result<(), Fail> {
     Ok(())
 }
 
+/// The second call takes nothing, the third two bytes and the fourth a whole piece, which is shorter than its cut. The room ends in the
+/// sixth, and no byte of it is there for the seventh.
 #[test]
 fn keeps_lines_in_memory(rt: HostRuntime) -> Result<(), Fail> {
-    let mut failing = Vec::new(rt.alloc());
-    failing.push(2)?;
-    let mut sink = MemSink::new(rt.alloc(), 4, CallList::from_vec(failing))?;
+    let mut cuts = Vec::new(rt.alloc());
+    for (call, sent) in [(2, 0), (3, 2), (4, 9), (7, 3)] {
+        cuts.push(Cut { call, sent })?;
+    }
+    let mut sink = MemSink::new(rt.alloc(), 8, CutList::from_vec(cuts))?;
     let mut sure = SureSink::new(rt.alloc(), 4)?;
-    for (piece, taken) in [(b"AB".as_slice(), true), (b"C", false), (b"DEF", false)] {
+    let pieces = [
+        (b"AB".as_slice(), true),
+        (b"C", false),
+        (b"DEF", false),
+        (b"G", false),
+        (b"", true),
+        (b"HIJKL", false),
+        (b"M", false),
+    ];
+    for (piece, taken) in pieces {
         assert_eq!(rt; sink.put(piece).is_ok(), taken);
         assert!(rt; sure.put(piece).is_ok());
     }
-    assert_eq!(rt; sink.bytes(), b"ABDE".as_slice());
+    assert_eq!(rt; sink.bytes(), b"ABDEGHIJ".as_slice());
     assert_eq!(rt; sure.bytes(), b"ABC".as_slice());
     Ok(())
 }

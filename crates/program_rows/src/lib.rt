@@ -1,0 +1,7 @@
+//! Worked rows of the program: what fails under it. This crate has tests alone: it stands above channel_f.
+#![tactic(auto)]
+
+#[cfg(test)]
+mod calls;
+#[cfg(test)]
+mod failing;
