@@ -1,14 +1,16 @@
 // The words that the system gives, and the exit status that it takes.
-ghost use Rattle.std.specs.Prelude.{◌≡◌, OnOk, OnErr, IfErr, Err};
+ghost use Rattle.std.specs.Prelude.{◌≡◌, ◌≢◌, OnOk, IfErr, Err};
+ghost use Rattle.std.specs.IoError.{error_kind};
 ghost use Rattle.std.specs.Process.{exit_status};
 
 use std::alloc::Global;
 use std::env::Args;
 use std::io;
+use std::io::ErrorKind;
 use std::process::ExitCode;
 
-/// The words behind the program's name. `none` is the answer where the system gives no words, and `wanting` where there is no memory for
-/// them.
+/// The words behind the program's name. `wanting` is the answer where there is no memory for them, and `none` where the system gives no
+/// words for another reason.
 pub fn words_given<S: Copy>(
     alloc: Global,
     args: io::Result<Args>,
@@ -16,15 +18,23 @@ pub fn words_given<S: Copy>(
     wanting: S,
 ) -> Result<Vec<String>, S>
     ensures wanting { OnOk args (IfErr result (λ status. status ≡ wanting)) }
-    ensures none { OnErr args (result ≡ Err none) }
+    ensures none { IfErr args (λ error. error_kind error ≢ ErrorKind.OutOfMemory
+        → result ≡ Err none) }
+    ensures unheld { IfErr args (λ error. error_kind error ≡ ErrorKind.OutOfMemory
+        → result ≡ Err wanting) }
 {
-    let Ok(args) = args else {
-        return Err(none);
+    let args = match args {
+        Ok(args) => args,
+        Err(error) if error.kind() == ErrorKind::OutOfMemory => return Err(wanting),
+        Err(_) => return Err(none),
     };
-    match args.skip(1).collect(alloc) {
-        Ok(words) => Ok(words),
-        Err(_) => Err(wanting),
+    let mut words = Vec::new(alloc);
+    for word in args.skip(1) {
+        if words.push(word).is_err() {
+            return Err(wanting);
+        }
     }
+    Ok(words)
 }
 
 /// The exit status that has this number.
