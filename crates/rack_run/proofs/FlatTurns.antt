@@ -142,11 +142,11 @@ module _ (vs : List ChipView) (script : Script) (olds news : List ChipState) (a 
   lines_whole ending out =
       subst (λ (t : Telling). Adds a b (text_in Writes (told_in t.moments))) (sym (referred_is vs script)) out.lines
 
-  pub lines_cut : RunsShort Writes on_flat script olds news a b (start_of vs script) →
+  pub lines_cut : (Asks : List ℕ → Type 0) → RunsShort Asks Writes on_flat script olds news a b (start_of vs script) →
       AddsPart a b (text_in Writes (told_in (referred_by vs script).moments))
-  lines_cut short =
+  lines_cut Asks short =
       subst (λ (t : Telling). AddsPart a b (text_in Writes (told_in t.moments))) (sym (referred_is vs script))
-      (cut_part Writes (start_of vs script).chain (rest_on on_flat script (start_of vs script)).moments olds news a b short)
+      (cut_part Writes (start_of vs script).chain (rest_on on_flat script (start_of vs script)).moments olds news a b short.cut)
 
 -- after power-on, reset and the events of frame 0
 pub stands_at_start : (isa : IsaState) (vs : List ChipView) (script : Script) → StandsAt isa 0 (start_of vs script) →

@@ -63,7 +63,7 @@ reserved_as : (x : Position) (found : Option Op) (at code : ℕ) →
 reserved_as x None at code e = refl
 reserved_as x (Some op) at code e = absurd (goes_or_faults (instruction_fault op x) (position_after op x) at code e)
 
-reserved_course : (x : Position) (at code : ℕ) → next x ≡ Stops (ReservedStop at code) →
+pub reserved_course : (x : Position) (at code : ℕ) → next x ≡ Stops (ReservedStop at code) →
     turn_course x ≡ record { steps = []; fault = None }
 reserved_course x at code e = reserved_as x (decoded (opcode_at x)) at code e
 

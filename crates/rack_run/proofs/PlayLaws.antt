@@ -2,7 +2,7 @@
 use Rattle.std.proofs.Common.{◌≡◌, ◌≢◌, ℕ, List, [], ◌∷◌, ◌++◌, length, map, Option, Some, None, refl, sym, ap, ◌∙◌}
 use Rattle.std.proofs.Common.{subst}
 use Rattle.std.specs.Prelude.{Result, Ok, Err, IfOk, OnErr}
-use Rattle.std.proofs.lemmas.List.{append-nil}
+use Rattle.std.proofs.lemmas.List.{append_assoc, append-nil}
 use Rattle.f8_spec.specs.ChipState.{ChipState}
 use Rattle.console_spec.specs.Processor.{State}
 use Rattle.console_spec.specs.Run.{Position, Turn, Stop, Goes, Stops, goes_unless, reset_fault, reset_course}
@@ -19,6 +19,7 @@ use Rattle.f8_machine.specs.declared.heard.Heard.{Heard}
 use Rattle.f8_machine.proofs.RackLaws.{rack_runs_none}
 use Rattle.outside.specs.SinkRules.{Output, Adds, AddsPart}
 use Rattle.outside.proofs.SinkLaws.{adds_none, adds_then, adds_part_behind, adds_part_first}
+use Rattle.rack_run.specs.Asking.{codes_up_to, heard_codes, last_codes, served_codes, stop_codes, tried_codes, unserved_codes}
 use Rattle.rack_run.specs.Endings.{bytes_written, Tells, TellsEnd, Plays, PlaysPart, CutShort, run_on}
 use Rattle.rack_run.specs.Lives.{LivesMoment, Lives, Come}
 use Rattle.rack_run.specs.Progressing.{ProgressState, Keeps}
@@ -28,6 +29,7 @@ use Rattle.rack_run.specs.Turns.{readout_of, RunsOut, RunsShort, rest_on}
 use Rattle.rack_run.specs.declared.detail.Detail.{Detail}
 use Rattle.rack_run.specs.declared.ending.Ending.{Ending}
 use Rattle.rack_run.proofs.EventLaws.{events_chain}
+use Rattle.rack_run.proofs.TellingLaws.{last_of, telling-last}
 use Rattle.rack_run.proofs.TurnLaws.{events_quiet}
 use Rattle.rack_run.proofs.ToldTexts.{text_in-nil, text_in-append, told_in-append}
 use Rattle.video.specs.ScreenState.{screen_after}
@@ -95,6 +97,54 @@ module _ (detail : Detail) (script : Script) (chain : List ℕ) (olds powered : 
       (λ (u : Turn). record { moments = power_moment script ∷ reset ∷ (later u).moments; ending = (later u).ending })
       turns
 
+  -- ---- the codes of the steps that are tried
+
+  abbrev served : List ℕ
+  served = served_codes (reset_course x).steps
+
+  abbrev rest_run : Position → Telling
+  rest_run y = rest_on (on_rack (is_traced detail)) script y
+
+  -- those of reset
+  abbrev pub first_codes : List ℕ
+  first_codes = served ++ unserved_codes turn
+
+  pub stopped_codes : (stop : Stop) → turn ≡ Stops stop → first_codes ≡ tried_codes (run_on detail script chain olds)
+  stopped_codes stop turns =
+      ap (λ (t : Turn). served ++ unserved_codes t) turns
+      ∙ ap (λ (codes : List ℕ). codes ++ stop_codes stop) (sym (append-nil served))
+      ∙ ap tried_codes (sym (whole (Stops stop) turns))
+
+  going_first : (y : Position) → turn ≡ Goes y → first_codes ≡ served
+  going_first y turns = ap (λ (t : Turn). served ++ unserved_codes t) turns ∙ append-nil served
+
+  pub going_codes : (y : Position) → turn ≡ Goes y →
+      first_codes ++ tried_codes (rest_run y) ≡ tried_codes (run_on detail script chain olds)
+  going_codes y turns =
+      ap (λ (codes : List ℕ). codes ++ tried_codes (rest_run y)) (going_first y turns)
+      ∙ sym (append_assoc served (heard_codes (rest_run y).moments) (stop_codes (rest_run y).ending.stop))
+      ∙ ap tried_codes (sym (whole (Goes y) turns))
+
+  -- where the run is cut short at reset, or behind it
+  reset_last : (t : Turn) → last_of (later t) ≡ unserved_codes t
+  reset_last (Stops stop) = refl
+  reset_last (Goes y) = telling-last (on_rack (is_traced detail)) script (most_instructions script.end) y
+
+  cut_first : first_codes
+      ≡ codes_up_to (power_moment script ∷ []) reset (later turn).moments (run_on detail script chain olds).ending.stop
+  cut_first =
+      ap (λ (codes : List ℕ). served ++ codes)
+      (sym (ap (λ (t : Telling). last_codes (later turn).moments t.ending.stop) (whole turn refl) ∙ reset_last turn))
+
+  cut_behind : (y : Position) → turn ≡ Goes y → (before : List Moment) (at : Moment) (behind : List Moment) →
+      first_codes ++ codes_up_to before at behind (rest_run y).ending.stop
+      ≡ codes_up_to (power_moment script ∷ reset ∷ before) at behind (run_on detail script chain olds).ending.stop
+  cut_behind y turns before at behind =
+      let last : Stop → List ℕ = λ stop. served_codes at.heard ++ last_codes behind stop in
+      ap (λ (codes : List ℕ). codes ++ codes_up_to before at behind (rest_run y).ending.stop) (going_first y turns)
+      ∙ sym (append_assoc served (heard_codes before) (last (rest_run y).ending.stop))
+      ∙ ap (λ (t : Telling). (served ++ heard_codes before) ++ last t.ending.stop) (sym (whole (Goes y) turns))
+
   -- the run stays on its chain
   chain_is : x.chain ≡ chain
   chain_is = events_chain (events_at 0 script.events) (power_position (views olds) chain script.power)
@@ -140,9 +190,9 @@ module _ (detail : Detail) (script : Script) (chain : List ℕ) (olds powered : 
         ∙ ap (λ (l : List Told). text_in detail l ++ text_in detail (told_in ms)) (sym is)
 
     -- the sink fails at a line of reset
-    pub plays_cut : text_in detail told ≢ [] → AddsPart a b (text_in detail told) →
-        PlaysPart detail script chain olds reset_states a b
-    plays_cut some part =
+    pub plays_cut : (Asks : List ℕ → Type 0) → Asks first_codes → text_in detail told ≢ [] → AddsPart a b (text_in detail told) →
+        PlaysPart Asks detail script chain olds reset_states a b
+    plays_cut Asks asks some part =
         let cut : CutShort detail chain (run_on detail script chain olds).moments powered reset_states a b = record {
           before = power_moment script ∷ [];
           at = reset;
@@ -161,6 +211,7 @@ module _ (detail : Detail) (script : Script) (chain : List ℕ) (olds powered : 
           powers = powers;
           cut = cut;
           part = cut_part detail chain (run_on detail script chain olds).moments powered reset_states a b cut;
+          asks = subst Asks cut_first asks;
         }
 
     -- reset isn't served
@@ -203,9 +254,11 @@ module _ (detail : Detail) (script : Script) (chain : List ℕ) (olds powered : 
           }
 
       -- the sink fails at a line of an instruction
-      pub plays_short : RunsShort detail (on_rack (is_traced detail)) script reset_states news b c y →
-          PlaysPart detail script chain olds news a c
-      plays_short short =
+      pub plays_short : (Asks Within : List ℕ → Type 0) → ((codes : List ℕ) → Within codes → Asks (first_codes ++ codes)) →
+          RunsShort Within detail (on_rack (is_traced detail)) script reset_states news b c y →
+          PlaysPart Asks detail script chain olds news a c
+      plays_short Asks Within asks so_short =
+          let short = so_short.cut in
           let cut : CutShort detail chain (run_on detail script chain olds).moments powered news a c = record {
             before = power_moment script ∷ reset ∷ short.before;
             at = short.at;
@@ -236,6 +289,9 @@ module _ (detail : Detail) (script : Script) (chain : List ℕ) (olds powered : 
             powers = powers;
             cut = cut;
             part = cut_part detail chain (run_on detail script chain olds).moments powered news a c cut;
+            asks =
+                subst Asks (cut_behind y turns short.before short.at short.behind)
+                (asks (codes_up_to short.before short.at short.behind (rest_run y).ending.stop) so_short.asks);
           }
 
 -- ---- what the calls answer
@@ -263,10 +319,12 @@ module _ {E : Type 0} (detail : Detail) (script : Script) (chain : List ℕ) (ol
       news c ending out
   plays_ok (Err e) out = tt
 
-  pub plays_err : (r : Result Ending E) →
-      OnErr r (RunsShort detail (on_rack (is_traced detail)) script reset_states news b c y) →
-      OnErr r (PlaysPart detail script chain olds news a c)
-  plays_err (Ok ending) short = tt
-  plays_err (Err e) short =
+  pub plays_err : (Asks Within : List ℕ → Type 0) →
+      ((codes : List ℕ) → Within codes → Asks (first_codes detail script chain olds powered powers ++ codes)) →
+      (r : Result Ending E) →
+      OnErr r (RunsShort Within detail (on_rack (is_traced detail)) script reset_states news b c y) →
+      OnErr r (PlaysPart Asks detail script chain olds news a c)
+  plays_err Asks Within asks (Ok ending) short = tt
+  plays_err Asks Within asks (Err e) short =
       plays_short detail script chain olds powered powers mids reset_states came hs heard ran told is a b y turns adds
-      news c short
+      news c Asks Within asks short

@@ -1,8 +1,10 @@
 -- How a run by a script goes on from one instruction to the next.
-use Rattle.std.proofs.Common.{◌≡◌, ℕ, zero, suc, ◌+◌, ◌-◌, ◌<◌, ◌≤◌, true, false, [], ◌∷◌, refl, ap, ◌∙◌, arith}
+use Rattle.std.proofs.Common.{◌≡◌, ℕ, zero, suc, ◌+◌, ◌-◌, ◌<◌, ◌≤◌, Bool, true, false, List, [], ◌∷◌, refl, ap, ◌∙◌, arith}
+use Rattle.std.specs.Prelude.{if◌then◌else◌}
 use Rattle.console_spec.specs.Run.{Position, Turn, Stop, Goes, Stops, Done}
 use Rattle.console_spec.specs.Scripts.{Script}
-use Rattle.console_spec.specs.Telling.{Way, Telling, is_over, moment_of, telling, telling_on}
+use Rattle.console_spec.specs.Telling.{Way, Moment, Telling, is_over, moment_of, telling, telling_on}
+use Rattle.rack_run.specs.Asking.{last_codes}
 use Rattle.rack_run.specs.Turns.{position_behind}
 
 -- a run that is over where it stands
@@ -58,3 +60,26 @@ telling-stops way script n i x stop more on stops =
     ∙ ap
     (λ (turn : Turn). telling_on script x (moment_of way script x (way.step x)) (λ z. telling way script (n - (i + 1)) z) turn)
     stops
+
+-- ---- a run with no moment stops at no bus step
+
+abbrev pub last_of : Telling → List ℕ
+last_of run = last_codes run.moments run.ending.stop
+
+turned_last : (script : Script) (x : Position) (moment : Moment) (rest : Position → Telling) (turn : Turn) →
+    last_of (telling_on script x moment rest turn) ≡ []
+turned_last script x moment rest (Goes y) = refl
+turned_last script x moment rest (Stops stop) = refl
+
+either_last : (b : Bool) (s t : Telling) → last_of s ≡ [] → last_of t ≡ [] → last_of (if b then s else t) ≡ []
+either_last true s t one other = one
+either_last false s t one other = other
+
+pub telling-last : (way : Way) (script : Script) (n : ℕ) (x : Position) → last_of (telling way script n x) ≡ []
+unfolding telling
+telling-last way script zero x = refl
+telling-last way script (suc n) x =
+    let moment = moment_of way script x (way.step x) in
+    let rest : Position → Telling = λ z. telling way script n z in
+    either_last (is_over script x) (over_at x) (telling_on script x moment rest (way.step x)) refl
+    (turned_last script x moment rest (way.step x))

@@ -13,6 +13,7 @@ use Rattle.data_bus.specs.Racks.{views}
 use Rattle.f8_machine.specs.Faults.{fault_of}
 use Rattle.f8_machine.specs.Rounds.{RackPowers, RackRuns, heard_of}
 use Rattle.outside.specs.SinkRules.{Output, Adds, AddsPart}
+use Rattle.rack_run.specs.Asking.{codes_up_to}
 use Rattle.rack_run.specs.Lives.{Lives}
 use Rattle.rack_run.specs.Texts.{is_traced, text_in}
 use Rattle.rack_run.specs.declared.detail.Detail.{Detail}
@@ -78,13 +79,14 @@ pub record CutShort (detail : Detail) (chain : List ℕ) (ms : List Moment) (old
   pub lines : Adds old between (text_in detail (told_in before))
   pub part : AddsPart between new (text_in detail at.told)
 
--- the run up to there
-pub record PlaysPart (detail : Detail) (script : Script) (chain : List ℕ) (olds news : List ChipState)
-    (old new : Output) : Type 0 where
+-- the run up to there, with what was asked by then
+pub record PlaysPart (Asks : List ℕ → Type 0) (detail : Detail) (script : Script) (chain : List ℕ)
+    (olds news : List ChipState) (old new : Output) : Type 0 where
   pub powered : List ChipState
   pub powers : RackPowers script.power olds powered
   pub cut : CutShort detail chain (run_on detail script chain olds).moments powered news old new
   pub part : AddsPart old new (text_in detail (told_in (run_on detail script chain olds).moments))
+  pub asks : Asks (codes_up_to cut.before cut.at cut.behind (run_on detail script chain olds).ending.stop)
 
 -- ---- without a chip
 

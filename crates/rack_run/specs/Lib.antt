@@ -1,4 +1,5 @@
 pub mod Texts
+pub mod Asking
 pub mod Lives
 pub mod Progressing
 pub mod Endings

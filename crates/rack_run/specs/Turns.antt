@@ -11,6 +11,7 @@ use Rattle.console_spec.specs.Telling.{Way, with_events, events_behind, told_ste
 use Rattle.console_spec.specs.Telling.{told_in}
 use Rattle.f8_machine.specs.Rounds.{RackRuns, heard_of}
 use Rattle.outside.specs.SinkRules.{Output, Adds, AddsPart}
+use Rattle.rack_run.specs.Asking.{codes_up_to}
 use Rattle.rack_run.specs.Endings.{stop_of, TellsEnd, CutShort}
 use Rattle.rack_run.specs.Lives.{LivesMoment, Lives, Come}
 use Rattle.rack_run.specs.Progressing.{ProgressState, Keeps}
@@ -148,7 +149,8 @@ pub record RunsOut (detail : Detail) (way : Way) (script : Script) (told : Endin
   pub lived : Lives x.chain (rest_on way script x).moments olds news
   pub lines : Adds old new (text_in detail (told_in (rest_on way script x).moments))
 
--- the same, cut short
-abbrev pub RunsShort : Detail → Way → Script → (olds news : List ChipState) → (old new : Output) → Position → Type 0
-RunsShort detail way script olds news old new x =
-    CutShort detail x.chain (rest_on way script x).moments olds news old new
+-- the same, cut short, with what was asked by then
+pub record RunsShort (Asks : List ℕ → Type 0) (detail : Detail) (way : Way) (script : Script) (olds news : List ChipState)
+    (old new : Output) (x : Position) : Type 0 where
+  pub cut : CutShort detail x.chain (rest_on way script x).moments olds news old new
+  pub asks : Asks (codes_up_to cut.before cut.at cut.behind (rest_on way script x).ending.stop)

@@ -47,6 +47,8 @@ impl Player for Isa {
 
     ghost fits = { λ isa states. Unit {0} };
 
+    ghost allowed = { λ chips isa codes. 0 };
+
     fn advance<K: Sink>(
         &mut self,
         _rack: &mut Rack,

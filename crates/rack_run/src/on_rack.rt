@@ -1,5 +1,5 @@
 // A run on a rack of chips.
-ghost use Rattle.std.specs.Prelude.{◌≡◌, ◌≤◌, ◌+◌, length, map, IfOk, OnErr};
+ghost use Rattle.std.specs.Prelude.{◌≡◌, ◌≤◌, ◌+◌, length, map, sum_by, IfOk, OnOk, OnErr};
 ghost use Rattle.f8_spec.specs.BusArbitration.{seat_of};
 ghost use Rattle.console_spec.specs.Telling.{code_of as told_code};
 ghost use Rattle.cpu3850.specs.OwnWrites.{LeaveOwnPorts};
@@ -8,7 +8,8 @@ ghost use Rattle.f8_machine.specs.Faults.{fault_of};
 ghost use Rattle.f8_machine.specs.Refinement.{AreWhole};
 ghost use Rattle.pad_script.specs.Limits.{HasLimits};
 ghost use Rattle.pad_script.specs.Reading.{seen};
-ghost use Rattle.rack_run.specs.Endings.{Plays, PlaysPart};
+ghost use Rattle.rack_run.specs.Asking.{AsksWithin, run_allowed, tried_codes};
+ghost use Rattle.rack_run.specs.Endings.{Plays, PlaysPart, run_on};
 ghost use Rattle.rack_run.specs.Texts.{Puts, text_in, outcome_told};
 
 use super::detail::Detail;
@@ -62,6 +63,7 @@ impl Player for Machine {
     ghost use Rattle.console_spec.specs.Telling.{on_rack};
     ghost use Rattle.f8_machine.specs.Fitting.{Fits};
     ghost use Rattle.f8_machine.specs.MachineState.{MachineState, IsReset};
+    ghost use Rattle.f8_machine.specs.Questions.{allowances};
     ghost use Rattle.f8_machine.specs.Refinement.{IsPowered, Represents};
     ghost use Rattle.rack_run.specs.Machines.{machine_readout, machine_reads};
     ghost use Rattle.rack_run.specs.Texts.{is_traced};
@@ -79,6 +81,8 @@ impl Player for Machine {
     ghost ready = { λ m. IsReset m.mode };
 
     ghost fits = { λ m states. Fits m states };
+
+    ghost allowed = { λ chips m codes. allowances chips m.index codes };
 
     fn advance<K: Sink>(
         &mut self,
@@ -118,6 +122,9 @@ impl Player for Machine {
 /// A run by a script on a rack of at most 16 chips that are fitted: power-on, the events of frame 0, reset, and instructions, each told
 /// as it is done. `chain` has the sockets of the chips described. `detail` says how much is told on the way; each line is one put.
 ///
+/// The chips are put no more questions than 512 each, and the allowances of the bus steps that were tried. That questions are counted is
+/// this project's own.
+///
 /// # Errors
 ///
 /// The sink failed at a line. The rack stands at the end of the instruction, or of the reset, whose line it is.
@@ -135,7 +142,13 @@ pub fn play<K: Sink>(
     ensures plays { IfOk result (λ ending. Plays detail (seen script.now) chain ending
         (map state rack.old.items) (map state rack.new.items)
         (K.output sink.old) (K.output sink.new)) }
-    ensures failed { OnErr result (PlaysPart detail (seen script.now) chain
+    ensures asked { OnOk result (AsksWithin (run_allowed (map state rack.old.items))
+        (sum_by queries rack.old.items) (sum_by queries rack.new.items)
+        (tried_codes (run_on detail (seen script.now) chain (map state rack.old.items)))) }
+    ensures failed { OnErr result (PlaysPart
+        (AsksWithin (run_allowed (map state rack.old.items))
+        (sum_by queries rack.old.items) (sum_by queries rack.new.items))
+        detail (seen script.now) chain
         (map state rack.old.items) (map state rack.new.items)
         (K.output sink.old) (K.output sink.new)) }
     ensures chips { length rack.new.items ≡ length rack.old.items }

@@ -1,8 +1,10 @@
 // What a run by a script is carried out by: a machine with its rack, or the flat instruction set alone.
-ghost use Rattle.std.specs.Prelude.{◌≡◌, ◌≤◌, ◌<◌, ◌+◌, ◌^◌, ℕ, List, length, map, IfOk, IfErr};
+ghost use Rattle.std.specs.Prelude.{◌≡◌, ◌≤◌, ◌<◌, ◌+◌, ◌^◌, ℕ, List, [], length, map, sum_by};
+ghost use Rattle.std.specs.Prelude.{IfOk, IfErr, OnOk, OnErr};
 ghost use Rattle.console_spec.specs.Run.{Position};
 ghost use Rattle.console_spec.specs.Telling.{Way, with_event};
 ghost use Rattle.f8_spec.specs.ChipState.{ChipState};
+ghost use Rattle.rack_run.specs.Asking.{AsksOn, AsksWithin, turn_codes};
 ghost use Rattle.rack_run.specs.Lives.{ComesTo};
 ghost use Rattle.rack_run.specs.Turns.{Readout, readout_of, regs_of, StepsDone, StepsCut};
 ghost use Rattle.rack_run.specs.declared.detail.Detail.{Detail};
@@ -19,7 +21,8 @@ use outside::Sink;
 /// What carries out a run's instructions. It is lent a rack in each call, of so many chips at most: the flat instruction set alone has none.
 ///
 /// Contracts see the positions that it stands at with the rack, before reset and after it, the way by which it goes on, what it tells of
-/// itself, when it is ready for an instruction, and that it and the rack fit each other, which they do from power-on on.
+/// itself, when it is ready for an instruction, and that it and the rack fit each other, which they do from power-on on; and how many
+/// questions coming steps, by their codes, may put to a rack of so many chips.
 pub(crate) trait Player {
     ghost most_chips: { ℕ };
 
@@ -34,6 +37,8 @@ pub(crate) trait Player {
     ghost ready: { Self → Type 0 };
 
     ghost fits: { Self → List ChipState → Type 0 };
+
+    ghost allowed: { ℕ → Self → List ℕ → ℕ };
 
     /// The next instruction, with its write, where a port took one; its bus steps are told. Or what cuts the run short there.
     fn advance<K: Sink>(
@@ -55,6 +60,15 @@ pub(crate) trait Player {
             → IfErr result (λ cut. StepsCut detail (way detail) (readout self.new)
             (map state rack.old.items) (map state rack.new.items)
             (K.output sink.old) (K.output sink.new) x cut) }
+        ensures asked { (x : Position) → at self.old (map state rack.old.items) x
+            → OnOk result (AsksOn
+            (allowed (length rack.old.items) self.old) (allowed (length rack.old.items) self.new)
+            (sum_by queries rack.old.items) (sum_by queries rack.new.items)
+            (turn_codes (way detail) x)) }
+        ensures asked_cut { (x : Position) → at self.old (map state rack.old.items) x
+            → OnErr result (AsksWithin (allowed (length rack.old.items) self.old)
+            (sum_by queries rack.old.items) (sum_by queries rack.new.items)
+            (turn_codes (way detail) x)) }
         ensures clocks { (readout self.new).phi ≤ (readout self.old).phi + MOST_INTERRUPTED_PHI }
         ensures onward { (readout self.old).phi ≤ (readout self.new).phi }
         ensures ready { ready self.new }
@@ -73,6 +87,9 @@ pub(crate) trait Player {
             → ComesTo x.chain event (map state rack.old.items) (map state rack.new.items) }
         ensures came { (x : Position) → at self.old (map state rack.old.items) x
             → ComesTo x.chain event (map state rack.old.items) (map state rack.new.items) }
+        ensures asked { AsksOn
+            (allowed (length rack.old.items) self.old) (allowed (length rack.old.items) self.new)
+            (sum_by queries rack.old.items) (sum_by queries rack.new.items) [] }
         ensures ready { ready self.old → ready self.new }
         ensures fits { fits self.new (map state rack.new.items) }
         ensures phi { (readout self.new).phi ≡ (readout self.old).phi }

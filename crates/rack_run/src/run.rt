@@ -1,12 +1,14 @@
 // A run by a script, instruction by instruction, by any player.
-ghost use Rattle.std.specs.Prelude.{◌≡◌, ◌≤◌, ◌<◌, ◌+◌, ◌^◌, length, map, IfOk, IfErr, OnOk, OnErr};
+ghost use Rattle.std.specs.Prelude.{◌≡◌, ◌≤◌, ◌<◌, ◌+◌, ◌^◌, length, map, sum_by};
+ghost use Rattle.std.specs.Prelude.{IfOk, IfErr, OnOk, OnErr};
 ghost use Rattle.console_spec.specs.Processor.{State};
 ghost use Rattle.console_spec.specs.Run.{Position};
 ghost use Rattle.pad_script.specs.Limits.{HasLimits};
 ghost use Rattle.pad_script.specs.Reading.{seen};
+ghost use Rattle.rack_run.specs.Asking.{AsksOn, AsksWithin, tried_codes, turn_codes};
 ghost use Rattle.rack_run.specs.Endings.{Tells, stop_at};
 ghost use Rattle.rack_run.specs.Progressing.{Keeps};
-ghost use Rattle.rack_run.specs.Turns.{readout_of, GoesOn, CutsAt, RunsOut, RunsShort};
+ghost use Rattle.rack_run.specs.Turns.{readout_of, rest_on, GoesOn, CutsAt, RunsOut, RunsShort};
 
 use super::detail::Detail;
 use super::ending::{Cut, Ending, Halt};
@@ -63,6 +65,15 @@ fn turn<P: Player, K: Sink>(
         (P.readout player.new) progress.new
         (map state rack.old.items) (map state rack.new.items)
         (K.output sink.old) (K.output sink.new) x cut) }
+    ensures asked { (x : Position) → P.at player.old (map state rack.old.items) x
+        → OnOk result (AsksOn
+        (P.allowed (length rack.old.items) player.old) (P.allowed (length rack.old.items) player.new)
+        (sum_by queries rack.old.items) (sum_by queries rack.new.items)
+        (turn_codes (P.way detail) x)) }
+    ensures asked_cut { (x : Position) → P.at player.old (map state rack.old.items) x
+        → OnErr result (AsksWithin (P.allowed (length rack.old.items) player.old)
+        (sum_by queries rack.old.items) (sum_by queries rack.new.items)
+        (turn_codes (P.way detail) x)) }
     ensures clocks { (P.readout player.new).phi ≤ (P.readout player.old).phi + MOST_INTERRUPTED_PHI }
     ensures phi { OnOk result (progress.new.phi ≡ (P.readout player.new).phi) }
     ensures count { OnOk result (progress.new.count ≡ progress.old.count + 1) }
@@ -101,9 +112,17 @@ pub(crate) fn run<P: Player, K: Sink>(
         (K.output sink.old) (K.output sink.new) x) }
     ensures short { (x : Position) → P.at player.old (map state rack.old.items) x
         → Keeps progress.old x.flat.state
-        → OnErr result (RunsShort detail (P.way detail) (seen script.now)
+        → OnErr result (RunsShort
+        (AsksWithin (P.allowed (length rack.old.items) player.old)
+        (sum_by queries rack.old.items) (sum_by queries rack.new.items))
+        detail (P.way detail) (seen script.now)
         (map state rack.old.items) (map state rack.new.items)
         (K.output sink.old) (K.output sink.new) x) }
+    ensures asked { (x : Position) → P.at player.old (map state rack.old.items) x
+        → Keeps progress.old x.flat.state
+        → OnOk result (AsksWithin (P.allowed (length rack.old.items) player.old)
+        (sum_by queries rack.old.items) (sum_by queries rack.new.items)
+        (tried_codes (rest_on (P.way detail) (seen script.now) x))) }
     ensures chips { length rack.new.items ≡ length rack.old.items }
 {
     for _ in 0..most_instructions(script.end) {

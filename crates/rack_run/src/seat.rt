@@ -23,6 +23,7 @@ fn fit_one(alloc: Global, chip: &mut Box<dyn Chip>, spec: &ChipSpec) -> Result<(
     ensures whole { OnOk result (IsWhole (state chip.new).view) }
     ensures ports { OnOk result (LeavesOwn (state chip.new).view) }
     ensures same { OnErr result (state chip.new ≡ state chip.old) }
+    ensures asked { queries chip.new ≡ queries chip.old }
 {
     match chip.fit(alloc, spec) {
         Ok(()) => Ok(()),
@@ -79,6 +80,7 @@ fn fit_socket(
     ensures whole { OnOk result (IsWhole (state chip.new).view) }
     ensures ports { OnOk result (LeavesOwn (state chip.new).view) }
     ensures same { OnErr result (state chip.new ≡ state chip.old) }
+    ensures asked { queries chip.new ≡ queries chip.old }
 {
     match nth_of_kind(chips, kind, before) {
         Some(spec) => fit_one(alloc, chip, spec),
@@ -109,6 +111,7 @@ fn fit_next(
     ensures whole { OnOk result (IsWhole (state chip.new).view) }
     ensures ports { OnOk result (LeavesOwn (state chip.new).view) }
     ensures same { OnErr result (state chip.new ≡ state chip.old) }
+    ensures asked { queries chip.new ≡ queries chip.old }
     ensures psus { sockets.new.psus ≡ psus_after (state chip.old).view.kind sockets.old.psus }
     ensures smis { sockets.new.smis ≡ smis_after (state chip.old).view.kind sockets.old.smis }
     ensures more { sockets.new.psus + sockets.new.smis ≡ sockets.old.psus + sockets.old.smis + 1 }
@@ -140,6 +143,7 @@ pub fn fit_all(alloc: Global, chips: &ChipList, rack: &mut Rack) -> Result<(), M
     ensures ports { OnOk result (LeaveOwnPorts (map seat_of (views (map state rack.new.items)))) }
     ensures views { OnOk result
         (views (map state rack.new.items) ≡ fitted_views chips.now (map state rack.old.items)) }
+    ensures asked { map queries rack.new.items ≡ map queries rack.old.items }
     ensures chips { length rack.new.items ≡ length rack.old.items }
 {
     let chips = chips.as_slice();

@@ -1,5 +1,6 @@
 -- One more event comes.
-use Rattle.std.proofs.Common.{◌∙◌, map}
+use Rattle.std.proofs.Common.{◌∙◌, [], map}
+use Rattle.rack_run.proofs.AskingLaws.{asks_events}
 use Rattle.rack_run.proofs.EventLaws.{come_next, at_next}
 use Rattle.rack_run.proofs.events.happen_at.Goals as goal
 
@@ -24,6 +25,10 @@ loop-at-preserved g c =
           (c.loop-at.invariant.came x a)
           (c.happen_if.ensures.came _ (c.loop-at.invariant.at x a));
       fits = c.happen_if.ensures.fits;
+      asked =
+          asks_events (λ n. g.P.Player.allowed n c.args.player.now) (λ n. g.P.Player.allowed n c.loop-at.player)
+          (λ n. g.P.Player.allowed n c.happen_if.new.player) _ _ _ _ _ c.loop-at.invariant.chips []
+          c.loop-at.invariant.asked c.happen_if.ensures.asked;
       ready = λ was. c.happen_if.ensures.ready (c.loop-at.invariant.ready was);
       phi = c.happen_if.ensures.phi ∙ c.loop-at.invariant.phi;
       chips = c.happen_if.ensures.chips ∙ c.loop-at.invariant.chips;

@@ -30,5 +30,5 @@ returns-clause-failed g c =
     let begins : BeginsAt c.in-Ok.isa first = record { unwritten = refl; stands = c.in-Ok.ensures.stands } in
     let begun = (rw c.as_slice.ensures.events at (c.happen_at.ensures.begins first begins)).stands in
     let keeps = keeps_at_start c.happen_at.new.player vs script c.phi.result begun c.phi.ensures in
-    lines_cut vs script _ _ _ _
+    lines_cut vs script _ _ _ _ _
     (c.in-Err.ensures.short (start_of vs script) (stands_at_start c.happen_at.new.player vs script begun) (rw c.new-progress.ensures keeps))

@@ -1,13 +1,16 @@
 -- Each chip is fitted by its socket, and the chips behind it are as they were.
-use Rattle.std.proofs.Common.{◌≡◌, ◌∙◌, ◌+◌, ◌<◌, ◌≤◌, length, refl, ap, vec_len, arith, add-one}
-use Rattle.data_bus.proofs.Racks.{changed-none, changed-more, changed-written, unchanged_at}
+use Rattle.std.proofs.Common.{◌≡◌, ◌∙◌, ◌+◌, ◌<◌, ◌≤◌, length, map, refl, ap, vec_len, arith, add-one}
+use Rattle.std.proofs.Math.ListN.{length-set, set}
+use Rattle.std.proofs.Math.Seq.{map-set_same}
+use Rattle.data_bus.proofs.Racks.{changed-none, changed-more, changed-written, unchanged_at, whole_again}
 use Rattle.rack_run.proofs.Seats.{counted_here, counted_more, kinds_from, all_whole, all_leave, fits_seated}
 use Rattle.rack_run.proofs.Seats.{views_fitted, partly_written}
 use Rattle.std.proofs.lemmas.Result.{err_from_is_err_and}
 use Rattle.rack_run.proofs.seat.fit_all.Goals as goal
 
 pub loop-chip-init : goal.loop-chip-init
-loop-chip-init g c = record { few = refl; counted = record { left = refl }; changed = changed-none _ _ }
+loop-chip-init g c =
+    record { few = refl; counted = record { left = refl }; changed = changed-none _ _; asked = refl }
 
 pub fit_next-requires-clause-psus : goal.fit_next-requires-clause-psus
 fit_next-requires-clause-psus g c =
@@ -43,6 +46,9 @@ loop-chip-preserved g c =
           c.fit_next.new.chip c.loop-chip-test.true c.loop-chip.auto.chip-items c.loop-chip.invariant.changed
           (fits_seated _ c.loop-chip.chip-index _ _ _ seat c.in_ok-fit_next.ensures.fits c.in_ok-fit_next.ensures.whole
           c.in_ok-fit_next.ensures.ports);
+      asked = map-set_same (λ b. (goal.Chip-dyn g (b.vtable, b.value)).queries b.value) c.loop-chip.chip-items
+          c.loop-chip.chip-index c.fit_next.new.chip c.chip-item.result c.fit_next.ensures.asked
+          ∙ c.loop-chip.invariant.asked;
     }
 
 pub returns-clause-fitted : goal.returns-clause-fitted
@@ -120,3 +126,27 @@ returns-in_err-fit_next-clause-partly g c =
     (partly_written (λ b. (goal.Chip-dyn g (b.vtable, b.value)).state b.value) _ c.args.rack.now.items
     c.loop-chip.chip-items _ c.loop-chip.chip-index c.chip-item.result c.fit_next.new.chip count long within so_far
     c.in_err-fit_next.ensures.same)
+
+pub returns-clause-asked : goal.returns-clause-asked
+returns-clause-asked g c =
+    let long : length c.loop-chip.chip-items ≡ length c.args.rack.now.items =
+    rw c.deref_mut-chip-items.ensures.value at c.loop-chip.auto.chip-items in
+    let count : length c.args.rack.now.items ≡ vec_len c.args.rack.now =
+    rw c.deref_mut-chip-items.ensures.value at c.deref_mut-chip-items.ensures.len in
+    ap (map (λ b. (goal.Chip-dyn g (b.vtable, b.value)).queries b.value))
+    (whole_again _ c.args.rack.now.items c.loop-chip.chip-items count long)
+    ∙ (rw c.deref_mut-chip-items.ensures.value at c.loop-chip.invariant.asked)
+
+pub returns-in_err-fit_next-clause-asked : goal.returns-in_err-fit_next-clause-asked
+returns-in_err-fit_next-clause-asked g c =
+    let long : length c.loop-chip.chip-items ≡ length c.args.rack.now.items =
+    rw c.deref_mut-chip-items.ensures.value at c.loop-chip.auto.chip-items in
+    let count : length c.args.rack.now.items ≡ vec_len c.args.rack.now =
+    rw c.deref_mut-chip-items.ensures.value at c.deref_mut-chip-items.ensures.len in
+    let written : length (set c.loop-chip.chip-items c.loop-chip.chip-index c.fit_next.new.chip) ≡ length c.args.rack.now.items =
+    length-set c.loop-chip.chip-items c.loop-chip.chip-index c.fit_next.new.chip ∙ long in
+    ap (map (λ b. (goal.Chip-dyn g (b.vtable, b.value)).queries b.value))
+    (whole_again _ c.args.rack.now.items (set c.loop-chip.chip-items c.loop-chip.chip-index c.fit_next.new.chip) count written)
+    ∙ map-set_same (λ b. (goal.Chip-dyn g (b.vtable, b.value)).queries b.value) c.loop-chip.chip-items
+    c.loop-chip.chip-index c.fit_next.new.chip c.chip-item.result c.fit_next.ensures.asked
+    ∙ (rw c.deref_mut-chip-items.ensures.value at c.loop-chip.invariant.asked)

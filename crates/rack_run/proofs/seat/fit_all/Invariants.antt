@@ -16,4 +16,6 @@ invariant-loop-chip g l = record {
       l.chip-index
       (map (λ b. (goal.Chip-dyn g (b.vtable, b.value)).state b.value) l.initial.chip-items)
       (map (λ b. (goal.Chip-dyn g (b.vtable, b.value)).state b.value) l.chip-items);
+  asked : map (λ b. (goal.Chip-dyn g (b.vtable, b.value)).queries b.value) l.chip-items
+      ≡ map (λ b. (goal.Chip-dyn g (b.vtable, b.value)).queries b.value) l.initial.chip-items;
 }
