@@ -1,8 +1,6 @@
 -- A certificate that is told is read and verified.
-use Rattle.std.proofs.Common.{◌≡◌, ap}
-use Rattle.std.specs.Prelude.{List, ℕ, length}
-use Rattle.abs_domain.specs.AbstractState.{AbstractState}
-use Rattle.abs_domain.specs.declared.points.Point.{Point}
+use Rattle.std.proofs.Common.{ap}
+use Rattle.std.specs.Prelude.{length}
 use Rattle.abs_step.specs.MapView.{chips_view}
 use Rattle.cartridge.specs.Splits.{IsSplit}
 use Rattle.cartridge.specs.declared.finish.Cart.{Cart}

@@ -13,6 +13,7 @@ use Rattle.console_spec.specs.declared.VerdictWord.{VerdictWord}
 use Rattle.generator.specs.SummaryLines.{gen_line}
 use Rattle.outside.specs.SinkRules.{Output, Adds, AddsPart}
 use Rattle.outside.proofs.SinkLaws.{adds_none, adds_then, adds_part_behind, adds_part_first}
+use Rattle.rack_run.specs.Asking.{AsksWithin, run_allowed, tried_codes}
 use Rattle.rack_run.specs.Endings.{Tells, Plays as RackPlays, PlaysPart, Refers, stop_at}
 use Rattle.rack_run.specs.Seating.{seated, fitted_views, RackFits, RackFitsInPart}
 use Rattle.rack_run.specs.Texts.{text_in, text_told}
@@ -174,23 +175,24 @@ module _ (manner : Manner) (word : VerdictWord) (game : Game) (chain : List ℕ)
   reports_not_begun a b due part =
       reports_part a b due opening (told ++ closing) (lines_by manner word run) part (text_by manner word run)
 
-  pub on_not_begun : (a b : Output) → AddsPart a b opening → OnFitted a b 5 manner word game.script.power chain run fitted fitted
-  on_not_begun a b part = record {
+  pub on_not_begun : (a b : Output) (asked : ℕ) → AddsPart a b opening →
+      OnFitted a b 5 manner word game.script.power chain run fitted fitted asked asked
+  on_not_begun a b asked part = record {
     ran = λ five. absurd (five refl);
-    failed = λ five. inl (record { same = refl; part = part });
+    failed = λ five. inl (record { same = refl; part = part; unasked = refl });
   }
 
   -- it failed at one of its lines
-  pub reports_cut : (news : List ChipState) (a b c : Output) (due : ℕ) → Adds a b opening →
-      PlaysPart (detail_of manner) game.script chain fitted news b c → Reports a c 5 due (lines_by manner word run)
-  reports_cut news a b c due first plays =
+  pub reports_cut : (Asks : List ℕ → Type 0) (news : List ChipState) (a b c : Output) (due : ℕ) → Adds a b opening →
+      PlaysPart Asks (detail_of manner) game.script chain fitted news b c → Reports a c 5 due (lines_by manner word run)
+  reports_cut Asks news a b c due first plays =
       reports_part a c due (opening ++ told) closing (lines_by manner word run)
       (adds_part_behind a b c opening told first plays.part) opened
 
-  pub on_cut : (news : List ChipState) (a b c : Output) → Adds a b opening →
-      PlaysPart (detail_of manner) game.script chain fitted news b c →
-      OnFitted a c 5 manner word game.script.power chain run fitted news
-  on_cut news a b c first plays = record {
+  pub on_cut : (news : List ChipState) (a b c : Output) (before after : ℕ) → Adds a b opening →
+      PlaysPart (AsksWithin (run_allowed fitted) before after) (detail_of manner) game.script chain fitted news b c →
+      OnFitted a c 5 manner word game.script.power chain run fitted news before after
+  on_cut news a b c before after first plays = record {
     ran = λ five. absurd (five refl);
     failed = λ five. inr (inl (record {
       powered = plays.powered;
@@ -198,6 +200,7 @@ module _ (manner : Manner) (word : VerdictWord) (game : Game) (chain : List ℕ)
       between = b;
       opening = first;
       cut = plays.cut;
+      asks = plays.asks;
     }));
   }
 
@@ -205,8 +208,10 @@ module _ (manner : Manner) (word : VerdictWord) (game : Game) (chain : List ℕ)
   module _ (ending : Ending) (news : List ChipState) (a b c d : Output) (said : ℕ) (first : Adds a b opening)
       (plays : RackPlays (detail_of manner) game.script chain ending fitted news b c)
       (r : Reports c d said (status_of (stop_at ending.halt)) (closing_told manner ending)) where
-    ran_on : RanOn game.script.power chain run fitted news
-    ran_on = record { powered = plays.powered; powers = plays.powers; lived = plays.lived }
+    ran_on : (before after : ℕ) → AsksWithin (run_allowed fitted) before after (tried_codes run) →
+        RanOn game.script.power chain run fitted news before after
+    ran_on before after asks =
+        record { powered = plays.powered; powers = plays.powers; lived = plays.lived; asks = asks }
 
     told_all : Adds a c (opening ++ told)
     told_all = adds_then a b c opening told first plays.lines
@@ -222,11 +227,12 @@ module _ (manner : Manner) (word : VerdictWord) (game : Game) (chain : List ℕ)
         reports_behind a c d said (status_of run.ending.stop) (opening ++ told) (closing_lines manner run.ending)
         (lines_by manner word run) told_all closing_reports opened
 
-    pub on_run : OnFitted a d said manner word game.script.power chain run fitted news
-    on_run = record {
-      ran = λ five. ran_on;
+    pub on_run : (before after : ℕ) → AsksWithin (run_allowed fitted) before after (tried_codes run) →
+        OnFitted a d said manner word game.script.power chain run fitted news before after
+    on_run before after asks = record {
+      ran = λ five. ran_on before after asks;
       failed = λ five. inr (inr (record {
-        ran = ran_on;
+        ran = ran_on before after asks;
         between = c;
         told = told_all;
         part = closing_reports.part five;
@@ -235,15 +241,15 @@ module _ (manner : Manner) (word : VerdictWord) (game : Game) (chain : List ℕ)
 
 -- ---- a game on a rack before it is fitted
 
-module _ (a b : Output) (said : ℕ) (manner : Manner) (game : Game) (rack fitted news : List ChipState) (chain : List ℕ)
-    (same : views fitted ≡ fitted_views game.cart.chips rack) (linked : chain ≡ game_chain game rack) where
+module _ (a b : Output) (said : ℕ) (manner : Manner) (game : Game) (rack fitted news : List ChipState) (before after : ℕ)
+    (chain : List ℕ) (same : views fitted ≡ fitted_views game.cart.chips rack) (linked : chain ≡ game_chain game rack) where
   run_same : run_fitted manner game chain fitted ≡ game_run manner game rack
   run_same =
       ap (λ (sockets : List ℕ). run_by manner game.script sockets (views fitted)) linked
       ∙ ap (λ (vs : List ChipView). run_by manner game.script (game_chain game rack) vs) same
 
   -- the run on the chips described, behind the right verdict
-  answers_judged : RunsJudged a b said manner game chain fitted news →
+  answers_judged : RunsJudged a b said manner game chain fitted news before after →
       Judges a b said game.cart (λ verdict. run_answer manner (verdict_word verdict) (game_run manner game rack))
   answers_judged runs = record {
     right = runs.right;
@@ -252,39 +258,46 @@ module _ (a b : Output) (said : ℕ) (manner : Manner) (game : Game) (rack fitte
         run_same runs.reports;
   }
 
-  played_judged : RackFits (seated game.cart.chips rack) rack fitted → RunsJudged a b said manner game chain fitted news →
-      PlayedOn a b said manner game rack news
+  played_judged : RackFits (seated game.cart.chips rack) rack fitted →
+      RunsJudged a b said manner game chain fitted news before after →
+      PlayedOn a b said manner game rack news before after
   played_judged fits runs = record {
     fitted = fitted;
     fits = fits;
     right = runs.right;
     on =
         subst (λ (sockets : List ℕ).
-        OnFitted a b said manner (verdict_word runs.right.verdict) game.script.power sockets (game_run manner game rack) fitted news)
+        OnFitted a b said manner (verdict_word runs.right.verdict) game.script.power sockets (game_run manner game rack) fitted news
+        before after)
         linked
         (subst (λ (t : Telling).
-        OnFitted a b said manner (verdict_word runs.right.verdict) game.script.power chain t fitted news) run_same runs.on);
+        OnFitted a b said manner (verdict_word runs.right.verdict) game.script.power chain t fitted news before after) run_same
+        runs.on);
   }
 
-  pub plays_judged : RackFits (seated game.cart.chips rack) rack fitted → PlaysJudged a b said manner game chain fitted news →
-      Plays a b said manner game rack news
+  pub plays_judged : RackFits (seated game.cart.chips rack) rack fitted →
+      PlaysJudged a b said manner game chain fitted news before after →
+      Plays a b said manner game rack news before after
   plays_judged fits (inl wants) = record {
     wanting = λ six. inr (subst (λ (chips : List ChipState). RackFits (seated game.cart.chips rack) rack chips)
         (sym wants.same) fits);
+    unasked = λ six. wants.unasked;
     played = λ six. absurd (six wants.status);
   }
   plays_judged fits (inr runs) = record {
     wanting = λ six. absurd (no_memory_from said _ (status_not_memory _) runs.reports.which six);
+    unasked = λ six. absurd (no_memory_from said _ (status_not_memory _) runs.reports.which six);
     played = λ six. played_judged fits runs;
   }
 
-  pub due_judged : PlaysJudged a b said manner game chain fitted news →
+  pub due_judged : PlaysJudged a b said manner game chain fitted news before after →
       AnswersDue a b said (judged_run manner game (game_run manner game rack))
   due_judged (inl wants) = inl (record { status = wants.status; nothing = wants.nothing })
   due_judged (inr runs) = inr (answers_judged runs)
 
   -- what the verdict promises of it
-  pub keeps_judged : SafeRunLaw → HasScriptBytes game.script → PlaysJudged a b said manner game chain fitted news →
+  pub keeps_judged : SafeRunLaw → HasScriptBytes game.script →
+      PlaysJudged a b said manner game chain fitted news before after →
       KeepsVerdict said manner game rack
   keeps_judged law script (inl wants) = λ fits patches six. absurd (six wants.status)
   keeps_judged law script (inr runs) =
@@ -292,27 +305,36 @@ module _ (a b : Output) (said : ℕ) (manner : Manner) (game : Game) (rack fitte
       (subst (λ (t : Telling). (said ≡ status_of t.ending.stop) ⊎ (said ≡ 5)) run_same runs.reports.which)
 
 -- the check and the run on chips that are fitted
-pub judged_wanting : (now : Output) (manner : Manner) (game : Game) (chain : List ℕ) (fitted : List ChipState) →
-    PlaysJudged now now 6 manner game chain fitted fitted
-judged_wanting now manner game chain fitted = inl (record { status = refl; nothing = adds_none now; same = refl })
+pub judged_wanting : (now : Output) (manner : Manner) (game : Game) (chain : List ℕ) (fitted : List ChipState) (asked : ℕ) →
+    PlaysJudged now now 6 manner game chain fitted fitted asked asked
+judged_wanting now manner game chain fitted asked =
+    inl (record { status = refl; nothing = adds_none now; same = refl; unasked = refl })
 
-pub plays_wanting : (a b : Output) (manner : Manner) (game : Game) (rack news : List ChipState) →
-    RackFitsInPart (seated game.cart.chips rack) rack news → Plays a b 6 manner game rack news
-plays_wanting a b manner game rack news partly = record {
+pub plays_wanting : (a b : Output) (manner : Manner) (game : Game) (rack news : List ChipState) (before after : ℕ) →
+    after ≡ before → RackFitsInPart (seated game.cart.chips rack) rack news →
+    Plays a b 6 manner game rack news before after
+plays_wanting a b manner game rack news before after none partly = record {
   wanting = λ e. inl partly;
+  unasked = λ e. none;
   played = λ six. absurd (six refl);
 }
 
--- memory was wanting before the rack was looked at
-unless_wanting : (line : Option (List ℕ)) (now : Output) (manner : Manner) (game : Game) (rack : List ChipState) →
-    PlaysUnless line now now 6 manner game rack rack
-unless_wanting (Some line) now manner game rack = refl
-unless_wanting None now manner game rack =
-    plays_wanting now now manner game rack rack (stays_in_part (seated game.cart.chips rack) rack)
+-- fitting asks nothing
+pub asked_before : (a b : Output) (said : ℕ) (game : Game) (manner : Manner) (rack news : List ChipState) (before mid after : ℕ) →
+    mid ≡ before → Plays a b said manner game rack news mid after → Plays a b said manner game rack news before after
+asked_before a b said game manner rack news before mid after none plays =
+    subst (λ (n : ℕ). Plays a b said manner game rack news n after) none plays
 
-pub game_wanting : (now : Output) (manner : Manner) (game : Game) (rack : List ChipState) →
-    PlaysGame now now 6 manner game rack rack
-game_wanting now manner game rack = unless_wanting (refusal game.cart.chips rack) now manner game rack
+-- memory was wanting before the rack was looked at
+unless_wanting : (line : Option (List ℕ)) (now : Output) (manner : Manner) (game : Game) (rack : List ChipState) (asked : ℕ) →
+    PlaysUnless line now now 6 manner game rack rack asked asked
+unless_wanting (Some line) now manner game rack asked = record { same = refl; unasked = refl }
+unless_wanting None now manner game rack asked =
+    plays_wanting now now manner game rack rack asked asked refl (stays_in_part (seated game.cart.chips rack) rack)
+
+pub game_wanting : (now : Output) (manner : Manner) (game : Game) (rack : List ChipState) (asked : ℕ) →
+    PlaysGame now now 6 manner game rack rack asked asked
+game_wanting now manner game rack asked = unless_wanting (refusal game.cart.chips rack) now manner game rack asked
 
 -- ---- a run on the flat instruction set alone
 

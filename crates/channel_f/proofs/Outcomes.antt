@@ -37,15 +37,21 @@ module _ {A : Type 0} (old new : Output) (before after : Input) (said : ℕ) (wo
 module _ (old new : Around) (said : ℕ) where
   pub tells_game : (traced : Bool) (work : Work Game) (game : Game) → Works old.input new.input work (Ok game) →
       AnswersDue old.output new.output said (play_due traced old.rack game) →
-      RackAfter old.output new.output said (Whole traced) (Ok game) old.rack new.rack →
+      RackAfter old.output new.output said (Whole traced) (Ok game) old.rack new.rack old.asked new.asked →
       KeepsVerdict said (Whole traced) game old.rack → TellsGame old new said traced work
   tells_game traced work game works answers chips safe =
       record { outcome = Ok game; works = works; ends = answers; chips = chips; safe = safe }
 
   pub tells_no_game : (traced : Bool) (work : Work Game) (stop : Stop) → Works old.input new.input work (Err stop) →
-      Stops old.output new.output said stop → new.rack ≡ old.rack → TellsGame old new said traced work
-  tells_no_game traced work stop works stops same =
-      record { outcome = Err stop; works = works; ends = stops; chips = same; safe = tt }
+      Stops old.output new.output said stop → new.rack ≡ old.rack → new.asked ≡ old.asked →
+      TellsGame old new said traced work
+  tells_no_game traced work stop works stops same none = record {
+    outcome = Err stop;
+    works = works;
+    ends = stops;
+    chips = record { same = same; unasked = none };
+    safe = tt;
+  }
 
   pub tells_debugging : (work : Work Debugging) (asked : Debugging) → Works old.input new.input work (Ok asked) →
       AnswersDue old.output new.output said (debug_due old.rack asked) →
@@ -67,18 +73,18 @@ module _ (old new : Around) (said : ℕ) where
 
   pub says_check : (cart : List ℕ) (certified : Bool) (command : Option Command) → Some (Check cart certified) ≡ command →
       Told old.output new.output old.input new.input said (cart_of cart) (check_due certified) → new.rack ≡ old.rack →
-      Says old new said command
-  says_check cart certified command is told same = rw (← is) (record { told = told; same = same })
+      new.asked ≡ old.asked → Says old new said command
+  says_check cart certified command is told same none = rw (← is) (record { told = told; same = same; unasked = none })
 
   pub says_verify : (cart cert : List ℕ) (command : Option Command) → Some (Verify cart cert) ≡ command →
       Told old.output new.output old.input new.input said (claim_of cart cert) (λ claim. Plain (verify_answer claim)) →
-      new.rack ≡ old.rack → Says old new said command
-  says_verify cart cert command is told same = rw (← is) (record { told = told; same = same })
+      new.rack ≡ old.rack → new.asked ≡ old.asked → Says old new said command
+  says_verify cart cert command is told same none = rw (← is) (record { told = told; same = same; unasked = none })
 
   pub says_ref : (cart script : List ℕ) (command : Option Command) → Some (Ref cart script) ≡ command →
       Told old.output new.output old.input new.input said (game_of cart script) (λ game. Plain (ref_answer game)) →
-      new.rack ≡ old.rack → Says old new said command
-  says_ref cart script command is told same = rw (← is) (record { told = told; same = same })
+      new.rack ≡ old.rack → new.asked ≡ old.asked → Says old new said command
+  says_ref cart script command is told same none = rw (← is) (record { told = told; same = same; unasked = none })
 
   pub says_debug : (cart commands : List ℕ) (command : Option Command) → Some (Debug cart commands) ≡ command →
       TellsDebugging old new said (debugging_of cart commands) → Says old new said command
@@ -86,26 +92,27 @@ module _ (old new : Around) (said : ℕ) where
 
   pub says_asm : (file : List ℕ) (command : Option Command) → Some (Asm file) ≡ command →
       Told old.output new.output old.input new.input said (image_by file) (λ picture. Plain (asm_answer picture)) →
-      new.rack ≡ old.rack → Says old new said command
-  says_asm file command is told same = rw (← is) (record { told = told; same = same })
+      new.rack ≡ old.rack → new.asked ≡ old.asked → Says old new said command
+  says_asm file command is told same none = rw (← is) (record { told = told; same = same; unasked = none })
 
   pub says_dis : (file : List ℕ) (command : Option Command) → Some (Dis file) ≡ command →
       Told old.output new.output old.input new.input said (bytes_by file) (λ bytes. Plain (dis_answer bytes)) →
-      new.rack ≡ old.rack → Says old new said command
-  says_dis file command is told same = rw (← is) (record { told = told; same = same })
+      new.rack ≡ old.rack → new.asked ≡ old.asked → Says old new said command
+  says_dis file command is told same none = rw (← is) (record { told = told; same = same; unasked = none })
 
   -- the generated cartridge
   pub says_gen : (seed : ℕ) (command : Option Command) → Some (Gen seed) ≡ command →
       AnswersDue old.output new.output said (gen_due old.rack seed) →
-      PlaysGame old.output new.output said (Summary seed) (generated_game seed) old.rack new.rack →
+      PlaysGame old.output new.output said (Summary seed) (generated_game seed) old.rack new.rack old.asked new.asked →
       KeepsVerdict said (Summary seed) (generated_game seed) old.rack → new.input ≡ old.input → Says old new said command
   says_gen seed command is answers chips safe asks =
       rw (← is) (record { answers = answers; chips = chips; safe = safe; asks = asks })
 
   -- words that ask for nothing
   pub says_words : (command : Option Command) → None ≡ command → Answers old.output new.output said words_answer →
-      new.input ≡ old.input → new.rack ≡ old.rack → Says old new said command
-  says_words command is answers asks same = rw (← is) (record { answers = answers; asks = asks; same = same })
+      new.input ≡ old.input → new.rack ≡ old.rack → new.asked ≡ old.asked → Says old new said command
+  says_words command is answers asks same none =
+      rw (← is) (record { answers = answers; asks = asks; same = same; unasked = none })
 
 -- memory was wanting before a file was asked for
 module _ (now : Around) where
@@ -117,12 +124,13 @@ module _ (now : Around) where
     told =
         told_stop now.output now.output now.input now.input 6 work due Memory (works_memory now.input work) wanting;
     same = refl;
+    unasked = refl;
   }
 
   pub says_wanting : (command : Option Command) → Says now now 6 command
   says_wanting (Some (Play cart script traced)) =
       tells_no_game now now 6 traced (game_of cart script) Memory (works_memory now.input (game_of cart script))
-      wanting refl
+      wanting refl refl
   says_wanting (Some (Check cart certified)) = tells_wanting (cart_of cart) (check_due certified)
   says_wanting (Some (Verify cart cert)) = tells_wanting (claim_of cart cert) (λ claim. Plain (verify_answer claim))
   says_wanting (Some (Ref cart script)) = tells_wanting (game_of cart script) (λ game. Plain (ref_answer game))
@@ -133,11 +141,12 @@ module _ (now : Around) where
   says_wanting (Some (Dis file)) = tells_wanting (bytes_by file) (λ bytes. Plain (dis_answer bytes))
   says_wanting (Some (Gen seed)) = record {
     answers = due_wanting now.output (gen_due now.rack seed);
-    chips = game_wanting now.output (Summary seed) (generated_game seed) now.rack;
+    chips = game_wanting now.output (Summary seed) (generated_game seed) now.rack now.asked;
     safe = λ fits described six. absurd (six refl);
     asks = refl;
   }
-  says_wanting None = record { answers = answers_wanting now.output words_answer; asks = refl; same = refl }
+  says_wanting None =
+      record { answers = answers_wanting now.output words_answer; asks = refl; same = refl; unasked = refl }
 
 -- ---- words without a command
 

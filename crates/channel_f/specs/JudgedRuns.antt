@@ -13,21 +13,24 @@ use Rattle.channel_f.specs.Reports.{Reports}
 use Rattle.channel_f.specs.declared.manner.Manner.{Manner}
 
 -- memory was wanting before the first line
-pub record CheckWants (old new : Output) (said : ℕ) (fitted news : List ChipState) : Type 0 where
+pub record CheckWants (old new : Output) (said : ℕ) (fitted news : List ChipState) (before after : ℕ) : Type 0 where
   pub status : said ≡ 6
   pub nothing : Adds old new []
   pub same : news ≡ fitted
+  pub unasked : after ≡ before
 
 -- the run is told behind the right verdict
 pub record RunsJudged (old new : Output) (said : ℕ) (manner : Manner) (game : Game) (chain : List ℕ)
-    (fitted news : List ChipState) : Type 0 where
+    (fitted news : List ChipState) (before after : ℕ) : Type 0 where
   pub right : RightVerdict game.cart
   pub bytes : TellsBytes (chips_view game.cart.chips)
   pub reports : Reports old new said (status_of (run_fitted manner game chain fitted).ending.stop)
       (lines_by manner (verdict_word right.verdict) (run_fitted manner game chain fitted))
   pub on : OnFitted old new said manner (verdict_word right.verdict) game.script.power chain
-      (run_fitted manner game chain fitted) fitted news
+      (run_fitted manner game chain fitted) fitted news before after
 
-abbrev pub PlaysJudged : Output → Output → ℕ → Manner → Game → List ℕ → List ChipState → List ChipState → Type 0
-PlaysJudged old new said manner game chain fitted news =
-    CheckWants old new said fitted news ⊎ RunsJudged old new said manner game chain fitted news
+abbrev pub PlaysJudged : Output → Output → ℕ → Manner → Game → List ℕ → (fitted news : List ChipState) →
+    (before after : ℕ) → Type 0
+PlaysJudged old new said manner game chain fitted news before after =
+    CheckWants old new said fitted news before after
+    ⊎ RunsJudged old new said manner game chain fitted news before after

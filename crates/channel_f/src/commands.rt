@@ -1,5 +1,5 @@
 // What each command answers.
-ghost use Rattle.std.specs.Prelude.{◌≡◌, ◌≤◌, ◌⊎◌, IfOk, map, length};
+ghost use Rattle.std.specs.Prelude.{◌≡◌, ◌≤◌, ◌⊎◌, IfOk, map, length, sum_by};
 ghost use Rattle.certificate.specs.CertificateLaws.{AllFit};
 ghost use Rattle.loader.specs.Games.{game_of, cart_of, claim_of, debugging_of, image_by, bytes_by};
 ghost use Rattle.channel_f.specs.Answers.{Plain, generated_game, gen_due, check_due, ref_answer};
@@ -46,8 +46,10 @@ pub fn answer_play<S: Store, K: Sink>(
     rack: &mut Rack,
 ) -> Status
     ensures { TellsGame
-        (around (K.output sink.old) (S.input store.old) (map state rack.old.items))
-        (around (K.output sink.new) (S.input store.new) (map state rack.new.items))
+        (around (K.output sink.old) (S.input store.old) (map state rack.old.items)
+        (sum_by queries rack.old.items))
+        (around (K.output sink.new) (S.input store.new) (map state rack.new.items)
+        (sum_by queries rack.new.items))
         (exit_code result) traced (game_of cart.now script.now) }
 {
     match load_game(alloc, store, cart, script) {
@@ -166,8 +168,10 @@ pub fn answer_debug<S: Store, K: Sink>(
     rack: &mut Rack,
 ) -> Status
     ensures { TellsDebugging
-        (around (K.output sink.old) (S.input store.old) (map state rack.old.items))
-        (around (K.output sink.new) (S.input store.new) (map state rack.new.items))
+        (around (K.output sink.old) (S.input store.old) (map state rack.old.items)
+        (sum_by queries rack.old.items))
+        (around (K.output sink.new) (S.input store.new) (map state rack.new.items)
+        (sum_by queries rack.new.items))
         (exit_code result) (debugging_of cart.now commands.now) }
 {
     match load_debugging(alloc, store, cart, commands) {
@@ -251,7 +255,8 @@ pub fn answer_gen<K: Sink>(alloc: Global, seed: u32, sink: &mut K, rack: &mut Ra
         (Manner.Summary seed) (generated_game seed) (map state rack.old.items) }
     ensures rack { PlaysGame (K.output sink.old) (K.output sink.new) (exit_code result)
         (Manner.Summary seed) (generated_game seed)
-        (map state rack.old.items) (map state rack.new.items) }
+        (map state rack.old.items) (map state rack.new.items)
+        (sum_by queries rack.old.items) (sum_by queries rack.new.items) }
 {
     match generate(alloc, seed) {
         Ok(game) => play_game(alloc, &game, Manner::Summary { seed }, sink, rack),

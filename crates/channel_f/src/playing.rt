@@ -1,5 +1,5 @@
 // A game on a rack, and on the flat instruction set alone.
-ghost use Rattle.std.specs.Prelude.{◌≡◌, ◌≤◌, None, map, length};
+ghost use Rattle.std.specs.Prelude.{◌≡◌, ◌≤◌, None, map, length, sum_by};
 ghost use Rattle.f8_spec.specs.BusArbitration.{seat_of};
 ghost use Rattle.cpu3850.specs.OwnWrites.{LeaveOwnPorts};
 ghost use Rattle.data_bus.specs.Racks.{views};
@@ -63,7 +63,8 @@ fn play_fitted<K: Sink>(
     ensures rack { OnFitted (K.output sink.old) (K.output sink.new) (exit_code result)
         manner word game.now.script.power chain
         (run_fitted manner (seen_game game.now) chain (map state rack.old.items))
-        (map state rack.old.items) (map state rack.new.items) }
+        (map state rack.old.items) (map state rack.new.items)
+        (sum_by queries rack.old.items) (sum_by queries rack.new.items) }
 {
     let Ok(()) = put_opening(sink, manner, word) else {
         return Status::Sink;
@@ -88,7 +89,8 @@ fn check_and_play<K: Sink>(
     requires ports { LeaveOwnPorts (map seat_of (views (map state rack.old.items))) }
     requires limits { HasLimits game.now.script.end }
     ensures { PlaysJudged (K.output sink.old) (K.output sink.new) (exit_code result)
-        manner (seen_game game.now) chain (map state rack.old.items) (map state rack.new.items) }
+        manner (seen_game game.now) chain (map state rack.old.items) (map state rack.new.items)
+        (sum_by queries rack.old.items) (sum_by queries rack.new.items) }
 {
     match check_cart(alloc, &game.cart) {
         Ok(verdict) => play_fitted(game, manner, verdict.word(), chain, sink, rack),
@@ -110,7 +112,8 @@ fn fit_and_play<K: Sink>(
         (judged_run manner (seen_game game.now)
         (game_run manner (seen_game game.now) (map state rack.old.items))) }
     ensures rack { Plays (K.output sink.old) (K.output sink.new) (exit_code result)
-        manner (seen_game game.now) (map state rack.old.items) (map state rack.new.items) }
+        manner (seen_game game.now) (map state rack.old.items) (map state rack.new.items)
+        (sum_by queries rack.old.items) (sum_by queries rack.new.items) }
     ensures safe { KeepsVerdict (exit_code result)
         manner (seen_game game.now) (map state rack.old.items) }
 {
@@ -137,7 +140,8 @@ pub fn play_game<K: Sink>(
     ensures safe { KeepsVerdict (exit_code result)
         manner (seen_game game.now) (map state rack.old.items) }
     ensures rack { PlaysGame (K.output sink.old) (K.output sink.new) (exit_code result)
-        manner (seen_game game.now) (map state rack.old.items) (map state rack.new.items) }
+        manner (seen_game game.now) (map state rack.old.items) (map state rack.new.items)
+        (sum_by queries rack.old.items) (sum_by queries rack.new.items) }
 {
     match refusal(&game.cart.chips, rack) {
         Some(line) => put_lines(sink, [line].as_slice(), Status::Input),

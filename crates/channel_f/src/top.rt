@@ -1,5 +1,5 @@
 // The top call of the program.
-ghost use Rattle.std.specs.Prelude.{◌≡◌, IsTrue, map, string_bytes};
+ghost use Rattle.std.specs.Prelude.{◌≡◌, IsTrue, map, string_bytes, sum_by};
 ghost use Rattle.command_line.specs.CommandLine.{command_of, has_command};
 ghost use Rattle.channel_f.specs.Answers.{due_of};
 ghost use Rattle.channel_f.specs.Commands.{around, Says};
@@ -28,8 +28,10 @@ fn answer_words<S: Store, K: Sink>(
     rack: &mut Rack,
 ) -> Status
     ensures says { Says
-        (around (K.output sink.old) (S.input store.old) (map state rack.old.items))
-        (around (K.output sink.new) (S.input store.new) (map state rack.new.items))
+        (around (K.output sink.old) (S.input store.old) (map state rack.old.items)
+        (sum_by queries rack.old.items))
+        (around (K.output sink.new) (S.input store.new) (map state rack.new.items)
+        (sum_by queries rack.new.items))
         (exit_code result) (command_of (map string_bytes words.now)) }
     ensures memory { exit_code result ≡ 6 → IsTrue (has_command (map string_bytes words.now)) }
 {
@@ -94,7 +96,9 @@ fn answer_words<S: Store, K: Sink>(
 /// - 8 at a reserved opcode.
 ///
 /// Where a run of `play` or `gen` began, each chip has heard its bus steps and has taken its key bytes, and nothing else. Where the sink failed at
-/// a line of the run, that is so up to the end of the instruction, or of the reset, whose line it was.
+/// a line of the run, that is so up to the end of the instruction, or of the reset, whose line it was. The chips were put at most 512
+/// questions each, and the allowances of the bus steps that were tried (clause `says`). Where no run began, and in every other command but
+/// `debug`, they were put none.
 #[tactic(auto, using(crate::proofs::Completeness::completed))]
 pub fn console<S: Store, K: Sink>(
     alloc: Global,
@@ -104,12 +108,16 @@ pub fn console<S: Store, K: Sink>(
     rack: &mut Rack,
 ) -> u8
     ensures says { Says
-        (around (K.output sink.old) (S.input store.old) (map state rack.old.items))
-        (around (K.output sink.new) (S.input store.new) (map state rack.new.items))
+        (around (K.output sink.old) (S.input store.old) (map state rack.old.items)
+        (sum_by queries rack.old.items))
+        (around (K.output sink.new) (S.input store.new) (map state rack.new.items)
+        (sum_by queries rack.new.items))
         result (command_of (map string_bytes words.now)) }
     ensures complete { IsComplete
-        (around (K.output sink.old) (S.input store.old) (map state rack.old.items))
-        (around (K.output sink.new) (S.input store.new) (map state rack.new.items))
+        (around (K.output sink.old) (S.input store.old) (map state rack.old.items)
+        (sum_by queries rack.old.items))
+        (around (K.output sink.new) (S.input store.new) (map state rack.new.items)
+        (sum_by queries rack.new.items))
         result (due_of (map state rack.old.items) (command_of (map string_bytes words.now))) }
     ensures memory { result ≡ 6 → IsTrue (has_command (map string_bytes words.now)) }
 {

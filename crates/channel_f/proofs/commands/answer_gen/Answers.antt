@@ -5,4 +5,4 @@ use Rattle.channel_f.proofs.Games.{game_wanting}
 use Rattle.channel_f.proofs.commands.answer_gen.Goals as goal
 
 pub returns-in-Err-clause-rack : goal.returns-in-Err-clause-rack
-returns-in-Err-clause-rack g c = game_wanting _ (Summary c.args.seed) (generated_game c.args.seed) _
+returns-in-Err-clause-rack g c = game_wanting _ (Summary c.args.seed) (generated_game c.args.seed) _ _

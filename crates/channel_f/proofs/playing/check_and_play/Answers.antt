@@ -13,4 +13,4 @@ returns-in-Ok g c = inr (record {
 })
 
 pub returns-in-Err : goal.returns-in-Err
-returns-in-Err g c = judged_wanting _ c.args.manner (seen_game c.args.game.now) c.args.chain _
+returns-in-Err g c = judged_wanting _ c.args.manner (seen_game c.args.game.now) c.args.chain _ _
