@@ -1,11 +1,17 @@
-// What a verdict promises of runs, as laws.
+// Laws: what a verdict promises of runs, and what the program never ends with where nothing outside it fails.
+ghost use Rattle.std.specs.Prelude.{◌≢◌};
 ghost use Rattle.channel_f.specs.CheckedCertificates.{CheckedCertificateLaw};
 ghost use Rattle.channel_f.specs.SafeRuns.{HasScriptBytes, SafeRunLaw};
 ghost use Rattle.pad_script.specs.Reading.{seen};
 
+use super::top::console;
 use abs_step::{analysis_law, map_view_law, script_run_law, seated_view_law};
 use certificate::closed_map_law;
+use chip_face::Chip;
+use f8_machine::Rack;
+use outside::{Sink, Store, SureSink, SureStore};
 use pad_script::Script;
+use std::alloc::Global;
 
 /// What the checker finds of the chips of a description is so of every run of a script on a rack that is fitted for them. This call does
 /// nothing; its contract is the law.
@@ -34,4 +40,19 @@ pub fn checked_certificate_law()
     ensures { CheckedCertificateLaw }
 {
     closed_map_law();
+}
+
+/// Over a store and a sink that never fail, [`console`] doesn't end with 4 or 5. So by its clause `complete` it answers what is due where the
+/// store has each file that is asked for, unless memory is wanting. This call is that one; its contract is the law.
+pub fn sure_console_law(
+    alloc: Global,
+    words: &[String],
+    store: &mut SureStore,
+    sink: &mut SureSink,
+    rack: &mut Rack,
+) -> u8
+    ensures store { result ≢ 4 }
+    ensures sink { result ≢ 5 }
+{
+    console(alloc, words, store, sink, rack)
 }

@@ -11,7 +11,7 @@ mod refused;
 mod status;
 mod top;
 
-pub use laws::checked_certificate_law;
+pub use laws::{checked_certificate_law, sure_console_law};
 pub use status::Status;
 pub use top::console;
 
