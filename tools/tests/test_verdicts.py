@@ -1,4 +1,5 @@
-"""Verdicts on large cartridges, on the built program: as many points as there may be, one more, and the generated cartridge."""
+"""Verdicts on large cartridges, on the built program: as many points as there may be, with the certificate of them, one more, and the
+generated cartridge."""
 from __future__ import annotations
 
 import subprocess
@@ -24,20 +25,41 @@ def generated(seed: int) -> bytes:
     return bytes(code) + b'\x29\x00\x00'
 
 
-def checked(code: bytes, tracked: list[int], keys: str = '') -> tuple[int, str]:
-    """The status and the line of `check`, for 3851s one behind another that hold the bytes, each with these keys besides."""
+def described(code: bytes, tracked: list[int], keys: str = '') -> str:
+    """The description of 3851s one behind another that hold the bytes, each with these keys besides."""
     chips = [f'[[chip]]\nkind = "3851"\nbase = {at}\nports = {4 + at // 256}\nrom = "{code[at:at + 1024].hex()}"\n{keys}' for at in range(0, len(code), 1024)]
-    with tempfile.TemporaryDirectory() as folder:
-        cart = Path(folder) / 'cart.toml'
-        cart.write_text(f'format = 1\nsplit = {tracked}\n' + ''.join(chips))
-        done = subprocess.run([PROGRAM, 'check', cart], capture_output=True, text=True, timeout=60)
+    return f'format = 1\nsplit = {tracked}\n' + ''.join(chips)
+
+
+def run(*words) -> tuple[int, str]:
+    """The status of the program, and what it writes."""
+    done = subprocess.run([PROGRAM, *words], capture_output=True, text=True, timeout=60)
     return done.returncode, done.stdout
+
+
+def checked(code: bytes, tracked: list[int], keys: str = '') -> tuple[int, str]:
+    """The status and the line of `check` for such chips."""
+    with tempfile.TemporaryDirectory() as folder:
+        cart = Path(folder, 'cart.toml')
+        cart.write_text(described(code, tracked, keys))
+        return run('check', cart)
 
 
 @needs_program
 class Verdicts(unittest.TestCase):
     def test_as_many_points_as_there_may_be(self):
         self.assertEqual(checked(LOOPS + 509 * b'\x2B' + END, [0, 1]), (0, 'whole 65536\n'))
+
+    def test_the_certificate_of_as_many_points(self):
+        with tempfile.TemporaryDirectory() as folder:
+            cart, cert = Path(folder, 'cart.toml'), Path(folder, 'cart.cert')
+            cart.write_text(described(LOOPS + 509 * b'\x2B' + END, [0, 1]))
+            status, text = run('check', '--cert', cart)
+            self.assertEqual((status, text[:15], text.count('\n')), (0, 'F8CERT 1 65536\n', 65_537))
+            cert.write_text(text)
+            self.assertEqual(run('verify', cart, cert), (0, 'whole 65536\n'))
+            cert.write_text(text.replace('65536', '65537', 1))
+            self.assertEqual(run('verify', cart, cert), (2, 'error cert line 1 cause 2\n'))
 
     def test_one_point_more(self):
         self.assertEqual(checked(LOOPS + 510 * b'\x2B' + END, [0, 1]), (7, 'toomany\n'))
