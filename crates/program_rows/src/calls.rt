@@ -36,6 +36,20 @@ fn bytes_of(alloc: Global, text: Text) -> Result<Vec<u8>, Fail> {
     Ok(bytes)
 }
 
+/// A file of one piece that comes so often.
+pub(crate) fn file_of(
+    alloc: Global,
+    name: &str,
+    piece: &str,
+    times: usize,
+) -> Result<NamedFile, Fail> {
+    let mut bytes = Vec::new(alloc);
+    for _ in 0..times {
+        bytes.extend_from_slice(piece.as_bytes())?;
+    }
+    Ok(NamedFile::new(name.to_string(alloc)?, bytes))
+}
+
 pub(crate) fn list_of(files: Vec<NamedFile>) -> Result<FileList, Fail> {
     match FileList::from_vec(files) {
         Some(list) => Ok(list),

@@ -1,5 +1,5 @@
 // One change of a good call, and the line that refuses it.
-use super::calls::{LOOP_CART, LOOP_SCRIPT, files_of, words_of};
+use super::calls::{LOOP_CART, LOOP_SCRIPT, file_of, list_of, words_of};
 use channel_f::console;
 use f8_machine::Rack;
 use outside::{CallList, Cut, CutList, MemSink, MemStore};
@@ -217,14 +217,11 @@ impl Change {
 
 /// The status of `play cart script`, with what is written.
 fn played(alloc: Global, trial: Trial, rack: &mut Rack) -> Result<(u8, MemSink), Fail> {
-    let cart = [(trial.cart, 1)];
-    let source = [(trial.source, 1)];
-    let script = [trial.script];
-    let files = [
-        ("cart", cart.as_slice()),
-        ("a", source.as_slice()),
-        ("script", script.as_slice()),
-    ];
+    let (script, times) = trial.script;
+    let mut files = Vec::new(alloc);
+    files.push(file_of(alloc, "cart", trial.cart, 1)?)?;
+    files.push(file_of(alloc, "a", trial.source, 1)?)?;
+    files.push(file_of(alloc, "script", script, times)?)?;
     let mut fetches = Vec::new(alloc);
     fetches.push(trial.fetch)?;
     let mut cuts = Vec::new(alloc);
@@ -232,7 +229,7 @@ fn played(alloc: Global, trial: Trial, rack: &mut Rack) -> Result<(u8, MemSink),
         call: trial.put,
         sent: trial.sent,
     })?;
-    let mut store = MemStore::new(files_of(alloc, &files)?, CallList::from_vec(fetches));
+    let mut store = MemStore::new(list_of(files)?, CallList::from_vec(fetches));
     let mut sink = MemSink::new(alloc, 1_024, CutList::from_vec(cuts))?;
     let words = words_of(alloc, &["play", "cart", "script"])?;
     let status = console(alloc, words.as_slice(), &mut store, &mut sink, rack);

@@ -1,5 +1,5 @@
 // Runs that a bus step ends, at each kind of step, on chips that hear. None of them heard the step that wasn't served.
-use super::calls::{answered, files_of};
+use super::calls::{answered, file_of, list_of};
 use chip_face::Chip;
 use chip_fakes::Listener;
 use f8_machine::Rack;
@@ -120,15 +120,11 @@ fn check_places(rt: &impl Abort, rack: &mut Rack, places: &[Place]) {
 
 fn play_all(rt: &impl Abort, alloc: Global, rack: &mut Rack) -> Result<(), Fail> {
     for (cart, jump, script, head, total, places) in RUNS {
-        let cart = [(cart, 1)];
-        let jump = [(jump, 1)];
-        let script = [(script, 1)];
-        let files = [
-            ("cart", cart.as_slice()),
-            ("jump", jump.as_slice()),
-            ("script", script.as_slice()),
-        ];
-        let files = files_of(alloc, &files)?;
+        let mut files = Vec::new(alloc);
+        files.push(file_of(alloc, "cart", cart, 1)?)?;
+        files.push(file_of(alloc, "jump", jump, 1)?)?;
+        files.push(file_of(alloc, "script", script, 1)?)?;
+        let files = list_of(files)?;
         let words = ["play", "cart", "script"];
         let (status, sink) = answered(alloc, 1_024, files, &words, rack)?;
         assert_eq!(rt; status, 3);
