@@ -26,12 +26,18 @@ pub(crate) type Text<'a> = &'a [(&'a str, usize)];
 /// A file: its name and its text.
 pub(crate) type File<'a> = (&'a str, Text<'a>);
 
+/// Adds a piece so often.
+fn append(bytes: &mut Vec<u8>, piece: &str, times: usize) -> Result<(), Fail> {
+    for _ in 0..times {
+        bytes.extend_from_slice(piece.as_bytes())?;
+    }
+    Ok(())
+}
+
 fn bytes_of(alloc: Global, text: Text) -> Result<Vec<u8>, Fail> {
     let mut bytes = Vec::new(alloc);
     for (piece, times) in text {
-        for _ in 0..*times {
-            bytes.extend_from_slice(piece.as_bytes())?;
-        }
+        append(&mut bytes, piece, *times)?;
     }
     Ok(bytes)
 }
@@ -44,9 +50,7 @@ pub(crate) fn file_of(
     times: usize,
 ) -> Result<NamedFile, Fail> {
     let mut bytes = Vec::new(alloc);
-    for _ in 0..times {
-        bytes.extend_from_slice(piece.as_bytes())?;
-    }
+    append(&mut bytes, piece, times)?;
     Ok(NamedFile::new(name.to_string(alloc)?, bytes))
 }
 

@@ -1,5 +1,6 @@
 // As many chips as there may be, each with a source, in several mixes of the kinds.
 use super::calls::{answered, list_of};
+use chip_face::ChipKind;
 use f8_machine::Rack;
 use outside::{FileList, NamedFile};
 use psu3851::Psu;
@@ -8,12 +9,16 @@ use std::alloc::Global;
 use std::fmt::Write;
 use std::test::Fail;
 
-/// A P for each 3851 and an S for each 3853, in the order of the description.
-const MIXES: [&[u8; 16]; 4] = [
-    b"PPPPPPPPPPPPSSSS",
-    b"PPPPPPPPPPPPPPPP",
-    b"SSSSSSSSSSSSSSSS",
-    b"SPSPPSSPSPPSSPPS",
+const P: ChipKind = ChipKind::Psu;
+
+const S: ChipKind = ChipKind::Smi;
+
+/// The kinds of the chips, in the order of the description.
+const MIXES: [[ChipKind; 16]; 4] = [
+    [P, P, P, P, P, P, P, P, P, P, P, P, S, S, S, S],
+    [P; 16],
+    [S; 16],
+    [S, P, S, P, P, S, S, P, S, P, P, S, S, P, P, S],
 ];
 
 const PLAY: &str = "verdict whole\n\
@@ -26,21 +31,24 @@ const PLAY: &str = "verdict whole\n\
      total 16 instructions 366 phi\n";
 
 /// Adds a chip to a description. Its ROM begins at 1,024 times its number.
-fn describe(cart: &mut String, kind: u8, chip: u8) -> Result<(), Fail> {
+fn describe(cart: &mut String, kind: ChipKind, chip: u8) -> Result<(), Fail> {
     let number = u32::from(chip);
-    if kind == b'P' {
-        let base = number * 1024;
-        let ports = number * 4 + 4;
-        write!(
-            cart,
-            "[[chip]]\nkind = '3851'\nbase = {base}\nports = {ports}\n"
-        )?;
-    } else {
-        let page = number * 4;
-        write!(
-            cart,
-            "[[chip]]\nkind = '3853'\nrom_page = {page}\nrom_pages = 1\n"
-        )?;
+    match kind {
+        ChipKind::Psu => {
+            let base = number * 1024;
+            let ports = number * 4 + 4;
+            write!(
+                cart,
+                "[[chip]]\nkind = '3851'\nbase = {base}\nports = {ports}\n"
+            )?;
+        }
+        ChipKind::Smi => {
+            let page = number * 4;
+            write!(
+                cart,
+                "[[chip]]\nkind = '3853'\nrom_page = {page}\nrom_pages = 1\n"
+            )?;
+        }
     }
     write!(cart, "source = '{chip}'\n")?;
     Ok(())
@@ -60,7 +68,7 @@ fn named(alloc: Global, name: String, text: &str) -> Result<NamedFile, Fail> {
 }
 
 /// The description, a source for each chip, and a script for one round.
-fn files_of(alloc: Global, kinds: &[u8; 16]) -> Result<FileList, Fail> {
+fn files_of(alloc: Global, kinds: &[ChipKind; 16]) -> Result<FileList, Fail> {
     let mut cart = "format = 1\n".to_string(alloc)?;
     let mut files = Vec::new(alloc);
     for chip in 0..16u8 {
@@ -78,13 +86,12 @@ fn plays_sixteen_chips(rt: HostRuntime) -> Result<(), Fail> {
     for kinds in MIXES {
         let mut rack: Rack = Vec::new(rt.alloc());
         for kind in kinds {
-            if *kind == b'P' {
-                rack.push(Box::new(rt.alloc(), Psu::blank())?)?;
-            } else {
-                rack.push(Box::new(rt.alloc(), Smi::blank())?)?;
+            match kind {
+                ChipKind::Psu => rack.push(Box::new(rt.alloc(), Psu::blank())?)?,
+                ChipKind::Smi => rack.push(Box::new(rt.alloc(), Smi::blank())?)?,
             }
         }
-        let files = files_of(rt.alloc(), kinds)?;
+        let files = files_of(rt.alloc(), &kinds)?;
         let words = ["play", "cart", "script"];
         let (status, sink) = answered(rt.alloc(), 1_024, files, &words, &mut rack)?;
         assert_eq!(rt; status, 0);
