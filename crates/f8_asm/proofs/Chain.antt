@@ -3,7 +3,9 @@ use Rattle.std.proofs.Common.{◌≡◌, ℕ, zero, suc, ◌<◌, ◌≤◌, Lis
 use Rattle.asm_text.specs.declared.answers.Token.{Token}
 use Rattle.f8_asm.specs.declared.values.Operator.{Operator}
 use Rattle.f8_asm.specs.declared.faults.LineFault.{LineFault}
-use Rattle.f8_asm.specs.Answers.{◌>>=◌}
+use Rattle.f8_asm.specs.declared.faults.LineStop.{LineStop}
+use Rattle.f8_asm.specs.declared.faults.LineStop.TheVariants as stop
+use Rattle.f8_asm.specs.Answers.{◌>>=◌, SaysOfRead}
 use Rattle.f8_asm.specs.Grammar.{Actions, Read, operator_at, chain}
 
 -- what is still read makes the whole
@@ -58,6 +60,13 @@ module _ {A : Type 0} (acts : Actions A) (strength : ℕ) (g : List Token → Re
       fails : (n : ℕ) → length (t ∷ ts) ≤ n → chain acts strength g n left (t ∷ ts) ≡ whole → whole ≡ Err fault
       fails zero room e = absurd (omega arith)
       fails (suc n) room e = sym e ∙ at_token (Some operator) n left t ts is ∙ rw (← failed) refl
+
+  -- or memory is missing
+  pub chain_stopped : {left : A} {t : Token} {ts : List Token} {whole : Read A} → ChainOn acts strength g left (t ∷ ts) whole
+      → (operator : Operator) (e : LineStop) → Some operator ≡ operator_at strength t.kind
+      → SaysOfRead {A = A} {B = List Token} (Err e) (g ts) → SaysOfRead {A = A} {B = List Token} (Err e) whole
+  chain_stopped on operator (stop.Fault fault) is failed = chain_fails on operator fault is (sym failed)
+  chain_stopped on operator stop.Memory is failed = tt
 
   -- no token is left
   pub chain_ends : {left : A} {whole : Read A} → ChainOn acts strength g left [] whole → whole ≡ Ok (left, [])

@@ -10,11 +10,10 @@ use Rattle.asm_text.specs.declared.answers.TokenFault.{TokenFault}
 use Rattle.f8_asm.specs.declared.answers.AsmFault.{AsmFault}
 use Rattle.f8_asm.specs.declared.answers.Room.{Room}
 use Rattle.f8_asm.specs.declared.faults.LineFault.{LineFault}
-use Rattle.f8_asm.specs.declared.line.Line.{Line}
-use Rattle.f8_asm.specs.declared.line.PlacedLine.{PlacedLine}
 use Rattle.f8_asm.specs.declared.operands.Effect.{Effect}
 use Rattle.f8_asm.specs.declared.operands.Effect.TheVariants.{Names, Moves, Fills}
 use Rattle.f8_asm.specs.declared.operands.Statement.{Statement}
+use Rattle.f8_asm.specs.declared.values.Outcome.{Outcome}
 use Rattle.f8_asm.specs.Evaluation.{values}
 use Rattle.f8_asm.specs.Grammar.{column_of}
 use Rattle.f8_asm.specs.Image.{Picture, ascending, bytes_from, image_in, image_of}
@@ -29,8 +28,10 @@ use Rattle.f8_asm.specs.PassTwo.{Layout, no_layout, is_inside, with_label, moved
 use Rattle.f8_asm.specs.PassTwo.{layout_after, settle, with_placed, place, place_lines}
 use Rattle.f8_asm.specs.PassThree.{no_bytes, table_with, line_bytes, emit, emit_lines}
 use Rattle.f8_asm.specs.Statements.{statement, label_of, behind_label, effect_of}
+use Rattle.f8_asm.specs.Steps.{steps}
+use Rattle.f8_asm.specs.TokenLines.{Line, PlacedLine}
 use Rattle.f8_asm.proofs.Alike.{read-ok}
-use Rattle.f8_asm.proofs.StatementsAlike.{layout_filled, statement_alike, bytes_of-length}
+use Rattle.f8_asm.proofs.StatementsAlike.{layout_filled, statement_fills, bytes_of-length}
 use Rattle.f8_asm.proofs.ImageRooms.{in_line-ok, fits-inside, layout_after-inside, inside-at, blank}
 use Rattle.f8_asm.proofs.ImageBytes.{first, byte_at-append, outside, ascending_at, all_written, Below, all_written_at}
 use Rattle.f8_asm.proofs.ImageBytes.{free_at, marks_with-length, marked_keeps, marked_at}
@@ -48,7 +49,7 @@ given : (es : List (List ℕ × ℤ)) (name : List ℕ) (v : ℤ) → value_of e
 given [] name v new = refl
 given (e ∷ es) name v new = given_by (bytes_eq name e.0) e es name v (λ h. given es name v h) new
 
-label_given : (label : Option (List ℕ)) (v : ℤ) (s : Layout) → IsNew s.names label → (with_label label v s).names ≡ s.names ++ label_name label v
+label_given : (label : Option (List ℕ)) (v : ℤ) (s : Layout PlacedLine) → IsNew s.names label → (with_label label v s).names ≡ s.names ++ label_name label v
 label_given None v s new = sym (append-nil s.names)
 label_given (Some name) v s new = given s.names name v new
 
@@ -130,18 +131,19 @@ record ReadAs (s t : Reading) (ls : List (List ℕ)) : Type 0 where
   behind : t.lines ≡ s.lines ++ read
   are : ReadOf s.names ls read
 
-read_as : (number : ℕ) (s : Reading) (ls : List (List ℕ)) (t : Reading) → read_lines number s ls ≡ Ok t → ReadAs s t ls
-unfolding read_lines read_line
-read_as number s [] t h =
+read_as : (s : Reading) (ls : List (List ℕ)) (t : Reading) → read_lines s ls ≡ Ok t → ReadAs s t ls
+unfolding steps read_line
+read_as s [] t h =
     let same : s ≡ t = cc h in
     record { read = []; behind = ap (λ (r : Reading). r.lines) (sym same) ∙ sym (append-nil s.lines); are = read_none }
-read_as number s (l ∷ ls) t h =
-    read-ok (ReadAs s t (l ∷ ls)) (read_line number s l) _ t h (λ u at_u h.
+read_as s (l ∷ ls) t h =
+    let number : ℕ = length s.lines + 1 in
+    read-ok (ReadAs s t (l ∷ ls)) (read_line s l) _ t h (λ u at_u h.
     read-ok (ReadAs s t (l ∷ ls)) (line_tokens number l) _ u at_u (λ ts at_ts at_u.
     read-ok (ReadAs s t (l ∷ ls)) (in_line number ts (check s.names ts)) _ u at_u (λ names at_names e.
     let line : Line = record { number = number; tokens = ts } in
     let value_held = checked_with s.names ts (label_of ts) names (in_line-ok number ts (check s.names ts) names at_names) in
-    let others = read_as (number + 1) u ls t h in
+    let others = read_as u ls t h in
     let is : record { names = names; lines = s.lines ++ line ∷ [] } ≡ u = cc e in
     let lines_are : s.lines ++ line ∷ [] ≡ u.lines = ap (λ (r : Reading). r.lines) is in
     let names_are : names ≡ u.names = ap (λ (r : Reading). r.names) is in
@@ -154,16 +156,16 @@ read_as number s (l ∷ ls) t h =
 
 -- ---- a line of the second and the third pass
 
-label_here : (label : Option (List ℕ)) (v : ℤ) (s : Layout) → (with_label label v s).here ≡ s.here
+label_here : (label : Option (List ℕ)) (v : ℤ) (s : Layout PlacedLine) → (with_label label v s).here ≡ s.here
 label_here None v s = refl
 label_here (Some name) v s = refl
 
-label_filled : (label : Option (List ℕ)) (v : ℤ) (s : Layout) → (with_label label v s).filled ≡ s.filled
+label_filled : (label : Option (List ℕ)) (v : ℤ) (s : Layout PlacedLine) → (with_label label v s).filled ≡ s.filled
 label_filled None v s = refl
 label_filled (Some name) v s = refl
 
 -- what a line with these bytes does to the layout before it
-record Stepped (room : Room) (names : List (List ℕ × ℤ)) (s u : Layout) (ts : List Token) (bs : List ℕ) : Type 0 where
+record Stepped (room : Room) (names : List (List ℕ × ℤ)) (s u : Layout PlacedLine) (ts : List Token) (bs : List ℕ) : Type 0 where
   stands : LineStands names s.names s.here ts bs u.here u.names
   value : ℤ
   names_are : u.names ≡ s.names ++ label_name (label_of ts) value
@@ -184,7 +186,7 @@ both_free true true e f x h = refl
 both_free true false e f x h = cc h
 both_free false free e f x h = cc h
 
-module _ (room : Room) (names : List (List ℕ × ℤ)) (s u : Layout) (ts : List Token) (st : Statement) (bs : List ℕ) where
+module _ (room : Room) (names : List (List ℕ × ℤ)) (s u : Layout PlacedLine) (ts : List Token) (st : Statement Outcome) (bs : List ℕ) where
   by_effect : (e : Effect) → statement_at s.names s.here ts ≡ Ok st → effect_of st ≡ e → length bs ≡ layout_filled e → IsNew s.names (label_of ts)
       → line_bytes names s.here ts ≡ Ok bs → layout_after room (label_of ts) (column_of (behind_label ts)) s e ≡ Ok u
       → Stepped room names s u ts bs
@@ -192,7 +194,7 @@ module _ (room : Room) (names : List (List ℕ × ℤ)) (s u : Layout) (ts : Lis
       read-ok (Stepped room names s u ts bs) (operand_value o) _ u h (λ v at_v h.
       let same : with_label (label_of ts) v s ≡ u = cc h in
       let none : bs ≡ [] = nil_from_length bs size in
-      subst (λ (r : Layout). Stepped room names s r ts bs) same (record {
+      subst (λ (r : Layout PlacedLine). Stepped room names s r ts bs) same (record {
         stands = other_words (sym none) (sym (label_here (label_of ts) v s)) (sym (label_given (label_of ts) v s new)) (equ at_st is at_v);
         value = v;
         names_are = label_given (label_of ts) v s new;
@@ -204,7 +206,7 @@ module _ (room : Room) (names : List (List ℕ × ℤ)) (s u : Layout) (ts : Lis
       read-ok (Stepped room names s u ts bs) (unsigned_value 65535 o) _ u h (λ a at_a h.
       let same : moved_to a (with_label (label_of ts) (pos s.here) s) ≡ u = cc h in
       let none : bs ≡ [] = nil_from_length bs size in
-      subst (λ (r : Layout). Stepped room names s r ts bs) same (record {
+      subst (λ (r : Layout PlacedLine). Stepped room names s r ts bs) same (record {
         stands = other_words (sym none) refl (sym (label_given (label_of ts) (pos s.here) s new)) (org at_st is at_a);
         value = pos s.here;
         names_are = label_given (label_of ts) (pos s.here) s new;
@@ -214,13 +216,13 @@ module _ (room : Room) (names : List (List ℕ × ℤ)) (s u : Layout) (ts : Lis
       }))
   by_effect (Fills n) at_st is size new code h =
       read-ok (Stepped room names s u ts bs) (fits room (column_of (behind_label ts)) n s) _ u h (λ x at_x h.
-      let label : Layout = with_label (label_of ts) (pos s.here) s in
+      let label : Layout PlacedLine = with_label (label_of ts) (pos s.here) s in
       let same : filled_from n label ≡ u = cc h in
       let here : label.here ≡ s.here = label_here (label_of ts) (pos s.here) s in
       let marks : label.filled ≡ s.filled = label_filled (label_of ts) (pos s.here) s in
       let inside = fits-inside room (column_of (behind_label ts)) n s at_x in
       let free = both_free (is_inside room s.here n) (is_free s.filled s.here n) _ _ tt at_x in
-      subst (λ (r : Layout). Stepped room names s r ts bs) same (record {
+      subst (λ (r : Layout PlacedLine). Stepped room names s r ts bs) same (record {
         stands = other_words refl (ap (λ k. s.here + k) size ∙ ap (λ k. k + n) (sym here))
             (sym (label_given (label_of ts) (pos s.here) s new)) (filling at_st (is ∙ ap Fills (sym size)) code);
         value = pos s.here;
@@ -236,30 +238,30 @@ module _ (room : Room) (names : List (List ℕ × ℤ)) (s u : Layout) (ts : Lis
   line_size at_st code =
       read-ok (length bs ≡ layout_filled (effect_of st)) (statement (values names s.here) (is_some (label_of ts)) (behind_label ts)) _ bs code
       (λ other at_other at_bytes.
-      let alike = statement_alike (values s.names s.here) (values names s.here) (is_some (label_of ts)) (behind_label ts) in
-      bytes_of-length s.here other bs at_bytes ∙ sym (alike.both st other at_st at_other))
+      let same = statement_fills (values s.names s.here) (values names s.here) (is_some (label_of ts)) (behind_label ts) st other at_st at_other in
+      bytes_of-length s.here other bs at_bytes ∙ sym same)
 
 -- ---- the second pass
 
 -- lines are placed one behind the other
-data Laid : Room → Layout → List Line → List PlacedLine → Layout → Type 0 where
-  laid_none : {room : Room} {s : Layout} → Laid room s [] [] s
-  laid_one : {room : Room} {s u t : Layout} {l : Line} {after : List Line} {ps : List PlacedLine} {st : Statement}
+data Laid : Room → Layout PlacedLine → List Line → List PlacedLine → Layout PlacedLine → Type 0 where
+  laid_none : {room : Room} {s : Layout PlacedLine} → Laid room s [] [] s
+  laid_one : {room : Room} {s u t : Layout PlacedLine} {l : Line} {after : List Line} {ps : List PlacedLine} {st : Statement Outcome}
       → statement_at s.names s.here l.tokens ≡ Ok st
       → layout_after room (label_of l.tokens) (column_of (behind_label l.tokens)) s (effect_of st) ≡ Ok u
       → Laid room (with_placed (record { address = s.here; line = l }) u) after ps t
       → Laid room s (l ∷ after) (record { address = s.here; line = l } ∷ ps) t
 
-record LaidAs (room : Room) (s t : Layout) (ls : List Line) : Type 0 where
+record LaidAs (room : Room) (s t : Layout PlacedLine) (ls : List Line) : Type 0 where
   ps : List PlacedLine
   behind : t.placed ≡ s.placed ++ ps
   laid : Laid room s ls ps t
 
-laid_as : (room : Room) (s : Layout) (ls : List Line) (t : Layout) → place_lines room s ls ≡ Ok t → LaidAs room s t ls
-unfolding place_lines place settle
+laid_as : (room : Room) (s : Layout PlacedLine) (ls : List Line) (t : Layout PlacedLine) → place_lines room s ls ≡ Ok t → LaidAs room s t ls
+unfolding steps place settle
 laid_as room s [] t h =
     let same : s ≡ t = cc h in
-    subst (λ (r : Layout). LaidAs room s r []) same (record { ps = []; behind = sym (append-nil s.placed); laid = laid_none })
+    subst (λ (r : Layout PlacedLine). LaidAs room s r []) same (record { ps = []; behind = sym (append-nil s.placed); laid = laid_none })
 laid_as room s (l ∷ ls) t h =
     let p : PlacedLine = record { address = s.here; line = l } in
     read-ok (LaidAs room s t (l ∷ ls)) (place room s l) _ t h (λ w at_w h.
@@ -268,7 +270,7 @@ laid_as room s (l ∷ ls) t h =
     (in_line-ok l.number l.tokens (settle room s l.tokens) u at_u) (λ st at_st at_settled.
     let did = layout_after-inside room (label_of l.tokens) (column_of (behind_label l.tokens)) s u (effect_of st) at_settled in
     let is : with_placed p u ≡ w = cc e in
-    let others = laid_as room (with_placed p u) ls t (subst (λ (r : Layout). place_lines room r ls ≡ Ok t) (sym is) h) in
+    let others = laid_as room (with_placed p u) ls t (subst (λ (r : Layout PlacedLine). place_lines room r ls ≡ Ok t) (sym is) h) in
     record {
       ps = p ∷ others.ps;
       behind = others.behind ∙ append_assoc u.placed (p ∷ []) others.ps ∙ ap (λ r. r ++ p ∷ others.ps) did.placed;
@@ -278,7 +280,7 @@ laid_as room s (l ∷ ls) t h =
 -- ---- all lines
 
 -- lines stand from a layout on, and their bytes are put in a table
-record Standings (names : List (List ℕ × ℤ)) (s : Layout) (ls : List (List ℕ)) (before behind : List (Option ℕ)) : Type 0 where
+record Standings (names : List (List ℕ × ℤ)) (s : Layout PlacedLine) (ls : List (List ℕ)) (before behind : List (Option ℕ)) : Type 0 where
   ss : List Standing
   stand : LinesStand names s.names s.here ls ss
   clear : (a : ℕ) → get_or s.filled a false ≡ true → byte_at (standing_bytes ss) a ≡ None
@@ -289,12 +291,12 @@ record Standings (names : List (List ℕ × ℤ)) (s : Layout) (ls : List (List 
 neither : (p q : Option ℕ) → p ≡ None → q ≡ None → first p q ≡ None
 neither p q e f = rw (e, f) refl
 
-standings : {room : Room} {s t : Layout} {lines : List Line} {ps : List PlacedLine} {earlier : List (List ℕ × ℤ)} {ls : List (List ℕ)}
+standings : {room : Room} {s t : Layout PlacedLine} {lines : List Line} {ps : List PlacedLine} {earlier : List (List ℕ × ℤ)} {ls : List (List ℕ)}
     → Laid room s lines ps t → ReadOf earlier ls lines → (names : List (List ℕ × ℤ)) (before behind : List (Option ℕ)) → names ≡ t.names
     → SameNames earlier s.names
     → emit_lines names before ps ≡ Ok behind → room.last ≤ 65535 → length s.filled ≡ 65536
     → Standings names s ls before behind
-unfolding emit_lines emit
+unfolding steps emit
 standings laid_none read_none names before behind all same h last size =
     let put : before ≡ behind = cc h in
     record { ss = []; stand = rw all no_line; clear = λ a marks_with. refl; apart = tt; below = tt; put = put }
@@ -364,11 +366,11 @@ pub image_is : (text : List ℕ) (room : Room) (picture : Picture) → room.last
     → IsImage text picture
 unfolding image_of image_in no_reading
 image_is text room picture last h =
-    read-ok (IsImage text picture) (read_lines 1 no_reading (lines text)) _ picture h (λ read at_read h.
+    read-ok (IsImage text picture) (read_lines no_reading (lines text)) _ picture h (λ read at_read h.
     read-ok (IsImage text picture) (place_lines room (no_layout 65536) read.lines) _ picture h (λ laid at_laid h.
     read-ok (IsImage text picture) (emit_lines laid.names (no_bytes 65536) laid.placed) _ picture h (λ table at_table h.
     let e : record { bytes = ascending 0 table; symbols = laid.names } ≡ picture = cc h in
-    let were = read_as 1 no_reading (lines text) read at_read in
+    let were = read_as no_reading (lines text) read at_read in
     let placed = laid_as room (no_layout 65536) were.read laid
     (subst (λ r. place_lines room (no_layout 65536) r ≡ Ok laid) were.behind at_laid) in
     let emitted : emit_lines laid.names (no_bytes 65536) placed.ps ≡ Ok table = subst

@@ -11,11 +11,10 @@ use Rattle.std.proofs.lemmas.List.Elements.{All-nil, All-cons, All-head, All-tai
 use Rattle.asm_text.specs.declared.answers.Token.{Token}
 use Rattle.f8_asm.specs.declared.answers.Room.{Room}
 use Rattle.f8_asm.specs.declared.faults.LineFault.{LineFault}
-use Rattle.f8_asm.specs.declared.line.Line.{Line}
-use Rattle.f8_asm.specs.declared.line.PlacedLine.{PlacedLine}
 use Rattle.f8_asm.specs.declared.operands.Effect.{Effect}
 use Rattle.f8_asm.specs.declared.operands.Effect.TheVariants.{Names, Moves, Fills}
 use Rattle.f8_asm.specs.declared.operands.Statement.{Statement}
+use Rattle.f8_asm.specs.declared.values.Outcome.{Outcome}
 use Rattle.f8_asm.specs.Evaluation.{values}
 use Rattle.f8_asm.specs.Grammar.{column_of}
 use Rattle.f8_asm.specs.Image.{Picture, ascending, image_in, image_of, LiesIn, Ascends}
@@ -26,24 +25,26 @@ use Rattle.f8_asm.specs.PassOne.{in_line, no_reading, read_lines, Reading}
 use Rattle.f8_asm.specs.PassTwo.{Layout, no_layout, is_inside, with_label, fits, layout_after, settle, place, place_lines}
 use Rattle.f8_asm.specs.PassThree.{no_bytes, table_with, line_bytes, emit, emit_lines}
 use Rattle.f8_asm.specs.Statements.{statement, label_of, behind_label, effect_of}
+use Rattle.f8_asm.specs.Steps.{steps}
+use Rattle.f8_asm.specs.TokenLines.{Line, PlacedLine}
 use Rattle.f8_asm.proofs.Alike.{read-ok}
-use Rattle.f8_asm.proofs.StatementsAlike.{layout_filled, statement_alike, bytes_of-length}
+use Rattle.f8_asm.proofs.StatementsAlike.{layout_filled, statement_fills, bytes_of-length}
 
 -- ---- the second pass places each line where its bytes are inside
 
 -- a line's statement, by some values of names, fills bytes inside the room
 record IsPlaced (room : Room) (p : PlacedLine) : Type 0 where
   names : List (List ℕ × ℤ)
-  st : Statement
+  st : Statement Outcome
   is : statement (values names p.address) (is_some (label_of p.line.tokens)) (behind_label p.line.tokens) ≡ Ok st
   inside : is_inside room p.address (layout_filled (effect_of st)) ≡ true
 
-label-placed : (label : Option (List ℕ)) (v : ℤ) (s : Layout) → (with_label label v s).placed ≡ s.placed
+label-placed : (label : Option (List ℕ)) (v : ℤ) (s : Layout PlacedLine) → (with_label label v s).placed ≡ s.placed
 label-placed None v s = refl
 label-placed (Some name) v s = refl
 
 -- what a statement did
-pub record Settled (room : Room) (s t : Layout) (effect : Effect) : Type 0 where
+pub record Settled (room : Room) (s t : Layout PlacedLine) (effect : Effect) : Type 0 where
   pub placed : t.placed ≡ s.placed
   pub inside : is_inside room s.here (layout_filled effect) ≡ true
 
@@ -51,15 +52,15 @@ both-fit : (inside free : Bool) (e f : LineFault) (x : Unit {0}) → (if inside 
 both-fit true free e f x h = refl
 both-fit false free e f x h = cc h
 
-pub fits-inside : (room : Room) (column : Option ℕ) (size : ℕ) (s : Layout) → fits room column size s ≡ Ok tt → is_inside room s.here size ≡ true
+pub fits-inside : (room : Room) (column : Option ℕ) (size : ℕ) (s : Layout PlacedLine) → fits room column size s ≡ Ok tt → is_inside room s.here size ≡ true
 fits-inside room column size s h = both-fit (is_inside room s.here size) (is_free s.filled s.here size) _ _ tt h
 
-pub layout_after-inside : (room : Room) (label : Option (List ℕ)) (column : Option ℕ) (s t : Layout) (effect : Effect) →
+pub layout_after-inside : (room : Room) (label : Option (List ℕ)) (column : Option ℕ) (s t : Layout PlacedLine) (effect : Effect) →
     layout_after room label column s effect ≡ Ok t → Settled room s t effect
 layout_after-inside room label column s t (Names o) h =
     read-ok (Settled room s t (Names o)) (operand_value o) _ t h (λ v at_v h.
     let e : with_label label v s ≡ t = cc h in
-    record { placed = sym (ap (λ (l : Layout). l.placed) e) ∙ label-placed label v s; inside = refl })
+    record { placed = sym (ap (λ (l : Layout PlacedLine). l.placed) e) ∙ label-placed label v s; inside = refl })
 layout_after-inside room label column s t (Moves o) h =
     read-ok (Settled room s t (Moves o)) (unsigned_value 65535 o) _ t h (λ v at_v h.
     let move_op : (with_label label (pos s.here) s).placed ≡ t.placed = cc h in
@@ -73,7 +74,7 @@ pub in_line-ok : {A : Type 0} (number : ℕ) (ts : List Token) (r : Result A Lin
 in_line-ok number ts (Ok y) x h = cc h
 in_line-ok number ts (Err fault) x h = cc h
 
-place-placed : (room : Room) (s : Layout) (l : Line) (t : Layout) → place room s l ≡ Ok t → All (IsPlaced room) s.placed → All (IsPlaced room) t.placed
+place-placed : (room : Room) (s : Layout PlacedLine) (l : Line) (t : Layout PlacedLine) → place room s l ≡ Ok t → All (IsPlaced room) s.placed → All (IsPlaced room) t.placed
 unfolding place settle
 place-placed room s l t h so_far =
     let p : PlacedLine = record { address = s.here; line = l } in
@@ -86,12 +87,12 @@ place-placed room s l t h so_far =
     subst (λ (ps : List PlacedLine). All (IsPlaced room) ps) placed
     (All-push (IsPlaced room) u.placed p (subst (λ (ps : List PlacedLine). All (IsPlaced room) ps) (sym did.placed) so_far) one)))
 
-all-placed : (room : Room) (s : Layout) (ls : List Line) (t : Layout) → place_lines room s ls ≡ Ok t →
+all-placed : (room : Room) (s : Layout PlacedLine) (ls : List Line) (t : Layout PlacedLine) → place_lines room s ls ≡ Ok t →
     All (IsPlaced room) s.placed → All (IsPlaced room) t.placed
-unfolding place_lines
+unfolding steps
 all-placed room s [] t h so_far =
     let e : s ≡ t = cc h in
-    subst (λ (l : Layout). All (IsPlaced room) l.placed) e so_far
+    subst (λ (l : Layout PlacedLine). All (IsPlaced room) l.placed) e so_far
 all-placed room s (l ∷ ls) t h so_far =
     read-ok (All (IsPlaced room) t.placed) (place room s l) _ t h (λ u at_u h. all-placed room u ls t h (place-placed room s l u at_u so_far))
 
@@ -135,8 +136,8 @@ emit-in room names table p t h placed is =
     read-ok (InRoom room t) (in_line p.line.number ts (line_bytes names p.address ts)) _ t h (λ bs at_bs h.
     read-ok (InRoom room t) (statement (values names p.address) (is_some (label_of ts)) (behind_label ts)) _ bs
     (in_line-ok p.line.number ts (line_bytes names p.address ts) bs at_bs) (λ st at_st at_bytes.
-    let alike = statement_alike (values placed.names p.address) (values names p.address) (is_some (label_of ts)) (behind_label ts) in
-    let same = alike.both placed.st st placed.is at_st in
+    let same = statement_fills (values placed.names p.address) (values names p.address) (is_some (label_of ts)) (behind_label ts)
+    placed.st st placed.is at_st in
     let size = bytes_of-length p.address st bs at_bytes in
     let e : table_with table p.address bs ≡ t = cc h in
     subst (λ (u : List (Option ℕ)). InRoom room u) e
@@ -145,7 +146,7 @@ emit-in room names table p t h placed is =
 
 all-in : (room : Room) (names : List (List ℕ × ℤ)) (table : List (Option ℕ)) (ps : List PlacedLine) (t : List (Option ℕ)) → emit_lines names table ps ≡ Ok t
     → All (IsPlaced room) ps → InRoom room table → InRoom room t
-unfolding emit_lines
+unfolding steps
 all-in room names table [] t h all is =
     let e : table ≡ t = cc h in
     subst (λ (u : List (Option ℕ)). InRoom room u) e is
@@ -191,17 +192,10 @@ ascending_ascends place (Some b ∷ table) =
     AllPairs-cons (λ (b c : ℕ × ℕ). b.0 < c.0) (place, b) (ascending (place + 1) table)
     (ascending-from (place + 1) place table (omega arith)) (ascending_ascends (place + 1) table)
 
--- what the passes give is the image
-pub image_whole : (text : List ℕ) (room : Room) (read : Reading) (laid : Layout) (table : List (Option ℕ)) → read_lines 1 no_reading (lines text) ≡ Ok read
-    → place_lines room (no_layout 65536) read.lines ≡ Ok laid → emit_lines laid.names (no_bytes 65536) laid.placed ≡ Ok table
-    → image_of text room ≡ Ok (record { bytes = ascending 0 table; symbols = laid.names })
-unfolding image_of image_in
-image_whole text room read laid table at_read at_laid at_table = rw (at_read, at_laid, at_table) refl
-
 pub image_lies_in : (text : List ℕ) (room : Room) (picture : Picture) → image_of text room ≡ Ok picture → LiesIn room picture.bytes
 unfolding image_of image_in
 image_lies_in text room picture h =
-    read-ok (LiesIn room picture.bytes) (read_lines 1 no_reading (lines text)) _ picture h (λ read at_read h.
+    read-ok (LiesIn room picture.bytes) (read_lines no_reading (lines text)) _ picture h (λ read at_read h.
     read-ok (LiesIn room picture.bytes) (place_lines room (no_layout 65536) read.lines) _ picture h (λ laid at_laid h.
     read-ok (LiesIn room picture.bytes) (emit_lines laid.names (no_bytes 65536) laid.placed) _ picture h (λ table at_table h.
     let e : ascending 0 table ≡ picture.bytes = cc h in

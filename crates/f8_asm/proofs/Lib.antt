@@ -19,6 +19,9 @@ pub mod ListingIs
 pub mod Alike
 pub mod ExpressionsAlike
 pub mod StatementsAlike
+pub mod FormulaValues
+pub mod Stacks
+pub mod ParsedOnce
 pub mod OperatorMarks
 pub mod ExpressionsFormed
 pub mod ExpressionsRead

@@ -19,6 +19,7 @@ use Rattle.f8_asm.specs.declared.operands.Effect.TheVariants.{Fills}
 use Rattle.f8_asm.specs.declared.operands.Statement.{Statement}
 use Rattle.f8_asm.specs.declared.operands.Statement.TheVariants.{Nothing}
 use Rattle.f8_asm.specs.declared.spelling.Entry.TheVariants as entry
+use Rattle.f8_asm.specs.declared.values.Outcome.{Outcome}
 use Rattle.f8_asm.specs.Bytes.{list_bytes, bytes_of}
 use Rattle.f8_asm.specs.Evaluation.{values}
 use Rattle.f8_asm.specs.Fields.{octet, small}
@@ -35,7 +36,7 @@ use Rattle.f8_asm.proofs.ListedLines.{head_text, line_of, Says}
 abbrev tokens_in : List ℕ → List Token
 tokens_in line = elim (tokens_of line) [ Ok ts ↦ ts | Err fault ↦ [] ]
 
-abbrev statement_in : List Token → Statement
+abbrev statement_in : List Token → Statement Outcome
 statement_in ts = elim (statement (values [] 0) false ts) [ Ok st ↦ st | Err fault ↦ Nothing ]
 
 -- what lines and statements are made of is open under `unfolding all_open`, and under `numbers_open` numbers too

@@ -13,6 +13,7 @@ use Rattle.f8_asm.specs.declared.operands.Effect.TheVariants.{Fills}
 use Rattle.f8_asm.specs.declared.operands.Statement.{Statement}
 use Rattle.f8_asm.specs.declared.spelling.Entry.{Entry}
 use Rattle.f8_asm.specs.declared.spelling.Entry.TheVariants as entry
+use Rattle.f8_asm.specs.declared.values.Outcome.{Outcome}
 use Rattle.f8_asm.specs.Bytes.{bytes_of}
 use Rattle.f8_asm.specs.Evaluation.{values}
 use Rattle.text_lines.specs.Lines.{lines, without_return}
@@ -68,7 +69,7 @@ line_first l rest all = lines_at_feed l rest (printable_no_feed l all) ∙ ap (�
 
 -- the statement of a line without a label, at this address, has these bytes
 pub record Gives (at : ℕ) (ts : List Token) (front : List ℕ) : Type 0 where
-  pub st : Statement
+  pub st : Statement Outcome
   pub behind_label : label_of ts ≡ None
   pub statement_at : (address : ℕ) → statement (values [] address) false ts ≡ Ok st
   pub fills : effect_of st ≡ Fills (length front)

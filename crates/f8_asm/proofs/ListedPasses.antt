@@ -11,14 +11,14 @@ use Rattle.std.proofs.lemmas.Str.{IsUtf8-from_ascii}
 use Rattle.std.proofs.lemmas.Bool.Decides.{nat_tests}
 use Rattle.std.proofs.lemmas.Grind.{common_steps}
 use Rattle.asm_text.specs.declared.answers.Token.{Token}
-use Rattle.f8_asm.specs.declared.line.Line.{Line}
-use Rattle.f8_asm.specs.declared.line.PlacedLine.{PlacedLine}
 use Rattle.f8_asm.specs.declared.spelling.Entry.{Entry}
 use Rattle.f8_asm.specs.PassOne.{read_line, read_lines, Reading}
 use Rattle.f8_asm.specs.PassTwo.{Layout, is_inside, place, place_lines, settle}
 use Rattle.f8_asm.specs.Image.{ascending, bytes_from, everywhere}
 use Rattle.f8_asm.specs.Marks.{marks_with, is_free}
 use Rattle.f8_asm.specs.PassThree.{table_with, line_bytes, emit, emit_lines}
+use Rattle.f8_asm.specs.Steps.{steps}
+use Rattle.f8_asm.specs.TokenLines.{Line, PlacedLine}
 use Rattle.f8_asm.proofs.LineTokens.{some_utf8}
 use Rattle.f8_asm.proofs.ListedLines.{line_of, Gives, Says}
 use Rattle.f8_asm.proofs.ListedPieces.{Coded, coded_none, coded_more}
@@ -43,30 +43,31 @@ reading ls = record { names = []; lines = ls }
 abbrev pub numbered : ℕ → List Token → Line
 numbered n ts = record { number = n; tokens = ts }
 
-one_read : {at : ℕ} {line front : List ℕ} (says : Says at line front) (n : ℕ) (done : List Line) →
-    read_line n (reading done) line ≡ Ok (reading (done ++ numbered n says.ts ∷ []))
+one_read : {at : ℕ} {line front : List ℕ} (says : Says at line front) (done : List Line) →
+    read_line (reading done) line ≡ Ok (reading (done ++ numbered (length done + 1) says.ts ∷ []))
 unfolding read_line
-one_read says n done = rw (
-  some_utf8 n _ (IsUtf8-from_ascii _ (printable_ascii _ says.printable)),
+one_read says done = rw (
+  some_utf8 (length done + 1) _ (IsUtf8-from_ascii _ (printable_ascii _ says.printable)),
   says.read,
   says.gives.behind_label,
   says.gives.statement_at 0,
 ) refl
 
 -- the first pass reads lines that give these bytes
-pub record ReadAs (n : ℕ) (done : List Line) (lines : List (List ℕ)) (at : ℕ) (bytes : List ℕ) : Type 0 where
+pub record ReadAs (done : List Line) (lines : List (List ℕ)) (at : ℕ) (bytes : List ℕ) : Type 0 where
   pub ls : List Line
-  pub is : read_lines n (reading done) lines ≡ Ok (reading (done ++ ls))
+  pub is : read_lines (reading done) lines ≡ Ok (reading (done ++ ls))
   pub reads : Reads at ls bytes
 
-pub read_all : {at : ℕ} {es : List Entry} {bytes : List ℕ} → Coded at es bytes → (n : ℕ) (done : List Line) → ReadAs n done (map line_of es) at bytes
-unfolding read_lines
-read_all coded_none n done = record { ls = []; is = ap (λ r. Ok (reading r)) (sym (append-nil done)); reads = reads_none }
-read_all (coded_more {at} {e} {es} {front} {rest} says behind) n done =
-    let others = read_all behind (n + 1) (done ++ numbered n says.ts ∷ []) in
+pub read_all : {at : ℕ} {es : List Entry} {bytes : List ℕ} → Coded at es bytes → (done : List Line) → ReadAs done (map line_of es) at bytes
+unfolding steps
+read_all coded_none done = record { ls = []; is = ap (λ r. Ok (reading r)) (sym (append-nil done)); reads = reads_none }
+read_all (coded_more {at} {e} {es} {front} {rest} says behind) done =
+    let line = numbered (length done + 1) says.ts in
+    let others = read_all behind (done ++ line ∷ []) in
     record {
-      ls = numbered n says.ts ∷ others.ls;
-      is = rw (one_read says n done) (others.is ∙ ap (λ r. Ok (reading r)) (append_assoc done (numbered n says.ts ∷ []) others.ls));
+      ls = line ∷ others.ls;
+      is = rw (one_read says done) (others.is ∙ ap (λ r. Ok (reading r)) (append_assoc done (line ∷ []) others.ls));
       reads = reads_more says.gives others.reads;
     }
 
@@ -93,7 +94,7 @@ one_emitted {at} l gives table = rw (gives.behind_label, gives.statement_at at, 
 
 pub emit_all : {at : ℕ} {ps : List PlacedLine} {bytes : List ℕ} → Emits at ps bytes → (table : List (Option ℕ)) →
     emit_lines [] table ps ≡ Ok (table_with table at bytes)
-unfolding emit_lines
+unfolding steps
 emit_all emits_none table = refl
 emit_all (emits_more {at} {l} {ps} {front} {rest} gives behind) table =
     rw (one_emitted l gives table) (emit_all behind (table_with table at front)
@@ -135,7 +136,7 @@ free_behind marks at n free = record { is = rw (drop_marked marks at n (at + n) 
 inside : (at n : ℕ) → at + n ≤ 65536 → is_inside everywhere at n ≡ true
 inside at n fits = grind (arith, nat_tests)
 
-abbrev pub layout : ℕ → List Bool → List PlacedLine → Layout
+abbrev pub layout : ℕ → List Bool → List PlacedLine → Layout PlacedLine
 layout at filled placed = record { here = at; names = []; filled = filled; placed = placed }
 
 one_placed : {at : ℕ} (l : Line) {front : List ℕ} → Gives at l.tokens front →
@@ -154,8 +155,8 @@ one_placed {at} l {front} gives filled placed free fits =
     ) refl
 
 -- the second pass places lines that give these bytes, and knows no name
-pub record PlacedAs (s : Layout) (ls : List Line) (at : ℕ) (bytes : List ℕ) : Type 0 where
-  pub t : Layout
+pub record PlacedAs (s : Layout PlacedLine) (ls : List Line) (at : ℕ) (bytes : List ℕ) : Type 0 where
+  pub t : Layout PlacedLine
   pub ps : List PlacedLine
   pub is : place_lines everywhere s ls ≡ Ok t
   pub names : t.names ≡ []
@@ -165,7 +166,7 @@ pub record PlacedAs (s : Layout) (ls : List Line) (at : ℕ) (bytes : List ℕ) 
 pub place_all : {at : ℕ} {ls : List Line} {bytes : List ℕ} → Reads at ls bytes →
     (filled : List Bool) (placed : List PlacedLine) → FreeFrom filled at → at + length bytes ≤ 65536 →
     PlacedAs (layout at filled placed) ls at bytes
-unfolding place_lines
+unfolding steps
 place_all {at} reads_none filled placed free fits =
     record {
       t = layout at filled placed;

@@ -15,6 +15,7 @@ use Rattle.f8_asm.specs.Marks.{no_marks}
 use Rattle.f8_asm.specs.PassOne.{read_line, read_lines, no_reading}
 use Rattle.f8_asm.specs.PassTwo.{no_layout, place, place_lines, settle}
 use Rattle.f8_asm.specs.PassThree.{no_bytes, table_with, line_bytes, emit, emit_lines}
+use Rattle.f8_asm.specs.Steps.{steps}
 use Rattle.f8_asm.proofs.LineTokens.{some_utf8}
 use Rattle.f8_asm.proofs.ListedBytes.{all_open, numbers_open}
 use Rattle.f8_asm.proofs.ListedLines.{line_of, text_of, all_written, line_first}
@@ -33,7 +34,7 @@ org_read : tokens_of org ≡ Ok org_tokens
 unfolding numbers_open
 org_read = refl
 
-org_line : read_line 1 no_reading org ≡ Ok (reading (numbered 1 org_tokens ∷ []))
+org_line : read_line no_reading org ≡ Ok (reading (numbered 1 org_tokens ∷ []))
 unfolding all_open read_line no_reading
 org_line = rw (some_utf8 1 org (IsUtf8-from_ascii org (printable_ascii org refl)), org_read) refl
 
@@ -76,10 +77,10 @@ image_is n bytes fits = image_bytes n bytes fits
 
 -- The image of a listing has its bytes, and no names. The number of addresses is a variable, so that no list of them is written out.
 listing_image : (n : ℕ) (bytes : List ℕ) → n ≤ 65536 → AreBytes bytes → length bytes ≤ n → image_in n (listing bytes) everywhere ≡ Ok (picture_of bytes)
-unfolding image_in read_lines place_lines emit_lines
+unfolding image_in steps
 listing_image n bytes least all fits =
     let instruction_of = coded_entries 0 0 0 bytes all (omega arith) in
-    let read = read_all instruction_of 2 (numbered 1 org_tokens ∷ []) in
+    let read = read_all instruction_of (numbered 1 org_tokens ∷ []) in
     let placed = place_all read.reads (no_marks n) ((record { address = 0; line = numbered 1 org_tokens }) ∷ []) (free n) (omega arith) in
     rw (
       listed bytes instruction_of,

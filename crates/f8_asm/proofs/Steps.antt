@@ -1,90 +1,100 @@
--- Loops that take one step a line.
-use Rattle.std.proofs.Common.{◌≡◌, ℕ, ℤ, ◌+◌, ◌<◌, ◌≤◌, List, [], ◌∷◌, length, get_or, drop, Option, Ok, Err, Result, refl, sym, ◌∙◌, ap, suc, add-one}
+-- Steps one after the other: where a loop over them begins, goes on and ends, and which of them is the first that fails.
+use Rattle.std.proofs.Common.{◌≡◌, ℕ, ◌+◌, ◌<◌, ◌≤◌, List, [], ◌∷◌, ◌++◌, length, get_or, drop, Ok, Err, Result, refl, sym, ◌∙◌, ap, suc, add-one}
 use Rattle.std.proofs.Math.Seq.{drop-cons}
 use Rattle.std.proofs.lemmas.List.{drop_all}
 use Rattle.f8_asm.specs.declared.answers.AsmAnswer.{AsmAnswer}
 use Rattle.f8_asm.specs.declared.answers.AsmAnswer.TheVariants as answer
 use Rattle.f8_asm.specs.declared.answers.AsmFault.{AsmFault}
-use Rattle.f8_asm.specs.Answers.{SaysOfText, StepsOfText}
-use Rattle.f8_asm.specs.declared.answers.Room.{Room}
-use Rattle.f8_asm.specs.declared.line.Line.{Line}
-use Rattle.f8_asm.specs.declared.line.PlacedLine.{PlacedLine}
-use Rattle.f8_asm.specs.PassThree.{emit, emit_lines}
-use Rattle.f8_asm.specs.PassTwo.{Layout, place, place_lines}
-use Rattle.f8_asm.specs.PassOne.{Reading, read_line, read_lines}
+use Rattle.f8_asm.specs.Answers.{◌>>=◌, SaysOfText, StepsOfText}
+use Rattle.f8_asm.specs.Steps.{steps}
+use Rattle.f8_asm.proofs.Alike.{Alike, alike_ok, alike_then, AllAlike, none_alike, more_alike}
 
--- no line is left
-pub read_to_end : (number : ℕ) (s : Reading) → read_lines number s [] ≡ Ok s
-unfolding read_lines
-read_to_end number s = refl
+module _ {S X E : Type 0} (step : S → X → Result S E) where
+  -- no step is left
+  pub steps_end : (s : S) → steps step s [] ≡ Ok s
+  unfolding steps
+  steps_end s = refl
 
--- one line more is read
-pub read_more : (number : ℕ) (s t : Reading) (l : List ℕ) (ls : List (List ℕ)) → read_line number s l ≡ Ok t →
-    read_lines (number + 1) t ls ≡ read_lines number s (l ∷ ls)
-unfolding read_lines
-read_more number s t l ls step = rw (step, read_lines) refl
+  -- one step more
+  pub steps_more : (s t : S) (x : X) (xs : List X) → step s x ≡ Ok t → steps step t xs ≡ steps step s (x ∷ xs)
+  unfolding steps
+  steps_more s t x xs is = rw (is, steps) refl
 
--- a line is at fault, or memory is missing
-pub read_stops : (number : ℕ) (s t : Reading) (l : List ℕ) (ls : List (List ℕ)) (e : AsmAnswer)
-    (whole : Result Reading AsmFault) → read_lines number s (l ∷ ls) ≡ whole →
-    StepsOfText (Err e) t (read_line number s l) → SaysOfText {A = Reading} (Err e) whole
-unfolding read_lines
-read_stops number s t l ls (answer.Fault fault) whole is step = sym is ∙ rw (step, read_lines) refl
-read_stops number s t l ls answer.Memory whole is step = tt
+  -- a step fails
+  pub steps_fail : (s : S) (x : X) (xs : List X) (e : E) → step s x ≡ Err e → steps step s (x ∷ xs) ≡ Err e
+  unfolding steps
+  steps_fail s x xs e is = rw (is, steps) refl
 
--- no line is left to place
-pub placed_all : (room : Room) (s : Layout) → place_lines room s [] ≡ Ok s
-unfolding place_lines
-placed_all room s = refl
+  -- the first step that fails: those before it are taken
+  pub record Failing (s : S) (xs : List X) (e : E) : Type 0 where
+    pub before : List X
+    pub x : X
+    pub behind : List X
+    pub at : S
+    pub parts : xs ≡ before ++ x ∷ behind
+    pub taken : steps step s before ≡ Ok at
+    pub fails : step at x ≡ Err e
 
--- one line more is placed
-pub placed_more : (room : Room) (s t : Layout) (l : Line) (ls : List Line) → place room s l ≡ Ok t → place_lines room t ls ≡ place_lines room s (l ∷ ls)
-unfolding place_lines
-placed_more room s t l ls step = rw (step, place_lines) refl
+  pub first_failing : (s : S) (xs : List X) (e : E) → steps step s xs ≡ Err e → Failing s xs e
+  first_failing s [] e h = unfold steps in cc
+  first_failing s (x ∷ xs) e h = by (λ t h. first_failing t xs e h) (step s x) refl (unfold steps in h)
+    where
+      by : ((t : S) → steps step t xs ≡ Err e → Failing t xs e) → (r : Result S E) → step s x ≡ r → (r >>= λ t. steps step t xs) ≡ Err e
+          → Failing s (x ∷ xs) e
+      by later (Ok t) is h =
+          let first = later t h in
+          record {
+            before = x ∷ first.before;
+            x = first.x;
+            behind = first.behind;
+            at = first.at;
+            parts = ap (λ (r : List X). x ∷ r) first.parts;
+            taken = unfold steps in rw is first.taken;
+            fails = first.fails;
+          }
+      by later (Err own) is h = record {
+        before = [];
+        x = x;
+        behind = xs;
+        at = s;
+        parts = refl;
+        taken = unfold steps in refl;
+        fails = is ∙ h;
+      }
 
--- a line is at fault, or memory is missing
-pub place_stops : (room : Room) (s t : Layout) (l : Line) (ls : List Line) (e : AsmAnswer)
-    (whole : Result Layout AsmFault) → place_lines room s (l ∷ ls) ≡ whole → StepsOfText (Err e) t (place room s l) →
-    SaysOfText {A = Layout} (Err e) whole
-unfolding place_lines
-place_stops room s t l ls (answer.Fault fault) whole is step = sym is ∙ rw (step, place_lines) refl
-place_stops room s t l ls answer.Memory whole is step = tt
+-- steps of two kinds that go alike lead to what is alike
+module _ {S T X Y E : Type 0} (R : S → T → Type 0) (Q : X → Y → Type 0) (f : S → X → Result S E) (g : T → Y → Result T E)
+    (each : (s : S) (t : T) (x : X) (y : Y) → R s t → Q x y → Alike R (f s x) (g t y)) where
+  pub steps_alike : {xs : List X} {ys : List Y} → AllAlike Q xs ys → (s : S) (t : T) → R s t → Alike R (steps f s xs) (steps g t ys)
+  unfolding steps
+  steps_alike none_alike s t so = alike_ok so
+  steps_alike (more_alike {x} {y} first rest) s t so = alike_then (each s t x y so first) (λ u v now. steps_alike rest u v now)
 
--- the bytes put and those of the lines that follow make the whole
-pub record EmitsOn (names : List (List ℕ × ℤ)) (table : List (Option ℕ)) (rest : List PlacedLine) (whole : Result (List (Option ℕ)) AsmFault) : Type 0 where
-  pub is : emit_lines names table rest ≡ whole
+-- ---- loops whose steps may want memory
 
--- what is left of lines begins with the next
-cut : (ps : List PlacedLine) (i : ℕ) (p : PlacedLine) → i < length ps → p ≡ get_or ps i p → drop i ps ≡ p ∷ drop (i + 1) ps
-cut ps i p within is = rw (add-one i, drop-cons ps i p) (ap (λ q. q ∷ drop (suc i) ps) (sym is))
+module _ {S X : Type 0} (step : S → X → Result S AsmFault) where
+  -- a step fails, or memory is missing
+  pub steps_stop : (s t : S) (x : X) (xs : List X) (e : AsmAnswer) (whole : Result S AsmFault) → steps step s (x ∷ xs) ≡ whole
+      → StepsOfText (Err e) t (step s x) → SaysOfText {A = S} (Err e) whole
+  steps_stop s t x xs (answer.Fault fault) whole is told = sym is ∙ steps_fail step s x xs fault told
+  steps_stop s t x xs answer.Memory whole is told = tt
 
--- one line more is put
-emitted_one : (names : List (List ℕ × ℤ)) (table t : List (Option ℕ)) (p : PlacedLine) (ps : List PlacedLine) →
-    emit names table p ≡ Ok t → emit_lines names t ps ≡ emit_lines names table (p ∷ ps)
-unfolding emit_lines
-emitted_one names table t p ps step = rw (step, emit_lines) refl
+  -- the steps taken and those that follow make the whole
+  pub record StepsOn (s : S) (rest : List X) (whole : Result S AsmFault) : Type 0 where
+    pub is : steps step s rest ≡ whole
 
--- a line can't be put
-not_emitted : (names : List (List ℕ × ℤ)) (table : List (Option ℕ)) (fault : AsmFault) (p : PlacedLine)
-    (ps : List PlacedLine) → emit names table p ≡ Err fault → emit_lines names table (p ∷ ps) ≡ Err fault
-unfolding emit_lines
-not_emitted names table fault p ps step = rw (step, emit_lines) refl
+  -- what is left of a list begins with the next
+  cut : (xs : List X) (i : ℕ) (x : X) → i < length xs → x ≡ get_or xs i x → drop i xs ≡ x ∷ drop (i + 1) xs
+  cut xs i x within is = rw (add-one i, drop-cons xs i x) (ap (λ q. q ∷ drop (suc i) xs) (sym is))
 
-module _ {names : List (List ℕ × ℤ)} {table : List (Option ℕ)} {whole : Result (List (Option ℕ)) AsmFault} where
-  -- no line is left
-  pub emitted_all : (ps : List PlacedLine) (i : ℕ) → EmitsOn names table (drop i ps) whole → length ps ≤ i → whole ≡ Ok table
-  unfolding emit_lines
-  emitted_all ps i on past = sym (rw (drop_all i ps past) at on.is)
+  module _ {s : S} {whole : Result S AsmFault} where
+    pub all_at : (xs : List X) (i : ℕ) → StepsOn s (drop i xs) whole → length xs ≤ i → whole ≡ Ok s
+    all_at xs i on past = sym (rw (drop_all i xs past) at on.is) ∙ steps_end step s
 
-  -- one line more
-  pub emitted_more : (ps : List PlacedLine) (i : ℕ) (p : PlacedLine) (t : List (Option ℕ)) →
-      EmitsOn names table (drop i ps) whole → i < length ps → p ≡ get_or ps i p → emit names table p ≡ Ok t →
-      EmitsOn names t (drop (i + 1) ps) whole
-  emitted_more ps i p t on within is step = record { is = emitted_one names table t p (drop (i + 1) ps) step ∙ rw (cut ps i p within is) at on.is }
+    pub more_at : (xs : List X) (i : ℕ) (x : X) (t : S) → StepsOn s (drop i xs) whole → i < length xs → x ≡ get_or xs i x → step s x ≡ Ok t
+        → StepsOn t (drop (i + 1) xs) whole
+    more_at xs i x t on within is told = record { is = steps_more step s t x (drop (i + 1) xs) told ∙ rw (cut xs i x within is) at on.is }
 
-  -- a line is at fault, or memory is missing
-  pub emit_stops : (ps : List PlacedLine) (i : ℕ) (p : PlacedLine) (t : List (Option ℕ)) (e : AsmAnswer) →
-      EmitsOn names table (drop i ps) whole → i < length ps → p ≡ get_or ps i p →
-      StepsOfText (Err e) t (emit names table p) → SaysOfText {A = List (Option ℕ)} (Err e) whole
-  emit_stops ps i p t (answer.Fault fault) on within is step = sym (rw (cut ps i p within is) at on.is) ∙ not_emitted names table fault p (drop (i + 1) ps) step
-  emit_stops ps i p t answer.Memory on within is step = tt
+    pub stop_at : (xs : List X) (i : ℕ) (x : X) (t : S) (e : AsmAnswer) → StepsOn s (drop i xs) whole → i < length xs → x ≡ get_or xs i x
+        → StepsOfText (Err e) t (step s x) → SaysOfText {A = S} (Err e) whole
+    stop_at xs i x t e on within is told = steps_stop s t x (drop (i + 1) xs) e whole (rw (cut xs i x within is) at on.is) told

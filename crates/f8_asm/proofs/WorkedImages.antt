@@ -1,6 +1,6 @@
 -- Texts worked by hand, from their bytes to their images or faults, computed from the definitions. The addresses behind those that a text
 -- fills are a variable, so that no list of them is written out.
-use Rattle.std.proofs.Common.{◌≡◌, ℕ, suc, true, pos, List, [], ◌∷◌, ◌++◌, drop, take, Ok, Err, refl, sym, ◌∙◌}
+use Rattle.std.proofs.Common.{◌≡◌, ℕ, suc, true, pos, List, [], ◌∷◌, ◌++◌, ◌+◌, length, drop, take, Ok, Err, refl, sym, ◌∙◌}
 use Rattle.text_lines.specs.Printable.{is_printable}
 use Rattle.std.specs.Prelude.{codes}
 use Rattle.std.specs.List.{list_all}
@@ -8,21 +8,22 @@ use Rattle.std.proofs.lemmas.Str.{IsUtf8-from_ascii}
 use Rattle.asm_text.specs.Tokens.{tokens_of}
 use Rattle.asm_text.specs.declared.answers.Token.{Token}
 use Rattle.f8_asm.specs.declared.answers.AsmCause.TheVariants.{Twice, Undefined, Range, BranchRange, Overlap}
-use Rattle.f8_asm.specs.declared.line.Line.{Line}
 use Rattle.f8_asm.specs.Image.{image_in, image_of, everywhere}
 use Rattle.text_lines.specs.Lines.{lines}
 use Rattle.f8_asm.specs.Marks.{no_marks}
 use Rattle.f8_asm.specs.PassOne.{tokens_in, line_tokens, read_line, read_lines, Reading, no_reading}
 use Rattle.f8_asm.specs.PassTwo.{no_layout, settle, place, place_lines}
 use Rattle.f8_asm.specs.PassThree.{no_bytes, line_bytes, emit, emit_lines}
+use Rattle.f8_asm.specs.Steps.{steps}
+use Rattle.f8_asm.specs.TokenLines.{Line, PlacedLine}
 use Rattle.f8_asm.proofs.LineTokens.{some_utf8}
 use Rattle.f8_asm.proofs.ListedBytes.{numbers_open}
-use Rattle.f8_asm.proofs.Steps.{read_to_end, read_more}
+use Rattle.f8_asm.proofs.Steps.{steps_end, steps_more}
 use Rattle.f8_asm.proofs.ListedPasses.{printable_ascii, reading, numbered, ascending_none}
 
 -- what a text is assembled by is open under `unfolding assembly_open`
 unfoldable assembly_open : Unit {0}
-unfolding numbers_open image_in read_line read_lines no_reading no_marks settle place place_lines no_bytes line_bytes emit emit_lines
+unfolding numbers_open image_in steps read_line no_reading no_marks settle place no_bytes line_bytes emit
 assembly_open = tt
 
 -- the tokens of a printable line
@@ -49,20 +50,20 @@ loop = loop_in 65533
 abbrev overlap_text : List ℕ
 overlap_text = codes " ORG 2\n DB 1\n ORG 2\n DB 2"
 
-org_line : (number : ℕ) (done : List Line)
-    → read_line number (reading done) (codes " ORG 2") ≡ Ok (reading (done ++ numbered number (tokens (codes " ORG 2")) ∷ []))
+org_line : (done : List Line)
+    → read_line (reading done) (codes " ORG 2") ≡ Ok (reading (done ++ numbered (length done + 1) (tokens (codes " ORG 2")) ∷ []))
 unfolding assembly_open
-org_line number done = rw (printable_tokens number (codes " ORG 2") refl) refl
+org_line done = rw (printable_tokens (length done + 1) (codes " ORG 2") refl) refl
 
-one_line : (number : ℕ) (done : List Line)
-    → read_line number (reading done) (codes " DB 1") ≡ Ok (reading (done ++ numbered number (tokens (codes " DB 1")) ∷ []))
+one_line : (done : List Line)
+    → read_line (reading done) (codes " DB 1") ≡ Ok (reading (done ++ numbered (length done + 1) (tokens (codes " DB 1")) ∷ []))
 unfolding assembly_open
-one_line number done = rw (printable_tokens number (codes " DB 1") refl) refl
+one_line done = rw (printable_tokens (length done + 1) (codes " DB 1") refl) refl
 
-two_line : (number : ℕ) (done : List Line)
-    → read_line number (reading done) (codes " DB 2") ≡ Ok (reading (done ++ numbered number (tokens (codes " DB 2")) ∷ []))
+two_line : (done : List Line)
+    → read_line (reading done) (codes " DB 2") ≡ Ok (reading (done ++ numbered (length done + 1) (tokens (codes " DB 2")) ∷ []))
 unfolding assembly_open
-two_line number done = rw (printable_tokens number (codes " DB 2") refl) refl
+two_line done = rw (printable_tokens (length done + 1) (codes " DB 2") refl) refl
 
 abbrev overlap_lines : List Line
 overlap_lines =
@@ -76,14 +77,14 @@ read_before n = reading (take n overlap_lines)
 abbrev lines_behind : ℕ → List (List ℕ)
 lines_behind n = drop n (codes " ORG 2" ∷ codes " DB 1" ∷ codes " ORG 2" ∷ codes " DB 2" ∷ [])
 
-overlap_read : read_lines 1 no_reading (lines overlap_text) ≡ Ok (reading overlap_lines)
+overlap_read : read_lines no_reading (lines overlap_text) ≡ Ok (reading overlap_lines)
 unfolding no_reading
 overlap_read =
-    sym (read_more 1 (read_before 0) (read_before 1) (codes " ORG 2") (lines_behind 1) (org_line 1 (take 0 overlap_lines)))
-    ∙ sym (read_more 2 (read_before 1) (read_before 2) (codes " DB 1") (lines_behind 2) (one_line 2 (take 1 overlap_lines)))
-    ∙ sym (read_more 3 (read_before 2) (read_before 3) (codes " ORG 2") (lines_behind 3) (org_line 3 (take 2 overlap_lines)))
-    ∙ sym (read_more 4 (read_before 3) (read_before 4) (codes " DB 2") (lines_behind 4) (two_line 4 (take 3 overlap_lines)))
-    ∙ read_to_end 5 (read_before 4)
+    sym (steps_more read_line (read_before 0) (read_before 1) (codes " ORG 2") (lines_behind 1) (org_line (take 0 overlap_lines)))
+    ∙ sym (steps_more read_line (read_before 1) (read_before 2) (codes " DB 1") (lines_behind 2) (one_line (take 1 overlap_lines)))
+    ∙ sym (steps_more read_line (read_before 2) (read_before 3) (codes " ORG 2") (lines_behind 3) (org_line (take 2 overlap_lines)))
+    ∙ sym (steps_more read_line (read_before 3) (read_before 4) (codes " DB 2") (lines_behind 4) (two_line (take 3 overlap_lines)))
+    ∙ steps_end read_line (read_before 4)
 
 overlap_laid : (n : ℕ) → place_lines everywhere (no_layout (suc (suc (suc n)))) overlap_lines ≡ Err
     (record { line = 4; column = 2; cause = Overlap })

@@ -1,5 +1,6 @@
 -- Faults of a text, of one of its lines, and by number.
 use Rattle.std.specs.Prelude.{◌≡◌, ℕ, List, Vec, Option, Result, Ok, Err}
+use Rattle.std.specs.Borrow.{Bor}
 use Rattle.std.specs.Global.{Global}
 use Rattle.f8_asm.specs.declared.answers.AsmCause.{AsmCause}
 use Rattle.f8_asm.specs.declared.answers.AsmCause.TheVariants.{Utf8, Token, Unknown, Twice, Undefined, Range, BranchRange, Outside, Overlap, Form}
@@ -38,6 +39,12 @@ abbrev pub SaysOfLine : {A : Type 0} → Result A LineStop → Result A LineFaul
 SaysOfLine (Ok x) said = said ≡ Ok x
 SaysOfLine (Err (stop.Fault fault)) said = said ≡ Err fault
 SaysOfLine (Err stop.Memory) said = Unit {0}
+
+-- what is read, and what is left behind it, are what is said of them
+abbrev pub SaysOfRead : {A B : Type 0} → Result (A × Bor B) LineStop → Result (A × B) LineFault → Type 0
+SaysOfRead (Ok r) said = said ≡ Ok (r.0, r.1.now)
+SaysOfRead (Err (stop.Fault fault)) said = said ≡ Err fault
+SaysOfRead (Err stop.Memory) said = Unit {0}
 
 -- an answer is what is said of a text; want of memory says nothing of it
 abbrev pub SaysOfText : {A : Type 0} → Result A AsmAnswer → Result A AsmFault → Type 0

@@ -9,6 +9,7 @@ use Rattle.f8_asm.specs.declared.values.Operator.TheVariants.{Or, And, Plus, Min
 use Rattle.f8_asm.specs.declared.values.Prefix.{Prefix}
 use Rattle.f8_asm.specs.declared.values.Prefix.TheVariants.{Negative, LowByte, HighByte}
 use Rattle.f8_asm.specs.declared.faults.LineFault.{LineFault}
+use Rattle.f8_asm.specs.declared.faults.LineStop.{LineStop}
 use Rattle.f8_asm.specs.Answers.{form, ◌>>=◌}
 use Rattle.f8_asm.specs.Words.{is_reserved}
 
@@ -114,12 +115,7 @@ deeper acts (suc depth) = Some (operand acts depth)
 unfoldable pub expression : {A : Type 0} → Actions A → List Token → Read A
 expression acts ts = level acts (operand acts 64) 4 ts
 
--- what was read, as a value of lists
-abbrev pub reading_of : {A B : Type 0} → Result (A × Bor B) LineFault → Result (A × B) LineFault
-reading_of (Ok r) = Ok (r.0, r.1.now)
-reading_of (Err fault) = Err fault
-
 -- fewer tokens are left
-abbrev pub ReadsSome : {A : Type 0} → ℕ → Result (A × Bor (List Token)) LineFault → Type 0
+abbrev pub ReadsSome : {A : Type 0} → ℕ → Result (A × Bor (List Token)) LineStop → Type 0
 ReadsSome n (Ok r) = length r.1.now < n
-ReadsSome n (Err fault) = Unit {0}
+ReadsSome n (Err stop) = Unit {0}

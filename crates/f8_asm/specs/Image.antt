@@ -22,7 +22,7 @@ ascending at (Some b ∷ slots) = (at, b) ∷ ascending (at + 1) slots
 -- three passes over the whole text, among so many addresses: the first fault of the earliest is told
 unfoldable pub image_in : ℕ → List ℕ → Room → Result Picture AsmFault
 image_in size text room =
-    read_lines 1 no_reading (lines text) >>= λ read. place_lines room
+    read_lines no_reading (lines text) >>= λ read. place_lines room
     (no_layout size) read.lines >>= λ laid. emit_lines laid.names (no_bytes size) laid.placed >>= λ table. Ok
     (record { bytes = ascending 0 table; symbols = laid.names })
 

@@ -6,6 +6,7 @@ use Rattle.f8_asm.specs.declared.faults.LineFault.{LineFault}
 use Rattle.f8_asm.specs.declared.operands.Effect.TheVariants.{Names, Moves, Fills}
 use Rattle.f8_asm.specs.declared.operands.Operand.{Operand}
 use Rattle.f8_asm.specs.declared.operands.Statement.{Statement}
+use Rattle.f8_asm.specs.declared.values.Outcome.{Outcome}
 use Rattle.f8_asm.specs.Evaluation.{values}
 use Rattle.f8_asm.specs.Image.{Picture, bytes_from}
 use Rattle.f8_asm.specs.Judging.{operand_value, unsigned_value}
@@ -30,22 +31,22 @@ IsNew earlier None = Unit {0}
 IsNew earlier (Some name) = value_of earlier name ≡ None
 
 -- the statement of a line at this address, with the names of earlier lines
-abbrev pub statement_at : List (List ℕ × ℤ) → ℕ → List Token → Result Statement LineFault
+abbrev pub statement_at : List (List ℕ × ℤ) → ℕ → List Token → Result (Statement Outcome) LineFault
 statement_at earlier at ts = statement (values earlier at) (is_some (label_of ts)) (behind_label ts)
 
 -- A line's tokens at an address, with the names of the lines before it and with all names of the text: its bytes, the address of the next
 -- line, and the names behind it.
 pub data LineStands : List (List ℕ × ℤ) → List (List ℕ × ℤ) → ℕ → List Token → List ℕ → ℕ → List (List ℕ × ℤ) → Type 0 where
   -- EQU names the value that its operand has over the names of earlier lines
-  equ : {names earlier : List (List ℕ × ℤ)} {at : ℕ} {ts : List Token} {st : Statement} {o : Operand} {v : ℤ}
+  equ : {names earlier : List (List ℕ × ℤ)} {at : ℕ} {ts : List Token} {st : Statement Outcome} {o : Operand Outcome} {v : ℤ}
       → statement_at earlier at ts ≡ Ok st → effect_of st ≡ Names o → operand_value o ≡ Ok v
       → LineStands names earlier at ts [] at (earlier ++ label_name (label_of ts) v)
   -- the next line stands where ORG says; a label has the address before
-  org : {names earlier : List (List ℕ × ℤ)} {at next : ℕ} {ts : List Token} {st : Statement} {o : Operand} → statement_at earlier at ts ≡ Ok st
+  org : {names earlier : List (List ℕ × ℤ)} {at next : ℕ} {ts : List Token} {st : Statement Outcome} {o : Operand Outcome} → statement_at earlier at ts ≡ Ok st
       → effect_of st ≡ Moves o → unsigned_value 65535 o ≡ Ok next
       → LineStands names earlier at ts [] next (earlier ++ label_name (label_of ts) (pos at))
   -- any other line has bytes, with all names of the text, and the next line stands behind them; a label has the line's address
-  filling : {names earlier : List (List ℕ × ℤ)} {at : ℕ} {ts : List Token} {st : Statement} {bs : List ℕ} → statement_at earlier at ts ≡ Ok st
+  filling : {names earlier : List (List ℕ × ℤ)} {at : ℕ} {ts : List Token} {st : Statement Outcome} {bs : List ℕ} → statement_at earlier at ts ≡ Ok st
       → effect_of st ≡ Fills (length bs) → line_bytes names at ts ≡ Ok bs
       → LineStands names earlier at ts bs (at + length bs) (earlier ++ label_name (label_of ts) (pos at))
 

@@ -21,8 +21,8 @@ value_in column (Value v) = Ok v
 value_in column OutOfRange = Err (fault_at column cause.Range)
 value_in column (Undefined at) = Err (fault_at at cause.Undefined)
 
-abbrev pub operand_value : Operand → Result ℤ LineFault
-operand_value o = value_in o.column o.outcome
+abbrev pub operand_value : Operand Outcome → Result ℤ LineFault
+operand_value o = value_in o.column o.value
 
 -- what fits, and else a fault at the operand's first token
 abbrev pub fitting : {A : Type 0} → ℕ → AsmCause → Option A → Result A LineFault
@@ -30,17 +30,17 @@ fitting column what (Some x) = Ok x
 fitting column what None = Err (fault_at column what)
 
 -- a value from 0 to `last`
-abbrev pub unsigned_value : ℕ → Operand → Result ℕ LineFault
+abbrev pub unsigned_value : ℕ → Operand Outcome → Result ℕ LineFault
 unsigned_value last o = operand_value o >>= λ v. fitting o.column cause.Range (small last v)
 
 -- a byte: a value from -128 to 255
-abbrev pub byte : Operand → Result ℕ LineFault
+abbrev pub byte : Operand Outcome → Result ℕ LineFault
 byte o = operand_value o >>= λ v. fitting o.column cause.Range (octet 255 v)
 
 -- how far a place lies from the displacement byte behind an opcode at this address: -128 to 127
-abbrev pub displacement : ℕ → Operand → Result ℕ LineFault
+abbrev pub displacement : ℕ → Operand Outcome → Result ℕ LineFault
 displacement address o = operand_value o >>= λ v. fitting o.column cause.BranchRange (octet 127 (v -ℤ pos (address + 1)))
 
 -- the instruction with a value in its field
-abbrev pub with_field : Field → Operand → Result Op LineFault
+abbrev pub with_field : Field → Operand Outcome → Result Op LineFault
 with_field field o = unsigned_value (last_of field) o >>= λ n. fitting o.column cause.Range (op_with field n)

@@ -1,4 +1,5 @@
 pub mod Answers
+pub mod Steps
 pub mod Values
 pub mod Registers
 pub mod Fields
@@ -6,7 +7,9 @@ pub mod Words
 pub mod Names
 pub mod Grammar
 pub mod Evaluation
+pub mod Formulas
 pub mod Statements
+pub mod TokenLines
 pub mod PassOne
 pub mod Judging
 pub mod Marks
@@ -14,6 +17,7 @@ pub mod PassTwo
 pub mod Bytes
 pub mod PassThree
 pub mod Image
+pub mod ParsedLines
 pub mod Listing
 pub mod ListingLaw
 pub mod ImageLaw

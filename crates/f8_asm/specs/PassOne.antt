@@ -9,12 +9,13 @@ use Rattle.asm_text.specs.declared.answers.TokenFault.TheVariants as fault
 use Rattle.f8_asm.specs.declared.answers.AsmCause.TheVariants as cause
 use Rattle.f8_asm.specs.declared.answers.AsmFault.{AsmFault}
 use Rattle.f8_asm.specs.declared.faults.LineFault.{LineFault}
-use Rattle.f8_asm.specs.declared.line.Line.{Line}
 use Rattle.f8_asm.specs.Answers.{◌>>=◌}
 use Rattle.f8_asm.specs.Evaluation.{values}
 use Rattle.f8_asm.specs.Grammar.{column_of}
 use Rattle.f8_asm.specs.Names.{value_of, with_name}
 use Rattle.f8_asm.specs.Statements.{statement, label_of, behind_label, twice}
+use Rattle.f8_asm.specs.Steps.{steps}
+use Rattle.f8_asm.specs.TokenLines.{Line}
 
 -- ---- faults in their line
 
@@ -30,13 +31,16 @@ abbrev pub column_or : ℕ → Option ℕ → ℕ
 column_or end None = end
 column_or end (Some column) = column
 
--- a line's fault with the line's number; where no token is left it stands past the last
-abbrev pub fault_in_line : ℕ → List Token → LineFault → AsmFault
-fault_in_line number ts fault = record { line = number; column = column_or (end_of ts) fault.column; cause = fault.cause }
+-- a line's fault with the line's number; where no token is left it stands past the last, where the line ends
+abbrev pub fault_by : ℕ → ℕ → LineFault → AsmFault
+fault_by number end fault = record { line = number; column = column_or end fault.column; cause = fault.cause }
+
+abbrev pub in_line_to : {A : Type 0} → ℕ → ℕ → Result A LineFault → Result A AsmFault
+in_line_to number end (Ok x) = Ok x
+in_line_to number end (Err fault) = Err (fault_by number end fault)
 
 abbrev pub in_line : {A : Type 0} → ℕ → List Token → Result A LineFault → Result A AsmFault
-in_line number ts (Ok x) = Ok x
-in_line number ts (Err fault) = Err (fault_in_line number ts fault)
+in_line number ts r = in_line_to number (end_of ts) r
 
 -- ---- tokens
 
@@ -80,15 +84,17 @@ pub record Reading : Type 0 where
   pub names : List (List ℕ × ℤ)
   pub lines : List Line
 
-unfoldable pub read_line : ℕ → Reading → List ℕ → Result Reading AsmFault
-read_line number s bytes =
+-- a line has the number behind those before it
+abbrev pub read_numbered : ℕ → Reading → List ℕ → Result Reading AsmFault
+read_numbered number s bytes =
     line_tokens number bytes >>= λ ts. in_line number ts (check s.names ts) >>= λ names. Ok
     (record { names = names; lines = s.lines ++ (record { number = number; tokens = ts }) ∷ [] })
 
--- lines from this number on
-unfoldable pub read_lines : ℕ → Reading → List (List ℕ) → Result Reading AsmFault
-read_lines number s [] = Ok s
-read_lines number s (l ∷ ls) = read_line number s l >>= λ t. read_lines (number + 1) t ls
+unfoldable pub read_line : Reading → List ℕ → Result Reading AsmFault
+read_line s bytes = read_numbered (length s.lines + 1) s bytes
+
+abbrev pub read_lines : Reading → List (List ℕ) → Result Reading AsmFault
+read_lines s ls = steps read_line s ls
 
 unfoldable pub no_reading : Reading
 no_reading = record { names = []; lines = [] }

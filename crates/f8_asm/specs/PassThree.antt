@@ -3,12 +3,13 @@ use Rattle.std.specs.Prelude.{ℕ, ℤ, ◌+◌, List, [], ◌∷◌, replicate,
 use Rattle.asm_text.specs.declared.answers.Token.{Token}
 use Rattle.f8_asm.specs.declared.answers.AsmFault.{AsmFault}
 use Rattle.f8_asm.specs.declared.faults.LineFault.{LineFault}
-use Rattle.f8_asm.specs.declared.line.PlacedLine.{PlacedLine}
 use Rattle.f8_asm.specs.Answers.{◌>>=◌}
 use Rattle.f8_asm.specs.Bytes.{bytes_of}
 use Rattle.f8_asm.specs.Evaluation.{values}
 use Rattle.f8_asm.specs.PassOne.{in_line}
 use Rattle.f8_asm.specs.Statements.{statement, label_of, behind_label}
+use Rattle.f8_asm.specs.Steps.{steps}
+use Rattle.f8_asm.specs.TokenLines.{PlacedLine}
 
 -- the byte of each of so many addresses, before any is known
 unfoldable pub no_bytes : ℕ → List (Option ℕ)
@@ -26,6 +27,5 @@ line_bytes names address ts = statement (values names address) (is_some (label_o
 unfoldable pub emit : List (List ℕ × ℤ) → List (Option ℕ) → PlacedLine → Result (List (Option ℕ)) AsmFault
 emit names table p = in_line p.line.number p.line.tokens (line_bytes names p.address p.line.tokens) >>= λ bs. Ok (table_with table p.address bs)
 
-unfoldable pub emit_lines : List (List ℕ × ℤ) → List (Option ℕ) → List PlacedLine → Result (List (Option ℕ)) AsmFault
-emit_lines names table [] = Ok table
-emit_lines names table (p ∷ ps) = emit names table p >>= λ t. emit_lines names t ps
+abbrev pub emit_lines : List (List ℕ × ℤ) → List (Option ℕ) → List PlacedLine → Result (List (Option ℕ)) AsmFault
+emit_lines names table ps = steps (emit names) table ps

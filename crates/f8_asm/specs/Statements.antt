@@ -1,6 +1,6 @@
 -- The label and the statement of a line.
 use Rattle.std.specs.Borrow.{Bor}
-use Rattle.std.specs.Prelude.{ℕ, zero, suc, ◌*◌, Bool, true, false, not, ◌&&◌, ◌==◌, List, [], ◌∷◌, length, drop}
+use Rattle.std.specs.Prelude.{ℕ, zero, suc, ◌*◌, Bool, true, false, not, ◌&&◌, ◌==◌, List, [], ◌∷◌, length, drop, map}
 use Rattle.std.specs.Prelude.{Option, Some, None, is_some, option_and_then, Result, Ok, Err, if◌then◌else◌}
 use Rattle.asm_text.specs.declared.answers.Token.{Token}
 use Rattle.asm_text.specs.declared.answers.TokenKind.{TokenKind}
@@ -33,9 +33,9 @@ use Rattle.f8_asm.specs.Words.{shape_of, is_reserved}
 -- ---- parts
 
 -- an expression with the column of its first token
-abbrev pub operand_at : Actions Outcome → List Token → Result (Operand × List Token) LineFault
+abbrev pub operand_at : {A : Type 0} → Actions A → List Token → Result (Operand A × List Token) LineFault
 operand_at acts [] = Err (form None)
-operand_at acts (t ∷ ts) = expression acts (t ∷ ts) >>= λ r. Ok (record { column = t.column; outcome = r.0 }, r.1)
+operand_at acts (t ∷ ts) = expression acts (t ∷ ts) >>= λ r. Ok (record { column = t.column; value = r.0 }, r.1)
 
 -- the tokens behind a mark that stands here
 abbrev pub mark_in : ℕ → TokenKind → ℕ → List Token → Result (List Token) LineFault
@@ -54,7 +54,7 @@ seen_rest (Ok r) = Ok r.now
 seen_rest (Err fault) = Err fault
 
 -- a statement with no token behind it
-abbrev pub done : Statement → List Token → Result Statement LineFault
+abbrev pub done : {A : Type 0} → Statement A → List Token → Result (Statement A) LineFault
 done statement [] = Ok statement
 done statement (t ∷ ts) = Err (form (Some t.column))
 
@@ -69,20 +69,20 @@ register_at [] = None
 register_at (t ∷ ts) = register_in t.kind
 
 -- an instruction, if there is one, behind whose first token nothing may stand
-abbrev pub instruction_of : Option Op → List Token → Result Statement LineFault
+abbrev pub instruction_of : {A : Type 0} → Option Op → List Token → Result (Statement A) LineFault
 instruction_of (Some op) ts = done (Fixed (encoded op)) (drop 1 ts)
 instruction_of None ts = Err (form (column_of ts))
 
 -- ---- operands by the shape of a statement
 
-abbrev pub one : Actions Outcome → Single → List Token → Result Statement LineFault
+abbrev pub one : {A : Type 0} → Actions A → Single → List Token → Result (Statement A) LineFault
 one acts what ts = operand_at acts ts >>= λ o. done (One what o.0) o.1
 
-abbrev pub two : Actions Outcome → Field → List Token → Result Statement LineFault
+abbrev pub two : {A : Type 0} → Actions A → Field → List Token → Result (Statement A) LineFault
 two acts field ts = operand_at acts ts >>= λ a. comma a.1 >>= λ rest. operand_at acts rest >>= λ b. done (Test field a.0 b.0) b.1
 
 -- a register: by a word, or by an expression
-abbrev pub register_operand : Actions Outcome → Field → List Token → Option ℕ → Result Statement LineFault
+abbrev pub register_operand : {A : Type 0} → Actions A → Field → List Token → Option ℕ → Result (Statement A) LineFault
 register_operand acts field ts (Some r) = instruction_of (op_with field r) ts
 register_operand acts field ts None = one acts (single.Small field) ts
 
@@ -98,30 +98,30 @@ abbrev pub accumulator : List Token → Result (List Token) LineFault
 accumulator ts = accumulator_in (register_at ts) ts
 
 -- what LR moves into a register
-abbrev pub load_from : Actions Outcome → Register → List Token → Option Register → Result Statement LineFault
+abbrev pub load_from : {A : Type 0} → Actions A → Register → List Token → Option Register → Result (Statement A) LineFault
 load_from acts to ts (Some from) = instruction_of (pair_op to from) ts
 load_from acts to ts None = if is_accumulator to then one acts (single.Small field.LrAR) ts else Err (form (column_of ts))
 
 -- LR between two registers; one that an expression gives goes with `A` alone
-abbrev pub load : Actions Outcome → List Token → Option Register → Result Statement LineFault
+abbrev pub load : {A : Type 0} → Actions A → List Token → Option Register → Result (Statement A) LineFault
 load acts ts (Some to) = comma (drop 1 ts) >>= λ rest. load_from acts to rest (register_at rest)
 load acts ts None = operand_at acts ts >>= λ o. comma o.1 >>= λ rest. accumulator rest >>= λ last. done (One (single.Small field.LrRA) o.0) last
 
 -- one item, and those that `f` reads behind a comma
-abbrev pub item_before : (List Token → Result (List Operand) LineFault) → Operand → List Token → Result (List Operand) LineFault
+abbrev pub item_before : {A : Type 0} → (List Token → Result (List (Operand A)) LineFault) → Operand A → List Token → Result (List (Operand A)) LineFault
 item_before f o [] = Ok (o ∷ [])
 item_before f o (t ∷ ts) = comma (t ∷ ts) >>= λ rest. f rest >>= λ os. Ok (o ∷ os)
 
 -- expressions with commas between them, at least one and at most n
-unfoldable pub items : Actions Outcome → ℕ → List Token → Result (List Operand) LineFault
+unfoldable pub items : {A : Type 0} → Actions A → ℕ → List Token → Result (List (Operand A)) LineFault
 items acts zero ts = Err (form (column_of ts))
 items acts (suc n) ts = operand_at acts ts >>= λ o. item_before (items acts n) o.0 o.1
 
-abbrev pub item_list : Actions Outcome → ItemSize → List Token → Result Statement LineFault
+abbrev pub item_list : {A : Type 0} → Actions A → ItemSize → List Token → Result (Statement A) LineFault
 item_list acts size ts = items acts (length ts) ts >>= λ os. Ok (Items size os)
 
 -- what goes behind a mnemonic or directive
-unfoldable pub operands : Actions Outcome → Shape → List Token → Result Statement LineFault
+unfoldable pub operands : {A : Type 0} → Actions A → Shape → List Token → Result (Statement A) LineFault
 operands acts (shape.Plain code) ts = done (Fixed code) ts
 operands acts (shape.One what) ts = one acts what ts
 operands acts (shape.Register field) ts = register_operand acts field ts (register_number_at ts)
@@ -140,18 +140,18 @@ wants_label other = false
 abbrev pub no_mnemonic : ℕ → List ℕ → LineFault
 no_mnemonic column name = if is_some (register_of name) then form (Some column) else record { column = Some column; cause = Unknown }
 
-abbrev pub statement_of : Actions Outcome → Bool → ℕ → List ℕ → List Token → Option Shape → Result Statement LineFault
+abbrev pub statement_of : {A : Type 0} → Actions A → Bool → ℕ → List ℕ → List Token → Option Shape → Result (Statement A) LineFault
 statement_of acts labelled column name ts (Some shape) =
     if wants_label shape && not labelled then Err (form (Some column)) else operands acts shape ts
 statement_of acts labelled column name ts None = Err (no_mnemonic column name)
 
-abbrev pub statement_in : Actions Outcome → Bool → TokenKind → ℕ → List Token → Result Statement LineFault
+abbrev pub statement_in : {A : Type 0} → Actions A → Bool → TokenKind → ℕ → List Token → Result (Statement A) LineFault
 statement_in acts labelled (kind.Name name) column ts = statement_of acts labelled column name ts (shape_of name)
 statement_in acts labelled (kind.Number number) column ts = Err (form (Some column))
 statement_in acts labelled (kind.Mark mark) column ts = Err (form (Some column))
 
 -- the statement of a line behind its label
-unfoldable pub statement : Actions Outcome → Bool → List Token → Result Statement LineFault
+unfoldable pub statement : {A : Type 0} → Actions A → Bool → List Token → Result (Statement A) LineFault
 statement acts labelled [] = Ok Nothing
 statement acts labelled (t ∷ ts) = statement_in acts labelled t.kind t.column ts
 
@@ -185,6 +185,19 @@ behind_label ts = if is_some (label_of ts) then drop 2 ts else ts
 abbrev pub twice : Option ℕ → LineFault
 twice column = record { column = column; cause = Twice }
 
+-- ---- values
+
+-- an operand and a statement with the values that operands have
+abbrev pub operand_valued : {A B : Type 0} → (A → B) → Operand A → Operand B
+operand_valued value o = record { column = o.column; value = value o.value }
+
+abbrev pub statement_valued : {A B : Type 0} → (A → B) → Statement A → Statement B
+statement_valued value Nothing = Nothing
+statement_valued value (Fixed code) = Fixed code
+statement_valued value (One what o) = One what (operand_valued value o)
+statement_valued value (Test field a b) = Test field (operand_valued value a) (operand_valued value b)
+statement_valued value (Items size os) = Items size (map (operand_valued value) os)
+
 -- ---- effects
 
 abbrev pub item_size : ItemSize → ℕ
@@ -192,7 +205,7 @@ item_size item.Byte = 1
 item_size item.Word = 2
 
 -- what a statement does in the second pass
-abbrev pub single_effect : Single → Operand → Effect
+abbrev pub single_effect : Single → Operand Outcome → Effect
 single_effect single.Equ o = Names o
 single_effect single.Org o = Moves o
 single_effect (single.Byte code) o = Fills 2
@@ -201,7 +214,7 @@ single_effect (single.Word code) o = Fills 3
 single_effect (single.Branch code) o = Fills 2
 single_effect (single.Small field) o = Fills 1
 
-abbrev pub effect_of : Statement → Effect
+abbrev pub effect_of : Statement Outcome → Effect
 effect_of Nothing = Fills 0
 effect_of (Fixed code) = Fills 1
 effect_of (One what o) = single_effect what o

@@ -1,12 +1,17 @@
 // The bytes of statements.
-ghost use Rattle.std.specs.Prelude.{◌≡◌, ◌<◌, ◌∷◌, [], IfOk};
+ghost use Rattle.std.specs.Prelude.{◌≡◌, ◌<◌, ◌∷◌, [], IfOk, map};
 ghost use Rattle.f8_asm.specs.Answers.{SaysOfBytes};
 ghost use Rattle.f8_asm.specs.Bytes.{word_bytes, single_bytes, item_bytes, list_bytes, bytes_of};
+ghost use Rattle.f8_asm.specs.Evaluation.{values};
+ghost use Rattle.f8_asm.specs.Formulas.{formula_value};
+ghost use Rattle.f8_asm.specs.Statements.{operand_valued, statement_valued};
 
 use crate::faults::LineStop;
 use crate::fields::Field;
+use crate::formulas::{Formula, Scope};
 use crate::judging::{byte, displacement, unsigned_value, with_field};
-use crate::operands::{Operand, Statement};
+use crate::operands::{Operand, Statement, valued};
+use crate::values::Outcome;
 use crate::words::{ItemSize, Single};
 use f8_ops::encode;
 use std::alloc::{AllocError, Global};
@@ -44,7 +49,7 @@ fn single_bytes(
     alloc: Global,
     address: u32,
     single: Single,
-    operand: Operand,
+    operand: Operand<Outcome>,
 ) -> Result<Vec<u8>, LineStop>
     ensures { SaysOfBytes result (single_bytes address single operand) }
 {
@@ -78,8 +83,8 @@ fn test_bytes(
     alloc: Global,
     address: u32,
     field: Field,
-    bits: Operand,
-    place: Operand,
+    bits: Operand<Outcome>,
+    place: Operand<Outcome>,
 ) -> Result<Vec<u8>, LineStop>
     ensures { SaysOfBytes result (bytes_of address (Statement.Test field bits place)) }
 {
@@ -89,7 +94,11 @@ fn test_bytes(
 }
 
 /// An item of a list.
-fn item_bytes(alloc: Global, size: ItemSize, operand: Operand) -> Result<Vec<u8>, LineStop>
+fn item_bytes(
+    alloc: Global,
+    size: ItemSize,
+    operand: Operand<Outcome>,
+) -> Result<Vec<u8>, LineStop>
     ensures { SaysOfBytes result (item_bytes size operand) }
 {
     match size {
@@ -105,26 +114,46 @@ fn item_bytes(alloc: Global, size: ItemSize, operand: Operand) -> Result<Vec<u8>
 }
 
 /// The items of a list.
-fn list_bytes(alloc: Global, size: ItemSize, operands: &[Operand]) -> Result<Vec<u8>, LineStop>
-    ensures { SaysOfBytes result (list_bytes size operands.now) }
+fn list_bytes(
+    alloc: Global,
+    scope: &Scope,
+    size: ItemSize,
+    operands: &[Operand<Formula>],
+) -> Result<Vec<u8>, LineStop>
+    ensures { let acts = values scope.now.symbols.now scope.now.address in
+        SaysOfBytes result (list_bytes size (map (operand_valued (formula_value acts)) operands.now)) }
 {
     let mut bytes = Vec::new(alloc);
     for operand in operands {
-        let item = item_bytes(alloc, size, *operand)?;
+        let operand = valued(alloc, scope, operand)?;
+        let item = item_bytes(alloc, size, operand)?;
         bytes.extend_from_slice(item.as_slice())?;
     }
     Ok(bytes)
 }
 
-/// The bytes of a statement at this address.
-pub fn bytes_of(alloc: Global, address: u32, statement: &Statement) -> Result<Vec<u8>, LineStop>
-    ensures { SaysOfBytes result (bytes_of address statement.now) }
+/// The bytes of a statement at the address that `.` stands for.
+pub fn bytes_of(
+    alloc: Global,
+    scope: &Scope,
+    statement: &Statement<Formula>,
+) -> Result<Vec<u8>, LineStop>
+    ensures { let acts = values scope.now.symbols.now scope.now.address in
+        SaysOfBytes result
+        (bytes_of scope.now.address (statement_valued (formula_value acts) statement.now)) }
 {
     match statement {
         Statement::Nothing => Ok(Vec::new(alloc)),
         Statement::Fixed(code) => Ok(one_byte(alloc, *code)?),
-        Statement::One(single, operand) => single_bytes(alloc, address, *single, *operand),
-        Statement::Test(field, bits, place) => test_bytes(alloc, address, *field, *bits, *place),
-        Statement::Items(size, list) => list_bytes(alloc, *size, list.as_slice()),
+        Statement::One(single, operand) => {
+            let operand = valued(alloc, scope, operand)?;
+            single_bytes(alloc, scope.address, *single, operand)
+        }
+        Statement::Test(field, bits, place) => {
+            let bits = valued(alloc, scope, bits)?;
+            let place = valued(alloc, scope, place)?;
+            test_bytes(alloc, scope.address, *field, bits, place)
+        }
+        Statement::Items(size, list) => list_bytes(alloc, scope, *size, list.as_slice()),
     }
 }

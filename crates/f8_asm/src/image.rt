@@ -6,7 +6,7 @@ ghost use Rattle.f8_asm.specs.FirstFault.{TellsFault};
 ghost use Rattle.f8_asm.specs.ImageLaw.{IsImage};
 
 use crate::answers::{AsmAnswer, Room};
-use crate::pass_one::read_lines;
+use crate::pass_one::parse_lines;
 use crate::pass_three::emit_lines;
 use crate::pass_two::place_lines;
 use crate::symbols::Symbols;
@@ -67,7 +67,6 @@ impl Image {
 ///
 /// `Fault`: the first fault of the text, in text order within the earliest of three passes (docs/ASSEMBLY.md).
 /// `Memory`: memory is missing.
-#[tactic(auto, unfolding(crate::specs::Image::image_of, crate::specs::Image::image_in))]
 pub fn assemble(alloc: Global, text: &[u8], room: Room) -> Result<Image, AsmAnswer>
     requires { length text.now ≤ 16777216 }
     ensures value { SaysOfText result (image_of text.now room) }
@@ -76,8 +75,8 @@ pub fn assemble(alloc: Global, text: &[u8], room: Room) -> Result<Image, AsmAnsw
     ensures law { IfOk result (λ image. IsImage text.now image) }
     ensures fault { TellsFault result text.now room }
 {
-    let reading = read_lines(alloc, text)?;
-    let layout = place_lines(alloc, room, reading.into_lines())?;
+    let parsing = parse_lines(alloc, text)?;
+    let layout = place_lines(alloc, room, parsing.into_lines())?;
     let table = emit_lines(alloc, &layout)?;
     let bytes = table.ascending(alloc)?;
     let symbols = layout.into_symbols();

@@ -22,10 +22,10 @@ fn fault_at(column: u32, cause: AsmCause) -> LineFault
 }
 
 /// The value of an operand.
-pub fn operand_value(operand: Operand) -> Result<i64, LineFault>
+pub fn operand_value(operand: Operand<Outcome>) -> Result<i64, LineFault>
     ensures { result ≡ operand_value operand }
 {
-    match operand.outcome {
+    match operand.value {
         Outcome::Value(value) => Ok(value),
         Outcome::OutOfRange => Err(fault_at(operand.column, AsmCause::Range)),
         Outcome::Undefined(column) => Err(fault_at(column, AsmCause::Undefined)),
@@ -33,7 +33,7 @@ pub fn operand_value(operand: Operand) -> Result<i64, LineFault>
 }
 
 /// A value from 0 to `last`.
-pub fn unsigned_value(last: u16, operand: Operand) -> Result<u16, LineFault>
+pub fn unsigned_value(last: u16, operand: Operand<Outcome>) -> Result<u16, LineFault>
     ensures value { result ≡ unsigned_value last operand }
     ensures within { IfOk result (λ n. n ≤ last) }
 {
@@ -44,7 +44,7 @@ pub fn unsigned_value(last: u16, operand: Operand) -> Result<u16, LineFault>
 }
 
 /// A byte: a value from -128 to 255.
-pub fn byte(operand: Operand) -> Result<u8, LineFault>
+pub fn byte(operand: Operand<Outcome>) -> Result<u8, LineFault>
     ensures { result ≡ byte operand }
 {
     match octet(255, operand_value(operand)?) {
@@ -54,7 +54,7 @@ pub fn byte(operand: Operand) -> Result<u8, LineFault>
 }
 
 /// How far a place lies from the displacement byte behind an opcode at this address: -128 to 127.
-pub fn displacement(address: u32, operand: Operand) -> Result<u8, LineFault>
+pub fn displacement(address: u32, operand: Operand<Outcome>) -> Result<u8, LineFault>
     ensures { result ≡ displacement address operand }
 {
     let place = operand_value(operand)?;
@@ -69,7 +69,7 @@ pub fn displacement(address: u32, operand: Operand) -> Result<u8, LineFault>
 }
 
 /// The instruction with a value in its field.
-pub fn with_field(field: Field, operand: Operand) -> Result<Op, LineFault>
+pub fn with_field(field: Field, operand: Operand<Outcome>) -> Result<Op, LineFault>
     ensures value { result ≡ with_field field operand }
     ensures in_range { IfOk result InRange }
 {

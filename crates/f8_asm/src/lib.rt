@@ -6,6 +6,7 @@ mod answers;
 mod code;
 mod faults;
 mod fields;
+mod formulas;
 mod grammar;
 mod image;
 mod judging;

@@ -1,44 +1,48 @@
 // What is read of a line: operands and statements.
-ghost use Rattle.std.specs.Prelude.{◌≡◌, ◌≤◌};
-ghost use Rattle.f8_asm.specs.Statements.{item_size, single_effect, effect_of};
+ghost use Rattle.std.specs.Prelude.{◌≡◌, ◌≤◌, IfOk};
+ghost use Rattle.f8_asm.specs.Evaluation.{values};
+ghost use Rattle.f8_asm.specs.Formulas.{formula_value};
+ghost use Rattle.f8_asm.specs.Statements.{item_size, operand_valued, statement_valued, single_effect, effect_of};
 
 use crate::fields::Field;
+use crate::formulas::{Formula, Scope, formula_value};
 use crate::values::Outcome;
 use crate::words::{ItemSize, Single};
+use std::alloc::{AllocError, Global};
 use std::marker::Model;
 
-/// An expression and the column of its first token.
+/// An operand: the column of its first token, and its value, or the formula that gives it.
 #[derive(Clone, Copy)]
-pub struct Operand {
+pub struct Operand<E> {
     pub column: u32,
-    pub outcome: Outcome,
+    pub value: E,
 }
 
-/// Operands in order. A contract sees that list.
+/// Operands in order, as they were read. A contract sees that list.
 #[derive(Drop)]
-pub struct OperandList {
-    items: Vec<Operand>,
+pub struct OperandList<E: Drop> {
+    items: Vec<Operand<E>>,
 }
 
-impl Model for OperandList {
+impl<E: Drop> Model for OperandList<E> {
     ghost use Rattle.std.specs.Prelude.{List};
     ghost use Rattle.f8_asm.specs.declared.operands.Operand.{Operand};
 
-    ghost Value = { List Operand };
+    ghost Value = { List (Operand E) };
 
     ghost view = { λ l. l.items.items };
 }
 
-impl OperandList {
+impl<E: Drop> OperandList<E> {
     /// The list of these operands.
-    pub fn from_vec(items: Vec<Operand>) -> OperandList
+    pub fn from_vec(items: Vec<Operand<E>>) -> OperandList<E>
         ensures { result ≡ items.items }
     {
         OperandList { items }
     }
 
     /// The operands in order.
-    pub fn as_slice(&self) -> &[Operand]
+    pub fn as_slice(&self) -> &[Operand<E>]
         ensures { result.now ≡ self.now }
     {
         self.items.as_slice()
@@ -47,27 +51,43 @@ impl OperandList {
 
 /// The statement of a line.
 #[derive(Drop)]
-pub enum Statement {
+pub enum Statement<E: Drop> {
     Nothing,
     /// An opcode with nothing open.
     Fixed(u8),
     /// One operand.
-    One(Single, Operand),
+    One(Single, Operand<E>),
     /// A branch on bits: the bits, and where it leads.
-    Test(Field, Operand, Operand),
+    Test(Field, Operand<E>, Operand<E>),
     /// Items of a list.
-    Items(ItemSize, OperandList),
+    Items(ItemSize, OperandList<E>),
 }
 
 /// What a statement does in the second pass.
 #[derive(Clone, Copy)]
 pub enum Effect {
     /// The label has this value.
-    Names(Operand),
+    Names(Operand<Outcome>),
     /// This is the next address.
-    Moves(Operand),
+    Moves(Operand<Outcome>),
     /// So many bytes stand here.
     Fills(usize),
+}
+
+/// The operand with its value.
+pub fn valued(
+    alloc: Global,
+    scope: &Scope,
+    operand: &Operand<Formula>,
+) -> Result<Operand<Outcome>, AllocError>
+    ensures { let acts = values scope.now.symbols.now scope.now.address in
+        IfOk result (λ o. o ≡ operand_valued (formula_value acts) operand.now) }
+{
+    let value = formula_value(alloc, scope, &operand.value)?;
+    Ok(Operand {
+        column: operand.column,
+        value,
+    })
 }
 
 /// The bytes that an item takes.
@@ -82,30 +102,41 @@ fn item_size(size: ItemSize) -> usize
 }
 
 /// What a statement with one operand does.
-fn single_effect(single: Single, operand: Operand) -> Effect
-    ensures { result ≡ single_effect single operand }
+fn single_effect(
+    alloc: Global,
+    scope: &Scope,
+    single: Single,
+    operand: &Operand<Formula>,
+) -> Result<Effect, AllocError>
+    ensures { let acts = values scope.now.symbols.now scope.now.address in
+        IfOk result (λ e. e ≡ single_effect single (operand_valued (formula_value acts) operand.now)) }
 {
     match single {
-        Single::Equ => Effect::Names(operand),
-        Single::Org => Effect::Moves(operand),
-        Single::Byte(_) | Single::Port(_) | Single::Branch(_) => Effect::Fills(2),
-        Single::Word(_) => Effect::Fills(3),
-        Single::Small(_) => Effect::Fills(1),
+        Single::Equ => Ok(Effect::Names(valued(alloc, scope, operand)?)),
+        Single::Org => Ok(Effect::Moves(valued(alloc, scope, operand)?)),
+        Single::Byte(_) | Single::Port(_) | Single::Branch(_) => Ok(Effect::Fills(2)),
+        Single::Word(_) => Ok(Effect::Fills(3)),
+        Single::Small(_) => Ok(Effect::Fills(1)),
     }
 }
 
 /// What a statement does.
-pub fn effect_of(statement: &Statement) -> Effect
-    ensures { result ≡ effect_of statement.now }
+pub fn effect_of(
+    alloc: Global,
+    scope: &Scope,
+    statement: &Statement<Formula>,
+) -> Result<Effect, AllocError>
+    ensures { let acts = values scope.now.symbols.now scope.now.address in
+        IfOk result (λ e. e ≡ effect_of (statement_valued (formula_value acts) statement.now)) }
 {
     match statement {
-        Statement::Nothing => Effect::Fills(0),
-        Statement::Fixed(_) => Effect::Fills(1),
-        Statement::One(single, operand) => single_effect(*single, *operand),
-        Statement::Test(_, _, _) => Effect::Fills(2),
+        Statement::Nothing => Ok(Effect::Fills(0)),
+        Statement::Fixed(_) => Ok(Effect::Fills(1)),
+        Statement::One(single, operand) => single_effect(alloc, scope, *single, operand),
+        Statement::Test(_, _, _) => Ok(Effect::Fills(2)),
         Statement::Items(size, list) => {
             let items = list.as_slice();
-            Effect::Fills(item_size(*size) * items.len())
+            Ok(Effect::Fills(item_size(*size) * items.len()))
         }
     }
 }

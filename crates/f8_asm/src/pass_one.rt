@@ -1,116 +1,125 @@
-// The first pass: the tokens of each line, whether they make a statement, and whether a name is given twice.
-ghost use Rattle.std.specs.Prelude.{◌≡◌, ◌≤◌, ◌<◌, ◌+◌, length};
+// The first pass: the tokens of each line, the statement that they make, and whether a name is given twice.
+ghost use Rattle.std.specs.Prelude.{◌≡◌, ◌≤◌, ◌<◌, ◌+◌, length, IfOk};
 ghost use Rattle.f8_asm.specs.Answers.{SaysOfLine, SaysOfText, StepsOfLine, StepsOfText};
+ghost use Rattle.f8_asm.specs.ParsedLines.{names_after, parsed, parse_tokens, parse_line, parse_lines, no_parsing};
+ghost use Rattle.f8_asm.specs.Statements.{label_of};
 ghost use Rattle.text_lines.specs.Lines.{lines};
-ghost use Rattle.f8_asm.specs.PassOne.{statement_checked, check, check_labelled, read_line, read_lines, no_reading};
 
 use crate::answers::{AsmAnswer, AsmCause};
 use crate::faults::{LineFault, LineStop};
-use crate::grammar::{Scope, column_of};
-use crate::line::Line;
+use crate::grammar::column_of;
+use crate::line::ParsedLine;
 use crate::statements::{behind_label, label_of, statement};
 use crate::symbols::Symbols;
-use crate::text::{fault_in_line, line_tokens};
+use crate::text::{end_of, fault_by, line_tokens};
 use asm_text::{Name, Token};
-use std::alloc::Global;
+use std::alloc::{AllocError, Global};
 use std::marker::Model;
 use text_lines::first_line;
 
-/// Whether tokens make a statement. What names stand for doesn't matter.
-fn check_statement(
-    alloc: Global,
-    symbols: &Symbols,
-    labelled: bool,
-    tokens: &[Token],
-) -> Result<(), LineStop>
-    ensures { SaysOfLine result (statement_checked symbols.now labelled tokens.now) }
+/// The name of a line's label, if it has one.
+fn label_name(alloc: Global, tokens: &[Token]) -> Result<Option<Name>, AllocError>
+    ensures { IfOk result (λ label. label ≡ label_of tokens.now) }
 {
-    let scope = Scope {
-        symbols,
-        address: 0,
-    };
-    statement(alloc, &scope, labelled, tokens)?;
-    Ok(())
+    match label_of(tokens) {
+        Some(name) => Ok(Some(Name::of(alloc, name.as_str().as_bytes())?)),
+        None => Ok(None),
+    }
 }
 
-/// Whether a label is new, and a statement follows it.
-fn check_labelled(
-    alloc: Global,
-    symbols: &mut Symbols,
-    tokens: &[Token],
-    name: &Name,
-) -> Result<(), LineStop>
-    ensures { StepsOfLine result symbols.new (check_labelled symbols.old tokens.now name.now) }
+/// A line of these tokens, if they make a statement.
+#[tactic(auto, unfolding(crate::specs::ParsedLines::parsed))]
+fn parsed(alloc: Global, number: u32, tokens: &[Token]) -> Result<ParsedLine, LineStop>
+    ensures { SaysOfLine result (parsed number tokens.now) }
 {
+    let label = label_name(alloc, tokens)?;
+    let rest = behind_label(tokens);
+    let statement = statement(alloc, label.is_some(), rest)?;
+    Ok(ParsedLine {
+        number,
+        end: end_of(tokens),
+        label,
+        column: column_of(rest),
+        statement,
+    })
+}
+
+/// Gives the name of a line's label, if it has one and that is new.
+fn name_label(alloc: Global, symbols: &mut Symbols, tokens: &[Token]) -> Result<(), LineStop>
+    ensures { StepsOfLine result symbols.new
+        (names_after symbols.old tokens.now (label_of tokens.now)) }
+{
+    let Some(name) = label_of(tokens) else {
+        return Ok(());
+    };
     if symbols.value_of(name).is_some() {
         return Err(LineStop::Fault(LineFault {
             column: column_of(tokens),
             cause: AsmCause::Twice,
         }));
     }
-    check_statement(alloc, symbols, true, behind_label(tokens))?;
     symbols.define(alloc, name, 0)?;
     Ok(())
 }
 
-/// Whether a line makes a statement, and its label is new.
-fn check(alloc: Global, symbols: &mut Symbols, tokens: &[Token]) -> Result<(), LineStop>
-    ensures { StepsOfLine result symbols.new (check symbols.old tokens.now) }
-{
-    match label_of(tokens) {
-        Some(name) => check_labelled(alloc, symbols, tokens, name),
-        None => check_statement(alloc, symbols, false, tokens),
-    }
-}
-
 /// What is known after some lines: the names, without values yet, and the lines.
 #[derive(Drop)]
-pub struct Reading {
+pub struct Parsing {
     symbols: Symbols,
-    lines: Vec<Line>,
+    lines: Vec<ParsedLine>,
 }
 
-impl Model for Reading {
-    ghost use Rattle.f8_asm.specs.PassOne.{Reading};
+impl Model for Parsing {
+    ghost use Rattle.f8_asm.specs.ParsedLines.{Parsing};
 
-    ghost Value = { Reading };
+    ghost Value = { Parsing };
 
-    ghost view = { λ r. record { names = r.symbols; lines = r.lines.items } };
+    ghost view = { λ p. record { names = p.symbols; lines = p.lines.items } };
 }
 
-impl Reading {
+impl Parsing {
     /// Nothing is known before the first line.
-    #[tactic(auto, unfolding(crate::specs::PassOne::no_reading))]
-    fn new(alloc: Global) -> Reading
-        ensures { result ≡ no_reading }
+    #[tactic(auto, unfolding(crate::specs::ParsedLines::no_parsing))]
+    fn new(alloc: Global) -> Parsing
+        ensures { result ≡ no_parsing }
     {
-        Reading {
+        Parsing {
             symbols: Symbols::new(alloc),
             lines: Vec::new(alloc),
         }
     }
 
-    /// Reads one line more.
-    #[tactic(auto, unfolding(crate::specs::PassOne::read_line))]
-    fn read_line(&mut self, alloc: Global, number: u32, bytes: &[u8]) -> Result<(), AsmAnswer>
-        requires { length bytes.now ≤ 16777216 }
-        ensures { StepsOfText result self.new (read_line number self.old bytes.now) }
+    /// Takes the tokens of one line more.
+    fn take(&mut self, alloc: Global, number: u32, tokens: &[Token]) -> Result<(), LineStop>
+        ensures { StepsOfLine result self.new (parse_tokens number self.old tokens.now) }
     {
+        name_label(alloc, &mut self.symbols, tokens)?;
+        let line = parsed(alloc, number, tokens)?;
+        self.lines.push(line)?;
+        Ok(())
+    }
+
+    /// Reads one line more.
+    #[tactic(auto, unfolding(crate::specs::ParsedLines::parse_line))]
+    fn read_line(&mut self, alloc: Global, bytes: &[u8]) -> Result<(), AsmAnswer>
+        requires line { length bytes.now ≤ 16777216 }
+        requires lines { length self.old.lines ≤ 16777216 }
+        ensures { StepsOfText result self.new (parse_line self.old bytes.now) }
+    {
+        let number = self.lines.len() as u32 + 1;
         let tokens = line_tokens(alloc, number, bytes)?;
-        match check(alloc, &mut self.symbols, tokens.as_slice()) {
-            Ok(()) => {
-                self.lines.push(Line { number, tokens })?;
-                Ok(())
-            }
+        let tokens = tokens.as_slice();
+        match self.take(alloc, number, tokens) {
+            Ok(()) => Ok(()),
             Err(LineStop::Fault(fault)) => {
-                Err(AsmAnswer::Fault(fault_in_line(number, tokens.as_slice(), fault)))
+                Err(AsmAnswer::Fault(fault_by(number, end_of(tokens), fault)))
             }
             Err(LineStop::Memory) => Err(AsmAnswer::Memory),
         }
     }
 
     /// The lines.
-    pub fn into_lines(self) -> Vec<Line>
+    pub fn into_lines(self) -> Vec<ParsedLine>
         ensures { result.items ≡ self.lines }
     {
         self.lines
@@ -118,18 +127,16 @@ impl Reading {
 }
 
 /// The lines of a text, if each makes a statement and no name is given twice.
-pub fn read_lines(alloc: Global, text: &[u8]) -> Result<Reading, AsmAnswer>
+pub fn parse_lines(alloc: Global, text: &[u8]) -> Result<Parsing, AsmAnswer>
     requires { length text.now ≤ 16777216 }
-    ensures { SaysOfText result (read_lines 1 no_reading (lines text.now)) }
+    ensures { SaysOfText result (parse_lines no_parsing (lines text.now)) }
 {
-    let mut reading = Reading::new(alloc);
+    let mut parsing = Parsing::new(alloc);
     let mut rest = text;
-    let mut number = 1u32;
     while !rest.is_empty() {
         let (line, behind) = first_line(rest);
-        reading.read_line(alloc, number, line)?;
+        parsing.read_line(alloc, line)?;
         rest = behind;
-        number += 1;
     }
-    Ok(reading)
+    Ok(parsing)
 }

@@ -1,19 +1,19 @@
 // The second pass: the address of each line, the values of names, and which addresses are filled.
 ghost use Rattle.std.specs.Prelude.{◌≡◌, ◌≤◌, ◌+◌, IfOk, OnOk, option_copied};
 ghost use Rattle.f8_asm.specs.Answers.{SaysOfText, StepsOfLine, StepsOfText};
-ghost use Rattle.f8_asm.specs.PassTwo.{is_inside, fits, with_label, layout_filled, layout_after, settle, place, place_lines, no_layout};
+ghost use Rattle.f8_asm.specs.ParsedLines.{settle_parsed, place_parsed, place_all_parsed};
+ghost use Rattle.f8_asm.specs.PassTwo.{is_inside, fits, with_label, layout_filled, layout_after, no_layout};
 
 use crate::answers::{AsmAnswer, AsmCause, Room};
 use crate::faults::{LineFault, LineStop};
-use crate::grammar::{Scope, column_of};
+use crate::formulas::Scope;
 use crate::judging::{operand_value, unsigned_value};
-use crate::line::{Line, PlacedLine};
+use crate::line::{ParsedLine, PlacedLine};
 use crate::marks::{is_free, mark, no_marks};
 use crate::operands::{Effect, effect_of};
-use crate::statements::{behind_label, label_of, statement};
 use crate::symbols::Symbols;
-use crate::text::fault_in_line;
-use asm_text::{Name, Token};
+use crate::text::fault_by;
+use asm_text::Name;
 use std::alloc::{AllocError, Global};
 use std::marker::Model;
 
@@ -39,8 +39,9 @@ pub struct Layout {
 impl Model for Layout {
     ghost use Rattle.std.specs.Prelude.{◌≡◌, ◌≤◌, length};
     ghost use Rattle.f8_asm.specs.PassTwo.{Layout};
+    ghost use Rattle.f8_asm.specs.declared.line.PlacedLine.{PlacedLine};
 
-    ghost Value = { Layout };
+    ghost Value = { Layout PlacedLine };
 
     ghost view = { λ s. record { here = s.here; names = s.symbols; filled = s.filled.items; placed = s.placed.items } };
 
@@ -134,34 +135,32 @@ impl Layout {
         }
     }
 
-    /// Does what the tokens of a line say.
-    #[tactic(auto, unfolding(crate::specs::PassTwo::settle))]
-    fn settle(&mut self, alloc: Global, room: Room, tokens: &[Token]) -> Result<(), LineStop>
-        ensures { StepsOfLine result self.new (settle room self.old tokens.now) }
+    /// Does what a line says.
+    #[tactic(auto, unfolding(crate::specs::ParsedLines::settle_parsed))]
+    fn settle(&mut self, alloc: Global, room: Room, line: &ParsedLine) -> Result<(), LineStop>
+        ensures { StepsOfLine result self.new (settle_parsed room self.old line.now) }
     {
-        let label = label_of(tokens);
-        let rest = behind_label(tokens);
         let scope = Scope {
             symbols: &self.symbols,
             address: self.here,
         };
-        let statement = statement(alloc, &scope, label.is_some(), rest)?;
-        self.layout_after(alloc, room, label, column_of(rest), effect_of(&statement))
+        let effect = effect_of(alloc, &scope, &line.statement)?;
+        self.layout_after(alloc, room, line.label.as_ref(), line.column, effect)
     }
 
     /// Places one line more.
-    #[tactic(auto, unfolding(crate::specs::PassTwo::place))]
-    fn place(&mut self, alloc: Global, room: Room, line: Line) -> Result<(), AsmAnswer>
-        ensures { StepsOfText result self.new (place room self.old line) }
+    #[tactic(auto, unfolding(crate::specs::ParsedLines::place_parsed))]
+    fn place(&mut self, alloc: Global, room: Room, line: ParsedLine) -> Result<(), AsmAnswer>
+        ensures { StepsOfText result self.new (place_parsed room self.old line) }
     {
         let address = self.here;
-        match self.settle(alloc, room, line.tokens.as_slice()) {
+        match self.settle(alloc, room, &line) {
             Ok(()) => {
                 self.placed.push(PlacedLine { address, line })?;
                 Ok(())
             }
             Err(LineStop::Fault(fault)) => {
-                Err(AsmAnswer::Fault(fault_in_line(line.number, line.tokens.as_slice(), fault)))
+                Err(AsmAnswer::Fault(fault_by(line.number, line.end, fault)))
             }
             Err(LineStop::Memory) => Err(AsmAnswer::Memory),
         }
@@ -190,8 +189,12 @@ impl Layout {
 }
 
 /// The layout of lines, if all bytes lie in the room and on addresses of their own.
-pub fn place_lines(alloc: Global, room: Room, lines: Vec<Line>) -> Result<Layout, AsmAnswer>
-    ensures { SaysOfText result (place_lines room (no_layout 65536) lines.items) }
+pub fn place_lines(
+    alloc: Global,
+    room: Room,
+    lines: Vec<ParsedLine>,
+) -> Result<Layout, AsmAnswer>
+    ensures { SaysOfText result (place_all_parsed room (no_layout 65536) lines.items) }
 {
     let mut layout = Layout::new(alloc)?;
     for line in lines {

@@ -1,17 +1,18 @@
 // The reader of a line's label and statement.
 ghost use Rattle.std.specs.Prelude.{◌≡◌, ◌<◌, ◌≤◌, length, drop, IfSome, IfOk, option_copied};
 ghost use Rattle.f8_spec.specs.Instructions.{InRange};
-ghost use Rattle.f8_asm.specs.Answers.{SaysOfLine};
-ghost use Rattle.f8_asm.specs.Evaluation.{values};
+ghost use Rattle.f8_asm.specs.Answers.{SaysOfLine, SaysOfRead};
 ghost use Rattle.f8_asm.specs.Fields.{limit_of};
-ghost use Rattle.f8_asm.specs.Grammar.{reading_of, ReadsSome};
+ghost use Rattle.f8_asm.specs.Formulas.{formulas};
+ghost use Rattle.f8_asm.specs.Grammar.{ReadsSome};
 ghost use Rattle.f8_asm.specs.Statements.{operand_at, comma, seen_rest, done, register_at, instruction_of, one, two, register_number_at, register_operand, accumulator, load_from, load, items, item_list, operands, wants_label, no_mnemonic, statement_of, statement, begins_colon, label_of, behind_label};
 ghost use Rattle.f8_asm.specs.Words.{HasRoom, shape_of};
 
 use crate::answers::AsmCause;
 use crate::faults::{LineFault, LineStop, form};
 use crate::fields::{Field, op_with};
-use crate::grammar::{Scope, column_of, expression};
+use crate::formulas::Formula;
+use crate::grammar::{column_of, expression};
 use crate::operands::{Operand, OperandList, Statement};
 use crate::registers::{Register, is_accumulator, number_of, pair_op, register_of};
 use crate::words::{ItemSize, Shape, Single, is_reserved, shape_of};
@@ -21,17 +22,16 @@ use f8_spec::Op;
 use std::alloc::Global;
 
 /// An expression with the column of its first token, and the tokens behind it.
-fn operand_at<'a>(scope: &Scope, tokens: &'a [Token]) -> Result<(Operand, &'a [Token]), LineFault>
-    ensures value { let acts = values scope.now.symbols.now scope.now.address in
-        reading_of result ≡ operand_at acts tokens.now }
+fn operand_at(alloc: Global, tokens: &[Token]) -> Result<(Operand<Formula>, &[Token]), LineStop>
+    ensures value { SaysOfRead result (operand_at formulas tokens.now) }
     ensures consumes { ReadsSome (length tokens.now) result }
 {
     let Some((first, _)) = tokens.split_first() else {
-        return Err(form(None));
+        return Err(LineStop::Fault(form(None)));
     };
-    let (outcome, behind) = expression(scope, tokens)?;
+    let (value, behind) = expression(alloc, tokens)?;
     let column = first.column;
-    Ok((Operand { column, outcome }, behind))
+    Ok((Operand { column, value }, behind))
 }
 
 /// The tokens behind a comma.
@@ -49,7 +49,10 @@ fn comma(tokens: &[Token]) -> Result<&[Token], LineFault>
 }
 
 /// A statement with no token behind it.
-fn done(statement: Statement, tokens: &[Token]) -> Result<Statement, LineFault>
+fn done(
+    statement: Statement<Formula>,
+    tokens: &[Token],
+) -> Result<Statement<Formula>, LineFault>
     ensures { result ≡ done statement tokens.now }
 {
     match tokens.split_first() {
@@ -80,7 +83,7 @@ fn register_at(tokens: &[Token]) -> Option<Register>
 }
 
 /// An instruction, if there is one, behind whose first token nothing may stand.
-fn instruction_of(op: Option<Op>, tokens: &[Token]) -> Result<Statement, LineFault>
+fn instruction_of(op: Option<Op>, tokens: &[Token]) -> Result<Statement<Formula>, LineFault>
     requires { IfSome op InRange }
     ensures { result ≡ instruction_of op tokens.now }
 {
@@ -90,24 +93,31 @@ fn instruction_of(op: Option<Op>, tokens: &[Token]) -> Result<Statement, LineFau
     }
 }
 
-/// One expression.
-fn one(scope: &Scope, single: Single, tokens: &[Token]) -> Result<Statement, LineFault>
-    ensures { let acts = values scope.now.symbols.now scope.now.address in
-        result ≡ one acts single tokens.now }
+/// An answer that needs no memory.
+fn without_memory(
+    answer: Result<Statement<Formula>, LineFault>,
+) -> Result<Statement<Formula>, LineStop>
+    ensures { SaysOfLine result answer }
 {
-    let (operand, rest) = operand_at(scope, tokens)?;
-    done(Statement::One(single, operand), rest)
+    Ok(answer?)
+}
+
+/// One expression.
+fn one(alloc: Global, single: Single, tokens: &[Token]) -> Result<Statement<Formula>, LineStop>
+    ensures { SaysOfLine result (one formulas single tokens.now) }
+{
+    let (operand, rest) = operand_at(alloc, tokens)?;
+    without_memory(done(Statement::One(single, operand), rest))
 }
 
 /// Two expressions.
-fn two(scope: &Scope, field: Field, tokens: &[Token]) -> Result<Statement, LineFault>
-    ensures { let acts = values scope.now.symbols.now scope.now.address in
-        result ≡ two acts field tokens.now }
+fn two(alloc: Global, field: Field, tokens: &[Token]) -> Result<Statement<Formula>, LineStop>
+    ensures { SaysOfLine result (two formulas field tokens.now) }
 {
-    let (bits, rest) = operand_at(scope, tokens)?;
+    let (bits, rest) = operand_at(alloc, tokens)?;
     let rest = comma(rest)?;
-    let (place, rest) = operand_at(scope, rest)?;
-    done(Statement::Test(field, bits, place), rest)
+    let (place, rest) = operand_at(alloc, rest)?;
+    without_memory(done(Statement::Test(field, bits, place), rest))
 }
 
 /// The register by number that the first token names.
@@ -119,14 +129,18 @@ fn register_number_at(tokens: &[Token]) -> Option<u8>
 }
 
 /// A register, by a word or by an expression.
-fn register_operand(scope: &Scope, field: Field, tokens: &[Token]) -> Result<Statement, LineFault>
+fn register_operand(
+    alloc: Global,
+    field: Field,
+    tokens: &[Token],
+) -> Result<Statement<Formula>, LineStop>
     requires { 15 ≤ limit_of field }
-    ensures { let acts = values scope.now.symbols.now scope.now.address in
-        result ≡ register_operand acts field tokens.now (register_number_at tokens.now) }
+    ensures { SaysOfLine result
+        (register_operand formulas field tokens.now (register_number_at tokens.now)) }
 {
     match register_number_at(tokens) {
-        Some(number) => instruction_of(op_with(field, number), tokens),
-        None => one(scope, Single::Small(field), tokens),
+        Some(number) => without_memory(instruction_of(op_with(field, number), tokens)),
+        None => one(alloc, Single::Small(field), tokens),
     }
 }
 
@@ -141,48 +155,48 @@ fn accumulator(tokens: &[Token]) -> Result<&[Token], LineFault>
 }
 
 /// What `LR` moves into a register.
-fn load_from(scope: &Scope, to: Register, tokens: &[Token]) -> Result<Statement, LineFault>
-    ensures { let acts = values scope.now.symbols.now scope.now.address in
-        result ≡ load_from acts to tokens.now (register_at tokens.now) }
+fn load_from(
+    alloc: Global,
+    to: Register,
+    tokens: &[Token],
+) -> Result<Statement<Formula>, LineStop>
+    ensures { SaysOfLine result (load_from formulas to tokens.now (register_at tokens.now)) }
 {
     match register_at(tokens) {
-        Some(from) => instruction_of(pair_op(to, from), tokens),
-        None if is_accumulator(to) => one(scope, Single::Small(Field::LrAR), tokens),
-        None => Err(form(column_of(tokens))),
+        Some(from) => without_memory(instruction_of(pair_op(to, from), tokens)),
+        None if is_accumulator(to) => one(alloc, Single::Small(Field::LrAR), tokens),
+        None => Err(LineStop::Fault(form(column_of(tokens)))),
     }
 }
 
 /// `LR` from the accumulator into a register that an expression gives.
-fn store(scope: &Scope, tokens: &[Token]) -> Result<Statement, LineFault>
-    ensures { let acts = values scope.now.symbols.now scope.now.address in
-        result ≡ load acts tokens.now None }
+fn store(alloc: Global, tokens: &[Token]) -> Result<Statement<Formula>, LineStop>
+    ensures { SaysOfLine result (load formulas tokens.now None) }
 {
-    let (operand, rest) = operand_at(scope, tokens)?;
+    let (operand, rest) = operand_at(alloc, tokens)?;
     let rest = comma(rest)?;
     let rest = accumulator(rest)?;
-    done(Statement::One(Single::Small(Field::LrRA), operand), rest)
+    without_memory(done(Statement::One(Single::Small(Field::LrRA), operand), rest))
 }
 
 /// `LR` between two registers.
-fn load(scope: &Scope, tokens: &[Token]) -> Result<Statement, LineFault>
-    ensures { let acts = values scope.now.symbols.now scope.now.address in
-        result ≡ load acts tokens.now (register_at tokens.now) }
+fn load(alloc: Global, tokens: &[Token]) -> Result<Statement<Formula>, LineStop>
+    ensures { SaysOfLine result (load formulas tokens.now (register_at tokens.now)) }
 {
     match register_at(tokens) {
-        Some(to) => load_from(scope, to, comma(behind(tokens))?),
-        None => store(scope, tokens),
+        Some(to) => load_from(alloc, to, comma(behind(tokens))?),
+        None => store(alloc, tokens),
     }
 }
 
 /// Expressions with commas between them, at least one.
-fn items(alloc: Global, scope: &Scope, tokens: &[Token]) -> Result<OperandList, LineStop>
-    ensures { let acts = values scope.now.symbols.now scope.now.address in
-        SaysOfLine result (items acts (length tokens.now) tokens.now) }
+fn items(alloc: Global, tokens: &[Token]) -> Result<OperandList<Formula>, LineStop>
+    ensures { SaysOfLine result (items formulas (length tokens.now) tokens.now) }
 {
     let mut found = Vec::new(alloc);
     let mut rest = tokens;
     loop {
-        let (operand, behind) = operand_at(scope, rest)?;
+        let (operand, behind) = operand_at(alloc, rest)?;
         found.push(operand)?;
         if behind.is_empty() {
             return Ok(OperandList::from_vec(found));
@@ -194,43 +208,28 @@ fn items(alloc: Global, scope: &Scope, tokens: &[Token]) -> Result<OperandList, 
 /// A list of items.
 fn item_list(
     alloc: Global,
-    scope: &Scope,
     size: ItemSize,
     tokens: &[Token],
-) -> Result<Statement, LineStop>
-    ensures { let acts = values scope.now.symbols.now scope.now.address in
-        SaysOfLine result (item_list acts size tokens.now) }
+) -> Result<Statement<Formula>, LineStop>
+    ensures { SaysOfLine result (item_list formulas size tokens.now) }
 {
-    let list = items(alloc, scope, tokens)?;
+    let list = items(alloc, tokens)?;
     Ok(Statement::Items(size, list))
-}
-
-/// An answer that needs no memory.
-fn without_memory(answer: Result<Statement, LineFault>) -> Result<Statement, LineStop>
-    ensures { SaysOfLine result answer }
-{
-    Ok(answer?)
 }
 
 /// What goes behind a mnemonic or directive.
 #[tactic(auto, unfolding(crate::specs::Statements::operands))]
-fn operands(
-    alloc: Global,
-    scope: &Scope,
-    shape: Shape,
-    tokens: &[Token],
-) -> Result<Statement, LineStop>
+fn operands(alloc: Global, shape: Shape, tokens: &[Token]) -> Result<Statement<Formula>, LineStop>
     requires { HasRoom shape }
-    ensures { let acts = values scope.now.symbols.now scope.now.address in
-        SaysOfLine result (operands acts shape tokens.now) }
+    ensures { SaysOfLine result (operands formulas shape tokens.now) }
 {
     match shape {
         Shape::Plain(code) => without_memory(done(Statement::Fixed(code), tokens)),
-        Shape::One(single) => without_memory(one(scope, single, tokens)),
-        Shape::Register(field) => without_memory(register_operand(scope, field, tokens)),
-        Shape::Test(field) => without_memory(two(scope, field, tokens)),
-        Shape::Load => without_memory(load(scope, tokens)),
-        Shape::Items(size) => item_list(alloc, scope, size, tokens),
+        Shape::One(single) => one(alloc, single, tokens),
+        Shape::Register(field) => register_operand(alloc, field, tokens),
+        Shape::Test(field) => two(alloc, field, tokens),
+        Shape::Load => load(alloc, tokens),
+        Shape::Items(size) => item_list(alloc, size, tokens),
     }
 }
 
@@ -257,19 +256,17 @@ fn no_mnemonic(column: u32, name: &Name) -> LineFault
 /// The statement that a name begins.
 fn statement_of(
     alloc: Global,
-    scope: &Scope,
     labelled: bool,
     column: u32,
     name: &Name,
     tokens: &[Token],
-) -> Result<Statement, LineStop>
-    ensures { let acts = values scope.now.symbols.now scope.now.address in
-        SaysOfLine result (statement_of acts labelled column name.now tokens.now
-        (shape_of name.now)) }
+) -> Result<Statement<Formula>, LineStop>
+    ensures { SaysOfLine result
+        (statement_of formulas labelled column name.now tokens.now (shape_of name.now)) }
 {
     match shape_of(name.as_str().as_bytes()) {
         Some(shape) if wants_label(shape) && !labelled => Err(LineStop::Fault(form(Some(column)))),
-        Some(shape) => operands(alloc, scope, shape, tokens),
+        Some(shape) => operands(alloc, shape, tokens),
         None => Err(LineStop::Fault(no_mnemonic(column, name))),
     }
 }
@@ -278,18 +275,16 @@ fn statement_of(
 #[tactic(auto, unfolding(crate::specs::Statements::statement))]
 pub fn statement(
     alloc: Global,
-    scope: &Scope,
     labelled: bool,
     tokens: &[Token],
-) -> Result<Statement, LineStop>
-    ensures { let acts = values scope.now.symbols.now scope.now.address in
-        SaysOfLine result (statement acts labelled tokens.now) }
+) -> Result<Statement<Formula>, LineStop>
+    ensures { SaysOfLine result (statement formulas labelled tokens.now) }
 {
     let Some((first, behind)) = tokens.split_first() else {
         return Ok(Statement::Nothing);
     };
     match &first.kind {
-        TokenKind::Name(name) => statement_of(alloc, scope, labelled, first.column, name, behind),
+        TokenKind::Name(name) => statement_of(alloc, labelled, first.column, name, behind),
         _ => Err(LineStop::Fault(form(Some(first.column)))),
     }
 }

@@ -1,7 +1,7 @@
 // The tokens of a line.
 ghost use Rattle.std.specs.Prelude.{◌≡◌, ◌≤◌, length};
 ghost use Rattle.f8_asm.specs.Answers.{SaysOfText};
-ghost use Rattle.f8_asm.specs.PassOne.{end_of, line_tokens, fault_in_line};
+ghost use Rattle.f8_asm.specs.PassOne.{end_of, line_tokens, fault_by};
 
 use crate::answers::{AsmAnswer, AsmCause, AsmFault};
 use crate::faults::LineFault;
@@ -9,7 +9,7 @@ use asm_text::{Token, TokenFault, TokenList, tokens};
 use std::alloc::Global;
 
 /// The column past the last token.
-fn end_of(tokens: &[Token]) -> u32
+pub fn end_of(tokens: &[Token]) -> u32
     ensures { result ≡ end_of tokens.now }
 {
     match tokens.last() {
@@ -18,17 +18,13 @@ fn end_of(tokens: &[Token]) -> u32
     }
 }
 
-/// A line's fault with the line's number. Where no token is left it stands past the last.
-pub fn fault_in_line(number: u32, tokens: &[Token], fault: LineFault) -> AsmFault
-    ensures { result ≡ fault_in_line number tokens.now fault }
+/// A line's fault with the line's number. Where no token is left it stands past the last, where the line ends.
+pub fn fault_by(number: u32, end: u32, fault: LineFault) -> AsmFault
+    ensures { result ≡ fault_by number end fault }
 {
-    let column = match fault.column {
-        Some(column) => column,
-        None => end_of(tokens),
-    };
     AsmFault {
         line: number,
-        column,
+        column: fault.column.unwrap_or(end),
         cause: fault.cause,
     }
 }

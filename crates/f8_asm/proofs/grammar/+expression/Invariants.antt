@@ -1,5 +1,5 @@
 use Rattle.std.proofs.Common.{◌+◌, ◌-◌, ◌*◌, ◌<◌, length}
-use Rattle.f8_asm.specs.Evaluation.{values}
+use Rattle.f8_asm.specs.Formulas.{formulas}
 use Rattle.f8_asm.specs.Grammar.{operand, level}
 use Rattle.f8_asm.proofs.Chain.{ChainOn}
 use Rattle.f8_asm.proofs.grammar.+expression.Given as goal
@@ -23,9 +23,9 @@ decreases-level l = 16 * l.depth + 2 + l.strength
 -- what is still read makes the whole
 abbrev pub invariant-level-loop-first : goal.invariant-level-loop-first
 invariant-level-loop-first l =
-    let acts = values l.scope.symbols.now l.scope.address in
     record {
-      on : ChainOn acts l.strength (level acts (operand acts l.depth) (l.strength - 1)) l.left l.rest (level acts (operand acts l.depth) l.strength l.tokens);
+      on : ChainOn formulas l.strength (level formulas (operand formulas l.depth) (l.strength - 1)) l.left l.rest
+          (level formulas (operand formulas l.depth) l.strength l.tokens);
       less : length l.rest < length l.tokens;
     }
 
