@@ -77,13 +77,14 @@ fn answer_words<S: Store, K: Sink>(
 /// - `gen N`: the rack is fitted for a large cartridge that is generated from the number, and runs for 60 frames. Its run is summed up.
 ///
 /// Each file is read before the next is asked for: the description, then the source of each chip that has one, then the script or the
-/// certificate. The rack is
-/// looked at after all of them, and then its chips are fitted. The first refusal ends the call with its one line. Each line is one put.
+/// certificate. The rack is looked at after all of them, and then its chips are fitted. The first refusal ends the call with its one line.
+/// Each line is one put.
 ///
 /// Where the store tells its files and has those that are asked for, what is written is exactly what the flat machine's run says, with `play`
 /// over the bytes of the fitted chips, up to the first bus step that isn't served by one chip at the flat machine's address (clause `says`,
 /// and by the files alone clause `complete`). Before the run a line tells the verdict on the description; where that is `whole`, and no chip
-/// has other bytes in its ROM than are described, the status is 0 for every script, unless the sink failed. The status is
+/// has other bytes in its ROM than are described, the status is 0 for every script, unless the sink failed or memory was wanting. The
+/// status is
 ///
 /// - 0 where all is done,
 /// - 1 where the words are none of these,
