@@ -1,5 +1,5 @@
 -- The value of an expression is that of its formula.
-use Rattle.std.proofs.Common.{◌≡◌, ℕ, suc, ◌-◌, List, [], ◌∷◌, ◌++◌, length, take, Some, Bool, Ok, refl, sym, ◌∙◌, ap}
+use Rattle.std.proofs.Common.{◌≡◌, ◌-◌, List, [], ◌∷◌, ◌++◌, length, take, Some, Bool, Ok, refl, sym, ◌∙◌, ap}
 use Rattle.std.proofs.Common.{append_assoc, append-nil, length-append, arith}
 use Rattle.std.specs.Prelude.{slice_get}
 use Rattle.asm_text.specs.declared.answers.Token.{Token}
@@ -9,7 +9,7 @@ use Rattle.f8_asm.specs.declared.operands.Statement.{Statement}
 use Rattle.f8_asm.specs.declared.values.Operator.{Operator}
 use Rattle.f8_asm.specs.declared.values.Outcome.{Outcome}
 use Rattle.f8_asm.specs.declared.values.Prefix.{Prefix}
-use Rattle.f8_asm.specs.Formulas.{formulas, last_on, but_last, last_changed, last_two_joined, stack_after, stack_behind, top_of, formula_value}
+use Rattle.f8_asm.specs.Formulas.{formulas, last_on, but_last, stack_after, stack_behind, formula_value}
 use Rattle.f8_asm.specs.Grammar.{Actions}
 use Rattle.f8_asm.specs.Statements.{statement, statement_valued}
 use Rattle.f8_asm.proofs.Alike.{Alike, alike_value}

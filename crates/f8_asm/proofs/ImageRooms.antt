@@ -21,7 +21,7 @@ use Rattle.f8_asm.specs.Image.{Picture, ascending, image_in, image_of, LiesIn, A
 use Rattle.f8_asm.specs.Judging.{operand_value, unsigned_value}
 use Rattle.text_lines.specs.Lines.{lines}
 use Rattle.f8_asm.specs.Marks.{is_free}
-use Rattle.f8_asm.specs.PassOne.{in_line, no_reading, read_lines, Reading}
+use Rattle.f8_asm.specs.PassOne.{in_line, no_reading, read_lines}
 use Rattle.f8_asm.specs.PassTwo.{Layout, no_layout, is_inside, with_label, fits, layout_after, settle, place, place_lines}
 use Rattle.f8_asm.specs.PassThree.{no_bytes, table_with, line_bytes, emit, emit_lines}
 use Rattle.f8_asm.specs.Statements.{statement, label_of, behind_label, effect_of}

@@ -5,7 +5,6 @@ use Rattle.std.specs.Prelude.{if◌then◌else◌}
 use Rattle.asm_text.specs.declared.answers.Token.{Token}
 use Rattle.f8_asm.specs.declared.answers.AsmAnswer.{AsmAnswer}
 use Rattle.f8_asm.specs.declared.answers.AsmAnswer.TheVariants as answer
-use Rattle.f8_asm.specs.declared.answers.AsmFault.{AsmFault}
 use Rattle.f8_asm.specs.declared.answers.Room.{Room}
 use Rattle.f8_asm.specs.declared.faults.LineFault.{LineFault}
 use Rattle.f8_asm.specs.declared.formulas.Step.{Step}
@@ -16,7 +15,6 @@ use Rattle.f8_asm.specs.declared.operands.Effect.TheVariants.{Names, Moves, Fill
 use Rattle.f8_asm.specs.declared.operands.Statement.{Statement}
 use Rattle.f8_asm.specs.declared.values.Outcome.{Outcome}
 use Rattle.f8_asm.specs.Answers.{◌>>=◌, SaysOfText}
-use Rattle.f8_asm.specs.Bytes.{bytes_of}
 use Rattle.f8_asm.specs.Evaluation.{values}
 use Rattle.f8_asm.specs.Formulas.{formulas, formula_value}
 use Rattle.f8_asm.specs.Grammar.{column_of}
@@ -24,12 +22,11 @@ use Rattle.f8_asm.specs.Image.{Picture, ascending, image_in, image_of}
 use Rattle.f8_asm.specs.Judging.{operand_value, unsigned_value}
 use Rattle.f8_asm.specs.Names.{value_of, with_name}
 use Rattle.f8_asm.specs.ParsedLines.{line_of, parsed, names_after, Parsing, parse_tokens, parse_numbered, parse_line, parse_lines, no_parsing}
-use Rattle.f8_asm.specs.ParsedLines.{statement_with, settle_parsed, place_parsed, place_all_parsed, parsed_bytes, emit_parsed, emit_all_parsed, image_parsed}
+use Rattle.f8_asm.specs.ParsedLines.{settle_parsed, place_parsed, place_all_parsed, parsed_bytes, emit_parsed, emit_all_parsed, image_parsed}
 use Rattle.f8_asm.specs.PassOne.{end_of, in_line, in_line_to, line_tokens, check_with, check, Reading, read_numbered, read_line, read_lines, no_reading}
-use Rattle.f8_asm.specs.PassThree.{no_bytes, table_with, line_bytes, emit, emit_lines}
-use Rattle.f8_asm.specs.PassTwo.{Layout, no_layout, with_label, fits, layout_after, settle, with_placed, place, place_lines}
+use Rattle.f8_asm.specs.PassThree.{no_bytes, line_bytes, emit}
+use Rattle.f8_asm.specs.PassTwo.{Layout, no_layout, with_label, fits, layout_after, settle, place}
 use Rattle.f8_asm.specs.Statements.{statement, statement_valued, label_of, behind_label, effect_of, twice}
-use Rattle.f8_asm.specs.Steps.{steps}
 use Rattle.f8_asm.specs.TokenLines.{Line, PlacedLine}
 use Rattle.text_lines.specs.Lines.{lines}
 use Rattle.f8_asm.proofs.Alike.{read-ok, AlikeBy, Alike, alike_ok, alike_err, alike_self, alike_then, alike_same, AllAlike, none_alike, alike_push, alike_length, alike_each}

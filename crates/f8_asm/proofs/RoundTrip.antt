@@ -12,9 +12,9 @@ use Rattle.f8_asm.specs.Image.{ascending, image_in, image_of, everywhere, bytes_
 use Rattle.text_lines.specs.Lines.{lines}
 use Rattle.f8_asm.specs.Listing.{entries, listing}
 use Rattle.f8_asm.specs.Marks.{no_marks}
-use Rattle.f8_asm.specs.PassOne.{read_line, read_lines, no_reading}
-use Rattle.f8_asm.specs.PassTwo.{no_layout, place, place_lines, settle}
-use Rattle.f8_asm.specs.PassThree.{no_bytes, table_with, line_bytes, emit, emit_lines}
+use Rattle.f8_asm.specs.PassOne.{read_line, no_reading}
+use Rattle.f8_asm.specs.PassTwo.{no_layout, place, settle}
+use Rattle.f8_asm.specs.PassThree.{no_bytes, table_with, line_bytes, emit}
 use Rattle.f8_asm.specs.Steps.{steps}
 use Rattle.f8_asm.proofs.LineTokens.{some_utf8}
 use Rattle.f8_asm.proofs.ListedBytes.{all_open, numbers_open}

@@ -13,9 +13,9 @@ use Rattle.text_lines.specs.Lines.{lines}
 use Rattle.f8_asm.specs.Marks.{no_marks}
 use Rattle.f8_asm.specs.PassOne.{tokens_in, line_tokens, read_line, read_lines, Reading, no_reading}
 use Rattle.f8_asm.specs.PassTwo.{no_layout, settle, place, place_lines}
-use Rattle.f8_asm.specs.PassThree.{no_bytes, line_bytes, emit, emit_lines}
+use Rattle.f8_asm.specs.PassThree.{no_bytes, line_bytes, emit}
 use Rattle.f8_asm.specs.Steps.{steps}
-use Rattle.f8_asm.specs.TokenLines.{Line, PlacedLine}
+use Rattle.f8_asm.specs.TokenLines.{Line}
 use Rattle.f8_asm.proofs.LineTokens.{some_utf8}
 use Rattle.f8_asm.proofs.ListedBytes.{numbers_open}
 use Rattle.f8_asm.proofs.Steps.{steps_end, steps_more}

@@ -1,5 +1,5 @@
 -- Expressions as the steps to their values: each operand stands before what is done with it.
-use Rattle.std.specs.Prelude.{ℕ, ◌-◌, List, [], ◌∷◌, ◌++◌, length, take, slice_get, Option, Some, None}
+use Rattle.std.specs.Prelude.{◌-◌, List, [], ◌∷◌, ◌++◌, length, take, slice_get, Option, Some, None}
 use Rattle.f8_asm.specs.declared.formulas.Step.{Step}
 use Rattle.f8_asm.specs.declared.formulas.Step.TheVariants.{Number, Name, Here, Before, Between}
 use Rattle.f8_asm.specs.declared.values.Outcome.{Outcome}

@@ -1,5 +1,5 @@
 -- The three passes over lines of which each was read once. They give what the passes over tokens give.
-use Rattle.std.specs.Prelude.{◌≡◌, ℕ, ℤ, pos, ◌+◌, List, [], ◌∷◌, ◌++◌, length, Option, Some, None, is_some, Result, Ok, Err, if◌then◌else◌}
+use Rattle.std.specs.Prelude.{ℕ, ℤ, pos, ◌+◌, List, [], ◌∷◌, ◌++◌, length, Option, Some, None, is_some, Result, Ok, Err, if◌then◌else◌}
 use Rattle.asm_text.specs.declared.answers.Token.{Token}
 use Rattle.f8_asm.specs.declared.answers.AsmFault.{AsmFault}
 use Rattle.f8_asm.specs.declared.answers.Room.{Room}

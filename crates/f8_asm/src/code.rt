@@ -94,11 +94,7 @@ fn test_bytes(
 }
 
 /// An item of a list.
-fn item_bytes(
-    alloc: Global,
-    size: ItemSize,
-    operand: Operand<Outcome>,
-) -> Result<Vec<u8>, LineStop>
+fn item_bytes(alloc: Global, size: ItemSize, operand: Operand<Outcome>) -> Result<Vec<u8>, LineStop>
     ensures { SaysOfBytes result (item_bytes size operand) }
 {
     match size {

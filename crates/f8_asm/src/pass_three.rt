@@ -16,11 +16,7 @@ use std::alloc::Global;
 
 /// The bytes of a line.
 #[tactic(auto, unfolding(crate::specs::ParsedLines::parsed_bytes))]
-fn line_bytes(
-    alloc: Global,
-    symbols: &Symbols,
-    placed: &PlacedLine,
-) -> Result<Vec<u8>, LineStop>
+fn line_bytes(alloc: Global, symbols: &Symbols, placed: &PlacedLine) -> Result<Vec<u8>, LineStop>
     ensures { SaysOfBytes result (parsed_bytes symbols.now placed.now) }
 {
     let scope = Scope {

@@ -189,11 +189,7 @@ impl Layout {
 }
 
 /// The layout of lines, if all bytes lie in the room and on addresses of their own.
-pub fn place_lines(
-    alloc: Global,
-    room: Room,
-    lines: Vec<ParsedLine>,
-) -> Result<Layout, AsmAnswer>
+pub fn place_lines(alloc: Global, room: Room, lines: Vec<ParsedLine>) -> Result<Layout, AsmAnswer>
     ensures { SaysOfText result (place_all_parsed room (no_layout 65536) lines.items) }
 {
     let mut layout = Layout::new(alloc)?;

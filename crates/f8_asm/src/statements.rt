@@ -49,10 +49,7 @@ fn comma(tokens: &[Token]) -> Result<&[Token], LineFault>
 }
 
 /// A statement with no token behind it.
-fn done(
-    statement: Statement<Formula>,
-    tokens: &[Token],
-) -> Result<Statement<Formula>, LineFault>
+fn done(statement: Statement<Formula>, tokens: &[Token]) -> Result<Statement<Formula>, LineFault>
     ensures { result ≡ done statement tokens.now }
 {
     match tokens.split_first() {
@@ -155,11 +152,7 @@ fn accumulator(tokens: &[Token]) -> Result<&[Token], LineFault>
 }
 
 /// What `LR` moves into a register.
-fn load_from(
-    alloc: Global,
-    to: Register,
-    tokens: &[Token],
-) -> Result<Statement<Formula>, LineStop>
+fn load_from(alloc: Global, to: Register, tokens: &[Token]) -> Result<Statement<Formula>, LineStop>
     ensures { SaysOfLine result (load_from formulas to tokens.now (register_at tokens.now)) }
 {
     match register_at(tokens) {
