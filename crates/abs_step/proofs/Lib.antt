@@ -36,6 +36,10 @@ pub mod ScriptEnds
 pub mod WorkedMaps
 pub mod TrackedFits
 pub mod WorkedChecks
+pub mod WorkedCartridges
+pub mod WorkedReasons
+pub mod WorkedReads
+pub mod WorkedWhole
 pub mod Reachability
 pub mod KnownNumbers
 pub mod KnownRanges

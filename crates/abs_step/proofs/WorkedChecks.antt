@@ -18,38 +18,38 @@ use Rattle.abs_step.specs.StepView.{next_at}
 -- ---- what is reached
 
 -- the invariants so far, the points whose successors are still to be taken, and an unsafe one with its reason
-record Search : Type 0 where
+pub record Search : Type 0 where
   pub notes : List Invariant
   pub due : List Point
   pub unsafe : Option (Point × ℕ)
 
-abbrev note_at : Point → List Invariant → Option Invariant
+abbrev pub note_at : Point → List Invariant → Option Invariant
 note_at p [] = None
 note_at p (x ∷ xs) = if same_point p x.point then Some x else note_at p xs
 
-abbrev with_note : Invariant → List Invariant → List Invariant
+abbrev pub with_note : Invariant → List Invariant → List Invariant
 with_note x [] = x ∷ []
 with_note x (y ∷ ys) = if same_point x.point y.point then x ∷ ys else y ∷ with_note x ys
 
-abbrev risen : Invariant → Option Invariant → Search → Search
+abbrev pub risen : Invariant → Option Invariant → Search → Search
 risen x None s = record s { notes = x ∷ s.notes; due = x.point ∷ s.due }
 risen x (Some y) s =
     if is_state_below x.state y.state then s
     else record s { notes = with_note (record y { state = joined_state y.state x.state }) s.notes; due = x.point ∷ s.due }
 
-abbrev with_next : Search → Invariant → Search
+abbrev pub with_next : Search → Invariant → Search
 with_next s x = risen x (note_at x.point s.notes) s
 
-abbrev stepped_on : MapView → List ℕ → Invariant → Option ℕ → Search → Search
+abbrev pub stepped_on : MapView → List ℕ → Invariant → Option ℕ → Search → Search
 stepped_on m tracked x (Some number) s = record s { unsafe = Some (x.point, number) }
 stepped_on m tracked x None s = fold with_next s (next_at m tracked x)
 
-abbrev stepped_at : MapView → List ℕ → Option Invariant → Search → Search
+abbrev pub stepped_at : MapView → List ℕ → Option Invariant → Search → Search
 stepped_at m tracked None s = s
 stepped_at m tracked (Some x) s = stepped_on m tracked x (unsafe_reason m tracked x) s
 
 -- so many steps at most, up to the first unsafe invariant
-abbrev searched : MapView → List ℕ → ℕ → Option (Point × ℕ) → List Point → Search → Search
+abbrev pub searched : MapView → List ℕ → ℕ → Option (Point × ℕ) → List Point → Search → Search
 searched m tracked zero unsafe due s = s
 searched m tracked (suc n) (Some u) due s = s
 searched m tracked (suc n) None [] s = s
@@ -57,21 +57,21 @@ searched m tracked (suc n) None (p ∷ due) s =
     let t : Search = stepped_at m tracked (note_at p s.notes) (record s { due = due }) in
     searched m tracked n t.unsafe t.due t
 
-abbrev from_start : MapView → List ℕ → ℕ → Search
+abbrev pub from_start : MapView → List ℕ → ℕ → Search
 from_start m tracked n = searched m tracked n None (start_point ∷ []) (record { notes = start_invariant ∷ []; due = start_point ∷ []; unsafe = None })
 
 -- what is told of it: the points and whether all are free of faults, where nothing is left to do; or the unsafe point
-data Told : Type 0 where
+pub data Told : Type 0 where
   Safe : ℕ → Bool → Told
   Unsafe : ℕ → Option ℕ → ℕ → Told
   Unfinished : Told
 
-abbrev told_of : MapView → Search → Option (Point × ℕ) → List Point → Told
+abbrev pub told_of : MapView → Search → Option (Point × ℕ) → List Point → Told
 told_of m s (Some u) due = Unsafe u.0.at u.0.ret u.1
 told_of m s None [] = Safe (length s.notes) (list_all (is_fault_free m) s.notes)
 told_of m s None (p ∷ due) = Unfinished
 
-abbrev check : MapView → List ℕ → ℕ → Told
+abbrev pub check : MapView → List ℕ → ℕ → Told
 check m tracked n = let s : Search = from_start m tracked n in told_of m s s.unsafe s.due
 
 -- ---- a load and a branch back to it
