@@ -14,6 +14,7 @@ mod EntriesAgain
 mod LineEnds
 pub mod RoundTrip
 mod WorkedCertificates
+mod WorkedExaminations
 mod NextStates
 mod Examinations
 pub mod ClosedMaps
