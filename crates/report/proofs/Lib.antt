@@ -1,2 +1,3 @@
 pub mod TextLaws
 mod WorkedRefusals
+mod WorkedVerdicts
