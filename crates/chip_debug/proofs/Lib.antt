@@ -14,3 +14,4 @@ pub mod PutLines
 pub mod SocketLaws
 mod WorkedCommands
 mod WorkedSessions
+mod WorkedStops
