@@ -10,3 +10,4 @@ mod WorkedDraws
 mod WorkedMore
 mod WorkedRequests
 mod WorkedInterrupts
+mod WorkedEnds

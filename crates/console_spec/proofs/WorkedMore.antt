@@ -26,7 +26,7 @@ use Rattle.console_spec.proofs.WorkedRuns.{rom}
 reset_moves : (second : Bool) (i : Inputs) (start : ℕ) → moved_along second i reset_steps (count_at start) ≡ fetched (reset_flow start)
 reset_moves second i start = refl
 
-abbrev no_scratch : List ℕ
+abbrev pub no_scratch : List ℕ
 no_scratch =
     codes "s00 00 00 00 00 00 00 00 00 00 00 00 00 00 00 00 00\n"
     ++ codes "s10 00 00 00 00 00 00 00 00 00 00 00 00 00 00 00 00\n"
