@@ -7,3 +7,4 @@ pub mod WorkedValues
 pub mod WorkedArbitration
 pub mod Permutations
 pub mod OrderLaw
+mod WorkedTimers
