@@ -4,3 +4,4 @@ pub mod IndexedLists
 pub mod PlaneLaws
 pub mod RowTexts
 pub mod ShownLaws
+mod WorkedPlanes
