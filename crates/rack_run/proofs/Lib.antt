@@ -19,3 +19,5 @@ pub mod FlatTurns
 pub mod EndLaws
 pub mod TraceLaws
 mod WorkedSockets
+mod WorkedQuestions
+mod WorkedLives
