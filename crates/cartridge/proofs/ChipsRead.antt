@@ -5,9 +5,10 @@ use Rattle.std.proofs.lemmas.List.{at_drop_more, at_drop_all}
 use Rattle.toml.specs.Data.{Members}
 use Rattle.cartridge.specs.declared.refusal.CartFault.{CartFault}
 use Rattle.cartridge.specs.declared.refusal.KeyFault.{KeyFault}
-use Rattle.cartridge.specs.declared.refusal.TableStop.{TableStop}
-use Rattle.cartridge.specs.declared.refusal.TableStop.TheVariants as stop
-use Rattle.cartridge.specs.Faults.{◌>>=◌, of_chip, answer_at, SaysOfTable, SaysOfDescription}
+use Rattle.text_lines.specs.declared.read_error.ReadError.{ReadError}
+use Rattle.text_lines.specs.declared.read_error.ReadError.TheVariants as stop
+use Rattle.cartridge.specs.Faults.{◌>>=◌, of_chip, answer_at}
+use Rattle.text_lines.specs.ReadErrors.{SaysSeen}
 use Rattle.cartridge.specs.ChipTables.{DescribedChip, chip_of}
 use Rattle.cartridge.specs.Description.{chips_from}
 use Rattle.cartridge.specs.Plans.{seen_chip}
@@ -64,9 +65,9 @@ chips_all all i xs at held =
     held ∙ at_drop_all (λ (rest : List Members). behind xs (chips_from i rest)) all i (omega arith) ∙ ap (behind xs) (none_left i) ∙ ap Ok (append-nil xs)
 
 -- a table that isn't read to its end ends the description
-pub chips_stop : {A : Type 0} (seen : A → List DescribedChip) (all : List Members) (i : ℕ) (t : Members) (s : TableStop)
+pub chips_stop : {A : Type 0} (seen : A → List DescribedChip) (all : List Members) (i : ℕ) (t : Members) (s : ReadError KeyFault)
     (xs : List DescribedChip) → i < length all
-    → get_or all i t ≡ t → SaysOfTable seen_chip (Err s) (chip_of t) → HasChips all i xs →
-    SaysOfDescription seen (Err (answer_at (Some i) s)) (chips_from 0 all)
+    → get_or all i t ≡ t → SaysSeen seen_chip (Err s) (chip_of t) → HasChips all i xs →
+    SaysSeen seen (Err (answer_at (Some i) s)) (chips_from 0 all)
 chips_stop seen all i t (stop.Fault f) xs within at is held = chips_bad all i t f xs within at is held
 chips_stop seen all i t stop.Memory xs within at is held = tt

@@ -5,10 +5,8 @@ use Rattle.cartridge.specs.declared.refusal.CartCause.{CartCause}
 use Rattle.cartridge.specs.declared.refusal.CartCause.TheVariants.{Missing, Unknown, WrongType, Range, Boundary, TooMany, BadHex, Both}
 use Rattle.cartridge.specs.declared.refusal.KeyFault.{KeyFault}
 use Rattle.cartridge.specs.declared.refusal.CartFault.{CartFault}
-use Rattle.cartridge.specs.declared.refusal.CartAnswer.{CartAnswer}
-use Rattle.cartridge.specs.declared.refusal.CartAnswer.TheVariants as answer
-use Rattle.cartridge.specs.declared.refusal.TableStop.{TableStop}
-use Rattle.cartridge.specs.declared.refusal.TableStop.TheVariants as stop
+use Rattle.text_lines.specs.declared.read_error.ReadError.{ReadError}
+use Rattle.text_lines.specs.declared.read_error.ReadError.TheVariants as answer
 
 abbrev pub cause_number : CartCause → ℕ
 cause_number Missing = 1
@@ -36,19 +34,7 @@ abbrev pub of_chip : {A : Type 0} → Option ℕ → Result A KeyFault → Resul
 of_chip chip (Ok x) = Ok x
 of_chip chip (Err fault) = Err (record { chip = chip; key = fault.key; cause = fault.cause })
 
--- an answer, as it is seen, is what is said of a table; want of memory says nothing of it
-abbrev pub SaysOfTable : {A B : Type 0} → (A → B) → Result A TableStop → Result B KeyFault → Type 0
-SaysOfTable seen (Ok x) said = said ≡ Ok (seen x)
-SaysOfTable seen (Err (stop.Fault fault)) said = said ≡ Err fault
-SaysOfTable seen (Err stop.Memory) said = Unit {0}
-
--- the same of a description
-abbrev pub SaysOfDescription : {A B : Type 0} → (A → B) → Result A CartAnswer → Result B CartFault → Type 0
-SaysOfDescription seen (Ok x) said = said ≡ Ok (seen x)
-SaysOfDescription seen (Err (answer.Fault fault)) said = said ≡ Err fault
-SaysOfDescription seen (Err answer.Memory) said = Unit {0}
-
 -- the fault of a chip's table, or of the table at the top, in a description; want of memory stays that
-abbrev pub answer_at : Option ℕ → TableStop → CartAnswer
-answer_at chip (stop.Fault fault) = answer.Fault (record { chip = chip; key = fault.key; cause = fault.cause })
-answer_at chip stop.Memory = answer.Memory
+abbrev pub answer_at : Option ℕ → ReadError KeyFault → ReadError CartFault
+answer_at chip (answer.Fault fault) = answer.Fault (record { chip = chip; key = fault.key; cause = fault.cause })
+answer_at chip answer.Memory = answer.Memory

@@ -1,7 +1,7 @@
 // The table of a chip.
 ghost use Rattle.std.specs.Prelude.{◌≡◌, ◌≤◌, option_map, string_bytes};
 ghost use Rattle.toml.specs.View.{table_view};
-ghost use Rattle.cartridge.specs.Faults.{SaysOfTable};
+ghost use Rattle.text_lines.specs.ReadErrors.{SaysSeen};
 ghost use Rattle.cartridge.specs.ChipTables.{psu_of as psu_told, smi_of as smi_told, chip_of as chip_told, named_source as source_told};
 ghost use Rattle.cartridge.specs.Rooms.{psu_room as room_told};
 ghost use Rattle.cartridge.specs.Plans.{seen_chip, seen_source};
@@ -47,7 +47,7 @@ fn psu_room(base: u16) -> Room
 /// A 3851.
 #[tactic(auto, unfolding(crate::specs::ChipTables::psu_of))]
 fn psu_of(alloc: Global, table: &Table) -> Result<ChipPlan, TableStop>
-    ensures { SaysOfTable seen_chip result (psu_told (table_view table.now)) }
+    ensures { SaysSeen seen_chip result (psu_told (table_view table.now)) }
 {
     let base = multiple_at(table, Key::Base, 0, 64_512, 1024)?;
     let ports = multiple_at(table, Key::Ports, 4, 252, 4)? as u8;
@@ -69,7 +69,7 @@ fn psu_of(alloc: Global, table: &Table) -> Result<ChipPlan, TableStop>
 /// A 3853.
 #[tactic(auto, unfolding(crate::specs::ChipTables::smi_of))]
 fn smi_of(alloc: Global, table: &Table) -> Result<ChipPlan, TableStop>
-    ensures { SaysOfTable seen_chip result (smi_told (table_view table.now)) }
+    ensures { SaysSeen seen_chip result (smi_told (table_view table.now)) }
 {
     let rom = run_at(table, PageSort::Rom, Key::RomPage, Key::RomPages, &[])?;
     let ram = run_at(table, PageSort::Ram, Key::RamPage, Key::RamPages, &[rom])?;
@@ -121,7 +121,7 @@ const SMI_KEYS: [Key; 10] = [
 /// The chip of a table.
 #[tactic(auto, unfolding(crate::specs::ChipTables::chip_of))]
 pub fn chip_of(alloc: Global, table: &Table) -> Result<ChipPlan, TableStop>
-    ensures { SaysOfTable seen_chip result (chip_told (table_view table.now)) }
+    ensures { SaysSeen seen_chip result (chip_told (table_view table.now)) }
 {
     match kind_at(table)? {
         ChipKind::Psu => {

@@ -4,8 +4,9 @@ ghost use Rattle.std.specs.Result.{result_ok};
 ghost use Rattle.hex.specs.Hex.{decode_of};
 ghost use Rattle.toml.specs.View.{view, table_view};
 ghost use Rattle.cartridge.specs.declared.keys.Key.TheVariants.{Rom, Source};
-ghost use Rattle.cartridge.specs.declared.refusal.TableStop.TheVariants.{Fault};
-ghost use Rattle.cartridge.specs.Faults.{SaysOfTable, at_key};
+ghost use Rattle.text_lines.specs.declared.read_error.ReadError.TheVariants.{Fault};
+ghost use Rattle.cartridge.specs.Faults.{at_key};
+ghost use Rattle.text_lines.specs.ReadErrors.{SaysSeen};
 ghost use Rattle.cartridge.specs.Values.{filled as filled_to, fitting, rom_in as rom_told, is_file_name as names_file, source_named as source_judged, source_in as source_told};
 ghost use Rattle.cartridge.specs.ChipTables.{rom_of, mask_of, source_of};
 
@@ -47,7 +48,7 @@ fn fault_at(key: Key, cause: CartCause) -> TableStop
 
 /// The bytes of a ROM, by its digits.
 fn rom_in(alloc: Global, value: &Value, room: usize) -> Result<Bytes, TableStop>
-    ensures { SaysOfTable (λ rom. rom) result (at_key Rom (rom_told room (view value.now))) }
+    ensures { SaysSeen (λ rom. rom) result (at_key Rom (rom_told room (view value.now))) }
 {
     let Some(digits) = value.as_str() else {
         return Err(fault_at(Key::Rom, CartCause::WrongType));
@@ -60,7 +61,7 @@ fn rom_in(alloc: Global, value: &Value, room: usize) -> Result<Bytes, TableStop>
 
 /// The bytes of a ROM, where no digits are given all FF.
 pub fn rom_at(alloc: Global, table: &Table, room: usize) -> Result<Bytes, TableStop>
-    ensures { SaysOfTable (λ rom. rom) result (rom_of room (table_view table.now)) }
+    ensures { SaysSeen (λ rom. rom) result (rom_of room (table_view table.now)) }
 {
     match value_at(table, Key::Rom) {
         Some(value) => rom_in(alloc, value, room),
@@ -70,7 +71,7 @@ pub fn rom_at(alloc: Global, table: &Table, room: usize) -> Result<Bytes, TableS
 
 /// The bytes of a ROM that has to come from digits or from a source.
 pub fn mask_at(alloc: Global, table: &Table, room: usize) -> Result<Bytes, TableStop>
-    ensures { SaysOfTable (λ rom. rom) result (mask_of room (table_view table.now)) }
+    ensures { SaysSeen (λ rom. rom) result (mask_of room (table_view table.now)) }
 {
     if value_at(table, Key::Rom).is_none() && value_at(table, Key::Source).is_none() {
         return Err(fault_at(Key::Rom, CartCause::Missing));
@@ -106,7 +107,7 @@ fn source_in(
     room: usize,
     has_digits: bool,
 ) -> Result<Option<String>, TableStop>
-    ensures { SaysOfTable (λ source. option_map string_bytes source) result
+    ensures { SaysSeen (λ source. option_map string_bytes source) result
         (at_key Source (source_told room has_digits (view value.now))) }
 {
     let Some(name) = value.as_str() else {
@@ -120,7 +121,7 @@ fn source_in(
 
 /// The name of the source of so many bytes, where the table has one.
 pub fn source_at(alloc: Global, table: &Table, room: usize) -> Result<Option<String>, TableStop>
-    ensures { SaysOfTable (λ source. option_map string_bytes source) result
+    ensures { SaysSeen (λ source. option_map string_bytes source) result
         (source_of room (table_view table.now)) }
 {
     match value_at(table, Key::Source) {

@@ -3,7 +3,8 @@ ghost use Rattle.std.specs.Prelude.{◌≡◌, ◌≤◌, IfOk, [], map, length,
 ghost use Rattle.toml.specs.View.{table_view};
 ghost use Rattle.cartridge.specs.declared.keys.Key.TheVariants.{Chip as ChipKey};
 ghost use Rattle.cartridge.specs.declared.refusal.CartCause.TheVariants.{TooMany, WrongType};
-ghost use Rattle.cartridge.specs.Faults.{SaysOfTable, SaysOfDescription, answer_at};
+ghost use Rattle.cartridge.specs.Faults.{answer_at};
+ghost use Rattle.text_lines.specs.ReadErrors.{SaysSeen};
 ghost use Rattle.cartridge.specs.Values.{usually, tables_in as tables_told};
 ghost use Rattle.cartridge.specs.Description.{top_of as top_told, chips_from, description_in};
 ghost use Rattle.cartridge.specs.Plans.{seen_chip, seen_table, seen_top, seen_cart};
@@ -38,7 +39,7 @@ pub struct Described {
 
 /// The tables of the chips at their key, and none where it is left out.
 fn tables_at<'a>(alloc: Global, table: &'a Table) -> Result<Vec<&'a Table>, TableStop>
-    ensures says { SaysOfTable (λ ts. map seen_table ts.items) result
+    ensures says { SaysSeen (λ ts. map seen_table ts.items) result
         (usually ChipKey [] tables_told (table_view table.now)) }
     ensures few { IfOk result (λ ts. vec_len ts ≤ MOST_CHIPS) }
 {
@@ -63,7 +64,7 @@ fn tables_at<'a>(alloc: Global, table: &'a Table) -> Result<Vec<&'a Table>, Tabl
 /// The top of a description.
 #[tactic(auto, unfolding(crate::specs::Description::top_of))]
 fn top_of<'a>(alloc: Global, table: &'a Table) -> Result<Top<'a>, TableStop>
-    ensures says { SaysOfTable seen_top result (top_told (table_view table.now)) }
+    ensures says { SaysSeen seen_top result (top_told (table_view table.now)) }
     ensures few { IfOk result (λ top. vec_len top.tables ≤ MOST_CHIPS) }
 {
     known(&TOP_KEYS, table)?;
@@ -91,7 +92,7 @@ fn answer_at(chip: Option<u8>, stop: TableStop) -> CartAnswer
 #[tactic(auto, using(crate::proofs::ChipsRead::chips_none, crate::proofs::ChipsRead::chips_more, crate::proofs::ChipsRead::chips_bad, crate::proofs::ChipsRead::chips_all))]
 fn chips_of(alloc: Global, tables: &[&Table]) -> Result<Vec<ChipPlan>, CartAnswer>
     requires { length tables.now ≤ MOST_CHIPS }
-    ensures { SaysOfDescription (λ chips. map seen_chip chips.items) result
+    ensures { SaysSeen (λ chips. map seen_chip chips.items) result
         (chips_from 0 (map seen_table tables.now)) }
 {
     let mut chips = Vec::new(alloc);
@@ -110,7 +111,7 @@ fn chips_of(alloc: Global, tables: &[&Table]) -> Result<Vec<ChipPlan>, CartAnswe
 /// What a description says, or its first fault. `Memory` says nothing of it.
 #[tactic(auto, unfolding(crate::specs::Description::description_in))]
 pub fn read_description(alloc: Global, table: &Table) -> Result<Described, CartAnswer>
-    ensures { SaysOfDescription seen_cart result (description_in (table_view table.now)) }
+    ensures { SaysSeen seen_cart result (description_in (table_view table.now)) }
 {
     let top = match top_of(alloc, table) {
         Ok(top) => top,

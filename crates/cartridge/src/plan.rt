@@ -1,7 +1,7 @@
 // What a description says, with the bytes of its sources as they stand.
 ghost use Rattle.std.specs.Prelude.{◌≡◌, IfOk, option_map};
 ghost use Rattle.toml.specs.View.{table_view};
-ghost use Rattle.cartridge.specs.Faults.{SaysOfDescription};
+ghost use Rattle.text_lines.specs.ReadErrors.{SaysSeen};
 ghost use Rattle.cartridge.specs.Filling.{plan_without_images, plan_of as plan_told, source_at, HasRoomFor, filled_plan, IsPlan};
 ghost use Rattle.cartridge.specs.Filled.{IsFilled};
 ghost use Rattle.cartridge.specs.Carts.{cart_of};
@@ -118,7 +118,7 @@ fn plan_of(alloc: Global, cart: Described) -> Result<Plan, AllocError>
 /// `Fault`: the first fault of the description, by chip, key and cause.
 /// `Memory`: memory is missing. It says nothing of the description.
 pub fn read_cart(alloc: Global, table: &Table) -> Result<Plan, CartAnswer>
-    ensures says { SaysOfDescription (λ plan. plan) result (plan_told (table_view table.now)) }
+    ensures says { SaysSeen (λ plan. plan) result (plan_told (table_view table.now)) }
     ensures whole { IfOk result (λ plan. IsPlan plan.chips) }
 {
     let cart = read_description(alloc, table)?;

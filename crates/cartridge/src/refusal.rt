@@ -3,7 +3,7 @@ ghost use Rattle.std.specs.Prelude.{◌≡◌};
 ghost use Rattle.cartridge.specs.Faults.{cause_number};
 
 use super::keys::Key;
-use std::alloc::{AllocError, AllocFailed};
+use text_lines::ReadError;
 use thiserror::Error;
 
 /// What is wrong at a key.
@@ -54,7 +54,8 @@ impl CartCause {
 }
 
 /// The first fault of a description: the chip, counted from 0, or none where it stands at the top, and the key.
-#[derive(Clone, Copy, Debug, PartialEq, Eq)]
+#[derive(Clone, Copy, Debug, PartialEq, Eq, Error)]
+#[error("the description is at fault: {cause}")]
 pub struct CartFault {
     pub chip: Option<u8>,
     pub key: Key,
@@ -62,59 +63,26 @@ pub struct CartFault {
 }
 
 /// Why a description gives no plan.
-#[derive(Clone, Copy, Debug, PartialEq, Eq, Error)]
-pub enum CartAnswer {
-    /// The description is at fault.
-    #[error("the description is at fault")]
-    Fault(CartFault),
-    /// Memory is missing. It says nothing of the description.
-    #[error("out of memory")]
-    Memory,
-}
+pub type CartAnswer = ReadError<CartFault>;
 
 /// The first fault of one table.
-#[derive(Clone, Copy, Debug, PartialEq, Eq)]
+#[derive(Clone, Copy, Debug, PartialEq, Eq, Error)]
+#[error("{cause}")]
 pub struct KeyFault {
     pub key: Key,
     pub cause: CartCause,
 }
 
 /// Why a table isn't read to its end.
-#[derive(Clone, Copy, Debug, PartialEq, Eq)]
-pub enum TableStop {
-    Fault(KeyFault),
-    Memory,
-}
+pub type TableStop = ReadError<KeyFault>;
 
-impl From<KeyFault> for TableStop {
+impl From<KeyFault> for ReadError<KeyFault> {
     ghost use Rattle.std.specs.Prelude.{◌≡◌};
-    ghost use Rattle.cartridge.specs.declared.refusal.TableStop.TheVariants.{Fault};
+    ghost use Rattle.text_lines.specs.declared.read_error.ReadError.TheVariants.{Fault};
 
     ghost from_gives = { λ f e. e ≡ Fault f };
 
-    fn from(fault: KeyFault) -> TableStop {
-        TableStop::Fault(fault)
-    }
-}
-
-impl From<AllocError> for TableStop {
-    ghost use Rattle.std.specs.Prelude.{◌≡◌};
-    ghost use Rattle.cartridge.specs.declared.refusal.TableStop.TheVariants.{Memory};
-
-    ghost from_gives = { λ _ e. e ≡ Memory };
-
-    fn from(_error: AllocError) -> TableStop {
-        TableStop::Memory
-    }
-}
-
-impl<T: Drop> From<AllocFailed<T>> for TableStop {
-    ghost use Rattle.std.specs.Prelude.{◌≡◌};
-    ghost use Rattle.cartridge.specs.declared.refusal.TableStop.TheVariants.{Memory};
-
-    ghost from_gives = { λ _ e. e ≡ Memory };
-
-    fn from(_error: AllocFailed<T>) -> TableStop {
-        TableStop::Memory
+    fn from(fault: KeyFault) -> ReadError<KeyFault> {
+        ReadError::Fault(fault)
     }
 }

@@ -4,8 +4,8 @@ use Rattle.abs_domain.specs.AbstractState.{AbstractState}
 use Rattle.abs_domain.specs.declared.points.Point.{Point}
 use Rattle.abs_domain.specs.declared.state.Abs.{Abs}
 use Rattle.abs_step.specs.StatesAtPoints.{state_in}
-use Rattle.certificate.specs.declared.answers.CertAnswer.{CertAnswer}
-use Rattle.certificate.specs.declared.answers.CertAnswer.TheVariants as answer
+use Rattle.text_lines.specs.declared.read_error.ReadError.{ReadError}
+use Rattle.text_lines.specs.declared.read_error.ReadError.TheVariants as answer
 use Rattle.certificate.specs.declared.answers.CertCause.{CertCause}
 use Rattle.certificate.specs.declared.answers.CertCause.TheVariants.{Header, Count, Field, Order, End, SplitField}
 use Rattle.certificate.specs.declared.answers.CertFault.{CertFault}
@@ -24,26 +24,10 @@ abbrev pub Gives : {X Y : Type 0} → (X → Y) → Option X → Option Y → Ty
 Gives view None said = said ≡ None
 Gives view (Some x) said = said ≡ Some (view x)
 
--- a refusal is what is said of a text; want of memory says nothing of it
-abbrev pub RefusesAs : {Y : Type 0} → CertAnswer → Result Y CertFault → Type 0
-RefusesAs (answer.Fault fault) said = said ≡ Err fault
-RefusesAs answer.Memory said = Unit {0}
-
--- an answer is what is said of a text
-abbrev pub SaysOfText : {X Y : Type 0} → (X → Y) → Result X CertAnswer → Result Y CertFault → Type 0
-SaysOfText view (Ok x) said = said ≡ Ok (view x)
-SaysOfText view (Err refusal) said = RefusesAs refusal said
-
 -- a step tells what is said of a text, or its fault
 abbrev pub Tells : {X Y : Type 0} → (X → Y) → Result X CertFault → Result Y CertFault → Type 0
 Tells view (Ok x) said = said ≡ Ok (view x)
 Tells view (Err fault) said = said ≡ Err fault
-
--- what is said of an answer that memory is missing
-abbrev pub OnMemory : {X : Type 0} → Result X CertAnswer → Type 0 → Type 0
-OnMemory (Ok x) Said = Unit {0}
-OnMemory (Err (answer.Fault fault)) Said = Unit {0}
-OnMemory (Err answer.Memory) Said = Said
 
 -- an entry as it is read of a line
 abbrev pub entry_as : Result (Point × Abs) CertCause → Result (Point × AbstractState) CertCause

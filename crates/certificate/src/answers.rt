@@ -2,7 +2,7 @@
 ghost use Rattle.std.specs.Prelude.{◌≡◌};
 ghost use Rattle.certificate.specs.Answers.{cause_number};
 
-use std::alloc::{AllocError, AllocFailed};
+use text_lines::ReadError;
 use thiserror::Error;
 
 /// What is wrong with a line.
@@ -52,46 +52,16 @@ pub struct CertFault {
     pub cause: CertCause,
 }
 
-/// Why a text is no certificate.
-#[derive(Clone, Copy, Debug, PartialEq, Eq, Error)]
-pub enum CertAnswer {
-    /// The text is at fault.
-    #[error("{0}")]
-    Fault(CertFault),
-    /// Memory is missing, behind a first line that isn't at fault.
-    #[error("out of memory")]
-    Memory,
-}
+/// Why a text is no certificate: its first fault, or that memory is missing, behind a first line that isn't at fault.
+pub type CertAnswer = ReadError<CertFault>;
 
-impl From<CertFault> for CertAnswer {
+impl From<CertFault> for ReadError<CertFault> {
     ghost use Rattle.std.specs.Prelude.{◌≡◌};
-    ghost use Rattle.certificate.specs.declared.answers.CertAnswer.TheVariants.{Fault};
+    ghost use Rattle.text_lines.specs.declared.read_error.ReadError.TheVariants.{Fault};
 
     ghost from_gives = { λ fault e. e ≡ Fault fault };
 
-    fn from(fault: CertFault) -> CertAnswer {
-        CertAnswer::Fault(fault)
-    }
-}
-
-impl From<AllocError> for CertAnswer {
-    ghost use Rattle.std.specs.Prelude.{◌≡◌};
-    ghost use Rattle.certificate.specs.declared.answers.CertAnswer.TheVariants.{Memory};
-
-    ghost from_gives = { λ _ e. e ≡ Memory };
-
-    fn from(_error: AllocError) -> CertAnswer {
-        CertAnswer::Memory
-    }
-}
-
-impl<T: Drop> From<AllocFailed<T>> for CertAnswer {
-    ghost use Rattle.std.specs.Prelude.{◌≡◌};
-    ghost use Rattle.certificate.specs.declared.answers.CertAnswer.TheVariants.{Memory};
-
-    ghost from_gives = { λ _ e. e ≡ Memory };
-
-    fn from(_error: AllocFailed<T>) -> CertAnswer {
-        CertAnswer::Memory
+    fn from(fault: CertFault) -> ReadError<CertFault> {
+        ReadError::Fault(fault)
     }
 }

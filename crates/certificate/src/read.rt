@@ -3,7 +3,8 @@ ghost use Rattle.std.specs.Prelude.{◌≡◌, ◌==◌, ◌<◌, ◌≤◌, ◌
 ghost use Rattle.abs_domain.specs.StateView.{state_of};
 ghost use Rattle.cartridge.specs.Splits.{IsSplit};
 ghost use Rattle.abs_step.specs.StatesAtPoints.{state_in, states_of};
-ghost use Rattle.certificate.specs.Answers.{SaysOfText, Tells, OnMemory, entry_as};
+ghost use Rattle.certificate.specs.Answers.{Tells, entry_as};
+ghost use Rattle.text_lines.specs.ReadErrors.{SaysSeen, OnMemory};
 ghost use Rattle.certificate.specs.CertificateLaws.{AllFit};
 ghost use Rattle.certificate.specs.CertificateText.{line_at as spelled_line, decimal_on, number_of as spelled_number};
 ghost use Rattle.certificate.specs.CertificateText.{count_of as spelled_count, has_split as spelled_split, is_behind as spelled_behind};
@@ -184,7 +185,7 @@ fn entries_of(
 ) -> Result<BTreeMap<Point, Abs>, CertAnswer>
     requires split { IsSplit tracked.now }
     requires few { count ≤ 65536 }
-    ensures entries { SaysOfText (λ notes. states_of notes.entries) result
+    ensures entries { SaysSeen (λ notes. states_of notes.entries) result
         (entries_at tracked.now count 2 None text.now) }
     ensures few { IfOk result (λ notes. length notes.entries ≤ 65536) }
 {
@@ -207,7 +208,7 @@ fn entries_of(
 /// line that is missing or over. `Memory`: memory is missing, behind a first line that isn't at fault.
 #[tactic(auto, unfolding(crate::specs::CertificateText::certificate_of))]
 pub fn read_cert(alloc: Global, text: &[u8], split: &Split) -> Result<Annotation, CertAnswer>
-    ensures certificate { SaysOfText (λ notes. notes) result (certificate_of split.now text.now) }
+    ensures certificate { SaysSeen (λ notes. notes) result (certificate_of split.now text.now) }
     ensures fits { IfOk result (λ notes. AllFit split.now notes) }
     ensures memory { OnMemory result (IsOk (spelled_header text.now)) }
 {

@@ -7,17 +7,17 @@ use Rattle.std.proofs.lemmas.List.{append-nil}
 use Rattle.std.proofs.lemmas.List.Sums.{sum_by_push}
 use Rattle.std.proofs.lemmas.List.Elements.{All-nil, All-cons, All-append}
 use Rattle.text_lines.specs.Lines.{lines}
-use Rattle.chip_debug.specs.declared.answers.DebugAnswer.{DebugAnswer}
-use Rattle.chip_debug.specs.declared.answers.DebugAnswer.TheVariants as answer
+use Rattle.text_lines.specs.declared.read_error.ReadError.{ReadError}
+use Rattle.text_lines.specs.declared.read_error.ReadError.TheVariants as answer
 use Rattle.chip_debug.specs.declared.answers.DebugCause.{DebugCause}
 use Rattle.chip_debug.specs.declared.answers.DebugCause.TheVariants.{Total}
 use Rattle.chip_debug.specs.declared.answers.DebugFault.{DebugFault}
 use Rattle.chip_debug.specs.declared.command.Command.{Command}
-use Rattle.chip_debug.specs.Answers.{OnMemory}
+use Rattle.text_lines.specs.ReadErrors.{OnMemory, Says, StepsTo}
 use Rattle.chip_debug.specs.Commands.{line_of}
 use Rattle.chip_debug.specs.FirstFault.{HasNoFault, IsLineFault, TellsLines}
 use Rattle.chip_debug.specs.Limits.{count_of, total_of, most_instructions}
-use Rattle.chip_debug.specs.Reading.{SaysOfText, StepsOfText, commands, commands_of, fault_at, read_line}
+use Rattle.chip_debug.specs.Reading.{commands, commands_of, fault_at, read_line}
 use Rattle.chip_debug.specs.Reading.{read_lines, said_by, said_in}
 
 -- ---- what lines say
@@ -117,16 +117,16 @@ reads_more text rest behind l number said next reads split step =
 
 -- ---- a line at fault, or at which memory is missing
 
-stops_whole : (number : ℕ) (said new : List Command) (l : List ℕ) (ls : List (List ℕ)) (e : DebugAnswer)
+stops_whole : (number : ℕ) (said new : List Command) (l : List ℕ) (ls : List (List ℕ)) (e : ReadError DebugFault)
     (whole : Result (List Command) DebugFault) → whole ≡ read_lines number said (l ∷ ls) →
-    StepsOfText (Err e) new (read_line number said l) → SaysOfText (Err e) whole
+    StepsTo (Err e) new (read_line number said l) → Says (Err e) whole
 unfolding read_lines
 stops_whole number said new l ls (answer.Fault fault) whole is step = is ∙ rw (step, read_lines) refl
 stops_whole number said new l ls answer.Memory whole is step = tt
 
-pub stop_says : (text rest behind l : List ℕ) (number : ℕ) (said new : List Command) (e : DebugAnswer) →
-    Reads text rest number said → lines rest ≡ l ∷ lines behind → StepsOfText (Err e) new (read_line number said l) →
-    SaysOfText (Err e) (commands_of text)
+pub stop_says : (text rest behind l : List ℕ) (number : ℕ) (said new : List Command) (e : ReadError DebugFault) →
+    Reads text rest number said → lines rest ≡ l ∷ lines behind → StepsTo (Err e) new (read_line number said l) →
+    Says (Err e) (commands_of text)
 stop_says text rest behind l number said new e reads split step =
     stops_whole number said new l (lines behind) e (commands_of text)
     (reads.whole ∙ ap (read_lines number said) split) step
@@ -176,8 +176,8 @@ has_command (Err cause) some = absurd (omega arith)
 has_command (Ok None) some = absurd (omega arith)
 has_command (Ok (Some c)) some = (c, refl)
 
-pub stop_tells : (text rest behind l : List ℕ) (number : ℕ) (said new : List Command) (e : DebugAnswer) →
-    Reads text rest number said → lines rest ≡ l ∷ lines behind → StepsOfText (Err e) new (read_line number said l) →
+pub stop_tells : (text rest behind l : List ℕ) (number : ℕ) (said new : List Command) (e : ReadError DebugFault) →
+    Reads text rest number said → lines rest ≡ l ∷ lines behind → StepsTo (Err e) new (read_line number said l) →
     OnMemory {A = Unit {0}} (Err e) (0 < length (said_in (line_of l))) → TellsLines (Err e) (lines text)
 stop_tells text rest behind l number said new (answer.Fault fault) reads split step memory =
     let own = line_fault number said l fault step in

@@ -1,7 +1,5 @@
--- The causes by number, what follows where there is none, and answers.
+-- The causes by number, and what follows where there is none.
 use Rattle.std.specs.Prelude.{ℕ, Result, Ok, Err}
-use Rattle.chip_debug.specs.declared.answers.DebugAnswer.{DebugAnswer}
-use Rattle.chip_debug.specs.declared.answers.DebugAnswer.TheVariants as answer
 use Rattle.chip_debug.specs.declared.answers.DebugCause.{DebugCause}
 use Rattle.chip_debug.specs.declared.answers.DebugCause.TheVariants.{Word, Number, Range, Total}
 
@@ -16,9 +14,3 @@ cause_number Total = 4
 abbrev pub made_of : {A B : Type 0} → (A → B) → Result A DebugCause → Result B DebugCause
 made_of f (Ok x) = Ok (f x)
 made_of f (Err cause) = Err cause
-
--- what is said of an answer that memory is missing
-abbrev pub OnMemory : {A : Type 0} → Result A DebugAnswer → Type 0 → Type 0
-OnMemory (Ok x) Said = Unit {0}
-OnMemory (Err (answer.Fault fault)) Said = Unit {0}
-OnMemory (Err answer.Memory) Said = Said

@@ -1,8 +1,8 @@
 -- Where the first fault of a text is, and what it is. This is a law over the reading, and knows nothing of how it goes.
 use Rattle.std.specs.Prelude.{◌≡◌, ℕ, ◌+◌, ◌<◌, ◌≤◌, List, ◌∷◌, ◌++◌, length, Option, Some, None, Result, Ok, Err, IsOk}
 use Rattle.std.specs.List.{All}
-use Rattle.chip_debug.specs.declared.answers.DebugAnswer.{DebugAnswer}
-use Rattle.chip_debug.specs.declared.answers.DebugAnswer.TheVariants as answer
+use Rattle.text_lines.specs.declared.read_error.ReadError.{ReadError}
+use Rattle.text_lines.specs.declared.read_error.ReadError.TheVariants as answer
 use Rattle.chip_debug.specs.declared.answers.DebugCause.{DebugCause}
 use Rattle.chip_debug.specs.declared.answers.DebugCause.TheVariants.{Total}
 use Rattle.chip_debug.specs.declared.answers.DebugFault.{DebugFault}
@@ -44,7 +44,7 @@ pub record TakesMemory (ls : List (List ℕ)) : Type 0 where
   pub says : line_of line ≡ Ok (Some command)
 
 -- An answer has what all lines say, or tells the first fault. Memory is wanting only where a line takes it.
-abbrev pub TellsLines : Result (List Command) DebugAnswer → List (List ℕ) → Type 0
+abbrev pub TellsLines : Result (List Command) (ReadError DebugFault) → List (List ℕ) → Type 0
 TellsLines (Ok said) ls = HasNoFault ls × (said ≡ commands ls)
 TellsLines (Err (answer.Fault fault)) ls = IsFirstFault ls fault
 TellsLines (Err answer.Memory) ls = TakesMemory ls

@@ -1,8 +1,6 @@
 -- The commands of a text, or its first fault.
 use Rattle.std.specs.Prelude.{◌≡◌, ℕ, ◌+◌, nat_le, if◌then◌else◌, List, [], ◌∷◌, ◌++◌, Option, Some, None, Result, Ok, Err}
 use Rattle.text_lines.specs.Lines.{lines}
-use Rattle.chip_debug.specs.declared.answers.DebugAnswer.{DebugAnswer}
-use Rattle.chip_debug.specs.declared.answers.DebugAnswer.TheVariants as answer
 use Rattle.chip_debug.specs.declared.answers.DebugCause.{DebugCause}
 use Rattle.chip_debug.specs.declared.answers.DebugCause.TheVariants.{Total}
 use Rattle.chip_debug.specs.declared.answers.DebugFault.{DebugFault}
@@ -54,17 +52,3 @@ read_lines number said (l ∷ ls) = and_then (read_line number said l) (λ next.
 -- the commands of a text, or its first fault
 abbrev pub commands_of : List ℕ → Result (List Command) DebugFault
 commands_of text = read_lines 1 [] (lines text)
-
--- ---- answers
-
--- an answer is what is said of a text; want of memory says nothing of it
-abbrev pub SaysOfText : Result (List Command) DebugAnswer → Result (List Command) DebugFault → Type 0
-SaysOfText (Ok said) whole = whole ≡ Ok said
-SaysOfText (Err (answer.Fault fault)) whole = whole ≡ Err fault
-SaysOfText (Err answer.Memory) whole = Unit {0}
-
--- a step leads to what is said with a line
-abbrev pub StepsOfText : Result (Unit {0}) DebugAnswer → List Command → Result (List Command) DebugFault → Type 0
-StepsOfText (Ok u) new said = said ≡ Ok new
-StepsOfText (Err (answer.Fault fault)) new said = said ≡ Err fault
-StepsOfText (Err answer.Memory) new said = Unit {0}

@@ -1,8 +1,9 @@
 // What is wrong with a command file.
 ghost use Rattle.std.specs.Prelude.{◌≡◌};
 ghost use Rattle.chip_debug.specs.Answers.{cause_number};
+ghost use Rattle.text_lines.specs.declared.read_error.ReadError.TheVariants.{Fault};
 
-use std::alloc::AllocFailed;
+use text_lines::ReadError;
 use thiserror::Error;
 
 /// What is wrong with a line.
@@ -44,31 +45,12 @@ pub struct DebugFault {
     pub cause: DebugCause,
 }
 
-/// Why a text is no list of commands.
-#[derive(Clone, Copy, Debug, PartialEq, Eq, Error)]
-pub enum DebugAnswer {
-    /// The text is at fault.
-    #[error("{0}")]
-    Fault(DebugFault),
-    /// Memory is missing, at a line that has a command.
-    #[error("out of memory")]
-    Memory,
-}
+/// Why a text is no list of commands: its first fault, or that memory is missing, at a line that has a command.
+pub type DebugAnswer = ReadError<DebugFault>;
 
 /// A fault of a line.
 pub(crate) fn fault(line: u32, cause: DebugCause) -> DebugAnswer
-    ensures { result ≡ DebugAnswer.Fault (record { line = line; cause = cause }) }
+    ensures { result ≡ Fault (record { line = line; cause = cause }) }
 {
     DebugAnswer::Fault(DebugFault { line, cause })
-}
-
-impl<T: Drop> From<AllocFailed<T>> for DebugAnswer {
-    ghost use Rattle.std.specs.Prelude.{◌≡◌};
-    ghost use Rattle.chip_debug.specs.declared.answers.DebugAnswer.TheVariants.{Memory};
-
-    ghost from_gives = { λ _ e. e ≡ Memory };
-
-    fn from(_error: AllocFailed<T>) -> DebugAnswer {
-        DebugAnswer::Memory
-    }
 }

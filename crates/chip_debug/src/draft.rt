@@ -1,9 +1,9 @@
 // The commands of some lines.
 ghost use Rattle.std.specs.Prelude.{◌≡◌, ◌<◌, ◌≤◌, [], ◌∷◌, length};
-ghost use Rattle.chip_debug.specs.Answers.{OnMemory};
+ghost use Rattle.text_lines.specs.ReadErrors.{OnMemory, StepsTo};
 ghost use Rattle.chip_debug.specs.Commands.{line_of as spelled_line};
 ghost use Rattle.chip_debug.specs.Limits.{IsCommand};
-ghost use Rattle.chip_debug.specs.Reading.{StepsOfText, said_in, said_with, read_line};
+ghost use Rattle.chip_debug.specs.Reading.{said_in, said_with, read_line};
 
 use super::answers::{DebugAnswer, DebugCause, fault};
 use super::command::Command;
@@ -51,7 +51,7 @@ impl Draft {
     /// One command more.
     fn say(&mut self, line: u32, command: Command) -> Result<(), DebugAnswer>
         requires within { IsCommand command }
-        ensures steps { StepsOfText result self.new (said_with line self.old command) }
+        ensures steps { StepsTo result self.new (said_with line self.old command) }
     {
         let total = self.total + command.count();
         if total > MOST_INSTRUCTIONS {
@@ -65,7 +65,7 @@ impl Draft {
     /// Reads one line more. Memory is wanting only where it has a command, so never at one that is skipped.
     #[tactic(auto, unfolding(crate::specs::Reading::read_line))]
     pub(crate) fn read_line(&mut self, number: u32, line: &[u8]) -> Result<(), DebugAnswer>
-        ensures steps { StepsOfText result self.new (read_line number self.old line.now) }
+        ensures steps { StepsTo result self.new (read_line number self.old line.now) }
         ensures memory { OnMemory result (0 < length (said_in (spelled_line line.now))) }
     {
         match line_of(line) {

@@ -2,7 +2,8 @@
 ghost use Rattle.std.specs.Prelude.{◌≤◌, length};
 ghost use Rattle.text_lines.specs.Lines.{lines};
 ghost use Rattle.chip_debug.specs.FirstFault.{TellsLines};
-ghost use Rattle.chip_debug.specs.Reading.{SaysOfText, commands_of};
+ghost use Rattle.chip_debug.specs.Reading.{commands_of};
+ghost use Rattle.text_lines.specs.ReadErrors.{Says};
 
 use super::answers::DebugAnswer;
 use super::command_list::CommandList;
@@ -14,7 +15,7 @@ use text_lines::first_line;
 /// order Word, Number, Range, Total. `Memory`: memory is missing, at a line with a command, before which no line is at fault.
 pub fn read_commands(alloc: Global, text: &[u8]) -> Result<CommandList, DebugAnswer>
     requires { length text.now ≤ 16777216 }
-    ensures commands { SaysOfText result (commands_of text.now) }
+    ensures commands { Says result (commands_of text.now) }
     ensures lines { TellsLines result (lines text.now) }
 {
     let mut draft = Draft::new(alloc);

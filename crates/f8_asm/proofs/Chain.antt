@@ -3,8 +3,8 @@ use Rattle.std.proofs.Common.{◌≡◌, ℕ, zero, suc, ◌<◌, ◌≤◌, Lis
 use Rattle.asm_text.specs.declared.answers.Token.{Token}
 use Rattle.f8_asm.specs.declared.values.Operator.{Operator}
 use Rattle.f8_asm.specs.declared.faults.LineFault.{LineFault}
-use Rattle.f8_asm.specs.declared.faults.LineStop.{LineStop}
-use Rattle.f8_asm.specs.declared.faults.LineStop.TheVariants as stop
+use Rattle.text_lines.specs.declared.read_error.ReadError.{ReadError}
+use Rattle.text_lines.specs.declared.read_error.ReadError.TheVariants as stop
 use Rattle.f8_asm.specs.Answers.{◌>>=◌, SaysOfRead}
 use Rattle.f8_asm.specs.Grammar.{Actions, Read, operator_at, chain}
 
@@ -63,7 +63,7 @@ module _ {A : Type 0} (acts : Actions A) (strength : ℕ) (g : List Token → Re
 
   -- or memory is missing
   pub chain_stopped : {left : A} {t : Token} {ts : List Token} {whole : Read A} → ChainOn acts strength g left (t ∷ ts) whole
-      → (operator : Operator) (e : LineStop) → Some operator ≡ operator_at strength t.kind
+      → (operator : Operator) (e : ReadError LineFault) → Some operator ≡ operator_at strength t.kind
       → SaysOfRead {A = A} {B = List Token} (Err e) (g ts) → SaysOfRead {A = A} {B = List Token} (Err e) whole
   chain_stopped on operator (stop.Fault fault) is failed = chain_fails on operator fault is (sym failed)
   chain_stopped on operator stop.Memory is failed = tt

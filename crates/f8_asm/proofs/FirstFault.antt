@@ -9,13 +9,14 @@ use Rattle.asm_text.specs.declared.answers.Token.{Token}
 use Rattle.asm_text.specs.declared.answers.TokenFault.{TokenFault}
 use Rattle.asm_text.specs.declared.answers.TokenFault.TheVariants as token
 use Rattle.text_lines.specs.Lines.{lines}
-use Rattle.f8_asm.specs.declared.answers.AsmAnswer.{AsmAnswer}
-use Rattle.f8_asm.specs.declared.answers.AsmAnswer.TheVariants as answer
+use Rattle.text_lines.specs.declared.read_error.ReadError.{ReadError}
+use Rattle.text_lines.specs.declared.read_error.ReadError.TheVariants as answer
 use Rattle.f8_asm.specs.declared.answers.AsmCause.TheVariants as cause
 use Rattle.f8_asm.specs.declared.answers.AsmFault.{AsmFault}
 use Rattle.f8_asm.specs.declared.answers.Room.{Room}
 use Rattle.f8_asm.specs.declared.faults.LineFault.{LineFault}
-use Rattle.f8_asm.specs.Answers.{◌>>=◌, SaysOfText}
+use Rattle.f8_asm.specs.Answers.{◌>>=◌}
+use Rattle.text_lines.specs.ReadErrors.{Says}
 use Rattle.f8_asm.specs.FirstFault.{AreStatements, ArePlaced, IsFirstFault, no_statement, no_place, no_bytes, HasNoFault, TellsFault}
 use Rattle.f8_asm.specs.Evaluation.{values}
 use Rattle.f8_asm.specs.Grammar.{column_of}
@@ -205,7 +206,7 @@ no_fault_at text room picture h =
     read-ok (HasNoFault text room) (emit_lines laid.names (no_bytes_yet 65536) laid.placed) _ picture h (λ table given h.
     record { read = read; laid = laid; table = table; statements = is; placed = placed; bytes = given })))
 
-pub fault_answer : (text : List ℕ) (room : Room) (said : Result Picture AsmAnswer) → SaysOfText said (image_of text room) → TellsFault said text room
+pub fault_answer : (text : List ℕ) (room : Room) (said : Result Picture (ReadError AsmFault)) → Says said (image_of text room) → TellsFault said text room
 fault_answer text room (Ok picture) says = no_fault_at text room picture says
 fault_answer text room (Err (answer.Fault fault)) says = first_fault text room fault says
 fault_answer text room (Err answer.Memory) says = tt

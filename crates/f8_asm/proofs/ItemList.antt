@@ -2,10 +2,11 @@
 use Rattle.std.proofs.Common.{◌≡◌, ℕ, zero, suc, ◌<◌, ◌≤◌, List, [], ◌∷◌, ◌++◌, length, Result, Ok, Err, refl, sym, ◌∙◌, ap, arith, append_assoc}
 use Rattle.asm_text.specs.declared.answers.Token.{Token}
 use Rattle.f8_asm.specs.declared.faults.LineFault.{LineFault}
-use Rattle.f8_asm.specs.declared.faults.LineStop.{LineStop}
-use Rattle.f8_asm.specs.declared.faults.LineStop.TheVariants as stop
+use Rattle.text_lines.specs.declared.read_error.ReadError.{ReadError}
+use Rattle.text_lines.specs.declared.read_error.ReadError.TheVariants as stop
 use Rattle.f8_asm.specs.declared.operands.Operand.{Operand}
-use Rattle.f8_asm.specs.Answers.{◌>>=◌, SaysOfLine, SaysOfRead}
+use Rattle.f8_asm.specs.Answers.{◌>>=◌, SaysOfRead}
+use Rattle.text_lines.specs.ReadErrors.{Says}
 use Rattle.f8_asm.specs.Grammar.{Actions}
 use Rattle.f8_asm.specs.Statements.{operand_at, comma, item_before, items}
 
@@ -62,8 +63,8 @@ module _ {A : Type 0} (acts : Actions A) where
   goes_at n ts behind rest o some read more = rw (← read) (before_some n o behind some ∙ rw (← more) refl)
 
   module _ {found : List (Operand A)} {rest : List Token} {whole : Result (List (Operand A)) LineFault} (on : ItemsOn acts found rest whole) where
-    pub on_no_operand : (e : LineStop) → SaysOfRead {A = Operand A} {B = List Token} (Err e) (operand_at acts rest)
-        → SaysOfLine {A = List (Operand A)} (Err e) whole
+    pub on_no_operand : (e : ReadError LineFault) → SaysOfRead {A = Operand A} {B = List Token} (Err e) (operand_at acts rest)
+        → Says {A = List (Operand A)} (Err e) whole
     on_no_operand (stop.Fault fault) failed = sym on.is ∙ ap (after found) (fails_at on.most rest fault on.room (sym failed))
     on_no_operand stop.Memory failed = tt
 

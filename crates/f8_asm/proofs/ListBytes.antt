@@ -3,8 +3,8 @@ use Rattle.std.proofs.Common.{◌≡◌, ℕ, ◌+◌, ◌<◌, ◌≤◌, List,
 use Rattle.std.proofs.Common.{sym, ◌∙◌, ap, add-one, append_assoc, append-nil, suc}
 use Rattle.std.proofs.Math.Seq.{drop-cons}
 use Rattle.std.proofs.lemmas.List.{drop_all}
-use Rattle.f8_asm.specs.declared.faults.LineStop.{LineStop}
-use Rattle.f8_asm.specs.declared.faults.LineStop.TheVariants as stop
+use Rattle.text_lines.specs.declared.read_error.ReadError.{ReadError}
+use Rattle.text_lines.specs.declared.read_error.ReadError.TheVariants as stop
 use Rattle.f8_asm.specs.declared.faults.LineFault.{LineFault}
 use Rattle.f8_asm.specs.declared.operands.Operand.{Operand}
 use Rattle.f8_asm.specs.declared.values.Outcome.{Outcome}
@@ -50,7 +50,7 @@ module _ {A : Type 0} (value : Operand A → Operand Outcome) {size : ItemSize} 
       → o ≡ get_or os i o → item_bytes size (value o) ≡ Ok item → BytesOn size (front ++ item) (map value (drop (i + 1) os)) whole
   more_at os i o item on within at_i is = bytes_more (rw (cut os i o within at_i) at on) item is
 
-  pub stop_at : (os : List (Operand A)) (i : ℕ) (o : Operand A) (e : LineStop) → BytesOn size front (map value (drop i os)) whole → i < length os
+  pub stop_at : (os : List (Operand A)) (i : ℕ) (o : Operand A) (e : ReadError LineFault) → BytesOn size front (map value (drop i os)) whole → i < length os
       → o ≡ get_or os i o → SaysOfBytes (Err e) (item_bytes size (value o)) → SaysOfBytes (Err e) whole
   stop_at os i o (stop.Fault fault) on within at_i is = bytes_stop (rw (cut os i o within at_i) at on) fault is
   stop_at os i o stop.Memory on within at_i is = tt

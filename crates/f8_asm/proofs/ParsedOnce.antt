@@ -3,8 +3,9 @@ use Rattle.std.proofs.Common.{◌≡◌, ℕ, ◌+◌, ℤ, pos, Bool, true, fal
 use Rattle.std.proofs.Common.{refl, sym, ap, ◌∙◌, subst, length-append}
 use Rattle.std.specs.Prelude.{if◌then◌else◌}
 use Rattle.asm_text.specs.declared.answers.Token.{Token}
-use Rattle.f8_asm.specs.declared.answers.AsmAnswer.{AsmAnswer}
-use Rattle.f8_asm.specs.declared.answers.AsmAnswer.TheVariants as answer
+use Rattle.text_lines.specs.declared.read_error.ReadError.{ReadError}
+use Rattle.f8_asm.specs.declared.answers.AsmFault.{AsmFault}
+use Rattle.text_lines.specs.declared.read_error.ReadError.TheVariants as answer
 use Rattle.f8_asm.specs.declared.answers.Room.{Room}
 use Rattle.f8_asm.specs.declared.faults.LineFault.{LineFault}
 use Rattle.f8_asm.specs.declared.formulas.Step.{Step}
@@ -14,7 +15,8 @@ use Rattle.f8_asm.specs.declared.operands.Effect.{Effect}
 use Rattle.f8_asm.specs.declared.operands.Effect.TheVariants.{Names, Moves, Fills}
 use Rattle.f8_asm.specs.declared.operands.Statement.{Statement}
 use Rattle.f8_asm.specs.declared.values.Outcome.{Outcome}
-use Rattle.f8_asm.specs.Answers.{◌>>=◌, SaysOfText}
+use Rattle.f8_asm.specs.Answers.{◌>>=◌}
+use Rattle.text_lines.specs.ReadErrors.{Says}
 use Rattle.f8_asm.specs.Evaluation.{values}
 use Rattle.f8_asm.specs.Formulas.{formulas, formula_value}
 use Rattle.f8_asm.specs.Grammar.{column_of}
@@ -283,23 +285,23 @@ module _ (text : List ℕ) (room : Room) where
   unfolding image_parsed
   image_whole read laid table at_read at_laid at_table = image_parsed_of text room ∙ rw (at_read, at_laid, at_table) refl
 
-  pub stops_reading : (stop : AsmAnswer) → SaysOfText {A = Parsing} (Err stop) (parse_lines no_parsing (lines text))
-      → SaysOfText {A = Picture} (Err stop) (image_of text room)
+  pub stops_reading : (stop : ReadError AsmFault) → Says {A = Parsing} (Err stop) (parse_lines no_parsing (lines text))
+      → Says {A = Picture} (Err stop) (image_of text room)
   unfolding image_parsed
   stops_reading (answer.Fault fault) says = image_parsed_of text room ∙ rw says refl
   stops_reading answer.Memory says = tt
 
-  pub stops_placing : (stop : AsmAnswer) (read : Parsing) → parse_lines no_parsing (lines text) ≡ Ok read
-      → SaysOfText {A = Layout ParsedPlace} (Err stop) (place_all_parsed room (no_layout 65536) read.lines)
-      → SaysOfText {A = Picture} (Err stop) (image_of text room)
+  pub stops_placing : (stop : ReadError AsmFault) (read : Parsing) → parse_lines no_parsing (lines text) ≡ Ok read
+      → Says {A = Layout ParsedPlace} (Err stop) (place_all_parsed room (no_layout 65536) read.lines)
+      → Says {A = Picture} (Err stop) (image_of text room)
   unfolding image_parsed
   stops_placing (answer.Fault fault) read at_read says = image_parsed_of text room ∙ rw (at_read, says) refl
   stops_placing answer.Memory read at_read says = tt
 
-  pub stops_emitting : (stop : AsmAnswer) (read : Parsing) (laid : Layout ParsedPlace) → parse_lines no_parsing (lines text) ≡ Ok read
+  pub stops_emitting : (stop : ReadError AsmFault) (read : Parsing) (laid : Layout ParsedPlace) → parse_lines no_parsing (lines text) ≡ Ok read
       → place_all_parsed room (no_layout 65536) read.lines ≡ Ok laid
-      → SaysOfText {A = List (Option ℕ)} (Err stop) (emit_all_parsed laid.names (no_bytes 65536) laid.placed)
-      → SaysOfText {A = Picture} (Err stop) (image_of text room)
+      → Says {A = List (Option ℕ)} (Err stop) (emit_all_parsed laid.names (no_bytes 65536) laid.placed)
+      → Says {A = Picture} (Err stop) (image_of text room)
   unfolding image_parsed
   stops_emitting (answer.Fault fault) read laid at_read at_laid says = image_parsed_of text room ∙ rw (at_read, at_laid, says) refl
   stops_emitting answer.Memory read laid at_read at_laid says = tt

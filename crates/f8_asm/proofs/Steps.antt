@@ -2,10 +2,11 @@
 use Rattle.std.proofs.Common.{◌≡◌, ℕ, ◌+◌, ◌<◌, ◌≤◌, List, [], ◌∷◌, ◌++◌, length, get_or, drop, Ok, Err, Result, refl, sym, ◌∙◌, ap, suc, add-one}
 use Rattle.std.proofs.Math.Seq.{drop-cons}
 use Rattle.std.proofs.lemmas.List.{drop_all}
-use Rattle.f8_asm.specs.declared.answers.AsmAnswer.{AsmAnswer}
-use Rattle.f8_asm.specs.declared.answers.AsmAnswer.TheVariants as answer
+use Rattle.text_lines.specs.declared.read_error.ReadError.{ReadError}
+use Rattle.text_lines.specs.declared.read_error.ReadError.TheVariants as answer
 use Rattle.f8_asm.specs.declared.answers.AsmFault.{AsmFault}
-use Rattle.f8_asm.specs.Answers.{◌>>=◌, SaysOfText, StepsOfText}
+use Rattle.f8_asm.specs.Answers.{◌>>=◌}
+use Rattle.text_lines.specs.ReadErrors.{Says, StepsTo}
 use Rattle.f8_asm.specs.Steps.{steps}
 use Rattle.f8_asm.proofs.Alike.{Alike, alike_ok, alike_then, AllAlike, none_alike, more_alike}
 
@@ -74,8 +75,8 @@ module _ {S T X Y E : Type 0} (R : S → T → Type 0) (Q : X → Y → Type 0) 
 
 module _ {S X : Type 0} (step : S → X → Result S AsmFault) where
   -- a step fails, or memory is missing
-  pub steps_stop : (s t : S) (x : X) (xs : List X) (e : AsmAnswer) (whole : Result S AsmFault) → steps step s (x ∷ xs) ≡ whole
-      → StepsOfText (Err e) t (step s x) → SaysOfText {A = S} (Err e) whole
+  pub steps_stop : (s t : S) (x : X) (xs : List X) (e : ReadError AsmFault) (whole : Result S AsmFault) → steps step s (x ∷ xs) ≡ whole
+      → StepsTo (Err e) t (step s x) → Says {A = S} (Err e) whole
   steps_stop s t x xs (answer.Fault fault) whole is told = sym is ∙ steps_fail step s x xs fault told
   steps_stop s t x xs answer.Memory whole is told = tt
 
@@ -95,6 +96,6 @@ module _ {S X : Type 0} (step : S → X → Result S AsmFault) where
         → StepsOn t (drop (i + 1) xs) whole
     more_at xs i x t on within is told = record { is = steps_more step s t x (drop (i + 1) xs) told ∙ rw (cut xs i x within is) at on.is }
 
-    pub stop_at : (xs : List X) (i : ℕ) (x : X) (t : S) (e : AsmAnswer) → StepsOn s (drop i xs) whole → i < length xs → x ≡ get_or xs i x
-        → StepsOfText (Err e) t (step s x) → SaysOfText {A = S} (Err e) whole
+    pub stop_at : (xs : List X) (i : ℕ) (x : X) (t : S) (e : ReadError AsmFault) → StepsOn s (drop i xs) whole → i < length xs → x ≡ get_or xs i x
+        → StepsTo (Err e) t (step s x) → Says {A = S} (Err e) whole
     stop_at xs i x t e on within is told = steps_stop s t x (drop (i + 1) xs) e whole (rw (cut xs i x within is) at on.is) told

@@ -2,8 +2,8 @@
 -- of each. What is told is the fault of the first line that has one in the first reading in which a line has one.
 use Rattle.std.specs.Prelude.{◌≡◌, ℕ, ℤ, ◌+◌, List, ◌∷◌, ◌++◌, length, Option, Result, Ok, Err}
 use Rattle.text_lines.specs.Lines.{lines}
-use Rattle.f8_asm.specs.declared.answers.AsmAnswer.{AsmAnswer}
-use Rattle.f8_asm.specs.declared.answers.AsmAnswer.TheVariants as answer
+use Rattle.text_lines.specs.declared.read_error.ReadError.{ReadError}
+use Rattle.text_lines.specs.declared.read_error.ReadError.TheVariants as answer
 use Rattle.f8_asm.specs.declared.answers.AsmFault.{AsmFault}
 use Rattle.f8_asm.specs.declared.answers.Room.{Room}
 use Rattle.f8_asm.specs.Image.{Picture}
@@ -47,7 +47,7 @@ pub record HasNoFault (text : List ℕ) (room : Room) : Type 0 where
   pub bytes : HaveBytes laid.names laid.placed table
 
 -- an answer tells the first fault of a text, or that there is none; want of memory says nothing of it
-abbrev pub TellsFault : Result Picture AsmAnswer → List ℕ → Room → Type 0
+abbrev pub TellsFault : Result Picture (ReadError AsmFault) → List ℕ → Room → Type 0
 TellsFault (Ok image) text room = HasNoFault text room
 TellsFault (Err (answer.Fault fault)) text room = IsFirstFault text room fault
 TellsFault (Err answer.Memory) text room = Unit {0}

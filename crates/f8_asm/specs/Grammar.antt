@@ -9,7 +9,7 @@ use Rattle.f8_asm.specs.declared.values.Operator.TheVariants.{Or, And, Plus, Min
 use Rattle.f8_asm.specs.declared.values.Prefix.{Prefix}
 use Rattle.f8_asm.specs.declared.values.Prefix.TheVariants.{Negative, LowByte, HighByte}
 use Rattle.f8_asm.specs.declared.faults.LineFault.{LineFault}
-use Rattle.f8_asm.specs.declared.faults.LineStop.{LineStop}
+use Rattle.text_lines.specs.declared.read_error.ReadError.{ReadError}
 use Rattle.f8_asm.specs.Answers.{form, ◌>>=◌}
 use Rattle.f8_asm.specs.Words.{is_reserved}
 
@@ -116,6 +116,6 @@ unfoldable pub expression : {A : Type 0} → Actions A → List Token → Read A
 expression acts ts = level acts (operand acts 64) 4 ts
 
 -- fewer tokens are left
-abbrev pub ReadsSome : {A : Type 0} → ℕ → Result (A × Bor (List Token)) LineStop → Type 0
+abbrev pub ReadsSome : {A : Type 0} → ℕ → Result (A × Bor (List Token)) (ReadError LineFault) → Type 0
 ReadsSome n (Ok r) = length r.1.now < n
 ReadsSome n (Err stop) = Unit {0}

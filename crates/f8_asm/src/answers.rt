@@ -2,7 +2,7 @@
 ghost use Rattle.std.specs.Prelude.{◌≡◌};
 ghost use Rattle.f8_asm.specs.Answers.{cause_number};
 
-use std::alloc::{AllocError, AllocFailed};
+use text_lines::ReadError;
 use thiserror::Error;
 
 /// The addresses where bytes may lie, both ends counted. Where `first` is above `last` there are none.
@@ -77,34 +77,4 @@ pub struct AsmFault {
 }
 
 /// Why a text has no image.
-#[derive(Clone, Copy, Debug, PartialEq, Eq, Error)]
-pub enum AsmAnswer {
-    /// The text is at fault.
-    #[error("{0}")]
-    Fault(AsmFault),
-    /// Memory is missing. It says nothing of the text.
-    #[error("out of memory")]
-    Memory,
-}
-
-impl From<AllocError> for AsmAnswer {
-    ghost use Rattle.std.specs.Prelude.{◌≡◌};
-    ghost use Rattle.f8_asm.specs.declared.answers.AsmAnswer.TheVariants.{Memory};
-
-    ghost from_gives = { λ _ e. e ≡ Memory };
-
-    fn from(_error: AllocError) -> AsmAnswer {
-        AsmAnswer::Memory
-    }
-}
-
-impl<T: Drop> From<AllocFailed<T>> for AsmAnswer {
-    ghost use Rattle.std.specs.Prelude.{◌≡◌};
-    ghost use Rattle.f8_asm.specs.declared.answers.AsmAnswer.TheVariants.{Memory};
-
-    ghost from_gives = { λ _ e. e ≡ Memory };
-
-    fn from(_error: AllocFailed<T>) -> AsmAnswer {
-        AsmAnswer::Memory
-    }
-}
+pub type AsmAnswer = ReadError<AsmFault>;

@@ -3,10 +3,12 @@ ghost use Rattle.std.specs.Prelude.{◌≡◌};
 ghost use Rattle.f8_asm.specs.Answers.{form};
 
 use crate::answers::AsmCause;
-use std::alloc::{AllocError, AllocFailed};
+use text_lines::ReadError;
+use thiserror::Error;
 
 /// A fault of a line. The column is `None` past the line's last token.
-#[derive(Clone, Copy)]
+#[derive(Clone, Copy, Debug, PartialEq, Eq, Error)]
+#[error("{cause}")]
 pub struct LineFault {
     pub column: Option<u32>,
     pub cause: AsmCause,
@@ -23,41 +25,15 @@ pub fn form(column: Option<u32>) -> LineFault
 }
 
 /// Why a line isn't read to its end.
-#[derive(Clone, Copy)]
-pub enum LineStop {
-    Fault(LineFault),
-    Memory,
-}
+pub type LineStop = ReadError<LineFault>;
 
-impl From<LineFault> for LineStop {
+impl From<LineFault> for ReadError<LineFault> {
     ghost use Rattle.std.specs.Prelude.{◌≡◌};
-    ghost use Rattle.f8_asm.specs.declared.faults.LineStop.TheVariants.{Fault};
+    ghost use Rattle.text_lines.specs.declared.read_error.ReadError.TheVariants.{Fault};
 
     ghost from_gives = { λ f e. e ≡ Fault f };
 
-    fn from(fault: LineFault) -> LineStop {
-        LineStop::Fault(fault)
-    }
-}
-
-impl From<AllocError> for LineStop {
-    ghost use Rattle.std.specs.Prelude.{◌≡◌};
-    ghost use Rattle.f8_asm.specs.declared.faults.LineStop.TheVariants.{Memory};
-
-    ghost from_gives = { λ _ e. e ≡ Memory };
-
-    fn from(_error: AllocError) -> LineStop {
-        LineStop::Memory
-    }
-}
-
-impl<T: Drop> From<AllocFailed<T>> for LineStop {
-    ghost use Rattle.std.specs.Prelude.{◌≡◌};
-    ghost use Rattle.f8_asm.specs.declared.faults.LineStop.TheVariants.{Memory};
-
-    ghost from_gives = { λ _ e. e ≡ Memory };
-
-    fn from(_error: AllocFailed<T>) -> LineStop {
-        LineStop::Memory
+    fn from(fault: LineFault) -> ReadError<LineFault> {
+        ReadError::Fault(fault)
     }
 }

@@ -1,6 +1,6 @@
 // The image of a text.
 ghost use Rattle.std.specs.Prelude.{◌≡◌, ◌≤◌, length, IfOk};
-ghost use Rattle.f8_asm.specs.Answers.{SaysOfText};
+ghost use Rattle.text_lines.specs.ReadErrors.{Says};
 ghost use Rattle.f8_asm.specs.Image.{image_of, LiesIn, Ascends};
 ghost use Rattle.f8_asm.specs.FirstFault.{TellsFault};
 ghost use Rattle.f8_asm.specs.ImageLaw.{IsImage};
@@ -69,7 +69,7 @@ impl Image {
 /// `Memory`: memory is missing.
 pub fn assemble(alloc: Global, text: &[u8], room: Room) -> Result<Image, AsmAnswer>
     requires { length text.now ≤ 16777216 }
-    ensures value { SaysOfText result (image_of text.now room) }
+    ensures value { Says result (image_of text.now room) }
     ensures ascent { IfOk result (λ image. Ascends image.bytes) }
     ensures room { IfOk result (λ image. LiesIn room image.bytes) }
     ensures law { IfOk result (λ image. IsImage text.now image) }

@@ -1,6 +1,6 @@
 // The first pass: the tokens of each line, the statement that they make, and whether a name is given twice.
 ghost use Rattle.std.specs.Prelude.{◌≡◌, ◌≤◌, ◌<◌, ◌+◌, length, IfOk};
-ghost use Rattle.f8_asm.specs.Answers.{SaysOfLine, SaysOfText, StepsOfLine, StepsOfText};
+ghost use Rattle.text_lines.specs.ReadErrors.{Says, StepsTo};
 ghost use Rattle.f8_asm.specs.ParsedLines.{names_after, parsed, parse_tokens, parse_line, parse_lines, no_parsing};
 ghost use Rattle.f8_asm.specs.Statements.{label_of};
 ghost use Rattle.text_lines.specs.Lines.{lines};
@@ -30,7 +30,7 @@ fn label_name(alloc: Global, tokens: &[Token]) -> Result<Option<Name>, AllocErro
 /// A line of these tokens, if they make a statement.
 #[tactic(auto, unfolding(crate::specs::ParsedLines::parsed))]
 fn parsed(alloc: Global, number: u32, tokens: &[Token]) -> Result<ParsedLine, LineStop>
-    ensures { SaysOfLine result (parsed number tokens.now) }
+    ensures { Says result (parsed number tokens.now) }
 {
     let label = label_name(alloc, tokens)?;
     let rest = behind_label(tokens);
@@ -46,7 +46,7 @@ fn parsed(alloc: Global, number: u32, tokens: &[Token]) -> Result<ParsedLine, Li
 
 /// Gives the name of a line's label, if it has one and that is new.
 fn name_label(alloc: Global, symbols: &mut Symbols, tokens: &[Token]) -> Result<(), LineStop>
-    ensures { StepsOfLine result symbols.new
+    ensures { StepsTo result symbols.new
         (names_after symbols.old tokens.now (label_of tokens.now)) }
 {
     let Some(name) = label_of(tokens) else {
@@ -91,7 +91,7 @@ impl Parsing {
 
     /// Takes the tokens of one line more.
     fn take(&mut self, alloc: Global, number: u32, tokens: &[Token]) -> Result<(), LineStop>
-        ensures { StepsOfLine result self.new (parse_tokens number self.old tokens.now) }
+        ensures { StepsTo result self.new (parse_tokens number self.old tokens.now) }
     {
         name_label(alloc, &mut self.symbols, tokens)?;
         let line = parsed(alloc, number, tokens)?;
@@ -104,7 +104,7 @@ impl Parsing {
     fn read_line(&mut self, alloc: Global, bytes: &[u8]) -> Result<(), AsmAnswer>
         requires line { length bytes.now ≤ 16777216 }
         requires lines { length self.old.lines ≤ 16777216 }
-        ensures { StepsOfText result self.new (parse_line self.old bytes.now) }
+        ensures { StepsTo result self.new (parse_line self.old bytes.now) }
     {
         let number = self.lines.len() as u32 + 1;
         let tokens = line_tokens(alloc, number, bytes)?;
@@ -129,7 +129,7 @@ impl Parsing {
 /// The lines of a text, if each makes a statement and no name is given twice.
 pub fn parse_lines(alloc: Global, text: &[u8]) -> Result<Parsing, AsmAnswer>
     requires { length text.now ≤ 16777216 }
-    ensures { SaysOfText result (parse_lines no_parsing (lines text.now)) }
+    ensures { Says result (parse_lines no_parsing (lines text.now)) }
 {
     let mut parsing = Parsing::new(alloc);
     let mut rest = text;

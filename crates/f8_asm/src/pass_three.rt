@@ -1,5 +1,6 @@
 // The third pass: the bytes of each line at its address, with the values of all names.
-ghost use Rattle.f8_asm.specs.Answers.{SaysOfBytes, SaysOfText, StepsOfText};
+ghost use Rattle.f8_asm.specs.Answers.{SaysOfBytes};
+ghost use Rattle.text_lines.specs.ReadErrors.{Says, StepsTo};
 ghost use Rattle.f8_asm.specs.ParsedLines.{parsed_bytes, emit_parsed, emit_all_parsed};
 ghost use Rattle.f8_asm.specs.PassThree.{no_bytes};
 
@@ -34,7 +35,7 @@ fn emit(
     table: &mut Table,
     placed: &PlacedLine,
 ) -> Result<(), AsmAnswer>
-    ensures { StepsOfText result table.new (emit_parsed symbols.now table.old placed.now) }
+    ensures { StepsTo result table.new (emit_parsed symbols.now table.old placed.now) }
 {
     match line_bytes(alloc, symbols, placed) {
         Ok(bytes) => {
@@ -50,7 +51,7 @@ fn emit(
 
 /// The bytes of lines at their addresses.
 fn emit_all(alloc: Global, symbols: &Symbols, lines: &[PlacedLine]) -> Result<Table, AsmAnswer>
-    ensures { SaysOfText result (emit_all_parsed symbols.now (no_bytes 65536) lines.now) }
+    ensures { Says result (emit_all_parsed symbols.now (no_bytes 65536) lines.now) }
 {
     let mut table = Table::new(alloc)?;
     for placed in lines {
@@ -61,7 +62,7 @@ fn emit_all(alloc: Global, symbols: &Symbols, lines: &[PlacedLine]) -> Result<Ta
 
 /// The bytes of all lines of a layout.
 pub fn emit_lines(alloc: Global, layout: &Layout) -> Result<Table, AsmAnswer>
-    ensures { SaysOfText result
+    ensures { Says result
         (emit_all_parsed layout.now.names (no_bytes 65536) layout.now.placed) }
 {
     emit_all(alloc, layout.symbols(), layout.placed())

@@ -1,6 +1,6 @@
 // The second pass: the address of each line, the values of names, and which addresses are filled.
 ghost use Rattle.std.specs.Prelude.{◌≡◌, ◌≤◌, ◌+◌, IfOk, OnOk, option_copied};
-ghost use Rattle.f8_asm.specs.Answers.{SaysOfText, StepsOfLine, StepsOfText};
+ghost use Rattle.text_lines.specs.ReadErrors.{Says, StepsTo};
 ghost use Rattle.f8_asm.specs.ParsedLines.{settle_parsed, place_parsed, place_all_parsed};
 ghost use Rattle.f8_asm.specs.PassTwo.{is_inside, fits, with_label, layout_filled, layout_after, no_layout};
 
@@ -111,7 +111,7 @@ impl Layout {
         column: Option<u32>,
         effect: Effect,
     ) -> Result<(), LineStop>
-        ensures { StepsOfLine result self.new
+        ensures { StepsTo result self.new
             (layout_after room (option_copied label.entry) column self.old effect) }
     {
         match effect {
@@ -138,7 +138,7 @@ impl Layout {
     /// Does what a line says.
     #[tactic(auto, unfolding(crate::specs::ParsedLines::settle_parsed))]
     fn settle(&mut self, alloc: Global, room: Room, line: &ParsedLine) -> Result<(), LineStop>
-        ensures { StepsOfLine result self.new (settle_parsed room self.old line.now) }
+        ensures { StepsTo result self.new (settle_parsed room self.old line.now) }
     {
         let scope = Scope {
             symbols: &self.symbols,
@@ -151,7 +151,7 @@ impl Layout {
     /// Places one line more.
     #[tactic(auto, unfolding(crate::specs::ParsedLines::place_parsed))]
     fn place(&mut self, alloc: Global, room: Room, line: ParsedLine) -> Result<(), AsmAnswer>
-        ensures { StepsOfText result self.new (place_parsed room self.old line) }
+        ensures { StepsTo result self.new (place_parsed room self.old line) }
     {
         let address = self.here;
         match self.settle(alloc, room, &line) {
@@ -190,7 +190,7 @@ impl Layout {
 
 /// The layout of lines, if all bytes lie in the room and on addresses of their own.
 pub fn place_lines(alloc: Global, room: Room, lines: Vec<ParsedLine>) -> Result<Layout, AsmAnswer>
-    ensures { SaysOfText result (place_all_parsed room (no_layout 65536) lines.items) }
+    ensures { Says result (place_all_parsed room (no_layout 65536) lines.items) }
 {
     let mut layout = Layout::new(alloc)?;
     for line in lines {

@@ -1,7 +1,8 @@
 // The reader of a line's label and statement.
 ghost use Rattle.std.specs.Prelude.{◌≡◌, ◌<◌, ◌≤◌, length, drop, IfSome, IfOk, option_copied};
 ghost use Rattle.f8_spec.specs.Instructions.{InRange};
-ghost use Rattle.f8_asm.specs.Answers.{SaysOfLine, SaysOfRead};
+ghost use Rattle.f8_asm.specs.Answers.{SaysOfRead};
+ghost use Rattle.text_lines.specs.ReadErrors.{Says};
 ghost use Rattle.f8_asm.specs.Fields.{limit_of};
 ghost use Rattle.f8_asm.specs.Formulas.{formulas};
 ghost use Rattle.f8_asm.specs.Grammar.{ReadsSome};
@@ -94,14 +95,14 @@ fn instruction_of(op: Option<Op>, tokens: &[Token]) -> Result<Statement<Formula>
 fn without_memory(
     answer: Result<Statement<Formula>, LineFault>,
 ) -> Result<Statement<Formula>, LineStop>
-    ensures { SaysOfLine result answer }
+    ensures { Says result answer }
 {
     Ok(answer?)
 }
 
 /// One expression.
 fn one(alloc: Global, single: Single, tokens: &[Token]) -> Result<Statement<Formula>, LineStop>
-    ensures { SaysOfLine result (one formulas single tokens.now) }
+    ensures { Says result (one formulas single tokens.now) }
 {
     let (operand, rest) = operand_at(alloc, tokens)?;
     without_memory(done(Statement::One(single, operand), rest))
@@ -109,7 +110,7 @@ fn one(alloc: Global, single: Single, tokens: &[Token]) -> Result<Statement<Form
 
 /// Two expressions.
 fn two(alloc: Global, field: Field, tokens: &[Token]) -> Result<Statement<Formula>, LineStop>
-    ensures { SaysOfLine result (two formulas field tokens.now) }
+    ensures { Says result (two formulas field tokens.now) }
 {
     let (bits, rest) = operand_at(alloc, tokens)?;
     let rest = comma(rest)?;
@@ -132,7 +133,7 @@ fn register_operand(
     tokens: &[Token],
 ) -> Result<Statement<Formula>, LineStop>
     requires { 15 ≤ limit_of field }
-    ensures { SaysOfLine result
+    ensures { Says result
         (register_operand formulas field tokens.now (register_number_at tokens.now)) }
 {
     match register_number_at(tokens) {
@@ -153,7 +154,7 @@ fn accumulator(tokens: &[Token]) -> Result<&[Token], LineFault>
 
 /// What `LR` moves into a register.
 fn load_from(alloc: Global, to: Register, tokens: &[Token]) -> Result<Statement<Formula>, LineStop>
-    ensures { SaysOfLine result (load_from formulas to tokens.now (register_at tokens.now)) }
+    ensures { Says result (load_from formulas to tokens.now (register_at tokens.now)) }
 {
     match register_at(tokens) {
         Some(from) => without_memory(instruction_of(pair_op(to, from), tokens)),
@@ -164,7 +165,7 @@ fn load_from(alloc: Global, to: Register, tokens: &[Token]) -> Result<Statement<
 
 /// `LR` from the accumulator into a register that an expression gives.
 fn store(alloc: Global, tokens: &[Token]) -> Result<Statement<Formula>, LineStop>
-    ensures { SaysOfLine result (load formulas tokens.now None) }
+    ensures { Says result (load formulas tokens.now None) }
 {
     let (operand, rest) = operand_at(alloc, tokens)?;
     let rest = comma(rest)?;
@@ -174,7 +175,7 @@ fn store(alloc: Global, tokens: &[Token]) -> Result<Statement<Formula>, LineStop
 
 /// `LR` between two registers.
 fn load(alloc: Global, tokens: &[Token]) -> Result<Statement<Formula>, LineStop>
-    ensures { SaysOfLine result (load formulas tokens.now (register_at tokens.now)) }
+    ensures { Says result (load formulas tokens.now (register_at tokens.now)) }
 {
     match register_at(tokens) {
         Some(to) => load_from(alloc, to, comma(behind(tokens))?),
@@ -184,7 +185,7 @@ fn load(alloc: Global, tokens: &[Token]) -> Result<Statement<Formula>, LineStop>
 
 /// Expressions with commas between them, at least one.
 fn items(alloc: Global, tokens: &[Token]) -> Result<OperandList<Formula>, LineStop>
-    ensures { SaysOfLine result (items formulas (length tokens.now) tokens.now) }
+    ensures { Says result (items formulas (length tokens.now) tokens.now) }
 {
     let mut found = Vec::new(alloc);
     let mut rest = tokens;
@@ -204,7 +205,7 @@ fn item_list(
     size: ItemSize,
     tokens: &[Token],
 ) -> Result<Statement<Formula>, LineStop>
-    ensures { SaysOfLine result (item_list formulas size tokens.now) }
+    ensures { Says result (item_list formulas size tokens.now) }
 {
     let list = items(alloc, tokens)?;
     Ok(Statement::Items(size, list))
@@ -214,7 +215,7 @@ fn item_list(
 #[tactic(auto, unfolding(crate::specs::Statements::operands))]
 fn operands(alloc: Global, shape: Shape, tokens: &[Token]) -> Result<Statement<Formula>, LineStop>
     requires { HasRoom shape }
-    ensures { SaysOfLine result (operands formulas shape tokens.now) }
+    ensures { Says result (operands formulas shape tokens.now) }
 {
     match shape {
         Shape::Plain(code) => without_memory(done(Statement::Fixed(code), tokens)),
@@ -254,7 +255,7 @@ fn statement_of(
     name: &Name,
     tokens: &[Token],
 ) -> Result<Statement<Formula>, LineStop>
-    ensures { SaysOfLine result
+    ensures { Says result
         (statement_of formulas labelled column name.now tokens.now (shape_of name.now)) }
 {
     match shape_of(name.as_str().as_bytes()) {
@@ -271,7 +272,7 @@ pub fn statement(
     labelled: bool,
     tokens: &[Token],
 ) -> Result<Statement<Formula>, LineStop>
-    ensures { SaysOfLine result (statement formulas labelled tokens.now) }
+    ensures { Says result (statement formulas labelled tokens.now) }
 {
     let Some((first, behind)) = tokens.split_first() else {
         return Ok(Statement::Nothing);

@@ -1,6 +1,7 @@
 // The tokens of a line.
 ghost use Rattle.std.specs.Prelude.{◌≡◌, ◌≤◌, length};
-ghost use Rattle.f8_asm.specs.Answers.{SaysOfText};
+ghost use Rattle.text_lines.specs.ReadErrors.{Says};
+ghost use Rattle.text_lines.specs.declared.read_error.ReadError.TheVariants.{Fault};
 ghost use Rattle.f8_asm.specs.PassOne.{end_of, line_tokens, fault_by};
 
 use crate::answers::{AsmAnswer, AsmCause, AsmFault};
@@ -31,7 +32,7 @@ pub fn fault_by(number: u32, end: u32, fault: LineFault) -> AsmFault
 
 /// A fault of a line with its place.
 fn fault(line: u32, column: u32, cause: AsmCause) -> AsmAnswer
-    ensures { result ≡ AsmAnswer.Fault (record { line = line; column = column; cause = cause }) }
+    ensures { result ≡ Fault (record { line = line; column = column; cause = cause }) }
 {
     AsmAnswer::Fault(AsmFault {
         line,
@@ -44,7 +45,7 @@ fn fault(line: u32, column: u32, cause: AsmCause) -> AsmAnswer
 #[tactic(auto, unfolding(crate::specs::PassOne::line_tokens))]
 pub fn line_tokens(alloc: Global, number: u32, bytes: &[u8]) -> Result<TokenList, AsmAnswer>
     requires { length bytes.now ≤ 16777216 }
-    ensures { SaysOfText result (line_tokens number bytes.now) }
+    ensures { Says result (line_tokens number bytes.now) }
 {
     let Ok(line) = std::str::from_utf8(bytes) else {
         return Err(fault(number, 1, AsmCause::Utf8));

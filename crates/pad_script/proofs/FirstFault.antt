@@ -7,8 +7,8 @@ use Rattle.std.specs.List.{All}
 use Rattle.std.proofs.lemmas.Bool.Decides.{nat_tests}
 use Rattle.std.proofs.lemmas.List.{append-nil}
 use Rattle.std.proofs.lemmas.List.Elements.{All-nil, All-cons}
-use Rattle.pad_script.specs.declared.answers.ScriptAnswer.{ScriptAnswer}
-use Rattle.pad_script.specs.declared.answers.ScriptAnswer.TheVariants as answer
+use Rattle.text_lines.specs.declared.read_error.ReadError.{ReadError}
+use Rattle.text_lines.specs.declared.read_error.ReadError.TheVariants as answer
 use Rattle.pad_script.specs.declared.answers.ScriptCause.{ScriptCause}
 use Rattle.pad_script.specs.declared.answers.ScriptCause.TheVariants.{Twice, TooMany, NoEnd}
 use Rattle.pad_script.specs.declared.answers.ScriptFault.{ScriptFault}
@@ -17,7 +17,8 @@ use Rattle.console_spec.specs.declared.End.{End}
 use Rattle.pad_script.specs.declared.script.Script.{Script as KeptScript}
 use Rattle.pad_script.specs.declared.statement.Statement.{Statement}
 use Rattle.pad_script.specs.declared.statement.Statement.TheVariants.{Power, Ends, Comes, Shows}
-use Rattle.pad_script.specs.Answers.{answer_as, OnMemory}
+use Rattle.pad_script.specs.Answers.{answer_as}
+use Rattle.text_lines.specs.ReadErrors.{OnMemory}
 use Rattle.pad_script.specs.FirstFault.{HasNoFault, IsFirstFault, AtLine, BehindLast, IsLineFault}
 use Rattle.pad_script.specs.FirstFault.{TellsFault}
 use Rattle.pad_script.specs.FirstFault.{counted_lines}
@@ -332,7 +333,7 @@ fault_answer text (Err fault) is =
 -- an answer at a line that is reached
 pub stop_answer : (text : List ℕ) (before : List (List ℕ)) (number : ℕ) (d : Draft) (l : List ℕ)
     (behind : List (List ℕ))
-    (e : ScriptAnswer) → Reaches before number d → lines text ≡ before ++ l ∷ behind →
+    (e : ReadError ScriptFault) → Reaches before number d → lines text ≡ before ++ l ∷ behind →
     SaysOfText (Err e) (script_of text) → OnMemory {A = KeptScript} (Err e) (0 < counted_lines (said_in (line_of l))) →
     TellsFault (Err e) (lines text)
 stop_answer text before number d l behind (answer.Fault fault) reaches parts says memory =

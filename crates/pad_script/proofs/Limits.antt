@@ -5,7 +5,8 @@ use Rattle.text_lines.specs.Printable.{is_printable}
 use Rattle.std.proofs.lemmas.Bool.Decides.{nat_tests}
 use Rattle.std.specs.Prelude.{◌≤◌, ◌&&◌, nat_le, codes, bytes_eq, IfOk, IfSome}
 use Rattle.std.specs.List.{list_all}
-use Rattle.pad_script.specs.declared.answers.ScriptAnswer.{ScriptAnswer}
+use Rattle.text_lines.specs.declared.read_error.ReadError.{ReadError}
+use Rattle.pad_script.specs.declared.answers.ScriptFault.{ScriptFault}
 use Rattle.pad_script.specs.declared.answers.ScriptCause.{ScriptCause}
 use Rattle.pad_script.specs.declared.answers.ScriptCause.TheVariants.{Word, Range}
 use Rattle.console_spec.specs.declared.End.{End}
@@ -178,7 +179,7 @@ first_limited (l ∷ ls) end others first =
     said_before (line_of l) (statements ls) (line_limited l) (first_limited ls) end others first
 
 -- an answer that says what a text says
-pub limited_answer : (text : List ℕ) (result : Result KeptScript ScriptAnswer) → SaysOfText result (script_of text) →
+pub limited_answer : (text : List ℕ) (result : Result KeptScript (ReadError ScriptFault)) → SaysOfText result (script_of text) →
     IfOk result (λ script. HasLimits script.end)
 limited_answer text (Ok script) is =
     let told = told_answer text (Ok script) is in first_limited (lines text) script.end [] told.end

@@ -1,13 +1,14 @@
 -- A text that is read a line at a time.
 use Rattle.std.proofs.Common.{◌≡◌, ℕ, ◌+◌, List, [], ◌∷◌, ◌++◌, length, length-append, append_assoc, Ok, Err, Result}
 use Rattle.std.proofs.Common.{refl, sym, ap, subst, ◌∙◌, arith}
-use Rattle.pad_script.specs.declared.answers.ScriptAnswer.{ScriptAnswer}
-use Rattle.pad_script.specs.declared.answers.ScriptAnswer.TheVariants as answer
+use Rattle.text_lines.specs.declared.read_error.ReadError.{ReadError}
+use Rattle.text_lines.specs.declared.read_error.ReadError.TheVariants as answer
 use Rattle.pad_script.specs.declared.answers.ScriptFault.{ScriptFault}
 use Rattle.pad_script.specs.declared.script.Script.{Script as KeptScript}
 use Rattle.text_lines.specs.Lines.{lines}
 use Rattle.pad_script.specs.Answers.{answer_as}
-use Rattle.pad_script.specs.Reading.{Draft, Script, SaysOfText, StepsOfText, script_at_end, no_draft, read_line}
+use Rattle.pad_script.specs.Reading.{Draft, Script, SaysOfText, script_at_end, no_draft, read_line}
+use Rattle.text_lines.specs.ReadErrors.{StepsTo}
 use Rattle.pad_script.specs.Reading.{read_lines}
 use Rattle.pad_script.specs.Reading.{script_of}
 
@@ -70,9 +71,9 @@ reads_whole text rest number d reads =
     sym (ap (read_lines 1 no_draft) reads.parts ∙ reads.reaches.behind (lines rest))
 
 -- a line is at fault, or memory is missing
-pub read_stops : (number : ℕ) (d next : Draft) (l : List ℕ) (ls : List (List ℕ)) (e : ScriptAnswer)
+pub read_stops : (number : ℕ) (d next : Draft) (l : List ℕ) (ls : List (List ℕ)) (e : ReadError ScriptFault)
     (whole : Result Script ScriptFault) → read_lines number d (l ∷ ls) ≡ whole →
-    StepsOfText (Err e) next (read_line number d l) → SaysOfText (Err e) whole
+    StepsTo (Err e) next (read_line number d l) → SaysOfText (Err e) whole
 unfolding read_lines
 read_stops number d next l ls (answer.Fault fault) whole is step = sym is ∙ rw (step, read_lines) refl
 read_stops number d next l ls answer.Memory whole is step = tt

@@ -2,7 +2,7 @@
 use Rattle.std.proofs.Common.{◌≡◌, ℕ, ◌+◌, Bool, true, false, cond, List, [], ◌∷◌, ◌++◌, Option, Some, None, Result, Ok}
 use Rattle.std.proofs.Common.{Err, refl, sym, ◌∙◌, ap, subst, append_assoc}
 use Rattle.std.specs.Prelude.{IfOk}
-use Rattle.pad_script.specs.declared.answers.ScriptAnswer.{ScriptAnswer}
+use Rattle.text_lines.specs.declared.read_error.ReadError.{ReadError}
 use Rattle.pad_script.specs.declared.answers.ScriptCause.{ScriptCause}
 use Rattle.pad_script.specs.declared.answers.ScriptFault.{ScriptFault}
 use Rattle.console_spec.specs.declared.At.{At}
@@ -135,7 +135,7 @@ told_text text script is =
     record { power = r.is_power; end = r.is_end; events = r.is_events; shows = r.is_shows }
 
 -- an answer that says so
-pub told_answer : (text : List ℕ) (result : Result KeptScript ScriptAnswer) → SaysOfText result (script_of text) →
+pub told_answer : (text : List ℕ) (result : Result KeptScript (ReadError ScriptFault)) → SaysOfText result (script_of text) →
     IfOk result (λ script. IsTold (statements (lines text)) (seen script))
 told_answer text (Ok script) is = told_text text (seen script) is
 told_answer text (Err e) is = tt

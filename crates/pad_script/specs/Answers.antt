@@ -1,7 +1,7 @@
 -- The causes by number, what follows where there is none, and answers.
 use Rattle.std.specs.Prelude.{ℕ, Result, Ok, Err}
-use Rattle.pad_script.specs.declared.answers.ScriptAnswer.{ScriptAnswer}
-use Rattle.pad_script.specs.declared.answers.ScriptAnswer.TheVariants as answer
+use Rattle.text_lines.specs.declared.read_error.ReadError.{ReadError}
+use Rattle.text_lines.specs.declared.read_error.ReadError.TheVariants as answer
 use Rattle.pad_script.specs.declared.answers.ScriptCause.{ScriptCause}
 use Rattle.pad_script.specs.declared.answers.ScriptCause.TheVariants.{Word, Number, Range, TooMany, Twice, NoEnd}
 use Rattle.pad_script.specs.declared.answers.ScriptFault.{ScriptFault}
@@ -23,12 +23,6 @@ made_of f (Err cause) = Err cause
 -- ---- answers
 
 -- a fault as an answer
-abbrev pub answer_as : {A : Type 0} → Result A ScriptFault → Result A ScriptAnswer
+abbrev pub answer_as : {A : Type 0} → Result A ScriptFault → Result A (ReadError ScriptFault)
 answer_as (Ok x) = Ok x
 answer_as (Err fault) = Err (answer.Fault fault)
-
--- what is said of an answer that memory is missing
-abbrev pub OnMemory : {A : Type 0} → Result A ScriptAnswer → Type 0 → Type 0
-OnMemory (Ok x) Said = Unit {0}
-OnMemory (Err (answer.Fault fault)) Said = Unit {0}
-OnMemory (Err answer.Memory) Said = Said

@@ -2,8 +2,8 @@
 use Rattle.std.specs.Prelude.{◌≡◌, ℕ, ◌+◌, ◌<◌, ◌≤◌, List, [], ◌∷◌, ◌++◌, length}
 use Rattle.std.specs.Prelude.{Option, Some, None, Result, Ok, Err, IsOk}
 use Rattle.std.specs.List.{All}
-use Rattle.pad_script.specs.declared.answers.ScriptAnswer.{ScriptAnswer}
-use Rattle.pad_script.specs.declared.answers.ScriptAnswer.TheVariants as answer
+use Rattle.text_lines.specs.declared.read_error.ReadError.{ReadError}
+use Rattle.text_lines.specs.declared.read_error.ReadError.TheVariants as answer
 use Rattle.pad_script.specs.declared.answers.ScriptCause.{ScriptCause}
 use Rattle.pad_script.specs.declared.answers.ScriptCause.TheVariants.{Twice, TooMany, NoEnd}
 use Rattle.pad_script.specs.declared.answers.ScriptFault.{ScriptFault}
@@ -56,7 +56,7 @@ pub record TakesMemory (ls : List (List ℕ)) : Type 0 where
   pub counted : 0 < counted_lines (said_in (line_of line))
 
 -- An answer tells the first fault of a text, or that there is none. Memory is wanting only where a line takes it.
-abbrev pub TellsFault : Result KeptScript ScriptAnswer → List (List ℕ) → Type 0
+abbrev pub TellsFault : Result KeptScript (ReadError ScriptFault) → List (List ℕ) → Type 0
 TellsFault (Ok script) ls = HasNoFault ls
 TellsFault (Err (answer.Fault fault)) ls = IsFirstFault ls fault
 TellsFault (Err answer.Memory) ls = TakesMemory ls

@@ -4,8 +4,8 @@ use Rattle.std.specs.Prelude.{is_some, unwrap_or, Result, Ok, Err}
 use Rattle.pad_script.specs.declared.answers.ScriptCause.{ScriptCause}
 use Rattle.pad_script.specs.declared.answers.ScriptCause.TheVariants.{Twice, TooMany, NoEnd}
 use Rattle.pad_script.specs.declared.answers.ScriptFault.{ScriptFault}
-use Rattle.pad_script.specs.declared.answers.ScriptAnswer.{ScriptAnswer}
-use Rattle.pad_script.specs.declared.answers.ScriptAnswer.TheVariants as answer
+use Rattle.text_lines.specs.declared.read_error.ReadError.{ReadError}
+use Rattle.text_lines.specs.ReadErrors.{SaysSeen}
 use Rattle.console_spec.specs.declared.At.{At}
 use Rattle.console_spec.specs.declared.End.{End}
 use Rattle.pad_script.specs.declared.script.Script.{Script as KeptScript}
@@ -82,14 +82,6 @@ script_of text = read_lines 1 no_draft (lines text)
 
 -- ---- answers
 
--- an answer is what is said of a text; want of memory says nothing of it
-abbrev pub SaysOfText : Result KeptScript ScriptAnswer → Result Script ScriptFault → Type 0
-SaysOfText (Ok script) said = said ≡ Ok (seen script)
-SaysOfText (Err (answer.Fault fault)) said = said ≡ Err fault
-SaysOfText (Err answer.Memory) said = Unit {0}
-
--- a step leads to the draft that is said of a line
-abbrev pub StepsOfText : Result (Unit {0}) ScriptAnswer → Draft → Result Draft ScriptFault → Type 0
-StepsOfText (Ok u) new said = said ≡ Ok new
-StepsOfText (Err (answer.Fault fault)) new said = said ≡ Err fault
-StepsOfText (Err answer.Memory) new said = Unit {0}
+-- an answer is what is said of a text
+abbrev pub SaysOfText : Result KeptScript (ReadError ScriptFault) → Result Script ScriptFault → Type 0
+SaysOfText result said = SaysSeen seen result said

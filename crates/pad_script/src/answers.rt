@@ -1,8 +1,9 @@
 // What is wrong with a script.
 ghost use Rattle.std.specs.Prelude.{◌≡◌};
 ghost use Rattle.pad_script.specs.Answers.{cause_number};
+ghost use Rattle.text_lines.specs.declared.read_error.ReadError.TheVariants.{Fault};
 
-use std::alloc::{AllocError, AllocFailed};
+use text_lines::ReadError;
 use thiserror::Error;
 
 /// What is wrong with a line.
@@ -52,42 +53,12 @@ pub struct ScriptFault {
     pub cause: ScriptCause,
 }
 
-/// Why a text is no script.
-#[derive(Clone, Copy, Debug, PartialEq, Eq, Error)]
-pub enum ScriptAnswer {
-    /// The text is at fault.
-    #[error("{0}")]
-    Fault(ScriptFault),
-    /// Memory is missing, at a line of an event or a shown frame.
-    #[error("out of memory")]
-    Memory,
-}
+/// Why a text is no script: its first fault, or that memory is missing, at a line of an event or a shown frame.
+pub type ScriptAnswer = ReadError<ScriptFault>;
 
 /// A fault of a line.
 pub fn fault(line: u32, cause: ScriptCause) -> ScriptAnswer
-    ensures { result ≡ ScriptAnswer.Fault (record { line = line; cause = cause }) }
+    ensures { result ≡ Fault (record { line = line; cause = cause }) }
 {
     ScriptAnswer::Fault(ScriptFault { line, cause })
-}
-
-impl From<AllocError> for ScriptAnswer {
-    ghost use Rattle.std.specs.Prelude.{◌≡◌};
-    ghost use Rattle.pad_script.specs.declared.answers.ScriptAnswer.TheVariants.{Memory};
-
-    ghost from_gives = { λ _ e. e ≡ Memory };
-
-    fn from(_error: AllocError) -> ScriptAnswer {
-        ScriptAnswer::Memory
-    }
-}
-
-impl<T: Drop> From<AllocFailed<T>> for ScriptAnswer {
-    ghost use Rattle.std.specs.Prelude.{◌≡◌};
-    ghost use Rattle.pad_script.specs.declared.answers.ScriptAnswer.TheVariants.{Memory};
-
-    ghost from_gives = { λ _ e. e ≡ Memory };
-
-    fn from(_error: AllocFailed<T>) -> ScriptAnswer {
-        ScriptAnswer::Memory
-    }
 }

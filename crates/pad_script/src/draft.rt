@@ -1,8 +1,9 @@
 // What is known after some lines.
 ghost use Rattle.std.specs.Prelude.{◌≡◌, ◌<◌, ◌≤◌, ◌+◌, [], ◌∷◌, IfOk, length};
-ghost use Rattle.pad_script.specs.Answers.{answer_as, OnMemory};
+ghost use Rattle.pad_script.specs.Answers.{answer_as};
+ghost use Rattle.text_lines.specs.ReadErrors.{OnMemory, StepsTo};
 ghost use Rattle.pad_script.specs.FirstFault.{counted_lines};
-ghost use Rattle.pad_script.specs.Reading.{StepsOfText, SaysOfText};
+ghost use Rattle.pad_script.specs.Reading.{SaysOfText};
 ghost use Rattle.pad_script.specs.Reading.{script_at_end, is_full, no_draft, draft_after, read_line};
 ghost use Rattle.pad_script.specs.Statements.{line_of as spelled_line};
 ghost use Rattle.pad_script.specs.Telling.{said_in};
@@ -62,7 +63,7 @@ impl Draft {
     /// One line more says something. Memory is wanting only where that is an event or a shown frame.
     #[tactic(auto, unfolding(crate::specs::Reading::draft_after))]
     fn say(&mut self, line: u32, statement: Statement) -> Result<(), ScriptAnswer>
-        ensures steps { StepsOfText result self.new (draft_after line self.old statement) }
+        ensures steps { StepsTo result self.new (draft_after line self.old statement) }
         ensures memory { OnMemory result (0 < counted_lines (statement ∷ [])) }
     {
         match statement {
@@ -97,7 +98,7 @@ impl Draft {
     /// Reads one line more. Memory is wanting only where it has an event or a shown frame, so never at one that is skipped.
     #[tactic(auto, unfolding(crate::specs::Reading::read_line))]
     pub fn read_line(&mut self, number: u32, line: &[u8]) -> Result<(), ScriptAnswer>
-        ensures steps { StepsOfText result self.new (read_line number self.old line.now) }
+        ensures steps { StepsTo result self.new (read_line number self.old line.now) }
         ensures memory { OnMemory result (0 < counted_lines (said_in (spelled_line line.now))) }
     {
         match line_of(line) {

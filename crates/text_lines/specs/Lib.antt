@@ -1,2 +1,3 @@
 pub mod Lines
 pub mod Printable
+pub mod ReadErrors

@@ -4,9 +4,11 @@
 
 mod lines;
 mod printable;
+mod read_error;
 
 pub use lines::first_line;
 pub use printable::all_printable;
+pub use read_error::ReadError;
 
 #[cfg(test)]
 mod tests;
