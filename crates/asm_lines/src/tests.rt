@@ -1,3 +1,4 @@
+// Worked images and a listing, each line as one put, and a sink that fails.
 use super::*;
 use f8_asm::{Image, Room, assemble, disassemble};
 use outside::{Cut, CutList, MemSink, SinkFault, SureSink};

@@ -33,7 +33,8 @@ module _ (m : MapView) (tracked : List ℕ) (notes : List (Point × AbstractStat
     ascends = ascends;
     few = few;
     fits = λ p s here.
-        All-contains (λ (e : Point × AbstractState). FitsPoint tracked e.0 e.1) notes (p, s) (All-from_recursion (λ (e : Point × AbstractState). FitsPoint tracked e.0 e.1) notes fit)
+        All-contains (λ (e : Point × AbstractState). FitsPoint tracked e.0 e.1) notes (p, s)
+        (All-from_recursion (λ (e : Point × AbstractState). FitsPoint tracked e.0 e.1) notes fit)
         (Contains-from_lookup (tells_apart point_laws.exact) p s notes here);
   }
 
@@ -54,8 +55,8 @@ some_points m tracked (e ∷ es) p s here = omega arith
 pub closed_maps : ClosedMapLaw
 closed_maps = record {
   read = λ m tracked notes few closed.
-      again tracked notes few (some_points m tracked notes start_point closed.closed.start.upper closed.closed.start.noted) closed.is_map.few closed.is_map.ascends
-      (all_fit m tracked notes closed.is_map);
+      again tracked notes few (some_points m tracked notes start_point closed.closed.start.upper closed.closed.start.noted) closed.is_map.few
+      closed.is_map.ascends (all_fit m tracked notes closed.is_map);
   whole = λ m tracked notes closed free.
       (whole_exactly (analysis m tracked) point_laws.total point_laws.exact notes closed.is_map).1 (closed, free);
   agreed = λ m tracked notes closed none.

@@ -9,7 +9,8 @@ use Rattle.probe.specs.ProbeState.{ProbeState}
 use Rattle.data_bus.specs.declared.cycle.Cycle.{Cycle}
 use Rattle.data_bus.specs.declared.cycle.Served.{Served}
 use Rattle.data_bus.specs.declared.decide.Ruling.{Ruling}
-use Rattle.data_bus.specs.declared.decide.Ruling.TheVariants.{Served as ServedRuling, Conflict as ConflictRuling, Undriven as UndrivenRuling, Astray as AstrayRuling}
+use Rattle.data_bus.specs.declared.decide.Ruling.TheVariants.{Served as ServedRuling, Conflict as ConflictRuling}
+use Rattle.data_bus.specs.declared.decide.Ruling.TheVariants.{Undriven as UndrivenRuling, Astray as AstrayRuling}
 use Rattle.data_bus.specs.declared.fault.BusFault.{BusFault}
 use Rattle.data_bus.specs.declared.fault.BusFault.TheVariants.{Conflict as ConflictFault, Undriven as UndrivenFault, Astray as AstrayFault}
 use Rattle.data_bus.specs.declared.poll.Poll.{Poll}

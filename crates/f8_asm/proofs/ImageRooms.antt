@@ -74,7 +74,8 @@ pub in_line-ok : {A : Type 0} (number : ℕ) (ts : List Token) (r : Result A Lin
 in_line-ok number ts (Ok y) x h = cc h
 in_line-ok number ts (Err fault) x h = cc h
 
-place-placed : (room : Room) (s : Layout PlacedLine) (l : Line) (t : Layout PlacedLine) → place room s l ≡ Ok t → All (IsPlaced room) s.placed → All (IsPlaced room) t.placed
+place-placed : (room : Room) (s : Layout PlacedLine) (l : Line) (t : Layout PlacedLine) → place room s l ≡ Ok t
+    → All (IsPlaced room) s.placed → All (IsPlaced room) t.placed
 unfolding place settle
 place-placed room s l t h so_far =
     let p : PlacedLine = record { address = s.here; line = l } in

@@ -16,7 +16,8 @@ after found (Ok os) = Ok (found ++ os)
 after found (Err fault) = Err fault
 
 -- one item more, before those still read
-after_more : {A : Type 0} (found : List (Operand A)) (o : Operand A) (r : Result (List (Operand A)) LineFault) → after (found ++ o ∷ []) r ≡ after found (r >>= λ os. Ok (o ∷ os))
+after_more : {A : Type 0} (found : List (Operand A)) (o : Operand A) (r : Result (List (Operand A)) LineFault)
+    → after (found ++ o ∷ []) r ≡ after found (r >>= λ os. Ok (o ∷ os))
 after_more found o (Ok os) = ap Ok (append_assoc found (o ∷ []) os)
 after_more found o (Err fault) = refl
 

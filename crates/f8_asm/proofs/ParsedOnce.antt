@@ -31,7 +31,8 @@ use Rattle.f8_asm.specs.PassTwo.{Layout, no_layout, with_label, fits, layout_aft
 use Rattle.f8_asm.specs.Statements.{statement, statement_valued, label_of, behind_label, effect_of, twice}
 use Rattle.f8_asm.specs.TokenLines.{Line, PlacedLine}
 use Rattle.text_lines.specs.Lines.{lines}
-use Rattle.f8_asm.proofs.Alike.{read-ok, AlikeBy, Alike, alike_ok, alike_err, alike_self, alike_then, alike_same, AllAlike, none_alike, alike_push, alike_length, alike_each}
+use Rattle.f8_asm.proofs.Alike.{read-ok, AlikeBy, Alike, alike_ok, alike_err, alike_self, alike_then, alike_same}
+use Rattle.f8_asm.proofs.Alike.{AllAlike, none_alike, alike_push, alike_length, alike_each}
 use Rattle.f8_asm.proofs.ImageRooms.{in_line-ok}
 use Rattle.f8_asm.proofs.FormulaValues.{Puts, statement_read, statement_with_values}
 use Rattle.f8_asm.proofs.StatementsAlike.{StatementAlike}

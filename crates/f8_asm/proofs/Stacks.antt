@@ -8,7 +8,8 @@ use Rattle.f8_asm.specs.Formulas.{last_on, top_of, stack_after, stack_behind, fo
 use Rattle.f8_asm.specs.Grammar.{Actions}
 
 -- the last value on the stack that steps lead to is theirs
-pub value_on : (acts : Actions Outcome) (ss : List Step) (stack : List Outcome) → stack ≡ stack_behind acts ss [] → top_of (last_on stack) ≡ formula_value acts ss
+pub value_on : (acts : Actions Outcome) (ss : List Step) (stack : List Outcome) → stack ≡ stack_behind acts ss []
+    → top_of (last_on stack) ≡ formula_value acts ss
 unfolding formula_value
 value_on acts ss stack is = rw is refl
 

@@ -1,3 +1,4 @@
+// Stores and sinks in memory and over the system: what they give and keep, and how they fail.
 use super::{
     CallList, Cut, CutList, FetchFault, FileList, FileStore, MemSink, MemStore, NamedFile, OutSink,
     Sink, Store, SureSink, SureStore,

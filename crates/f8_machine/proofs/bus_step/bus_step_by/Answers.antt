@@ -15,5 +15,5 @@ pub returns-in-Err-clause-tried : goal.returns-in-Err-clause-tried
 returns-in-Err-clause-tried g c =
     tried_by _
     (record { romc = c.args.step.romc; long = c.args.step.long; byte = c.args.placed; first = c.args.first }) c.args.probe.now
-    (map (λ b. (goal.Chip-dyn g (b.vtable, b.value)).state b.value) c.args.rack.now.items) c.in-Err.fault c.args.known.now c.step_by.new.index _ _ c.args.steps.now c.args.steps.now
-    c.in-Err.ensures.answer c.in-Err.ensures.index_stays c.in-Err.ensures.asked refl
+    (map (λ b. (goal.Chip-dyn g (b.vtable, b.value)).state b.value) c.args.rack.now.items) c.in-Err.fault c.args.known.now c.step_by.new.index
+    _ _ c.args.steps.now c.args.steps.now c.in-Err.ensures.answer c.in-Err.ensures.index_stays c.in-Err.ensures.asked refl
