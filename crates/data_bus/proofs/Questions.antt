@@ -1,5 +1,5 @@
 -- The questions that are put in loops over the chips of a rack, which change nothing but their count.
-use Rattle.std.proofs.Common.{◌≡◌, ℕ, zero, suc, ◌+◌, ◌<◌, ◌≤◌, Bool, true, false, List, length, get_or, map, refl, sym, ap, ◌∙◌, subst}
+use Rattle.std.proofs.Common.{◌≡◌, ℕ, zero, suc, ◌+◌, ◌<◌, ◌≤◌, Bool, true, false, List, [], ◌∷◌, length, get_or, map, refl, sym, ap, ◌∙◌, subst}
 use Rattle.std.proofs.Common.{arith, add-one, eqb-true, take, drop, ◌++◌}
 use Rattle.std.specs.Prelude.{◌==◌, if◌then◌else◌, Option, Some, None, slice_get, sum, sum_by}
 use Rattle.std.proofs.Math.ListN.{set, get_or-map}
@@ -11,6 +11,9 @@ use Rattle.f8_spec.specs.BusArbitration.{is_first}
 use Rattle.f8_spec.specs.declared.bus.BusRule.{BusRule}
 use Rattle.f8_spec.specs.declared.bus.BusRule.TheVariants.{Read, Store, PortRead, PortWrite, Vector, NoChip}
 use Rattle.data_bus.specs.Allowances.{questions_at, allowance_by}
+use Rattle.data_bus.specs.KnownPlaces.{goes_by_counter}
+use Rattle.data_bus.specs.Questions.{AskedAtMost, AskedBy}
+use Rattle.data_bus.specs.Racks.{NumberedZip}
 use Rattle.data_bus.proofs.Racks.{whole_again}
 
 -- what is put to the chips below a socket, by what is put to each
@@ -109,3 +112,47 @@ total_few Vector None (suc n) = let before = total_few Vector None n in omega (a
 total_few Vector (Some k) n = named_once k n
 total_few NoChip first zero = omega arith
 total_few NoChip first (suc n) = let before = total_few NoChip first n in omega (arith, before)
+
+-- ---- how many it puts to each
+
+-- no chip was asked
+pub asked_nobody : (rule : BusRule) (first : Option ℕ) (n : ℕ) (counts : List ℕ) → NumberedZip (AskedBy rule first) n counts counts
+asked_nobody rule first n [] = tt
+asked_nobody rule first n (count ∷ counts) = (omega arith, asked_nobody rule first (n + 1) counts)
+
+-- no more afterwards
+pub asked_then : (rule : BusRule) (first : Option ℕ) (n : ℕ) (xs ys zs : List ℕ) → NumberedZip (AskedBy rule first) n xs ys → zs ≡ ys →
+    NumberedZip (AskedBy rule first) n xs zs
+asked_then rule first n xs ys zs asked same = subst (λ l. NumberedZip (AskedBy rule first) n xs l) (sym same) asked
+
+-- no more before
+pub asked_since : (rule : BusRule) (first : Option ℕ) (n : ℕ) (xs ys zs : List ℕ) → ys ≡ xs → NumberedZip (AskedBy rule first) n ys zs →
+    NumberedZip (AskedBy rule first) n xs zs
+asked_since rule first n xs ys zs same asked = subst (λ l. NumberedZip (AskedBy rule first) n l zs) same asked
+
+unasked_each : (n : ℕ) (counts : List ℕ) → NumberedZip (AskedAtMost 1) n counts counts
+unasked_each n [] = tt
+unasked_each n (count ∷ counts) = (omega arith, unasked_each (n + 1) counts)
+
+-- one chip was put one question
+pub asked_one : {X : Type 0} (Q : X → ℕ) (n i : ℕ) (xs : List X) (y d : X) → Q y ≤ Q (get_or xs i d) + 1 →
+    NumberedZip (AskedAtMost 1) n (map Q xs) (map Q (set xs i y))
+asked_one Q n i [] y d few = tt
+asked_one Q n zero (x ∷ xs) y d few = (few, unasked_each (n + 1) (map Q xs))
+asked_one Q n (suc i) (x ∷ xs) y d few = (omega arith, asked_one Q (n + 1) i xs y d few)
+
+-- which is within a step that goes by a counter
+pub one_allowed : (rule : BusRule) (first : Option ℕ) (n : ℕ) (xs ys : List ℕ) → goes_by_counter rule ≡ true → NumberedZip (AskedAtMost 1) n xs ys →
+    NumberedZip (AskedBy rule first) n xs ys
+one_allowed Read first n [] [] by asked = tt
+one_allowed Read first n [] (y ∷ ys) by asked = absurd asked
+one_allowed Read first n (x ∷ xs) [] by asked = absurd asked
+one_allowed Read first n (x ∷ xs) (y ∷ ys) by asked = let here = asked.0 in (omega (arith, here), one_allowed Read first (n + 1) xs ys by asked.1)
+one_allowed Store first n [] [] by asked = tt
+one_allowed Store first n [] (y ∷ ys) by asked = absurd asked
+one_allowed Store first n (x ∷ xs) [] by asked = absurd asked
+one_allowed Store first n (x ∷ xs) (y ∷ ys) by asked = let here = asked.0 in (omega (arith, here), one_allowed Store first (n + 1) xs ys by asked.1)
+one_allowed PortRead first n xs ys by asked = cc
+one_allowed PortWrite first n xs ys by asked = cc
+one_allowed Vector first n xs ys by asked = cc
+one_allowed NoChip first n xs ys by asked = cc

@@ -8,7 +8,8 @@ ghost use Rattle.data_bus.specs.KnownAgreement.{knows};
 ghost use Rattle.data_bus.specs.KnownSteps.{tells_served};
 ghost use Rattle.data_bus.specs.PageIndex.{StandsFor, allowance, followed};
 ghost use Rattle.data_bus.specs.Polling.{no_poll, polled};
-ghost use Rattle.data_bus.specs.Racks.{AllMayHear, ChosenAsks, RackSettles, RackStays, views};
+ghost use Rattle.data_bus.specs.Questions.{AskedBy};
+ghost use Rattle.data_bus.specs.Racks.{AllMayHear, ChosenAsks, NumberedZip, RackSettles, RackStays, views};
 ghost use Rattle.data_bus.specs.Steps.{step_answer};
 
 use super::decide::{decide, served};
@@ -25,7 +26,7 @@ use probe::Probe;
 
 /// The step as it is served, where the index tells by whom: where no chip takes part; and where its counter is known and one chip at most
 /// is listed, which is asked for its byte. `None` where it isn't served, or where the index can't tell; then nobody was asked.
-#[tactic(auto, using(crate::proofs::Racks::may_hear_all))]
+#[tactic(auto, using(crate::proofs::Racks::may_hear_all, crate::proofs::Questions::asked_nobody))]
 #[inline(always)]
 fn served_by(rack: &mut Rack, probe: &Probe, index: &Index, cycle: &Cycle) -> Option<Served>
     requires few { length rack.old.items ≤ MOST_CHIPS }
@@ -39,6 +40,10 @@ fn served_by(rack: &mut Rack, probe: &Probe, index: &Index, cycle: &Cycle) -> Op
         + allowance cycle.now.romc index.now (length rack.old.items)) }
     ensures unasked { result ≡ None →
         sum_by queries rack.new.items ≡ sum_by queries rack.old.items }
+    ensures each { NumberedZip (AskedBy (rule_by_table cycle.now.romc) cycle.now.first) 0
+        (map queries rack.old.items) (map queries rack.new.items) }
+    ensures untouched { result ≡ None →
+        map queries rack.new.items ≡ map queries rack.old.items }
     ensures told { is_some result ≡ tells_served cycle.now.romc index.now probe.now
         (map state rack.old.items) }
     ensures chips { length rack.new.items ≡ length rack.old.items }
@@ -76,6 +81,7 @@ fn hear_all(rack: &mut Rack, probe: &mut Probe, index: &mut Index, cycle: &Cycle
     ensures stands { StandsFor index.new probe.new (map state rack.new.items) }
     ensures marks { index.new ≡ followed cycle.now.romc index.old }
     ensures asked { sum_by queries rack.new.items ≡ sum_by queries rack.old.items }
+    ensures untouched { map queries rack.new.items ≡ map queries rack.old.items }
     ensures chips { length rack.new.items ≡ length rack.old.items }
 {
     settle_all(rack, cycle, byte);
@@ -85,7 +91,7 @@ fn hear_all(rack: &mut Rack, probe: &mut Probe, index: &mut Index, cycle: &Cycle
 
 /// What a step is to answer: where no chip takes part, by the code alone; where its counter is known, by the sockets that the index lists;
 /// and else by asking every chip. Nothing changes but how many questions were put.
-#[tactic(auto, using(crate::proofs::Racks::may_hear_all))]
+#[tactic(auto, using(crate::proofs::Racks::may_hear_all, crate::proofs::Questions::asked_nobody))]
 #[inline(always)]
 fn ruling_by(
     rack: &mut Rack,
@@ -100,6 +106,8 @@ fn ruling_by(
     ensures stays { map state rack.new.items ≡ map state rack.old.items }
     ensures asked { sum_by queries rack.new.items ≤ sum_by queries rack.old.items
         + allowance cycle.now.romc index.now (length rack.old.items) }
+    ensures each { NumberedZip (AskedBy (rule_by_table cycle.now.romc) cycle.now.first) 0
+        (map queries rack.old.items) (map queries rack.new.items) }
     ensures chips { length rack.new.items ≡ length rack.old.items }
 {
     let rule = rule_of(cycle.romc);
@@ -120,6 +128,7 @@ fn ruling_by(
 /// answers `None`.
 ///
 /// It puts no more questions than the step's allowance, and none where it answers `None`.
+#[tactic(auto, using(crate::proofs::Questions::asked_then))]
 #[inline(always)]
 pub fn step_known(
     rack: &mut Rack,
@@ -146,6 +155,8 @@ pub fn step_known(
     ensures asked { IfSome result (λ served. sum_by queries rack.new.items
         ≤ sum_by queries rack.old.items
         + allowance cycle.romc index.old (length rack.old.items)) }
+    ensures each { NumberedZip (AskedBy (rule_by_table cycle.romc) cycle.first) 0
+        (map queries rack.old.items) (map queries rack.new.items) }
 
     // Not done: nothing changes.
     ensures stays { result ≡ None →
@@ -154,6 +165,8 @@ pub fn step_known(
     ensures index_stays { result ≡ None → index.new ≡ index.old }
     ensures unasked { result ≡ None →
         sum_by queries rack.new.items ≡ sum_by queries rack.old.items }
+    ensures untouched { result ≡ None →
+        map queries rack.new.items ≡ map queries rack.old.items }
     ensures stands { StandsFor index.new probe.new (map state rack.new.items) }
     ensures chips { length rack.new.items ≡ length rack.old.items }
 {
@@ -167,7 +180,7 @@ pub fn step_known(
 }
 
 /// The step in all other cases, as [`step_by`] makes it: where it isn't served, and where every chip is asked.
-#[tactic(auto, using(crate::proofs::Racks::stays_all))]
+#[tactic(auto, using(crate::proofs::Racks::stays_all, crate::proofs::Questions::asked_then))]
 #[inline(never)]
 fn step_asking(
     rack: &mut Rack,
@@ -190,6 +203,8 @@ fn step_asking(
     ensures index_stays { OnErr result (index.new ≡ index.old) }
     ensures asked { sum_by queries rack.new.items ≤ sum_by queries rack.old.items
         + allowance cycle.now.romc index.old (length rack.old.items) }
+    ensures each { NumberedZip (AskedBy (rule_by_table cycle.now.romc) cycle.now.first) 0
+        (map queries rack.old.items) (map queries rack.new.items) }
     ensures chips { length rack.new.items ≡ length rack.old.items }
 {
     let served = ruling_by(rack, probe, index, cycle)?;
@@ -201,7 +216,8 @@ fn step_asking(
 /// probe before and after. Where the step is served the index goes on by the table of marks, and else it stays.
 ///
 /// No more questions are put than the step's allowance: none where no chip takes part, and one where a chip is named, or where both
-/// halves of the step's counter are known; at the codes 1A and 1B one to each chip, and else four to each at most.
+/// halves of the step's counter are known; at the codes 1A and 1B one to each chip, and else three to each at most.
+#[tactic(auto, using(crate::proofs::Questions::asked_since))]
 #[inline(always)]
 pub fn step_by(
     rack: &mut Rack,
@@ -232,6 +248,8 @@ pub fn step_by(
     // The questions that were put.
     ensures asked { sum_by queries rack.new.items ≤ sum_by queries rack.old.items
         + allowance cycle.romc index.old (length rack.old.items) }
+    ensures each { NumberedZip (AskedBy (rule_by_table cycle.romc) cycle.first) 0
+        (map queries rack.old.items) (map queries rack.new.items) }
     ensures chips { length rack.new.items ≡ length rack.old.items }
 {
     match step_known(rack, probe, index, cycle) {

@@ -5,7 +5,8 @@ ghost use Rattle.f8_spec.specs.BusArbitration.{is_first as is_first_socket, rule
 ghost use Rattle.data_bus.specs.KnownPlaces.{AllAt, byte_in, goes_by_counter, party_at};
 ghost use Rattle.data_bus.specs.PageIndex.{Lists, flagged, holding, seats};
 ghost use Rattle.data_bus.specs.Polling.{no_poll, polled};
-ghost use Rattle.data_bus.specs.Racks.{AllMayHear, views};
+ghost use Rattle.data_bus.specs.Questions.{AskedAtMost, AskedBy};
+ghost use Rattle.data_bus.specs.Racks.{AllMayHear, NumberedZip, views};
 ghost use Rattle.data_bus.specs.Steps.{poll_answer};
 
 use super::ask::{is_first, offer_of};
@@ -55,6 +56,8 @@ pub(crate) fn byte_in_socket(rack: &mut Rack, socket: u8, cycle: &Cycle) -> u8
         (is_first_socket cycle.now.first socket) s.view) }
     ensures stays { map state rack.new.items ≡ map state rack.old.items }
     ensures asked { sum_by queries rack.new.items ≤ sum_by queries rack.old.items + 1 }
+    ensures each { NumberedZip (AskedAtMost 1) 0 (map queries rack.old.items)
+        (map queries rack.new.items) }
     ensures chips { length rack.new.items ≡ length rack.old.items }
 {
     byte_of(&mut rack[usize::from(socket)], socket, cycle)
@@ -62,6 +65,7 @@ pub(crate) fn byte_in_socket(rack: &mut Rack, socket: u8, cycle: &Cycle) -> u8
 
 /// What a step is to answer that goes by a counter, where every chip is at the probe's address: by the sockets of those that hold it.
 /// One chip is asked at most, and that by one question.
+#[tactic(auto, using(crate::proofs::Questions::asked_nobody, crate::proofs::Questions::one_allowed))]
 pub(crate) fn ruling_listed(
     rack: &mut Rack,
     sockets: &Sockets,
@@ -82,6 +86,8 @@ pub(crate) fn ruling_listed(
         (views (map state rack.old.items)) no_poll) }
     ensures stays { map state rack.new.items ≡ map state rack.old.items }
     ensures asked { sum_by queries rack.new.items ≤ sum_by queries rack.old.items + 1 }
+    ensures each { NumberedZip (AskedBy rule cycle.now.first) 0 (map queries rack.old.items)
+        (map queries rack.new.items) }
     ensures chips { length rack.new.items ≡ length rack.old.items }
 {
     match sockets {

@@ -1,7 +1,8 @@
 // One pass over the chips of a rack, and what it gathers.
 ghost use Rattle.std.specs.Prelude.{◌≡◌, ◌+◌, ◌<◌, ◌≤◌, [], ◌∷◌, false, None, length, map, sum_by};
 ghost use Rattle.data_bus.specs.Allowances.{allowance_by};
-ghost use Rattle.data_bus.specs.Racks.{AllMayHear, views};
+ghost use Rattle.data_bus.specs.Questions.{AskedBy};
+ghost use Rattle.data_bus.specs.Racks.{AllMayHear, NumberedZip, views};
 ghost use Rattle.data_bus.specs.Polling.{no_poll, polled};
 
 use super::ask::{Answer, Question, ask};
@@ -72,6 +73,8 @@ fn ask_all(rack: &mut Rack, question: &Question) -> Poll
     ensures stays { map state rack.new.items ≡ map state rack.old.items }
     ensures asked { sum_by queries rack.new.items ≤ sum_by queries rack.old.items
         + allowance_by question.now.rule false (length rack.old.items) }
+    ensures each { NumberedZip (AskedBy question.now.rule question.now.first) 0
+        (map queries rack.old.items) (map queries rack.new.items) }
     ensures chips { length rack.new.items ≡ length rack.old.items }
 {
     let mut poll = Poll::new();
@@ -84,7 +87,7 @@ fn ask_all(rack: &mut Rack, question: &Question) -> Poll
 }
 
 /// What the chips answer in a step. In a step in which no chip drives or takes, none is asked.
-#[tactic(auto, using(crate::proofs::Judging::polled_unasked))]
+#[tactic(auto, using(crate::proofs::Judging::polled_unasked, crate::proofs::Questions::asked_nobody))]
 #[inline(always)]
 pub(crate) fn gather(rack: &mut Rack, question: &Question) -> Poll
     requires few { length rack.old.items ≤ MOST_CHIPS }
@@ -94,6 +97,8 @@ pub(crate) fn gather(rack: &mut Rack, question: &Question) -> Poll
     ensures stays { map state rack.new.items ≡ map state rack.old.items }
     ensures asked { sum_by queries rack.new.items ≤ sum_by queries rack.old.items
         + allowance_by question.now.rule false (length rack.old.items) }
+    ensures each { NumberedZip (AskedBy question.now.rule question.now.first) 0
+        (map queries rack.old.items) (map queries rack.new.items) }
     ensures chips { length rack.new.items ≡ length rack.old.items }
 {
     match question.rule {

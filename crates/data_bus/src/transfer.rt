@@ -3,7 +3,8 @@ ghost use Rattle.std.specs.Prelude.{◌≡◌, ◌≤◌, ◌+◌, false, length
 ghost use Rattle.f8_spec.specs.BusArbitration.{rule_of as rule_by_table};
 ghost use Rattle.probe.specs.ProbeState.{probe_after};
 ghost use Rattle.data_bus.specs.Allowances.{allowance_by};
-ghost use Rattle.data_bus.specs.Racks.{ChosenAsks, RackSettles, RackStays};
+ghost use Rattle.data_bus.specs.Questions.{AskedBy};
+ghost use Rattle.data_bus.specs.Racks.{ChosenAsks, NumberedZip, RackSettles, RackStays};
 ghost use Rattle.data_bus.specs.Steps.{probe_place, step_answer};
 
 use super::ask::Question;
@@ -41,6 +42,8 @@ pub(crate) fn ruling(rack: &mut Rack, probe: &Probe, cycle: &Cycle) -> Result<Se
     ensures stays { map state rack.new.items ≡ map state rack.old.items }
     ensures asked { sum_by queries rack.new.items ≤ sum_by queries rack.old.items
         + allowance_by (rule_by_table cycle.now.romc) false (length rack.old.items) }
+    ensures each { NumberedZip (AskedBy (rule_by_table cycle.now.romc) cycle.now.first) 0
+        (map queries rack.old.items) (map queries rack.new.items) }
     ensures chips { length rack.new.items ≡ length rack.old.items }
 {
     let question = Question {
@@ -66,7 +69,7 @@ pub(crate) fn ruling(rack: &mut Rack, probe: &Probe, cycle: &Cycle) -> Result<Se
 ///
 /// In the codes 0F and 13 `first` has to name the socket of a chip that asks for an interrupt. In the codes 1A and 1B a chip goes by the
 /// last byte that it heard, which names the port; where all have heard the same steps, that is the probe's.
-#[tactic(auto, using(crate::proofs::Racks::may_hear_all, crate::proofs::Racks::stays_all, crate::proofs::Questions::sums_alike))]
+#[tactic(auto, using(crate::proofs::Racks::may_hear_all, crate::proofs::Racks::stays_all, crate::proofs::Questions::sums_alike, crate::proofs::Questions::asked_then))]
 #[inline(always)]
 pub fn step(rack: &mut Rack, probe: &mut Probe, cycle: Cycle) -> Result<Served, BusFault>
     requires few { length rack.old.items ≤ MOST_CHIPS }
@@ -86,6 +89,8 @@ pub fn step(rack: &mut Rack, probe: &mut Probe, cycle: Cycle) -> Result<Served, 
     // The questions that were put.
     ensures asked { sum_by queries rack.new.items ≤ sum_by queries rack.old.items
         + allowance_by (rule_by_table cycle.romc) false (length rack.old.items) }
+    ensures each { NumberedZip (AskedBy (rule_by_table cycle.romc) cycle.first) 0
+        (map queries rack.old.items) (map queries rack.new.items) }
     ensures chips { length rack.new.items ≡ length rack.old.items }
 {
     let served = ruling(rack, probe, &cycle)?;

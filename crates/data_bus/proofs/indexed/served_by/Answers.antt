@@ -4,6 +4,8 @@ use Rattle.std.proofs.lemmas.List.{length-map}
 use Rattle.f8_spec.specs.BusCodes.{counter_of}
 use Rattle.data_bus.specs.KnownAgreement.{knows}
 use Rattle.data_bus.specs.Steps.{served_of}
+use Rattle.data_bus.proofs.KnownPlaces.{rule-known}
+use Rattle.data_bus.proofs.Questions.{one_allowed}
 use Rattle.data_bus.proofs.ServedSteps.{served-is, lists-known, none-answers, one-answers, one-seated}
 use Rattle.data_bus.proofs.indexed.served_by.Goals as goal
 
@@ -37,3 +39,9 @@ byte_in_socket-byte-requires-clause-seated g c =
     let within = one-seated c.args.cycle.now c.args.index.now c.args.probe.now _ c.rule_of-rule.ensures.below c.requires.stands known
     _ _ c.rule_of-rule.ensures.table c.reference_of-reference.ensures small c.in-One.socket (rw c.in-One.is at lists) in
     omega (arith, within, length-map c.args.rack.now.items (λ b. (goal.Chip-dyn g (b.vtable, b.value)).state b.value))
+
+pub returns-in-One-clause-each : goal.returns-in-One-clause-each
+returns-in-One-clause-each g c =
+    let known : knows (counter_of c.args.cycle.now.romc) c.args.index.now.marks ≡ true = sym c.knows.ensures ∙ c.if-not-knows.false in
+    one_allowed _ c.args.cycle.now.first 0 _ _ (rule-known c.args.cycle.now.romc c.args.index.now.marks c.rule_of-rule.ensures.below known)
+    c.byte_in_socket-byte.ensures.each

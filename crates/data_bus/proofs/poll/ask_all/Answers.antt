@@ -5,7 +5,8 @@ use Rattle.f8_spec.specs.BusArbitration.{is_first}
 use Rattle.data_bus.specs.Allowances.{questions_at}
 use Rattle.data_bus.proofs.Gathering.{gathered-more, gathered-whole}
 use Rattle.data_bus.proofs.Questions.{asked-none, asked-at, asked-more, asked-written, total_few}
-use Rattle.data_bus.proofs.Racks.{whole_again}
+use Rattle.data_bus.specs.Questions.{AskedBy}
+use Rattle.data_bus.proofs.Racks.{changed-none, changed-more, changed-written, whole_again}
 use Rattle.data_bus.proofs.poll.ask_all.Goals as goal
 
 pub ask-answer-requires : goal.ask-answer-requires
@@ -20,6 +21,7 @@ pub loop-i-init : goal.loop-i-init
 loop-i-init g c = record {
   gathered = rw c.new-poll.ensures (record { rest = refl; few = search rules });
   asked = asked-none _ _ _ _;
+  each = changed-none _ _;
 }
 
 pub loop-i-preserved : goal.loop-i-preserved
@@ -35,6 +37,10 @@ loop-i-preserved g c = record {
       c.deref_mut-chip-items.result.now c.loop-i.chip-items c.chip-item.result c.ask-answer.new.chip
       c.loop-i-test.true c.loop-i.auto.chip-items c.loop-i.invariant.asked c.ask-answer.ensures.stays
       c.ask-answer.ensures.asked;
+  each = changed-more (λ b. (goal.Chip-dyn g (b.vtable, b.value)).queries b.value)
+      (AskedBy c.args.question.now.rule c.args.question.now.first)
+      c.deref_mut-chip-items.result.now c.loop-i.chip-items c.loop-i.i c.chip-item.result c.ask-answer.new.chip
+      c.loop-i-test.true c.loop-i.auto.chip-items c.loop-i.invariant.each c.ask-answer.ensures.asked;
 }
 
 pub returns : goal.returns
@@ -59,5 +65,9 @@ returns g c =
           (rw c.deref_mut-chip-items.ensures.value at c.loop-i.invariant.gathered);
       stays = asked.stays;
       asked = let within = asked.asked in omega (arith, few, within);
+      each = changed-written (λ b. (goal.Chip-dyn g (b.vtable, b.value)).queries b.value)
+          (AskedBy c.args.question.now.rule c.args.question.now.first)
+          c.args.rack.now.items c.loop-i.chip-items _ c.loop-i.i count long past
+          (rw c.deref_mut-chip-items.ensures.value at c.loop-i.invariant.each);
       chips = ap length whole ∙ long;
     }
