@@ -1,5 +1,5 @@
 // A timer that counts down to its expiry.
-ghost use Rattle.std.specs.Prelude.{ℕ, ◌≡◌, ◌<◌};
+ghost use Rattle.std.specs.Prelude.{ℕ, ◌≡◌, ◌<◌, Some};
 ghost use Rattle.f8_spec.specs.ShiftTimer.{shifted_timer, expires_next, idle_timer, timer_loaded, timer_after, expires_within, clocks_to_expiry, ExpiresAsLoaded, KeepsExpiries, TellsNextExpiry};
 
 use super::cycle::{place_of_state, state_at_place};
@@ -118,6 +118,9 @@ impl Timer {
     /// The clocks from now to the next expiry, in Φ, if nothing is loaded before it, and `None` exactly where the state is FF.
     pub fn until(&self) -> Option<u16>
         ensures value { result ≡ clocks_to_expiry self.now }
+
+        // An expiry leaves the state FE, and from there it is a whole cycle.
+        ensures cycle { self.now ≡ timer_loaded 0xFE → result ≡ Some CYCLE_PHI }
 
         // Whatever was loaded and whenever, that is when the closed form has the next expiry.
         ensures expiry { TellsNextExpiry self.now result }
