@@ -1,6 +1,7 @@
 // The instruction table: rows, lengths, clocks and shielding.
-ghost use Rattle.std.specs.Prelude.{◌≡◌};
-ghost use Rattle.f8_spec.specs.Instructions.{row_of, row_clocks, length_of, clocks_of, is_shielding};
+ghost use Rattle.std.specs.Prelude.{◌≡◌, ◌+◌, Bool, false};
+ghost use Rattle.f8_spec.specs.Instructions.{row_of, row_clocks, length_of, clocks_of, clocks_before_fetch, is_shielding};
+ghost use Rattle.f8_spec.specs.MicroSteps.{clocks_along, interrupt_steps, reset_steps};
 
 use f8_spec::{Op, Row};
 
@@ -99,6 +100,16 @@ fn row_phi(row: Row, taken: bool) -> u8
         Row::Call => 26,
     }
 }
+
+/// What the constants of clocks are: reset's and an interrupt's are those of their bus steps; `PI` takes the most clocks of an instruction, and
+/// `DCI` up to its last fetch, with an interrupt, the most of one that is interrupted. That no instruction takes more is shown where
+/// instructions run. This call does nothing; its contract is the law.
+pub fn clocks_law()
+    ensures reset { clocks_along reset_steps ≡ RESET_PHI }
+    ensures interrupt { clocks_along interrupt_steps ≡ INTERRUPT_PHI }
+    ensures most { (taken : Bool) → clocks_of Op.Pi taken ≡ MOST_PHI }
+    ensures interrupted { clocks_before_fetch Op.Dci false + INTERRUPT_PHI ≡ MOST_INTERRUPTED_PHI }
+{}
 
 /// No interrupt is taken at the end of the instruction: so at `PK`, `PI`, `POP`, `JMP`, `EI`, `LR W,J`, `OUT`, and `OUTS` of the
 /// ports from 4 on. The list is this project's own, after the Fairchild F8 User's Guide.
