@@ -101,9 +101,9 @@ fn row_phi(row: Row, taken: bool) -> u8
     }
 }
 
-/// What the constants of clocks are: reset's and an interrupt's are those of their bus steps; `PI` takes the most clocks of an instruction, and
-/// `DCI` up to its last fetch, with an interrupt, the most of one that is interrupted. That no instruction takes more is shown where
-/// instructions run. This call does nothing; its contract is the law.
+/// What the constants of clocks are: reset's and an interrupt's are those of their bus steps; `PI` takes the most clocks of an
+/// instruction, and `DCI` up to its last fetch, with an interrupt, the most of one that is interrupted. That no instruction takes more
+/// is shown where instructions run. This call does nothing; its contract is the law.
 pub fn clocks_law()
     ensures reset { clocks_along reset_steps ≡ RESET_PHI }
     ensures interrupt { clocks_along interrupt_steps ≡ INTERRUPT_PHI }
