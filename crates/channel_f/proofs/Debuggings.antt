@@ -9,9 +9,9 @@ use Rattle.f8_spec.specs.declared.chips.ChipKind.{ChipKind}
 use Rattle.console_spec.specs.RunText.{text_of}
 use Rattle.data_bus.specs.Racks.{views}
 use Rattle.outside.specs.SinkRules.{Output, Adds, AddsPart}
-use Rattle.outside.proofs.SinkLaws.{PutSoFar, put_so_far_none}
+use Rattle.outside.proofs.SinkLaws.{PutSoFar, adds_none, adds_then}
 use Rattle.report.proofs.TextLaws.{text_of-nil, text_of-append}
-use Rattle.rack_run.proofs.PutLaws.{so_far_more, so_far_all, so_far_cut}
+use Rattle.rack_run.proofs.PutLaws.{so_far_cut}
 use Rattle.rack_run.specs.Seating.{fitted_views, kinds_of, seated, RackFitsInPart}
 use Rattle.rack_run.specs.Sockets.{chain_of}
 use Rattle.rack_run.specs.Texts.{Puts}
@@ -25,7 +25,7 @@ use Rattle.chip_debug.specs.declared.command.Command.{Command}
 use Rattle.chip_debug.specs.declared.command.Command.TheVariants.{Power}
 use Rattle.loader.specs.declared.games.Debugging.{Debugging}
 use Rattle.channel_f.specs.Answers.{debug_answer}
-use Rattle.channel_f.specs.RackDebugged.{AreOf, CarriedTo, Debugs}
+use Rattle.channel_f.specs.RackDebugged.{AreOf, Debugs, FailedAt}
 use Rattle.channel_f.specs.Reports.{Answers, Reports}
 use Rattle.channel_f.proofs.Games.{answers_of}
 
@@ -42,6 +42,17 @@ scene_by-append : (done : List Command) (command : Command) (s : Scene) →
 scene_by-append [] command s = refl
 scene_by-append (c ∷ done) command s = scene_by-append done command (scene_after c s)
 
+lines_by-append : (done left : List Command) (s : Scene) →
+    told_by (done ++ left) s ≡ told_by done s ++ told_by left (scene_by done s)
+lines_by-append [] left s = refl
+lines_by-append (c ∷ done) left s =
+    ap (λ (lines : List (List ℕ)). lines_of c s ++ lines) (lines_by-append done left (scene_after c s))
+    ∙ sym (append_assoc (lines_of c s) (told_by done (scene_after c s)) (told_by left (scene_by done (scene_after c s))))
+
+told_by-append : (done left : List Command) (s : Scene) →
+    text_of (told_by (done ++ left) s) ≡ text_of (told_by done s) ++ text_of (told_by left (scene_by done s))
+told_by-append done left s = ap text_of (lines_by-append done left s) ∙ text_of-append (told_by done s) (told_by left (scene_by done s))
+
 -- where a session is at a scene, the chips are the scene's
 are_of : (s : SessionState) (states : List ChipState) (scene : Scene) → IsAt s states scene → AreOf scene states
 are_of s states scene at = record { chips = at.chips; heard = at.heard }
@@ -54,48 +65,54 @@ pub record Along (commands left : List Command) (first : Scene) (s : SessionStat
   pub done : List Command
   pub are : commands ≡ done ++ left
   pub at : IsAt s states (scene_by done first)
-  pub so_far : PutSoFar a b (text_of (told_by commands first)) (text_of (told_by left (scene_by done first)))
+  pub told : Adds a b (text_of (told_by done first))
 
 pub along_first : (commands : List Command) (first : Scene) (s : SessionState) (states : List ChipState) (a : Output) →
     IsAt s states first → Along commands commands first s states a a
-along_first commands first s states a at =
-    record { done = []; are = refl; at = at; so_far = put_so_far_none a (text_of (told_by commands first)) }
+along_first commands first s states a at = record {
+  done = [];
+  are = refl;
+  at = at;
+  told = subst (λ (text : List ℕ). Adds a a text) (sym text_of-nil) (adds_none a);
+}
 
 module _ (commands left : List Command) (command : Command) (later : List Command) (first : Scene) (s after : SessionState)
     (states news : List ChipState) (a b c : Output) (along : Along commands left first s states a b)
     (next : left ≡ command ∷ later) where
-  there : Scene
-  there = scene_by along.done first
+  are_next : commands ≡ along.done ++ command ∷ later
+  are_next = along.are ∙ ap (λ (l : List Command). along.done ++ l) next
 
-  begins : text_of (told_by left (scene_by along.done first))
-      ≡ text_of (lines_of command (scene_by along.done first))
-      ++ text_of (told_by later (scene_after command (scene_by along.done first)))
-  begins =
-      ap (λ (l : List Command). text_of (told_by l (scene_by along.done first))) next
-      ∙ text_of-append (lines_of command (scene_by along.done first))
-      (told_by later (scene_after command (scene_by along.done first)))
+  -- the lines of the command, which come behind those that were told
+  abbrev text_here : List ℕ
+  text_here = text_of (lines_of command (scene_by along.done first))
 
-  are_more : commands ≡ (along.done ++ command ∷ []) ++ later
-  are_more =
-      along.are ∙ ap (λ (l : List Command). along.done ++ l) next ∙ sym (append_assoc along.done (command ∷ []) later)
-
-  at_more : IsAt after news (scene_after command (scene_by along.done first)) →
-      IsAt after news (scene_by (along.done ++ command ∷ []) first)
-  at_more at =
-      subst (λ (scene : Scene). IsAt after news scene) (sym (scene_by-append along.done command first)) at
+  text_more : text_of (told_by (along.done ++ command ∷ []) first) ≡ text_of (told_by along.done first) ++ text_here
+  text_more =
+      told_by-append along.done (command ∷ []) first
+      ∙ ap (λ (lines : List (List ℕ)). text_of (told_by along.done first) ++ text_of lines)
+      (append-nil (lines_of command (scene_by along.done first)))
 
   pub along_more : IsAt after news (scene_after command (scene_by along.done first)) →
       Adds b c (text_of (lines_of command (scene_by along.done first))) → Along commands later first after news a c
   along_more at adds = record {
     done = along.done ++ command ∷ [];
-    are = are_more;
-    at = at_more at;
-    so_far =
-        subst (λ (scene : Scene). PutSoFar a c (text_of (told_by commands first)) (text_of (told_by later scene)))
-        (sym (scene_by-append along.done command first))
-        (so_far_more a b c (text_of (told_by commands first)) (text_of (told_by left (scene_by along.done first)))
-        (text_of (lines_of command (scene_by along.done first)))
-        (text_of (told_by later (scene_after command (scene_by along.done first)))) along.so_far begins adds);
+    are = are_next ∙ sym (append_assoc along.done (command ∷ []) later);
+    at = subst (λ (scene : Scene). IsAt after news scene) (sym (scene_by-append along.done command first)) at;
+    told =
+        subst (λ (text : List ℕ). Adds a c text) (sym text_more)
+        (adds_then a b c (text_of (told_by along.done first)) text_here along.told adds);
+  }
+
+  abbrev text_later : List ℕ
+  text_later = text_of (told_by later (scene_after command (scene_by along.done first)))
+
+  so_far : PutSoFar a b (text_of (told_by commands first)) (text_of (told_by (command ∷ later) (scene_by along.done first)))
+  so_far = record {
+    first = text_of (told_by along.done first);
+    whole =
+        ap (λ (l : List Command). text_of (told_by l first)) are_next
+        ∙ told_by-append along.done (command ∷ later) first;
+    adds = along.told;
   }
 
   -- the sink fails at one of its lines
@@ -104,18 +121,25 @@ module _ (commands left : List Command) (command : Command) (later : List Comman
       text_of (lines_of command (scene_by along.done first)) ≢ [] →
       Puts {T = T} {E = F} (Err f) a c (text_of (told_by commands first))
   along_cut f part some =
-      so_far_cut f a b c (text_of (told_by commands first)) (text_of (told_by left (scene_by along.done first)))
-      (text_of (lines_of command (scene_by along.done first)))
-      (text_of (told_by later (scene_after command (scene_by along.done first)))) along.so_far begins some part
+      so_far_cut f a b c (text_of (told_by commands first))
+      (text_of (told_by (command ∷ later) (scene_by along.done first))) text_here text_later so_far
+      (text_of-append (lines_of command (scene_by along.done first))
+      (told_by later (scene_after command (scene_by along.done first)))) some part
 
-  pub carried_cut : IsAt after news (scene_after command (scene_by along.done first)) → CarriedTo commands first news
-  carried_cut at =
-      record {
-        done = along.done ++ command ∷ [];
-        rest = later;
-        are = are_more;
-        chips = are_of after news (scene_by (along.done ++ command ∷ []) first) (at_more at);
-      }
+  pub failed_at : IsAt after news (scene_after command (scene_by along.done first)) →
+      AddsPart b c (text_of (lines_of command (scene_by along.done first))) →
+      text_of (lines_of command (scene_by along.done first)) ≢ [] → FailedAt a c commands first news
+  failed_at at part some = record {
+    before = along.done;
+    command = command;
+    rest = later;
+    are = are_next;
+    between = b;
+    told = along.told;
+    some = λ none. some (ap text_of none ∙ text_of-nil);
+    part = part;
+    chips = are_of after news (scene_after command (scene_by along.done first)) at;
+  }
 
 module _ (commands left : List Command) (first : Scene) (s : SessionState) (states : List ChipState) (a b : Output)
     (along : Along commands left first s states a b) (none : left ≡ []) where
@@ -123,18 +147,16 @@ module _ (commands left : List Command) (first : Scene) (s : SessionState) (stat
   all_done = sym (along.are ∙ ap (λ (l : List Command). along.done ++ l) none ∙ append-nil along.done)
 
   pub along_all : {T : Type 0} {F : Type 0} (v : T) → Puts {T = T} {E = F} (Ok v) a b (text_of (told_by commands first))
-  along_all v =
-      so_far_all v a b (text_of (told_by commands first)) (text_of (told_by left (scene_by along.done first))) along.so_far
-      (ap (λ (l : List Command). text_of (told_by l (scene_by along.done first))) none ∙ text_of-nil)
+  along_all v = record {
+    ok = subst (λ (l : List Command). Adds a b (text_of (told_by l first))) all_done along.told;
+    err = tt;
+    some = tt;
+  }
 
   pub whole_all : AreOf (scene_by commands first) states
   whole_all =
       subst (λ (l : List Command). AreOf (scene_by l first) states) all_done
       (are_of s states (scene_by along.done first) along.at)
-
-  pub carried_all : CarriedTo commands first states
-  carried_all =
-      record { done = commands; rest = []; are = sym (append-nil commands); chips = whole_all }
 
 -- ---- a session on chips that are fitted
 
@@ -176,18 +198,20 @@ module _ (a b : Output) (said : ℕ) (asked : Debugging) (rack fitted : List Chi
       reports)
 
   pub debugs : (news : List ChipState) →
-      (said ≡ 0 → AreOf (scene_by asked.commands (first_scene asked.cart.chips (views fitted))) news) →
-      CarriedTo asked.commands (first_scene asked.cart.chips (views fitted)) news → Debugs said asked rack news
-  debugs news whole part = record {
+      (said ≢ 5 → AreOf (scene_by asked.commands (first_scene asked.cart.chips (views fitted))) news) →
+      (said ≡ 5 → FailedAt a b asked.commands (first_scene asked.cart.chips (views fitted)) news) →
+      Debugs a b said asked rack news
+  debugs news whole failed = record {
     wanting = λ six. absurd (zero_not_six said reports.which six);
-    whole = λ done.
+    whole = λ five six.
         subst (λ (vs : List ChipView). AreOf (scene_by asked.commands (first_scene asked.cart.chips vs)) news) same
-        (whole done);
-    part = λ six.
-        subst (λ (vs : List ChipView). CarriedTo asked.commands (first_scene asked.cart.chips vs) news) same part;
+        (whole five);
+    failed = λ five.
+        subst (λ (vs : List ChipView). FailedAt a b asked.commands (first_scene asked.cart.chips vs) news) same
+        (failed five);
   }
 
-pub debugs_wanting : (asked : Debugging) (rack news : List ChipState) →
-    RackFitsInPart (seated asked.cart.chips rack) rack news → Debugs 6 asked rack news
-debugs_wanting asked rack news partly =
-    record { wanting = λ six. partly; whole = λ done. cc; part = λ six. absurd (six refl) }
+pub debugs_wanting : (a b : Output) (asked : Debugging) (rack news : List ChipState) →
+    RackFitsInPart (seated asked.cart.chips rack) rack news → Debugs a b 6 asked rack news
+debugs_wanting a b asked rack news partly =
+    record { wanting = λ six. partly; whole = λ five six. absurd (six refl); failed = λ five. cc }

@@ -55,7 +55,7 @@ module _ (old new : Around) (said : ℕ) where
 
   pub tells_debugging : (work : Work Debugging) (asked : Debugging) → Works old.input new.input work (Ok asked) →
       AnswersDue old.output new.output said (debug_due old.rack asked) →
-      RackDebugged said (Ok asked) old.rack new.rack → TellsDebugging old new said work
+      RackDebugged old.output new.output said (Ok asked) old.rack new.rack → TellsDebugging old new said work
   tells_debugging work asked works answers chips =
       record { outcome = Ok asked; works = works; ends = answers; chips = chips }
 

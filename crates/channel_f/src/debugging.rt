@@ -1,5 +1,5 @@
 // A session of the debugger on a rack.
-ghost use Rattle.std.specs.Prelude.{◌≡◌, ◌≤◌, length, map, OnErr, OnOk};
+ghost use Rattle.std.specs.Prelude.{◌≡◌, ◌≢◌, ◌≤◌, length, map, OnErr, OnOk};
 ghost use Rattle.f8_spec.specs.BusArbitration.{seat_of};
 ghost use Rattle.console_spec.specs.RunText.{text_of};
 ghost use Rattle.cpu3850.specs.OwnWrites.{LeaveOwnPorts};
@@ -12,7 +12,7 @@ ghost use Rattle.chip_debug.specs.Limits.{AreCommands, most_instructions, total_
 ghost use Rattle.chip_debug.specs.Scenes.{Scene};
 ghost use Rattle.chip_debug.specs.Standing.{IsAt};
 ghost use Rattle.channel_f.specs.Answers.{debug_answer, debug_due, refusal as spelled_refusal};
-ghost use Rattle.channel_f.specs.RackDebugged.{AreOf, CarriedTo, Debugs, DebugsUnless};
+ghost use Rattle.channel_f.specs.RackDebugged.{AreOf, Debugs, DebugsUnless, FailedAt};
 ghost use Rattle.channel_f.specs.Reports.{Answers, AnswersDue, Reports};
 ghost use Rattle.channel_f.specs.Statuses.{exit_code};
 
@@ -44,8 +44,9 @@ fn carry_out<K: Sink>(
         Puts result (K.output sink.old) (K.output sink.new) (text_of (told_by commands.now scene)) }
     ensures whole { (scene : Scene) → IsAt session.old (map state rack.old.items) scene →
         OnOk result (AreOf (scene_by commands.now scene) (map state rack.new.items)) }
-    ensures part { (scene : Scene) → IsAt session.old (map state rack.old.items) scene →
-        CarriedTo commands.now scene (map state rack.new.items) }
+    ensures failed { (scene : Scene) → IsAt session.old (map state rack.old.items) scene →
+        OnErr result (FailedAt (K.output sink.old) (K.output sink.new) commands.now scene
+        (map state rack.new.items)) }
     ensures chips { length rack.new.items ≡ length rack.old.items }
 {
     for command in commands {
@@ -62,11 +63,12 @@ fn debug_fitted<K: Sink>(asked: &Debugging, sink: &mut K, rack: &mut Rack) -> St
     ensures reports { Reports (K.output sink.old) (K.output sink.new) (exit_code result) 0
         (told_by asked.now.commands (first_scene asked.now.cart.chips
         (views (map state rack.old.items)))) }
-    ensures whole { exit_code result ≡ 0 → AreOf (scene_by asked.now.commands
+    ensures whole { exit_code result ≢ 5 → AreOf (scene_by asked.now.commands
         (first_scene asked.now.cart.chips (views (map state rack.old.items))))
         (map state rack.new.items) }
-    ensures part { CarriedTo asked.now.commands (first_scene asked.now.cart.chips
-        (views (map state rack.old.items))) (map state rack.new.items) }
+    ensures failed { exit_code result ≡ 5 → FailedAt (K.output sink.old) (K.output sink.new)
+        asked.now.commands (first_scene asked.now.cart.chips (views (map state rack.old.items)))
+        (map state rack.new.items) }
 {
     let mut session = Session::new(&asked.cart, rack);
     match carry_out(&mut session, asked.commands.as_slice(), sink, rack) {
@@ -80,7 +82,7 @@ fn fit_and_debug<K: Sink>(alloc: Global, asked: &Debugging, sink: &mut K, rack: 
     requires few { length rack.old.items ≤ MOST_CHIPS }
     ensures answers { Answers (K.output sink.old) (K.output sink.new) (exit_code result)
         (debug_answer asked.now (map state rack.old.items)) }
-    ensures rack { Debugs (exit_code result) asked.now
+    ensures rack { Debugs (K.output sink.old) (K.output sink.new) (exit_code result) asked.now
         (map state rack.old.items) (map state rack.new.items) }
 {
     match fit_all(alloc, &asked.cart.chips, rack) {
@@ -94,7 +96,8 @@ pub fn debug<K: Sink>(alloc: Global, asked: &Debugging, sink: &mut K, rack: &mut
     ensures answers { AnswersDue (K.output sink.old) (K.output sink.new) (exit_code result)
         (debug_due (map state rack.old.items) asked.now) }
     ensures rack { DebugsUnless (spelled_refusal asked.now.cart.chips (map state rack.old.items))
-        (exit_code result) asked.now (map state rack.old.items) (map state rack.new.items) }
+        (K.output sink.old) (K.output sink.new) (exit_code result) asked.now
+        (map state rack.old.items) (map state rack.new.items) }
 {
     match refusal(&asked.cart.chips, rack) {
         Some(line) => put_lines(sink, [line].as_slice(), Status::Input),

@@ -3,7 +3,7 @@ use Rattle.std.proofs.Common.{◌∙◌, ◌≤◌, [], arith, length, refl}
 use Rattle.std.proofs.lemmas.List.{drop_all, drop_more}
 use Rattle.std.proofs.lemmas.Result.{err_from_is_err_and}
 use Rattle.chip_debug.specs.declared.command.Command.TheVariants.{Power}
-use Rattle.channel_f.proofs.Debuggings.{along_first, along_more, along_cut, along_all, carried_all, carried_cut, total_next, whole_all}
+use Rattle.channel_f.proofs.Debuggings.{along_first, along_more, along_cut, along_all, failed_at, total_next, whole_all}
 use Rattle.channel_f.proofs.debugging.carry_out.Goals as goal
 
 pub loop-command-init : goal.loop-command-init
@@ -55,9 +55,11 @@ returns-in_err-command g c =
           rw p.1
           (along_cut _ _ _ _ scene _ c.command.new.self _ [] _ _ _ here next p.0 (new.told _ here.at).err (new.told _ here.at).some);
       whole = λ scene at. rw p.1 tt;
-      part = λ scene at.
+      failed = λ scene at.
           let here = inv.along scene at in
-          carried_cut _ _ _ _ scene _ _ _ _ _ _ (g.K.Sink.output c.command.new.sink) here next (new.carried _ here.at);
+          rw p.1
+          (failed_at _ _ _ _ scene _ _ _ _ _ _ _ here next (new.carried _ here.at) (new.told _ here.at).err
+          (new.told _ here.at).some);
       chips = new.chips ∙ inv.chips;
     }
 
@@ -69,6 +71,6 @@ returns g c =
     record {
       told = λ scene at. along_all _ _ scene _ _ _ _ (inv.along scene at) none tt;
       whole = λ scene at. whole_all _ _ scene _ _ _ _ (inv.along scene at) none;
-      part = λ scene at. carried_all _ _ scene _ _ _ _ (inv.along scene at) none;
+      failed = λ scene at. tt;
       chips = inv.chips;
     }

@@ -19,15 +19,7 @@ returns-in-Ok-clause-whole g c =
     let olds = map (λ b. (goal.Chip-dyn g (b.vtable, b.value)).state b.value) c.args.rack.now.items in
     let first = first_scene chips (views olds) in
     let done = c.in-Ok.ensures.whole first (starts_at chips olds _ _ c.new-session.ensures.at) in
-    λ all. rw c.as_slice.ensures.commands at done
-
-pub returns-in-Ok-clause-part : goal.returns-in-Ok-clause-part
-returns-in-Ok-clause-part g c =
-    let chips = c.args.asked.now.cart.chips in
-    let olds = map (λ b. (goal.Chip-dyn g (b.vtable, b.value)).state b.value) c.args.rack.now.items in
-    let first = first_scene chips (views olds) in
-    let done = c.in-Ok.ensures.part first (starts_at chips olds _ _ c.new-session.ensures.at) in
-    rw c.as_slice.ensures.commands at done
+    λ five. rw c.as_slice.ensures.commands at done
 
 pub returns-in-Err-clause-reports : goal.returns-in-Err-clause-reports
 returns-in-Err-clause-reports g c =
@@ -37,10 +29,10 @@ returns-in-Err-clause-reports g c =
     let done = c.in-Err.ensures.told first (starts_at chips olds _ _ c.new-session.ensures.at) in
     reports_cut_short _ _ _ (rw c.as_slice.ensures.commands at done.err)
 
-pub returns-in-Err-clause-part : goal.returns-in-Err-clause-part
-returns-in-Err-clause-part g c =
+pub returns-in-Err-clause-failed : goal.returns-in-Err-clause-failed
+returns-in-Err-clause-failed g c =
     let chips = c.args.asked.now.cart.chips in
     let olds = map (λ b. (goal.Chip-dyn g (b.vtable, b.value)).state b.value) c.args.rack.now.items in
     let first = first_scene chips (views olds) in
-    let done = c.in-Err.ensures.part first (starts_at chips olds _ _ c.new-session.ensures.at) in
-    rw c.as_slice.ensures.commands at done
+    let done = c.in-Err.ensures.failed first (starts_at chips olds _ _ c.new-session.ensures.at) in
+    λ five. rw c.as_slice.ensures.commands at done

@@ -11,10 +11,10 @@ returns-in-Ok-clause-answers g c =
 pub returns-in-Ok-clause-rack : goal.returns-in-Ok-clause-rack
 returns-in-Ok-clause-rack g c =
     debugs _ _ _ c.args.asked.now _ _ c.in-Ok.ensures.views c.debug_fitted.ensures.reports _ c.debug_fitted.ensures.whole
-    c.debug_fitted.ensures.part
+    c.debug_fitted.ensures.failed
 
 pub returns-in-Err-clause-answers : goal.returns-in-Err-clause-answers
 returns-in-Err-clause-answers g c = answers_wanting _ (debug_answer c.args.asked.now _)
 
 pub returns-in-Err-clause-rack : goal.returns-in-Err-clause-rack
-returns-in-Err-clause-rack g c = debugs_wanting c.args.asked.now _ _ c.in-Err.ensures.partly
+returns-in-Err-clause-rack g c = debugs_wanting _ _ c.args.asked.now _ _ c.in-Err.ensures.partly
