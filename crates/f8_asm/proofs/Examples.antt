@@ -15,19 +15,15 @@ use Rattle.f8_asm.specs.Judging.{fault_at}
 use Rattle.text_lines.specs.Lines.{lines}
 use Rattle.f8_asm.specs.Listing.{pair_text, gap_of, front_of, piece, entries, listing}
 use Rattle.f8_asm.specs.PassThree.{line_bytes}
-use Rattle.f8_asm.specs.Registers.{same_word, one_letter_register, two_letter_register, register_of, pair_op}
+use Rattle.f8_asm.specs.Registers.{same_word, register_words, register_of, pair_op}
 use Rattle.f8_asm.specs.Statements.{items, operands, statement, label_of}
-use Rattle.f8_asm.specs.Words.{two_letter_op_a_to_b, two_letter_op_c_to_l, two_letter_op_n_to_x, two_letter_op}
-use Rattle.f8_asm.specs.Words.{three_letter_op_a_to_c, three_letter_op_d_to_x, three_letter_op, two_letter_shape}
-use Rattle.f8_asm.specs.Words.{longer_shape, op_of, shape_of, is_reserved}
+use Rattle.f8_asm.specs.Words.{plain_ops, aliases, field_words, directives, op_of, shape_of, is_reserved}
 
 -- what the proofs below compute with
 assembling : Unit {0}
 unfolding tokens_at lexeme name_lexeme name_of number_lexeme number_of quoted_lexeme value narrow line_bytes statement
     label_of operands items chain level parenthesis_expression mark_operand operand_of operand expression same_word
-    one_letter_register two_letter_register register_of pair_op two_letter_op_a_to_b two_letter_op_c_to_l
-    two_letter_op_n_to_x two_letter_op three_letter_op_a_to_c three_letter_op_d_to_x three_letter_op two_letter_shape
-    longer_shape op_of shape_of is_reserved list_bytes
+    register_words register_of pair_op mnemonic_of plain_ops aliases field_words directives op_of shape_of is_reserved list_bytes
 assembling = tt
 
 -- the bytes of a line at address 0000, without names

@@ -1,3 +1,4 @@
+pub mod WordTables
 pub mod NameLookup
 pub mod Chain
 pub mod Depth

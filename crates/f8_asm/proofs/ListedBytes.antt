@@ -25,11 +25,9 @@ use Rattle.f8_asm.specs.Evaluation.{values}
 use Rattle.f8_asm.specs.Fields.{octet, small}
 use Rattle.f8_asm.specs.Grammar.{chain, level, parenthesis_expression, mark_operand, operand_of, operand, expression}
 use Rattle.f8_asm.specs.Listing.{pair_text, gap_of, front_of, op_piece}
-use Rattle.f8_asm.specs.Registers.{same_word, one_letter_register, two_letter_register, register_of, pair_op}
+use Rattle.f8_asm.specs.Registers.{same_word, register_words, register_of, pair_op}
 use Rattle.f8_asm.specs.Statements.{items, operands, statement, label_of, effect_of}
-use Rattle.f8_asm.specs.Words.{two_letter_op_a_to_b, two_letter_op_c_to_l, two_letter_op_n_to_x, two_letter_op}
-use Rattle.f8_asm.specs.Words.{three_letter_op_a_to_c, three_letter_op_d_to_x, three_letter_op, two_letter_shape}
-use Rattle.f8_asm.specs.Words.{longer_shape, op_of, shape_of, is_reserved}
+use Rattle.f8_asm.specs.Words.{plain_ops, aliases, field_words, directives, op_of, shape_of, is_reserved}
 use Rattle.f8_asm.proofs.ListedLines.{head_text, line_of, Says}
 
 -- the tokens and the statement of a line that has them
@@ -42,9 +40,8 @@ statement_in ts = elim (statement (values [] 0) false ts) [ Ok st ↦ st | Err f
 -- what lines and statements are made of is open under `unfolding all_open`, and under `numbers_open` numbers too
 unfoldable pub all_open : Unit {0}
 unfolding values_below tokens_at lexeme name_lexeme name_of statement label_of operands items chain level parenthesis_expression
-    mark_operand operand_of operand expression same_word one_letter_register two_letter_register register_of pair_op
-    two_letter_op_a_to_b two_letter_op_c_to_l two_letter_op_n_to_x two_letter_op three_letter_op_a_to_c
-    three_letter_op_d_to_x three_letter_op two_letter_shape longer_shape op_of shape_of is_reserved list_bytes
+    mark_operand operand_of operand expression same_word register_words register_of pair_op
+    plain_ops aliases field_words directives op_of shape_of is_reserved list_bytes
     mnemonic_of pair_text gap_of front_of decoded
 all_open = tt
 

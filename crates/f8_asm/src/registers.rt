@@ -1,7 +1,7 @@
 // Register words, and the instruction LR between two of them.
-ghost use Rattle.std.specs.Prelude.{◌≡◌, ◌<◌, IfSome};
+ghost use Rattle.std.specs.Prelude.{◌≡◌, ◌<◌, map, IfSome};
 ghost use Rattle.f8_spec.specs.Instructions.{InRange};
-ghost use Rattle.f8_asm.specs.Registers.{same_word, one_letter_register, two_letter_register, register_of, number_of, is_accumulator, load_op, store_op, into_dc, move_op, pair_op};
+ghost use Rattle.f8_asm.specs.Registers.{same_word, at_word, register_of, number_of, is_accumulator, load_op, store_op, move_op, pair_op};
 
 use asm_text::Name;
 use f8_spec::Op;
@@ -38,87 +38,54 @@ pub fn is_word(name: &[u8], word: &[u8]) -> bool
     name.eq_ignore_ascii_case(word)
 }
 
-#[tactic(auto, unfolding(crate::specs::Registers::one_letter_register))]
-fn one_letter_register(name: &[u8]) -> Option<Register>
-    ensures { result ≡ one_letter_register name.now }
+/// What a table has at a word.
+pub fn at_word<X: Copy>(mut table: &[(&[u8], X)], name: &[u8]) -> Option<X>
+    ensures { result ≡ at_word name.now (map (λ entry. (entry.0.now, entry.1)) table.entry.now) }
 {
-    if is_word(name, b"A") {
-        return Some(Register::A);
-    }
-    if is_word(name, b"J") {
-        return Some(Register::J);
-    }
-    if is_word(name, b"K") {
-        return Some(Register::K);
-    }
-    if is_word(name, b"Q") {
-        return Some(Register::Q);
-    }
-    if is_word(name, b"H") {
-        return Some(Register::H);
-    }
-    if is_word(name, b"S") {
-        return Some(Register::S);
-    }
-    if is_word(name, b"I") {
-        return Some(Register::I);
-    }
-    if is_word(name, b"D") {
-        return Some(Register::D);
-    }
-    if is_word(name, b"P") {
-        return Some(Register::P);
-    }
-    if is_word(name, b"W") {
-        return Some(Register::W);
+    while let [entry, rest @ ..] = table {
+        if is_word(name, entry.0) {
+            return Some(entry.1);
+        }
+        table = rest;
     }
     None
 }
 
-#[tactic(auto, unfolding(crate::specs::Registers::two_letter_register))]
-fn two_letter_register(name: &[u8]) -> Option<Register>
-    ensures { result ≡ two_letter_register name.now }
-{
-    if is_word(name, b"HU") {
-        return Some(Register::Hu);
-    }
-    if is_word(name, b"HL") {
-        return Some(Register::Hl);
-    }
-    if is_word(name, b"KU") {
-        return Some(Register::Ku);
-    }
-    if is_word(name, b"KL") {
-        return Some(Register::Kl);
-    }
-    if is_word(name, b"QU") {
-        return Some(Register::Qu);
-    }
-    if is_word(name, b"QL") {
-        return Some(Register::Ql);
-    }
-    if is_word(name, b"IS") {
-        return Some(Register::Is);
-    }
-    if is_word(name, b"P0") {
-        return Some(Register::P0);
-    }
-    if is_word(name, b"DC") {
-        return Some(Register::Dc);
-    }
-    None
-}
+/// The register words.
+const REGISTER_WORDS: [(&[u8], Register); 19] = [
+    (b"A", Register::A),
+    (b"J", Register::J),
+    (b"K", Register::K),
+    (b"Q", Register::Q),
+    (b"H", Register::H),
+    (b"S", Register::S),
+    (b"I", Register::I),
+    (b"D", Register::D),
+    (b"P", Register::P),
+    (b"W", Register::W),
+    (b"HU", Register::Hu),
+    (b"HL", Register::Hl),
+    (b"KU", Register::Ku),
+    (b"KL", Register::Kl),
+    (b"QU", Register::Qu),
+    (b"QL", Register::Ql),
+    (b"IS", Register::Is),
+    (b"P0", Register::P0),
+    (b"DC", Register::Dc),
+];
+
+/// The most letters that a register word has.
+const LONGEST: usize = 2;
 
 /// The register that a word names.
 #[tactic(auto, unfolding(crate::specs::Registers::register_of))]
 pub fn register_of(name: &[u8]) -> Option<Register>
     ensures { result ≡ register_of name.now }
 {
-    match name.len() {
-        1 => one_letter_register(name),
-        2 => two_letter_register(name),
-        _ => None,
+    if name.len() > LONGEST {
+        return None;
     }
+    at_word(&REGISTER_WORDS, name)
 }
 
 /// The scratchpad register that a word stands for as an operand.
@@ -149,21 +116,14 @@ fn load_op(from: Register) -> Option<Op>
     ensures value { result ≡ load_op from }
     ensures in_range { IfSome result InRange }
 {
-    let op = match from {
-        Register::Ku => Op::LrAKu,
-        Register::Kl => Op::LrAKl,
-        Register::Qu => Op::LrAQu,
-        Register::Ql => Op::LrAQl,
-        Register::Is => Op::LrAIs,
-        Register::J => Op::LrAR { r: 9 },
-        Register::Hu => Op::LrAR { r: 10 },
-        Register::Hl => Op::LrAR { r: 11 },
-        Register::S => Op::LrAR { r: 12 },
-        Register::I => Op::LrAR { r: 13 },
-        Register::D => Op::LrAR { r: 14 },
-        _ => return None,
-    };
-    Some(op)
+    match from {
+        Register::Ku => Some(Op::LrAKu),
+        Register::Kl => Some(Op::LrAKl),
+        Register::Qu => Some(Op::LrAQu),
+        Register::Ql => Some(Op::LrAQl),
+        Register::Is => Some(Op::LrAIs),
+        _ => Some(Op::LrAR { r: number_of(from)? }),
+    }
 }
 
 /// `LR to,A`.
@@ -171,32 +131,13 @@ fn store_op(to: Register) -> Option<Op>
     ensures value { result ≡ store_op to }
     ensures in_range { IfSome result InRange }
 {
-    let op = match to {
-        Register::Ku => Op::LrKuA,
-        Register::Kl => Op::LrKlA,
-        Register::Qu => Op::LrQuA,
-        Register::Ql => Op::LrQlA,
-        Register::Is => Op::LrIsA,
-        Register::J => Op::LrRA { r: 9 },
-        Register::Hu => Op::LrRA { r: 10 },
-        Register::Hl => Op::LrRA { r: 11 },
-        Register::S => Op::LrRA { r: 12 },
-        Register::I => Op::LrRA { r: 13 },
-        Register::D => Op::LrRA { r: 14 },
-        _ => return None,
-    };
-    Some(op)
-}
-
-/// `LR DC,from`.
-fn into_dc(from: Register) -> Option<Op>
-    ensures value { result ≡ into_dc from }
-    ensures in_range { IfSome result InRange }
-{
-    match from {
-        Register::Q => Some(Op::LrDcQ),
-        Register::H => Some(Op::LrDcH),
-        _ => None,
+    match to {
+        Register::Ku => Some(Op::LrKuA),
+        Register::Kl => Some(Op::LrKlA),
+        Register::Qu => Some(Op::LrQuA),
+        Register::Ql => Some(Op::LrQlA),
+        Register::Is => Some(Op::LrIsA),
+        _ => Some(Op::LrRA { r: number_of(to)? }),
     }
 }
 
@@ -205,36 +146,16 @@ fn move_op(to: Register, from: Register) -> Option<Op>
     ensures value { result ≡ move_op to from }
     ensures in_range { IfSome result InRange }
 {
-    match to {
-        Register::K => match from {
-            Register::P => Some(Op::LrKP),
-            _ => None,
-        },
-        Register::P => match from {
-            Register::K => Some(Op::LrPK),
-            _ => None,
-        },
-        Register::P0 => match from {
-            Register::Q => Some(Op::LrP0Q),
-            _ => None,
-        },
-        Register::Q => match from {
-            Register::Dc => Some(Op::LrQDc),
-            _ => None,
-        },
-        Register::Dc => into_dc(from),
-        Register::H => match from {
-            Register::Dc => Some(Op::LrHDc),
-            _ => None,
-        },
-        Register::W => match from {
-            Register::J => Some(Op::LrWJ),
-            _ => None,
-        },
-        Register::J => match from {
-            Register::W => Some(Op::LrJW),
-            _ => None,
-        },
+    match (to, from) {
+        (Register::K, Register::P) => Some(Op::LrKP),
+        (Register::P, Register::K) => Some(Op::LrPK),
+        (Register::P0, Register::Q) => Some(Op::LrP0Q),
+        (Register::Q, Register::Dc) => Some(Op::LrQDc),
+        (Register::Dc, Register::Q) => Some(Op::LrDcQ),
+        (Register::Dc, Register::H) => Some(Op::LrDcH),
+        (Register::H, Register::Dc) => Some(Op::LrHDc),
+        (Register::W, Register::J) => Some(Op::LrWJ),
+        (Register::J, Register::W) => Some(Op::LrJW),
         _ => None,
     }
 }

@@ -1,10 +1,12 @@
 // Mnemonics and directives: which words there are, and what operands go behind each.
-ghost use Rattle.std.specs.Prelude.{◌≡◌, IfSome};
+ghost use Rattle.std.specs.Prelude.{◌≡◌, map, IfSome};
+ghost use Rattle.std.specs.Option.{option_or};
 ghost use Rattle.f8_spec.specs.Instructions.{InRange};
-ghost use Rattle.f8_asm.specs.Words.{two_letter_op_a_to_b, two_letter_op_c_to_l, two_letter_op_n_to_x, two_letter_op, three_letter_op_a_to_c, three_letter_op_d_to_x, three_letter_op, op_of, op_shape, shape_of_op, two_letter_shape, longer_shape, shape_of, is_reserved, HasRoom};
+ghost use Rattle.f8_asm.specs.Registers.{at_word};
+ghost use Rattle.f8_asm.specs.Words.{own_word, field_word, field_words, directives, op_of, op_shape, shape_of_op, shape_of, is_reserved, HasRoom};
 
 use crate::fields::Field;
-use crate::registers::{is_word, register_of};
+use crate::registers::{at_word, is_word, register_of};
 use f8_ops::{encode, row_of};
 use f8_spec::{Op, Row};
 
@@ -51,205 +53,118 @@ pub enum Shape {
     Items(ItemSize),
 }
 
-/// Instructions of two letters whose operand is no field of the opcode, in alphabetical order.
-#[tactic(auto, unfolding(crate::specs::Words::two_letter_op_a_to_b))]
-fn two_letter_op_a_to_b(name: &[u8]) -> Option<Op>
-    ensures value { result ≡ two_letter_op_a_to_b name.now }
-    ensures in_range { IfSome result InRange }
+/// The instructions whose operand is no field of the opcode: their mnemonics name them alone.
+const PLAIN_OPS: [Op; 30] = [
+    Op::Ai,
+    Op::Am,
+    Op::Ci,
+    Op::Cm,
+    Op::Di,
+    Op::Ei,
+    Op::In,
+    Op::Li,
+    Op::Lm,
+    Op::Ni,
+    Op::Nm,
+    Op::Oi,
+    Op::Om,
+    Op::Pi,
+    Op::Pk,
+    Op::St,
+    Op::Xi,
+    Op::Xm,
+    Op::Adc,
+    Op::Amd,
+    Op::Br7,
+    Op::Com,
+    Op::Dci,
+    Op::Inc,
+    Op::Jmp,
+    Op::Lnk,
+    Op::Nop,
+    Op::Out,
+    Op::Pop,
+    Op::Xdc,
+];
+
+/// Words that name one instruction of those with another mnemonic.
+const ALIASES: [(&[u8], Op); 9] = [
+    (b"BC", Op::Bt { t: 2 }),
+    (b"BM", Op::Bf { t: 1 }),
+    (b"BP", Op::Bt { t: 1 }),
+    (b"BR", Op::Bf { t: 0 }),
+    (b"BZ", Op::Bt { t: 4 }),
+    (b"BNC", Op::Bf { t: 2 }),
+    (b"BNO", Op::Bf { t: 8 }),
+    (b"BNZ", Op::Bf { t: 4 }),
+    (b"CLR", Op::Lis { n: 0 }),
+];
+
+/// Mnemonics with a field of the opcode behind them, or two registers, each by an instruction with it.
+const FIELD_WORDS: [(Op, Shape); 15] = [
+    (Op::As { r: 0 }, Shape::Register(Field::As)),
+    (Op::Bf { t: 0 }, Shape::Test(Field::Bf)),
+    (Op::Bt { t: 0 }, Shape::Test(Field::Bt)),
+    (Op::Ds { r: 0 }, Shape::Register(Field::Ds)),
+    (Op::LrAKu, Shape::Load),
+    (Op::Ns { r: 0 }, Shape::Register(Field::Ns)),
+    (Op::Sl1, Shape::One(Single::Small(Field::Sl))),
+    (Op::Sr1, Shape::One(Single::Small(Field::Sr))),
+    (Op::Xs { r: 0 }, Shape::Register(Field::Xs)),
+    (Op::Asd { r: 0 }, Shape::Register(Field::Asd)),
+    (Op::Ins { n: 0 }, Shape::One(Single::Small(Field::Ins))),
+    (Op::Lis { n: 0 }, Shape::One(Single::Small(Field::Lis))),
+    (Op::Lisl { n: 0 }, Shape::One(Single::Small(Field::Lisl))),
+    (Op::Lisu { n: 0 }, Shape::One(Single::Small(Field::Lisu))),
+    (Op::Outs { n: 0 }, Shape::One(Single::Small(Field::Outs))),
+];
+
+/// The directives.
+const DIRECTIVES: [(&[u8], Shape); 4] = [
+    (b"DB", Shape::Items(ItemSize::Byte)),
+    (b"DW", Shape::Items(ItemSize::Word)),
+    (b"EQU", Shape::One(Single::Equ)),
+    (b"ORG", Shape::One(Single::Org)),
+];
+
+/// The most letters that a mnemonic or directive has.
+const LONGEST: usize = 4;
+
+/// The one of these instructions whose mnemonic is a word.
+fn op_at(mut ops: &[Op], name: &[u8]) -> Option<Op>
+    ensures { result ≡ at_word name.now (map own_word ops.entry.now) }
 {
-    if is_word(name, b"AI") {
-        return Some(Op::Ai);
-    }
-    if is_word(name, b"AM") {
-        return Some(Op::Am);
-    }
-    if is_word(name, b"BC") {
-        return Some(Op::Bt { t: 2 });
-    }
-    if is_word(name, b"BM") {
-        return Some(Op::Bf { t: 1 });
-    }
-    if is_word(name, b"BP") {
-        return Some(Op::Bt { t: 1 });
-    }
-    if is_word(name, b"BR") {
-        return Some(Op::Bf { t: 0 });
-    }
-    if is_word(name, b"BZ") {
-        return Some(Op::Bt { t: 4 });
+    while let [op, rest @ ..] = ops {
+        if is_word(name, f8_ops::name(*op).as_bytes()) {
+            return Some(*op);
+        }
+        ops = rest;
     }
     None
 }
 
-/// The next of these.
-#[tactic(auto, unfolding(crate::specs::Words::two_letter_op_c_to_l))]
-fn two_letter_op_c_to_l(name: &[u8]) -> Option<Op>
-    ensures value { result ≡ two_letter_op_c_to_l name.now }
-    ensures in_range { IfSome result InRange }
+/// What goes behind a word that is the mnemonic of one of these instructions.
+fn field_at(mut table: &[(Op, Shape)], name: &[u8]) -> Option<Shape>
+    ensures { result ≡ at_word name.now (map field_word table.entry.now) }
 {
-    if is_word(name, b"CI") {
-        return Some(Op::Ci);
-    }
-    if is_word(name, b"CM") {
-        return Some(Op::Cm);
-    }
-    if is_word(name, b"DI") {
-        return Some(Op::Di);
-    }
-    if is_word(name, b"EI") {
-        return Some(Op::Ei);
-    }
-    if is_word(name, b"IN") {
-        return Some(Op::In);
-    }
-    if is_word(name, b"LI") {
-        return Some(Op::Li);
-    }
-    if is_word(name, b"LM") {
-        return Some(Op::Lm);
+    while let [entry, rest @ ..] = table {
+        if is_word(name, f8_ops::name(entry.0).as_bytes()) {
+            return Some(entry.1);
+        }
+        table = rest;
     }
     None
 }
 
-/// The rest of these.
-#[tactic(auto, unfolding(crate::specs::Words::two_letter_op_n_to_x))]
-fn two_letter_op_n_to_x(name: &[u8]) -> Option<Op>
-    ensures value { result ≡ two_letter_op_n_to_x name.now }
-    ensures in_range { IfSome result InRange }
-{
-    if is_word(name, b"NI") {
-        return Some(Op::Ni);
-    }
-    if is_word(name, b"NM") {
-        return Some(Op::Nm);
-    }
-    if is_word(name, b"OI") {
-        return Some(Op::Oi);
-    }
-    if is_word(name, b"OM") {
-        return Some(Op::Om);
-    }
-    if is_word(name, b"PI") {
-        return Some(Op::Pi);
-    }
-    if is_word(name, b"PK") {
-        return Some(Op::Pk);
-    }
-    if is_word(name, b"ST") {
-        return Some(Op::St);
-    }
-    if is_word(name, b"XI") {
-        return Some(Op::Xi);
-    }
-    if is_word(name, b"XM") {
-        return Some(Op::Xm);
-    }
-    None
-}
-
-/// The same of three letters.
-#[tactic(auto, unfolding(crate::specs::Words::three_letter_op_a_to_c))]
-fn three_letter_op_a_to_c(name: &[u8]) -> Option<Op>
-    ensures value { result ≡ three_letter_op_a_to_c name.now }
-    ensures in_range { IfSome result InRange }
-{
-    if is_word(name, b"ADC") {
-        return Some(Op::Adc);
-    }
-    if is_word(name, b"AMD") {
-        return Some(Op::Amd);
-    }
-    if is_word(name, b"BNC") {
-        return Some(Op::Bf { t: 2 });
-    }
-    if is_word(name, b"BNO") {
-        return Some(Op::Bf { t: 8 });
-    }
-    if is_word(name, b"BNZ") {
-        return Some(Op::Bf { t: 4 });
-    }
-    if is_word(name, b"BR7") {
-        return Some(Op::Br7);
-    }
-    if is_word(name, b"CLR") {
-        return Some(Op::Lis { n: 0 });
-    }
-    if is_word(name, b"COM") {
-        return Some(Op::Com);
-    }
-    None
-}
-
-/// The rest of these.
-#[tactic(auto, unfolding(crate::specs::Words::three_letter_op_d_to_x))]
-fn three_letter_op_d_to_x(name: &[u8]) -> Option<Op>
-    ensures value { result ≡ three_letter_op_d_to_x name.now }
-    ensures in_range { IfSome result InRange }
-{
-    if is_word(name, b"DCI") {
-        return Some(Op::Dci);
-    }
-    if is_word(name, b"INC") {
-        return Some(Op::Inc);
-    }
-    if is_word(name, b"JMP") {
-        return Some(Op::Jmp);
-    }
-    if is_word(name, b"LNK") {
-        return Some(Op::Lnk);
-    }
-    if is_word(name, b"NOP") {
-        return Some(Op::Nop);
-    }
-    if is_word(name, b"OUT") {
-        return Some(Op::Out);
-    }
-    if is_word(name, b"POP") {
-        return Some(Op::Pop);
-    }
-    if is_word(name, b"XDC") {
-        return Some(Op::Xdc);
-    }
-    None
-}
-
-/// An instruction of two letters.
-#[tactic(auto, unfolding(crate::specs::Words::two_letter_op))]
-fn two_letter_op(name: &[u8]) -> Option<Op>
-    ensures value { result ≡ two_letter_op name.now }
-    ensures in_range { IfSome result InRange }
-{
-    if let Some(op) = two_letter_op_a_to_b(name) {
-        return Some(op);
-    }
-    if let Some(op) = two_letter_op_c_to_l(name) {
-        return Some(op);
-    }
-    two_letter_op_n_to_x(name)
-}
-
-/// An instruction of three letters.
-#[tactic(auto, unfolding(crate::specs::Words::three_letter_op))]
-fn three_letter_op(name: &[u8]) -> Option<Op>
-    ensures value { result ≡ three_letter_op name.now }
-    ensures in_range { IfSome result InRange }
-{
-    if let Some(op) = three_letter_op_a_to_c(name) {
-        return Some(op);
-    }
-    three_letter_op_d_to_x(name)
-}
-
-/// The instruction that a word of two or three letters names alone.
+/// The instruction that a word names alone.
 #[tactic(auto, unfolding(crate::specs::Words::op_of))]
 fn op_of(name: &[u8]) -> Option<Op>
     ensures value { result ≡ op_of name.now }
     ensures in_range { IfSome result InRange }
 {
-    match name.len() {
-        2 => two_letter_op(name),
-        3 => three_letter_op(name),
-        _ => None,
+    match op_at(&PLAIN_OPS, name) {
+        Some(op) => Some(op),
+        None => at_word(&ALIASES, name),
     }
 }
 
@@ -276,79 +191,15 @@ fn shape_of_op(op: Op) -> Shape
     op_shape(row_of(op), encode(op))
 }
 
-/// The other words of two letters: fields of an opcode, `LR`, and directives.
-#[tactic(auto, unfolding(crate::specs::Words::two_letter_shape))]
-fn two_letter_shape(name: &[u8]) -> Option<Shape>
-    ensures value { result ≡ two_letter_shape name.now }
+/// What goes behind a mnemonic that names no instruction alone, or a directive.
+fn other_shape(name: &[u8]) -> Option<Shape>
+    ensures value { result ≡ option_or (at_word name.now (map field_word field_words)) (at_word name.now directives) }
     ensures room { IfSome result HasRoom }
 {
-    if is_word(name, b"AS") {
-        return Some(Shape::Register(Field::As));
+    match field_at(&FIELD_WORDS, name) {
+        Some(shape) => Some(shape),
+        None => at_word(&DIRECTIVES, name),
     }
-    if is_word(name, b"BF") {
-        return Some(Shape::Test(Field::Bf));
-    }
-    if is_word(name, b"BT") {
-        return Some(Shape::Test(Field::Bt));
-    }
-    if is_word(name, b"DB") {
-        return Some(Shape::Items(ItemSize::Byte));
-    }
-    if is_word(name, b"DS") {
-        return Some(Shape::Register(Field::Ds));
-    }
-    if is_word(name, b"DW") {
-        return Some(Shape::Items(ItemSize::Word));
-    }
-    if is_word(name, b"LR") {
-        return Some(Shape::Load);
-    }
-    if is_word(name, b"NS") {
-        return Some(Shape::Register(Field::Ns));
-    }
-    if is_word(name, b"SL") {
-        return Some(Shape::One(Single::Small(Field::Sl)));
-    }
-    if is_word(name, b"SR") {
-        return Some(Shape::One(Single::Small(Field::Sr)));
-    }
-    if is_word(name, b"XS") {
-        return Some(Shape::Register(Field::Xs));
-    }
-    None
-}
-
-/// The same of three and four letters.
-#[tactic(auto, unfolding(crate::specs::Words::longer_shape))]
-fn longer_shape(name: &[u8]) -> Option<Shape>
-    ensures value { result ≡ longer_shape name.now }
-    ensures room { IfSome result HasRoom }
-{
-    if is_word(name, b"ASD") {
-        return Some(Shape::Register(Field::Asd));
-    }
-    if is_word(name, b"EQU") {
-        return Some(Shape::One(Single::Equ));
-    }
-    if is_word(name, b"INS") {
-        return Some(Shape::One(Single::Small(Field::Ins)));
-    }
-    if is_word(name, b"LIS") {
-        return Some(Shape::One(Single::Small(Field::Lis)));
-    }
-    if is_word(name, b"LISL") {
-        return Some(Shape::One(Single::Small(Field::Lisl)));
-    }
-    if is_word(name, b"LISU") {
-        return Some(Shape::One(Single::Small(Field::Lisu)));
-    }
-    if is_word(name, b"ORG") {
-        return Some(Shape::One(Single::Org));
-    }
-    if is_word(name, b"OUTS") {
-        return Some(Shape::One(Single::Small(Field::Outs)));
-    }
-    None
 }
 
 /// What goes behind a mnemonic or directive.
@@ -357,13 +208,13 @@ pub fn shape_of(name: &[u8]) -> Option<Shape>
     ensures value { result ≡ shape_of name.now }
     ensures room { IfSome result HasRoom }
 {
-    if let Some(op) = op_of(name) {
-        return Some(shape_of_op(op));
+    if name.len() > LONGEST {
+        return None;
     }
-    if name.len() == 2 {
-        return two_letter_shape(name);
+    match op_of(name) {
+        Some(op) => Some(shape_of_op(op)),
+        None => other_shape(name),
     }
-    longer_shape(name)
 }
 
 /// Whether a word can't be a name.
