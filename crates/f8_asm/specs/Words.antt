@@ -1,5 +1,6 @@
 -- Mnemonics and directives: which words there are, and what operands go behind each.
-use Rattle.std.specs.Prelude.{ℕ, ◌≤◌, Bool, ◌||◌, List, [], ◌∷◌, codes, map, Option, is_some, option_map}
+use Rattle.std.specs.Prelude.{ℕ, ◌-◌, nat_lt, if◌then◌else◌, ◌≤◌, Bool, ◌||◌, List, [], ◌∷◌, codes, map, Option, is_some, option_map}
+use Rattle.std.specs.Char.{to_ascii_lowercase}
 use Rattle.std.specs.Option.{option_or}
 use Rattle.f8_spec.specs.Instructions.{encoded, row_of, mnemonic_of}
 use Rattle.f8_spec.specs.declared.instructions.Op.{Op}
@@ -55,6 +56,14 @@ unfoldable pub directives : List (List ℕ × Shape)
 directives =
     (codes "DB", shape.Items item.Byte) ∷ (codes "DW", shape.Items item.Word)
     ∷ (codes "EQU", shape.One single.Equ) ∷ (codes "ORG", shape.One single.Org) ∷ []
+
+-- the number of a word's first letter in either case, from 0 for A on, and 26 if it begins with none
+abbrev pub initial_from : List ℕ → ℕ
+initial_from [] = 26
+initial_from (c ∷ cs) = if nat_lt c 97 || nat_lt 122 c then 26 else c - 97
+
+unfoldable pub initial_of : List ℕ → ℕ
+initial_of name = initial_from (map to_ascii_lowercase name)
 
 -- an instruction at its mnemonic, and what goes behind one's mnemonic
 abbrev pub own_word : Op → List ℕ × Op

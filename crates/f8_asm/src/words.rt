@@ -1,9 +1,9 @@
 // Mnemonics and directives: which words there are, and what operands go behind each.
-ghost use Rattle.std.specs.Prelude.{◌≡◌, map, IfSome};
+ghost use Rattle.std.specs.Prelude.{◌≡◌, ◌<◌, [], length, get_or, map, IfSome};
 ghost use Rattle.std.specs.Option.{option_or};
 ghost use Rattle.f8_spec.specs.Instructions.{InRange};
 ghost use Rattle.f8_asm.specs.Registers.{at_word};
-ghost use Rattle.f8_asm.specs.Words.{own_word, field_word, field_words, directives, op_of, op_shape, shape_of_op, shape_of, is_reserved, HasRoom};
+ghost use Rattle.f8_asm.specs.Words.{initial_of, plain_ops, own_word, field_word, field_words, directives, op_of, op_shape, shape_of_op, shape_of, is_reserved, HasRoom};
 
 use crate::fields::Field;
 use crate::registers::{at_word, is_word, register_of};
@@ -53,38 +53,36 @@ pub enum Shape {
     Items(ItemSize),
 }
 
-/// The instructions whose operand is no field of the opcode: their mnemonics name them alone.
-const PLAIN_OPS: [Op; 30] = [
-    Op::Ai,
-    Op::Am,
-    Op::Ci,
-    Op::Cm,
-    Op::Di,
-    Op::Ei,
-    Op::In,
-    Op::Li,
-    Op::Lm,
-    Op::Ni,
-    Op::Nm,
-    Op::Oi,
-    Op::Om,
-    Op::Pi,
-    Op::Pk,
-    Op::St,
-    Op::Xi,
-    Op::Xm,
-    Op::Adc,
-    Op::Amd,
-    Op::Br7,
-    Op::Com,
-    Op::Dci,
-    Op::Inc,
-    Op::Jmp,
-    Op::Lnk,
-    Op::Nop,
-    Op::Out,
-    Op::Pop,
-    Op::Xdc,
+/// The instructions whose operand is no field of the opcode: their mnemonics name them alone. A row for each letter that a mnemonic
+/// begins with, and the last for none.
+const PLAIN_OPS: [&[Op]; 27] = [
+    &[Op::Ai, Op::Am, Op::Adc, Op::Amd],
+    &[Op::Br7],
+    &[Op::Ci, Op::Cm, Op::Com],
+    &[Op::Di, Op::Dci],
+    &[Op::Ei],
+    &[],
+    &[],
+    &[],
+    &[Op::In, Op::Inc],
+    &[Op::Jmp],
+    &[],
+    &[Op::Li, Op::Lm, Op::Lnk],
+    &[],
+    &[Op::Ni, Op::Nm, Op::Nop],
+    &[Op::Oi, Op::Om, Op::Out],
+    &[Op::Pi, Op::Pk, Op::Pop],
+    &[],
+    &[],
+    &[Op::St],
+    &[],
+    &[],
+    &[],
+    &[],
+    &[Op::Xi, Op::Xm, Op::Xdc],
+    &[],
+    &[],
+    &[],
 ];
 
 /// Words that name one instruction of those with another mnemonic.
@@ -100,23 +98,49 @@ const ALIASES: [(&[u8], Op); 9] = [
     (b"CLR", Op::Lis { n: 0 }),
 ];
 
-/// Mnemonics with a field of the opcode behind them, or two registers, each by an instruction with it.
-const FIELD_WORDS: [(Op, Shape); 15] = [
-    (Op::As { r: 0 }, Shape::Register(Field::As)),
-    (Op::Bf { t: 0 }, Shape::Test(Field::Bf)),
-    (Op::Bt { t: 0 }, Shape::Test(Field::Bt)),
-    (Op::Ds { r: 0 }, Shape::Register(Field::Ds)),
-    (Op::LrAKu, Shape::Load),
-    (Op::Ns { r: 0 }, Shape::Register(Field::Ns)),
-    (Op::Sl1, Shape::One(Single::Small(Field::Sl))),
-    (Op::Sr1, Shape::One(Single::Small(Field::Sr))),
-    (Op::Xs { r: 0 }, Shape::Register(Field::Xs)),
-    (Op::Asd { r: 0 }, Shape::Register(Field::Asd)),
-    (Op::Ins { n: 0 }, Shape::One(Single::Small(Field::Ins))),
-    (Op::Lis { n: 0 }, Shape::One(Single::Small(Field::Lis))),
-    (Op::Lisl { n: 0 }, Shape::One(Single::Small(Field::Lisl))),
-    (Op::Lisu { n: 0 }, Shape::One(Single::Small(Field::Lisu))),
-    (Op::Outs { n: 0 }, Shape::One(Single::Small(Field::Outs))),
+/// Mnemonics with a field of the opcode behind them, or two registers, each by an instruction with it, in such rows.
+const FIELD_WORDS: [&[(Op, Shape)]; 27] = [
+    &[
+        (Op::As { r: 0 }, Shape::Register(Field::As)),
+        (Op::Asd { r: 0 }, Shape::Register(Field::Asd)),
+    ],
+    &[
+        (Op::Bf { t: 0 }, Shape::Test(Field::Bf)),
+        (Op::Bt { t: 0 }, Shape::Test(Field::Bt)),
+    ],
+    &[],
+    &[(Op::Ds { r: 0 }, Shape::Register(Field::Ds))],
+    &[],
+    &[],
+    &[],
+    &[],
+    &[(Op::Ins { n: 0 }, Shape::One(Single::Small(Field::Ins)))],
+    &[],
+    &[],
+    &[
+        (Op::LrAKu, Shape::Load),
+        (Op::Lis { n: 0 }, Shape::One(Single::Small(Field::Lis))),
+        (Op::Lisl { n: 0 }, Shape::One(Single::Small(Field::Lisl))),
+        (Op::Lisu { n: 0 }, Shape::One(Single::Small(Field::Lisu))),
+    ],
+    &[],
+    &[(Op::Ns { r: 0 }, Shape::Register(Field::Ns))],
+    &[(Op::Outs { n: 0 }, Shape::One(Single::Small(Field::Outs)))],
+    &[],
+    &[],
+    &[],
+    &[
+        (Op::Sl1, Shape::One(Single::Small(Field::Sl))),
+        (Op::Sr1, Shape::One(Single::Small(Field::Sr))),
+    ],
+    &[],
+    &[],
+    &[],
+    &[],
+    &[(Op::Xs { r: 0 }, Shape::Register(Field::Xs))],
+    &[],
+    &[],
+    &[],
 ];
 
 /// The directives.
@@ -129,6 +153,22 @@ const DIRECTIVES: [(&[u8], Shape); 4] = [
 
 /// The most letters that a mnemonic or directive has.
 const LONGEST: usize = 4;
+
+/// The row for a word, by its first letter.
+#[tactic(auto, unfolding(crate::specs::Words::initial_of))]
+fn initial_of(name: &[u8]) -> usize
+    ensures value { result ≡ initial_of name.now }
+    ensures below { result < 27 }
+{
+    let Some((first, _)) = name.split_first() else {
+        return 26;
+    };
+    let letter = first.to_ascii_lowercase();
+    if letter < b'a' || letter > b'z' {
+        return 26;
+    }
+    usize::from(letter - b'a')
+}
 
 /// The one of these instructions whose mnemonic is a word.
 fn op_at(mut ops: &[Op], name: &[u8]) -> Option<Op>
@@ -156,13 +196,43 @@ fn field_at(mut table: &[(Op, Shape)], name: &[u8]) -> Option<Shape>
     None
 }
 
+/// The one of these instructions, in rows by the first letter, whose mnemonic is a word.
+fn op_in(rows: &[&[Op]], name: &[u8]) -> Option<Op>
+    requires { length rows.now ≡ 27 }
+    ensures { result ≡ at_word name.now (map own_word (get_or (map (λ row. row.now) rows.now) (initial_of name.now) [])) }
+{
+    op_at(rows[initial_of(name)], name)
+}
+
+/// What goes behind a word, in rows by the first letter, that is the mnemonic of one of these instructions.
+fn field_in(rows: &[&[(Op, Shape)]], name: &[u8]) -> Option<Shape>
+    requires { length rows.now ≡ 27 }
+    ensures { result ≡ at_word name.now (map field_word (get_or (map (λ row. row.now) rows.now) (initial_of name.now) [])) }
+{
+    field_at(rows[initial_of(name)], name)
+}
+
+/// The instruction whose mnemonic names it alone.
+fn plain_op(name: &[u8]) -> Option<Op>
+    ensures { result ≡ at_word name.now (map own_word plain_ops) }
+{
+    op_in(&PLAIN_OPS, name)
+}
+
+/// What goes behind the mnemonic of an instruction with a field, and `LR`.
+fn field_shape(name: &[u8]) -> Option<Shape>
+    ensures { result ≡ at_word name.now (map field_word field_words) }
+{
+    field_in(&FIELD_WORDS, name)
+}
+
 /// The instruction that a word names alone.
 #[tactic(auto, unfolding(crate::specs::Words::op_of))]
 fn op_of(name: &[u8]) -> Option<Op>
     ensures value { result ≡ op_of name.now }
     ensures in_range { IfSome result InRange }
 {
-    match op_at(&PLAIN_OPS, name) {
+    match plain_op(name) {
         Some(op) => Some(op),
         None => at_word(&ALIASES, name),
     }
@@ -196,7 +266,7 @@ fn other_shape(name: &[u8]) -> Option<Shape>
     ensures value { result ≡ option_or (at_word name.now (map field_word field_words)) (at_word name.now directives) }
     ensures room { IfSome result HasRoom }
 {
-    match field_at(&FIELD_WORDS, name) {
+    match field_shape(name) {
         Some(shape) => Some(shape),
         None => at_word(&DIRECTIVES, name),
     }
