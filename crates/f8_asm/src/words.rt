@@ -3,7 +3,7 @@ ghost use Rattle.std.specs.Prelude.{◌≡◌, ◌<◌, [], length, get_or, map,
 ghost use Rattle.std.specs.Option.{option_or};
 ghost use Rattle.f8_spec.specs.Instructions.{InRange};
 ghost use Rattle.f8_asm.specs.Registers.{at_word};
-ghost use Rattle.f8_asm.specs.Words.{initial_of, plain_ops, own_word, field_word, field_words, directives, op_of, op_shape, shape_of_op, shape_of, is_reserved, HasRoom};
+ghost use Rattle.f8_asm.specs.Words.{initial_of, plain_ops, aliases, own_word, field_word, field_words, directives, op_of, op_shape, shape_of_op, shape_of, is_reserved, HasRoom};
 
 use crate::fields::Field;
 use crate::registers::{at_word, is_word, register_of};
@@ -97,6 +97,9 @@ const ALIASES: [(&[u8], Op); 9] = [
     (b"BNZ", Op::Bf { t: 4 }),
     (b"CLR", Op::Lis { n: 0 }),
 ];
+
+/// The last of the letters that an alias begins with, C.
+const LAST_INITIAL: usize = 2;
 
 /// Mnemonics with a field of the opcode behind them, or two registers, each by an instruction with it, in such rows.
 const FIELD_WORDS: [&[(Op, Shape)]; 27] = [
@@ -226,6 +229,17 @@ fn field_shape(name: &[u8]) -> Option<Shape>
     field_in(&FIELD_WORDS, name)
 }
 
+/// The instruction of an alias. Only words with B or C in front are aliases.
+fn alias_op(name: &[u8]) -> Option<Op>
+    ensures { result ≡ at_word name.now aliases }
+{
+    let initial = initial_of(name);
+    if initial > LAST_INITIAL {
+        return None;
+    }
+    at_word(&ALIASES, name)
+}
+
 /// The instruction that a word names alone.
 #[tactic(auto, unfolding(crate::specs::Words::op_of))]
 fn op_of(name: &[u8]) -> Option<Op>
@@ -234,7 +248,7 @@ fn op_of(name: &[u8]) -> Option<Op>
 {
     match plain_op(name) {
         Some(op) => Some(op),
-        None => at_word(&ALIASES, name),
+        None => alias_op(name),
     }
 }
 

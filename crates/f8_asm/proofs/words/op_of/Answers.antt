@@ -13,10 +13,8 @@ returns-in-Some-clause-in_range c =
     subst (λ found. IfSome found InRange) (sym (own_instruction c.args.name.now c.in-Some.op (sym c.in-Some.ensures))) (op_in_range c.args.name.now)
 
 pub returns-in-None-clause-value : goal.returns-in-None-clause-value
-unfolding aliases
-returns-in-None-clause-value c = c.at_word.ensures ∙ alias_instruction c.args.name.now (sym c.in-None.ensures)
+returns-in-None-clause-value c = c.alias_op.ensures ∙ alias_instruction c.args.name.now (sym c.in-None.ensures)
 
 pub returns-in-None-clause-in_range : goal.returns-in-None-clause-in_range
-unfolding aliases
 returns-in-None-clause-in_range c =
-    subst (λ found. IfSome found InRange) (sym (c.at_word.ensures ∙ alias_instruction c.args.name.now (sym c.in-None.ensures))) (op_in_range c.args.name.now)
+    subst (λ found. IfSome found InRange) (sym (c.alias_op.ensures ∙ alias_instruction c.args.name.now (sym c.in-None.ensures))) (op_in_range c.args.name.now)
