@@ -74,6 +74,7 @@ no_alias name past = behind aliases aliases_in_front
     other : (w : List ℕ) → initial_of w ≤ 2 → same_word name w ≡ false
     other w front = false_from_ne_true _ (λ same.
         let e = (Decides-eqb (initial_of w) (initial_of name)).0 (one_row name w same) in omega (arith, e, front, past))
+
     behind : (ws : List (List ℕ × Op)) → AllByRecursion (λ w. initial_of w.0 ≤ 2) ws → at_word name ws ≡ None
     behind [] all = refl
     behind (w ∷ ws) all = rw (other w.0 all.0) (behind ws all.1)
@@ -95,7 +96,7 @@ pub plain_row : (name : List ℕ) →
     at_word name (map own_word (get_or (map (λ row. row.now) PLAIN_OPS) (initial_of name) [])) ≡ at_word name (map own_word plain_ops)
 plain_row name =
     ap (at_word name) (same_below (λ k. map own_word (get_or (map (λ row. row.now) PLAIN_OPS) k [])) (λ k. filter (λ w. initial_of w.0 == k) (map own_word plain_ops))
-      27 (initial_of name) plain_rows (initial_below name))
+    27 (initial_of name) plain_rows (initial_below name))
     ∙ in_row name (map own_word plain_ops)
 
 pub plain_at : (name : List ℕ) (rows : List (Bor (List Op))) (i : ℕ) (other : Bor (List Op)) → i ≡ initial_of name → i < length rows →
@@ -113,7 +114,7 @@ pub field_row : (name : List ℕ) →
     at_word name (map field_word (get_or (map (λ row. row.now) FIELD_WORDS) (initial_of name) [])) ≡ at_word name (map field_word field_words)
 field_row name =
     ap (at_word name) (same_below (λ k. map field_word (get_or (map (λ row. row.now) FIELD_WORDS) k [])) (λ k. filter (λ w. initial_of w.0 == k) (map field_word field_words))
-      27 (initial_of name) field_rows (initial_below name))
+    27 (initial_of name) field_rows (initial_below name))
     ∙ in_row name (map field_word field_words)
 
 pub field_at : (name : List ℕ) (rows : List (Bor (List (Op × Shape)))) (i : ℕ) (other : Bor (List (Op × Shape))) → i ≡ initial_of name → i < length rows →

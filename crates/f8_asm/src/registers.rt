@@ -122,7 +122,9 @@ fn load_op(from: Register) -> Option<Op>
         Register::Qu => Some(Op::LrAQu),
         Register::Ql => Some(Op::LrAQl),
         Register::Is => Some(Op::LrAIs),
-        _ => Some(Op::LrAR { r: number_of(from)? }),
+        _ => Some(Op::LrAR {
+            r: number_of(from)?,
+        }),
     }
 }
 

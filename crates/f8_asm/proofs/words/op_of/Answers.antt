@@ -1,7 +1,6 @@
 use Rattle.std.proofs.Common.{sym, ◌∙◌, subst}
 use Rattle.std.specs.Prelude.{IfSome}
 use Rattle.f8_spec.specs.Instructions.{InRange}
-use Rattle.f8_asm.specs.Words.{plain_ops, aliases}
 use Rattle.f8_asm.proofs.WordTables.{own_instruction, alias_instruction, op_in_range}
 use Rattle.f8_asm.proofs.words.op_of.Goals as goal
 
