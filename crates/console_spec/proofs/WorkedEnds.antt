@@ -29,12 +29,16 @@ wired_psu vector bytes = record (psu 0 4 bytes) { wired = true; vector = vector 
 abbrev standing : List ChipView → List ℕ → List PortWrite → List Mark → Position
 standing vs chain writes pulses =
     let x = power_position vs chain 0 in
-    record x { flat = record x.flat { state = record x.flat.state {
-      registers = record x.flat.state.registers { status = record clear_status { icb = true } };
-      writes = writes;
-      pulses = pulses;
-      phi = 100;
-    } } }
+    record x {
+      flat = record x.flat {
+        state = record x.flat.state {
+          registers = record x.flat.state.registers { status = record clear_status { icb = true } };
+          writes = writes;
+          pulses = pulses;
+          phi = 100;
+        };
+      };
+    }
 
 abbrev wrote : ℕ → ℕ → ℕ → PortWrite
 wrote phi port byte = record { phi = phi; port = port; byte = byte }
@@ -276,10 +280,12 @@ abbrev storing : Position
 storing =
     let x = standing (wired_psu 0x2800 (0x17 ∷ []) ∷ ram_smi 0x28 ∷ []) (0 ∷ 1 ∷ []) (wrote 34 6 1 ∷ []) (pulse 0 100 ∷ []) in
     record x {
-      flat = record x.flat { state = record x.flat.state {
-        flow = record x.flat.state.flow { d0 = 0x2880 };
-        registers = record x.flat.state.registers { accumulator = 0x2B };
-      } };
+      flat = record x.flat {
+        state = record x.flat.state {
+          flow = record x.flat.state.flow { d0 = 0x2880 };
+          registers = record x.flat.state.registers { accumulator = 0x2B };
+        };
+      };
       copies = map at_the_vector x.copies;
     }
 

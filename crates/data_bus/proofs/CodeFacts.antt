@@ -185,11 +185,82 @@ GoesByCounter romc = is_counter (counter_of romc) ≡ true → goes_by_counter (
 -- each of the 32 codes
 all_counters : AllBelow GoesByCounter 32
 unfolding AllBelow
-all_counters =
-    ((((((((((((((((((((((((((((((((tt, (λ is. refl)), (λ is. refl)), (λ is. refl)), (λ is. refl)), (λ is. cc)), (λ is. refl)), (λ is. refl)),
-    (λ is. refl)), (λ is. cc)), (λ is. refl)), (λ is. cc)), (λ is. refl)), (λ is. refl)), (λ is. cc)), (λ is. refl)), (λ is. cc)),
-    (λ is. cc)), (λ is. refl)), (λ is. cc)), (λ is. cc)), (λ is. cc)), (λ is. cc)), (λ is. cc)), (λ is. cc)), (λ is. cc)), (λ is. cc)),
-    (λ is. cc)), (λ is. cc)), (λ is. cc)), (λ is. cc)), (λ is. refl)), (λ is. refl))
+all_counters = (
+  (
+    (
+      (
+        (
+          (
+            (
+              (
+                (
+                  (
+                    (
+                      (
+                        (
+                          (
+                            (
+                              (
+                                (
+                                  (
+                                    (
+                                      (
+                                        (
+                                          (
+                                            (
+                                              (
+                                                (
+                                                  (((((((tt, (λ is. refl)), (λ is. refl)), (λ is. refl)), (λ is. refl)), (λ is. cc)), (λ is. refl)), (λ is. refl)),
+                                                  (λ is. refl),
+                                                ),
+                                                (λ is. cc),
+                                              ),
+                                              (λ is. refl),
+                                            ),
+                                            (λ is. cc),
+                                          ),
+                                          (λ is. refl),
+                                        ),
+                                        (λ is. refl),
+                                      ),
+                                      (λ is. cc),
+                                    ),
+                                    (λ is. refl),
+                                  ),
+                                  (λ is. cc),
+                                ),
+                                (λ is. cc),
+                              ),
+                              (λ is. refl),
+                            ),
+                            (λ is. cc),
+                          ),
+                          (λ is. cc),
+                        ),
+                        (λ is. cc),
+                      ),
+                      (λ is. cc),
+                    ),
+                    (λ is. cc),
+                  ),
+                  (λ is. cc),
+                ),
+                (λ is. cc),
+              ),
+              (λ is. cc),
+            ),
+            (λ is. cc),
+          ),
+          (λ is. cc),
+        ),
+        (λ is. cc),
+      ),
+      (λ is. cc),
+    ),
+    (λ is. refl),
+  ),
+  (λ is. refl),
+)
 
 pub counter_codes : (romc : ℕ) → romc < 32 → is_counter (counter_of romc) ≡ true → goes_by_counter (rule_of romc) ≡ true
 counter_codes romc below = at_below GoesByCounter 32 romc all_counters below

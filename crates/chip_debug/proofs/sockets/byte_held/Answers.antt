@@ -41,7 +41,7 @@ loop-socket-preserved g c =
             ∙ ap (λ (byte : Option ℕ). listed byte ++ held_from c.args.at (c.loop-socket.socket + 1) states) (w.in-Some.is ∙ sym w.held-is)
         | in_default w ↦ rest
             ∙ ap (λ (l : List ℕ). listed c.loop-socket.held ++ l)
-                (ap (λ (byte : Option ℕ). listed byte ++ held_from c.args.at (c.loop-socket.socket + 1) states) w.in_default.is)
+            (ap (λ (byte : Option ℕ). listed byte ++ held_from c.args.at (c.loop-socket.socket + 1) states) w.in_default.is)
             ∙ ap (λ (held : Option ℕ). listed held ++ held_from c.args.at (c.loop-socket.socket + 1) states) (sym w.held-is)
       ];
       stays = c.byte_in.ensures.stays ∙ c.loop-socket.invariant.stays;
