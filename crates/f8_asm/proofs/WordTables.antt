@@ -64,21 +64,6 @@ module _ {X : Type 0} where
 
 -- ---- the tables of this crate
 
-aliases_in_front : AllByRecursion (λ w. initial_of w.0 ≤ 2) aliases
-unfolding aliases initial_of
-aliases_in_front = search (rules, arith)
-
-pub no_alias : (name : List ℕ) → 2 < initial_of name → at_word name aliases ≡ None
-no_alias name past = behind aliases aliases_in_front
-  where
-    other : (w : List ℕ) → initial_of w ≤ 2 → same_word name w ≡ false
-    other w front = false_from_ne_true _ (λ same.
-        let e = (Decides-eqb (initial_of w) (initial_of name)).0 (one_row name w same) in omega (arith, e, front, past))
-
-    behind : (ws : List (List ℕ × Op)) → AllByRecursion (λ w. initial_of w.0 ≤ 2) ws → at_word name ws ≡ None
-    behind [] all = refl
-    behind (w ∷ ws) all = rw (other w.0 all.0) (behind ws all.1)
-
 plain_rows : values_below (λ k. map own_word (get_or (map (λ row. row.now) PLAIN_OPS) k [])) 27
     ≡ values_below (λ k. filter (λ w. initial_of w.0 == k) (map own_word plain_ops)) 27
 unfolding values_below plain_ops mnemonic_of initial_of

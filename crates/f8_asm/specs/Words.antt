@@ -1,5 +1,5 @@
 -- Mnemonics and directives: which words there are, and what operands go behind each.
-use Rattle.std.specs.Prelude.{ℕ, ◌-◌, nat_lt, if◌then◌else◌, ◌≤◌, Bool, ◌||◌, List, [], ◌∷◌, codes, map, Option, is_some, option_map}
+use Rattle.std.specs.Prelude.{ℕ, ◌-◌, nat_lt, if◌then◌else◌, ◌≤◌, Bool, ◌||◌, List, [], ◌∷◌, codes, map, get_or, Option, is_some, option_map}
 use Rattle.std.specs.Char.{to_ascii_lowercase}
 use Rattle.std.specs.Option.{option_or}
 use Rattle.f8_spec.specs.Instructions.{encoded, row_of, mnemonic_of}
@@ -64,6 +64,10 @@ initial_from (c ∷ cs) = if nat_lt c 97 || nat_lt 122 c then 26 else c - 97
 
 unfoldable pub initial_of : List ℕ → ℕ
 initial_of name = initial_from (map to_ascii_lowercase name)
+
+-- what stands in the row of a word's first letter
+abbrev pub row_at : {X : Type 0} → List (List X) → List ℕ → List X
+row_at rows name = get_or rows (initial_of name) []
 
 -- an instruction at its mnemonic, and what goes behind one's mnemonic
 abbrev pub own_word : Op → List ℕ × Op

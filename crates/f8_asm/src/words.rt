@@ -1,9 +1,9 @@
 // Mnemonics and directives: which words there are, and what operands go behind each.
-ghost use Rattle.std.specs.Prelude.{◌≡◌, ◌<◌, [], length, get_or, map, IfSome};
+ghost use Rattle.std.specs.Prelude.{◌≡◌, ◌<◌, length, map, IfSome};
 ghost use Rattle.std.specs.Option.{option_or};
 ghost use Rattle.f8_spec.specs.Instructions.{InRange};
 ghost use Rattle.f8_asm.specs.Registers.{at_word};
-ghost use Rattle.f8_asm.specs.Words.{initial_of, plain_ops, aliases, own_word, field_word, field_words, directives, op_of, op_shape, shape_of_op, shape_of, is_reserved, HasRoom};
+ghost use Rattle.f8_asm.specs.Words.{initial_of, row_at, plain_ops, aliases, own_word, field_word, field_words, directives, op_of, op_shape, shape_of_op, shape_of, is_reserved, HasRoom};
 
 use crate::fields::Field;
 use crate::registers::{at_word, is_word, register_of};
@@ -97,9 +97,6 @@ const ALIASES: [(&[u8], Op); 9] = [
     (b"BNZ", Op::Bf { t: 4 }),
     (b"CLR", Op::Lis { n: 0 }),
 ];
-
-/// The last of the letters that an alias begins with, C.
-const LAST_INITIAL: usize = 2;
 
 /// Mnemonics with a field of the opcode behind them, or two registers, each by an instruction with it, in such rows.
 const FIELD_WORDS: [&[(Op, Shape)]; 27] = [
@@ -202,7 +199,7 @@ fn field_at(mut table: &[(Op, Shape)], name: &[u8]) -> Option<Shape>
 /// The one of these instructions, in rows by the first letter, whose mnemonic is a word.
 fn op_in(rows: &[&[Op]], name: &[u8]) -> Option<Op>
     requires { length rows.now ≡ 27 }
-    ensures { result ≡ at_word name.now (map own_word (get_or (map (λ row. row.now) rows.now) (initial_of name.now) [])) }
+    ensures { result ≡ at_word name.now (map own_word (row_at (map (λ row. row.now) rows.now) name.now)) }
 {
     op_at(rows[initial_of(name)], name)
 }
@@ -210,7 +207,7 @@ fn op_in(rows: &[&[Op]], name: &[u8]) -> Option<Op>
 /// What goes behind a word, in rows by the first letter, that is the mnemonic of one of these instructions.
 fn field_in(rows: &[&[(Op, Shape)]], name: &[u8]) -> Option<Shape>
     requires { length rows.now ≡ 27 }
-    ensures { result ≡ at_word name.now (map field_word (get_or (map (λ row. row.now) rows.now) (initial_of name.now) [])) }
+    ensures { result ≡ at_word name.now (map field_word (row_at (map (λ row. row.now) rows.now) name.now)) }
 {
     field_at(rows[initial_of(name)], name)
 }
@@ -229,17 +226,6 @@ fn field_shape(name: &[u8]) -> Option<Shape>
     field_in(&FIELD_WORDS, name)
 }
 
-/// The instruction of an alias. Only words with B or C in front are aliases.
-fn alias_op(name: &[u8]) -> Option<Op>
-    ensures { result ≡ at_word name.now aliases }
-{
-    let initial = initial_of(name);
-    if initial > LAST_INITIAL {
-        return None;
-    }
-    at_word(&ALIASES, name)
-}
-
 /// The instruction that a word names alone.
 #[tactic(auto, unfolding(crate::specs::Words::op_of))]
 fn op_of(name: &[u8]) -> Option<Op>
@@ -248,7 +234,7 @@ fn op_of(name: &[u8]) -> Option<Op>
 {
     match plain_op(name) {
         Some(op) => Some(op),
-        None => alias_op(name),
+        None => at_word(&ALIASES, name),
     }
 }
 

@@ -1,6 +1,7 @@
 use Rattle.std.proofs.Common.{sym, ◌∙◌, subst}
 use Rattle.std.specs.Prelude.{IfSome}
 use Rattle.f8_spec.specs.Instructions.{InRange}
+use Rattle.f8_asm.specs.Words.{aliases}
 use Rattle.f8_asm.proofs.WordTables.{own_instruction, alias_instruction, op_in_range}
 use Rattle.f8_asm.proofs.words.op_of.Goals as goal
 
@@ -12,8 +13,10 @@ returns-in-Some-clause-in_range c =
     subst (λ found. IfSome found InRange) (sym (own_instruction c.args.name.now c.in-Some.op (sym c.in-Some.ensures))) (op_in_range c.args.name.now)
 
 pub returns-in-None-clause-value : goal.returns-in-None-clause-value
-returns-in-None-clause-value c = c.alias_op.ensures ∙ alias_instruction c.args.name.now (sym c.in-None.ensures)
+unfolding aliases
+returns-in-None-clause-value c = c.at_word.ensures ∙ alias_instruction c.args.name.now (sym c.in-None.ensures)
 
 pub returns-in-None-clause-in_range : goal.returns-in-None-clause-in_range
+unfolding aliases
 returns-in-None-clause-in_range c =
-    subst (λ found. IfSome found InRange) (sym (c.alias_op.ensures ∙ alias_instruction c.args.name.now (sym c.in-None.ensures))) (op_in_range c.args.name.now)
+    subst (λ found. IfSome found InRange) (sym (c.at_word.ensures ∙ alias_instruction c.args.name.now (sym c.in-None.ensures))) (op_in_range c.args.name.now)
