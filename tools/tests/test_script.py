@@ -193,7 +193,7 @@ class Script(unittest.TestCase):
     def test_without_rt_it_says_what_is_missing(self):
         done = self.call('gen', '1', with_rt=False)
         self.assertEqual((done.returncode, done.stdout), (70, ''))
-        self.assertIn('rattle-kit-13f', done.stderr)
+        self.assertIn('the Rattle kit that README.md names', done.stderr)
 
     def test_failed_build(self):
         self.put('refuse', '')
