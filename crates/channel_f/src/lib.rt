@@ -14,14 +14,3 @@ mod top;
 pub use laws::{checked_certificate_law, sure_console_law};
 pub use status::Status;
 pub use top::console;
-
-#[cfg(test)]
-mod certificate_tests;
-#[cfg(test)]
-mod debug_tests;
-#[cfg(test)]
-mod interrupt_tests;
-#[cfg(test)]
-mod question_tests;
-#[cfg(test)]
-mod tests;

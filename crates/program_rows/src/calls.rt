@@ -1,8 +1,9 @@
-// What the tables have in common: files, and a call over a store and a sink that don't fail.
+// What the rows have in common: files, and calls over stores and sinks in memory.
 use channel_f::console;
 use f8_machine::Rack;
-use outside::{FileList, NamedFile, SureSink, SureStore};
+use outside::{CallList, FileList, MemStore, NamedFile, Sink, Store, SureSink, SureStore};
 use std::alloc::Global;
+use std::process::Abort;
 use std::test::Fail;
 
 /// LIS 1, NOP, and a branch back to the NOP.
@@ -20,11 +21,40 @@ pub(crate) const LOOP_PLAY: &str = "verdict whole\n\
      s30 00 00 00 00 00 00 00 00 00 00 00 00 00 00 00 00\n\
      total 3 instructions 36 phi\n";
 
-/// A text: pieces, and how often each of them comes.
+/// A file: its name and its text.
+pub(crate) type File<'a> = (&'a str, &'a str);
+
+/// A long text: pieces, and how often each of them comes.
 pub(crate) type Text<'a> = &'a [(&'a str, usize)];
 
-/// A file: its name and its text.
-pub(crate) type File<'a> = (&'a str, Text<'a>);
+/// Files, words, the status, and what is written.
+pub(crate) type Row<'a> = (&'a [File<'a>], &'a [&'a str], u8, &'a str);
+
+fn file_of(alloc: Global, file: &File) -> Result<NamedFile, Fail> {
+    let (name, text) = *file;
+    let name = name.to_string(alloc)?;
+    let bytes = Vec::from_slice(alloc, text.as_bytes())?;
+    Ok(NamedFile::new(name, bytes))
+}
+
+fn named_files(alloc: Global, files: &[File]) -> Result<Vec<NamedFile>, Fail> {
+    let mut list = Vec::new(alloc);
+    for file in files {
+        list.push(file_of(alloc, file)?)?;
+    }
+    Ok(list)
+}
+
+pub(crate) fn list_of(files: Vec<NamedFile>) -> Result<FileList, Fail> {
+    match FileList::from_vec(files) {
+        Some(list) => Ok(list),
+        None => Err("two files have one name".into()),
+    }
+}
+
+pub(crate) fn files_of(alloc: Global, files: &[File]) -> Result<FileList, Fail> {
+    list_of(named_files(alloc, files)?)
+}
 
 /// Adds a piece so often.
 fn append(bytes: &mut Vec<u8>, piece: &str, times: usize) -> Result<(), Fail> {
@@ -42,40 +72,48 @@ fn bytes_of(alloc: Global, text: Text) -> Result<Vec<u8>, Fail> {
     Ok(bytes)
 }
 
-/// A file of one piece that comes so often.
-pub(crate) fn file_of(
+/// Files, and behind them one with bytes of its own.
+pub(crate) fn files_with(
     alloc: Global,
+    files: &[File],
     name: &str,
-    piece: &str,
-    times: usize,
-) -> Result<NamedFile, Fail> {
-    let mut bytes = Vec::new(alloc);
-    append(&mut bytes, piece, times)?;
-    Ok(NamedFile::new(name.to_string(alloc)?, bytes))
-}
-
-pub(crate) fn list_of(files: Vec<NamedFile>) -> Result<FileList, Fail> {
-    match FileList::from_vec(files) {
-        Some(list) => Ok(list),
-        None => Err("two files have one name".into()),
-    }
-}
-
-pub(crate) fn files_of(alloc: Global, files: &[File]) -> Result<FileList, Fail> {
-    let mut list = Vec::new(alloc);
-    for (name, text) in files {
-        let bytes = bytes_of(alloc, *text)?;
-        list.push(NamedFile::new(name.to_string(alloc)?, bytes))?;
-    }
+    bytes: Vec<u8>,
+) -> Result<FileList, Fail> {
+    let mut list = named_files(alloc, files)?;
+    let name = name.to_string(alloc)?;
+    list.push(NamedFile::new(name, bytes))?;
     list_of(list)
 }
 
-pub(crate) fn words_of(alloc: Global, texts: &[&str]) -> Result<Vec<String>, Fail> {
+/// Files, and behind them one with a long text.
+pub(crate) fn files_with_text(
+    alloc: Global,
+    files: &[File],
+    name: &str,
+    text: Text,
+) -> Result<FileList, Fail> {
+    let bytes = bytes_of(alloc, text)?;
+    files_with(alloc, files, name, bytes)
+}
+
+fn words_of(alloc: Global, texts: &[&str]) -> Result<Vec<String>, Fail> {
     let mut words = Vec::new(alloc);
     for text in texts {
         words.push(text.to_string(alloc)?)?;
     }
     Ok(words)
+}
+
+/// The status of the program.
+pub(crate) fn status_of<S: Store, K: Sink>(
+    alloc: Global,
+    words: &[&str],
+    store: &mut S,
+    sink: &mut K,
+    rack: &mut Rack,
+) -> Result<u8, Fail> {
+    let words = words_of(alloc, words)?;
+    Ok(console(alloc, words.as_slice(), store, sink, rack))
 }
 
 /// The status, with what is written, over a store and a sink that don't fail. The sink has room for so many bytes.
@@ -86,9 +124,31 @@ pub(crate) fn answered(
     words: &[&str],
     rack: &mut Rack,
 ) -> Result<(u8, SureSink), Fail> {
-    let words = words_of(alloc, words)?;
     let mut store = SureStore::new(files);
     let mut sink = SureSink::new(alloc, room)?;
-    let status = console(alloc, words.as_slice(), &mut store, &mut sink, rack);
+    let status = status_of(alloc, words, &mut store, &mut sink, rack)?;
     Ok((status, sink))
+}
+
+fn check_row(rt: &impl Abort, alloc: Global, row: &Row, rack: &mut Rack) -> Result<(), Fail> {
+    let (files, words, want, text) = *row;
+    let mut store = MemStore::new(files_of(alloc, files)?, CallList::from_vec(Vec::new(alloc)));
+    let mut sink = SureSink::new(alloc, 4_096)?;
+    let status = status_of(alloc, words, &mut store, &mut sink, rack)?;
+    assert_eq!(rt; status, want, "{text}");
+    assert_eq!(rt; sink.bytes(), text.as_bytes(), "{text}");
+    Ok(())
+}
+
+/// Answers each row on one rack. The store has no file but the row's.
+pub(crate) fn check_rows(
+    rt: &impl Abort,
+    alloc: Global,
+    rows: &[Row],
+    rack: &mut Rack,
+) -> Result<(), Fail> {
+    for row in rows {
+        check_row(rt, alloc, row, rack)?;
+    }
+    Ok(())
 }

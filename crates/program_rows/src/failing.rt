@@ -1,18 +1,18 @@
 // Sinks that fail in mid-run.
-use super::calls::{File, LOOP_CART, answered, files_of, words_of};
-use channel_f::console;
+use super::calls::{File, LOOP_CART, answered, files_of, status_of};
 use f8_machine::Rack;
 use outside::{Cut, CutList, MemSink, SureStore};
 use psu3851::Psu;
 use std::alloc::Global;
+use std::process::Abort;
 use std::test::Fail;
 
 const FILES: [File; 5] = [
-    ("cart", &[(LOOP_CART, 1)]),
-    ("script", &[("steps 0\n", 1)]),
-    ("drawn", &[("show 1\nframes 1\n", 1)]),
-    ("code", &[("LOOP: NOP\nBR LOOP\n", 1)]),
-    ("digits", &[("712D", 1)]),
+    ("cart", LOOP_CART),
+    ("script", "steps 0\n"),
+    ("drawn", "show 1\nframes 1\n"),
+    ("code", "LOOP: NOP\nBR LOOP\n"),
+    ("digits", "712D"),
 ];
 
 /// What is put where the sink fails at a call, after so many bytes: its room, the call, the bytes, and the status with the sink.
@@ -27,13 +27,12 @@ fn cut_short(
     cuts.push(cut)?;
     let mut sink = MemSink::new(alloc, room, CutList::from_vec(cuts))?;
     let mut store = SureStore::new(files_of(alloc, &FILES)?);
-    let words = words_of(alloc, words)?;
-    let status = console(alloc, words.as_slice(), &mut store, &mut sink, rack);
+    let status = status_of(alloc, words, &mut store, &mut sink, rack)?;
     Ok((status, sink))
 }
 
 /// Words, the room, the call that fails, and what is written. No call has the number 0: there the room ends within the second line.
-type Row = (&'static [&'static str], u32, u64, &'static [u8]);
+type Row<'a> = (&'a [&'a str], u32, u64, &'a [u8]);
 
 const ROWS: [Row; 6] = [
     (
@@ -55,17 +54,22 @@ const ROWS: [Row; 6] = [
     (&["dis", "digits"], 1_024, 3, b"ORG $0000\nLIS 1\n"),
 ];
 
+fn check_row(rt: &impl Abort, alloc: Global, row: &Row, rack: &mut Rack) -> Result<(), Fail> {
+    let (words, room, call, text) = *row;
+    let (status, sink) = cut_short(alloc, words, room, Cut { call, sent: 0 }, rack)?;
+    assert_eq!(rt; status, 5, "{words:?}");
+    assert_eq!(rt; sink.bytes(), text, "{words:?}");
+    Ok(())
+}
+
 #[test]
 fn stops_at_a_failing_sink(rt: HostRuntime) -> Result<(), Fail> {
     let mut rack: Rack = Vec::new(rt.alloc());
     for _ in 0..12 {
         rack.push(Box::new(rt.alloc(), Psu::blank())?)?;
     }
-    for (words, room, call, text) in ROWS {
-        let cut = Cut { call, sent: 0 };
-        let (status, sink) = cut_short(rt.alloc(), words, room, cut, &mut rack)?;
-        assert_eq!(rt; status, 5, "{words:?}");
-        assert_eq!(rt; sink.bytes(), text, "{words:?}");
+    for row in &ROWS {
+        check_row(&rt, rt.alloc(), row, &mut rack)?;
     }
     Ok(())
 }
@@ -83,26 +87,41 @@ fn line_ends(alloc: Global, bytes: &[u8]) -> Result<Vec<usize>, Fail> {
     Ok(ends)
 }
 
-/// A run with a frame has 73 lines. At each of them the sink fails within the line, and what was written is that of the same run, up to
-/// there.
-#[test]
-fn stops_at_each_line_of_a_run(rt: HostRuntime) -> Result<(), Fail> {
-    let mut rack: Rack = Vec::new(rt.alloc());
-    rack.push(Box::new(rt.alloc(), Psu::blank())?)?;
-    let files = files_of(rt.alloc(), &FILES)?;
-    let (status, whole) = answered(rt.alloc(), 10_000, files, DRAWN, &mut rack)?;
+/// A call of the sink fails two bytes behind this place, and what was written is that of the whole run, up to there.
+fn check_line(
+    rt: &impl Abort,
+    alloc: Global,
+    whole: &[u8],
+    call: u64,
+    begin: usize,
+    rack: &mut Rack,
+) -> Result<(), Fail> {
+    let (status, sink) = cut_short(alloc, DRAWN, 10_000, Cut { call, sent: 2 }, rack)?;
+    assert_eq!(rt; status, 5, "{call}");
+    assert_eq!(rt; sink.bytes().len(), begin.saturating_add(2), "{call}");
+    assert!(rt; whole.starts_with(sink.bytes()), "{call}");
+    Ok(())
+}
+
+/// A run with a frame has 73 lines. The sink fails within each of them.
+fn check_lines(rt: &impl Abort, alloc: Global, rack: &mut Rack) -> Result<(), Fail> {
+    let files = files_of(alloc, &FILES)?;
+    let (status, whole) = answered(alloc, 10_000, files, DRAWN, rack)?;
     assert_eq!(rt; status, 0);
     let mut call: u64 = 0;
     let mut begin: usize = 0;
-    for end in line_ends(rt.alloc(), whole.bytes())?.as_slice() {
+    for end in line_ends(alloc, whole.bytes())?.as_slice() {
         call = call.saturating_add(1);
-        let cut = Cut { call, sent: 2 };
-        let (status, sink) = cut_short(rt.alloc(), DRAWN, 10_000, cut, &mut rack)?;
-        assert_eq!(rt; status, 5, "{call}");
-        assert_eq!(rt; sink.bytes().len(), begin.saturating_add(2), "{call}");
-        assert!(rt; whole.bytes().starts_with(sink.bytes()), "{call}");
+        check_line(rt, alloc, whole.bytes(), call, begin, rack)?;
         begin = *end;
     }
     assert_eq!(rt; call, 73);
     Ok(())
+}
+
+#[test]
+fn stops_at_each_line_of_a_run(rt: HostRuntime) -> Result<(), Fail> {
+    let mut rack: Rack = Vec::new(rt.alloc());
+    rack.push(Box::new(rt.alloc(), Psu::blank())?)?;
+    check_lines(&rt, rt.alloc(), &mut rack)
 }

@@ -1,14 +1,29 @@
-//! Worked rows of the program: what it refuses, what fails under it, and its limits. This crate has tests alone: it stands above channel_f.
+//! Worked rows of the program: what it answers and refuses, what fails under it, and its limits. This crate has tests alone: it stands above
+//! channel_f.
 #![tactic(auto)]
 
 #[cfg(test)]
+mod answers;
+#[cfg(test)]
 mod calls;
+#[cfg(test)]
+mod certificates;
 #[cfg(test)]
 mod failing;
 #[cfg(test)]
+mod generated;
+#[cfg(test)]
+mod interrupts;
+#[cfg(test)]
 mod limits;
 #[cfg(test)]
+mod questions;
+#[cfg(test)]
+mod racks;
+#[cfg(test)]
 mod refusals;
+#[cfg(test)]
+mod sessions;
 #[cfg(test)]
 mod sixteen_chips;
 #[cfg(test)]

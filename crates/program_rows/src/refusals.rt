@@ -1,10 +1,10 @@
 // One change of a good call, and the line that refuses it.
-use super::calls::{LOOP_CART, LOOP_SCRIPT, file_of, list_of, words_of};
-use channel_f::console;
+use super::calls::{LOOP_CART, LOOP_SCRIPT, files_with_text, status_of};
 use f8_machine::Rack;
 use outside::{CallList, Cut, CutList, MemSink, MemStore};
 use psu3851::Psu;
-use std::alloc::Global;
+use std::alloc::{AllocError, Global};
+use std::process::Abort;
 use std::test::Fail;
 
 /// What a row changes of `play cart script`, over a store and a sink that don't fail.
@@ -215,35 +215,49 @@ impl Change {
     }
 }
 
+/// The one call that fails.
+fn failing_call(alloc: Global, call: u64) -> Result<CallList, AllocError> {
+    let mut calls = Vec::new(alloc);
+    calls.push(call)?;
+    Ok(CallList::from_vec(calls))
+}
+
+/// The one call that fails, after so many bytes.
+fn failing_cut(alloc: Global, cut: Cut) -> Result<CutList, AllocError> {
+    let mut cuts = Vec::new(alloc);
+    cuts.push(cut)?;
+    Ok(CutList::from_vec(cuts))
+}
+
 /// The status of `play cart script`, with what is written.
 fn played(alloc: Global, trial: Trial, rack: &mut Rack) -> Result<(u8, MemSink), Fail> {
-    let (script, times) = trial.script;
-    let mut files = Vec::new(alloc);
-    files.push(file_of(alloc, "cart", trial.cart, 1)?)?;
-    files.push(file_of(alloc, "a", trial.source, 1)?)?;
-    files.push(file_of(alloc, "script", script, times)?)?;
-    let mut fetches = Vec::new(alloc);
-    fetches.push(trial.fetch)?;
-    let mut cuts = Vec::new(alloc);
-    cuts.push(Cut {
+    let files = [("cart", trial.cart), ("a", trial.source)];
+    let files = files_with_text(alloc, &files, "script", &[trial.script])?;
+    let mut store = MemStore::new(files, failing_call(alloc, trial.fetch)?);
+    let cut = Cut {
         call: trial.put,
         sent: trial.sent,
-    })?;
-    let mut store = MemStore::new(list_of(files)?, CallList::from_vec(fetches));
-    let mut sink = MemSink::new(alloc, 1_024, CutList::from_vec(cuts))?;
-    let words = words_of(alloc, &["play", "cart", "script"])?;
-    let status = console(alloc, words.as_slice(), &mut store, &mut sink, rack);
+    };
+    let mut sink = MemSink::new(alloc, 1_024, failing_cut(alloc, cut)?)?;
+    let words = ["play", "cart", "script"];
+    let status = status_of(alloc, &words, &mut store, &mut sink, rack)?;
     Ok((status, sink))
+}
+
+fn check_row(rt: &impl Abort, alloc: Global, row: &Row, rack: &mut Rack) -> Result<(), Fail> {
+    let (change, want, text) = *row;
+    let (status, sink) = played(alloc, change.trial(), rack)?;
+    assert_eq!(rt; status, want, "{text}");
+    assert_eq!(rt; sink.bytes(), text.as_bytes(), "{text}");
+    Ok(())
 }
 
 #[test]
 fn refuses_each_change(rt: HostRuntime) -> Result<(), Fail> {
     let mut rack: Rack = Vec::new(rt.alloc());
     rack.push(Box::new(rt.alloc(), Psu::blank())?)?;
-    for (change, want, text) in ROWS {
-        let (status, sink) = played(rt.alloc(), change.trial(), &mut rack)?;
-        assert_eq!(rt; status, want, "{text}");
-        assert_eq!(rt; sink.bytes(), text.as_bytes(), "{text}");
+    for row in &ROWS {
+        check_row(&rt, rt.alloc(), row, &mut rack)?;
     }
     Ok(())
 }

@@ -1,10 +1,10 @@
 // Runs that a bus step ends, at each kind of step, on chips that hear. None of them heard the step that wasn't served.
-use super::calls::{answered, file_of, list_of};
+use super::calls::{answered, files_of};
 use chip_face::Chip;
 use chip_fakes::Listener;
 use f8_machine::Rack;
 use romc_table::Counters;
-use std::alloc::Global;
+use std::alloc::{AllocError, Global};
 use std::process::Abort;
 use std::test::Fail;
 
@@ -17,14 +17,7 @@ const NO_BYTES: &[u8] = b"s00 00 00 00 00 00 00 00 00 00 00 00 00 00 00 00 00\n\
 type Place = (usize, u16, u16, u16, Option<u16>);
 
 /// A description, the source `jump`, a script, what is written before the scratchpad and behind it, and where chips stand then.
-type Run = (
-    &'static str,
-    &'static str,
-    &'static str,
-    &'static [u8],
-    &'static [u8],
-    &'static [Place],
-);
+type Run<'a> = (&'a str, &'a str, &'a str, &'a [u8], &'a [u8], &'a [Place]);
 
 /// A fetch, a read at DC0 (four of them), an operand of a jump and a port.
 const RUNS: [Run; 7] = [
@@ -105,34 +98,39 @@ const RUNS: [Run; 7] = [
     ),
 ];
 
-fn check_places(rt: &impl Abort, rack: &mut Rack, places: &[Place]) {
-    for (socket, pc0, pc1, dc0, dc1) in places {
-        let counters = rack.get_mut(*socket).map(|chip| chip.counters());
-        let want = Counters {
-            pc0: *pc0,
-            pc1: *pc1,
-            dc0: *dc0,
-            dc1: *dc1,
-        };
-        assert_eq!(rt; counters, Some(want), "socket {socket}");
-    }
+fn check_place(rt: &impl Abort, rack: &mut Rack, place: &Place) {
+    let (socket, pc0, pc1, dc0, dc1) = *place;
+    let counters = rack.get_mut(socket).map(|chip| chip.counters());
+    let want = Counters { pc0, pc1, dc0, dc1 };
+    assert_eq!(rt; counters, Some(want), "socket {socket}");
 }
 
-fn play_all(rt: &impl Abort, alloc: Global, rack: &mut Rack) -> Result<(), Fail> {
-    for (cart, jump, script, head, total, places) in RUNS {
-        let mut files = Vec::new(alloc);
-        files.push(file_of(alloc, "cart", cart, 1)?)?;
-        files.push(file_of(alloc, "jump", jump, 1)?)?;
-        files.push(file_of(alloc, "script", script, 1)?)?;
-        let files = list_of(files)?;
-        let words = ["play", "cart", "script"];
-        let (status, sink) = answered(alloc, 1_024, files, &words, rack)?;
-        assert_eq!(rt; status, 3);
-        let mut want = Vec::from_slice(alloc, head)?;
-        want.extend_from_slice(NO_BYTES)?;
-        want.extend_from_slice(total)?;
-        assert_eq!(rt; sink.bytes(), want.as_slice());
-        check_places(rt, rack, places);
+/// What is written, with the scratchpad in it.
+fn written(alloc: Global, head: &[u8], total: &[u8]) -> Result<Vec<u8>, AllocError> {
+    let mut text = Vec::from_slice(alloc, head)?;
+    text.extend_from_slice(NO_BYTES)?;
+    text.extend_from_slice(total)?;
+    Ok(text)
+}
+
+fn check_run(rt: &impl Abort, alloc: Global, run: &Run, rack: &mut Rack) -> Result<(), Fail> {
+    let (cart, jump, script, head, total, places) = *run;
+    let files = [("cart", cart), ("jump", jump), ("script", script)];
+    let files = files_of(alloc, &files)?;
+    let want = written(alloc, head, total)?;
+    let words = ["play", "cart", "script"];
+    let (status, sink) = answered(alloc, 1_024, files, &words, rack)?;
+    assert_eq!(rt; status, 3);
+    assert_eq!(rt; sink.bytes(), want.as_slice());
+    for place in places {
+        check_place(rt, rack, place);
+    }
+    Ok(())
+}
+
+fn check_all(rt: &impl Abort, alloc: Global, rack: &mut Rack) -> Result<(), Fail> {
+    for run in &RUNS {
+        check_run(rt, alloc, run, rack)?;
     }
     Ok(())
 }
@@ -147,5 +145,5 @@ fn ends_runs_on_listeners(rt: HostRuntime) -> Result<(), Fail> {
     }
     let smi = Listener::round_smi(rt.alloc(), 10_000)?;
     rack.push(Box::new(rt.alloc(), smi)?)?;
-    play_all(&rt, rt.alloc(), &mut rack)
+    check_all(&rt, rt.alloc(), &mut rack)
 }

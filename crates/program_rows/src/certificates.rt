@@ -1,14 +1,12 @@
 // Certificates: told, verified, and refused with one line.
-use super::console;
+use super::calls::{LOOP_CART, answered, files_with};
 use f8_machine::Rack;
-use outside::{FileList, NamedFile, SureSink, SureStore};
+use outside::SureSink;
 use std::alloc::Global;
+use std::process::Abort;
 use std::test::Fail;
 
-/// LIS 1, NOP, and a branch back to the NOP; a reserved opcode; and DCI 0000, LM, and a branch back to the LM.
-const LOOP_CART: &str =
-    "format = 1\n[[chip]]\nkind = '3851'\nbase = 0\nports = 4\nrom = '712B90FE'\n";
-
+/// A reserved opcode; and DCI 0000, LM, and a branch back to the LM.
 const RESERVED_CART: &str =
     "format = 1\n[[chip]]\nkind = '3851'\nbase = 0\nports = 4\nrom = '2D'\n";
 
@@ -36,29 +34,15 @@ fn certificate(alloc: Global, first: &str, points: &[&str]) -> Result<Vec<u8>, F
 }
 
 /// The status, with what is written, where the files are a description and a certificate. The rack has no chip.
-fn answered(
+fn answered_of(
     alloc: Global,
-    texts: &[&str],
+    words: &[&str],
     cart: &str,
-    cert: &[u8],
+    cert: Vec<u8>,
 ) -> Result<(u8, SureSink), Fail> {
-    let mut words = Vec::new(alloc);
-    for text in texts {
-        words.push(text.to_string(alloc)?)?;
-    }
-    let mut list = Vec::new(alloc);
-    let bytes = Vec::from_slice(alloc, cart.as_bytes())?;
-    list.push(NamedFile::new("cart".to_string(alloc)?, bytes))?;
-    let bytes = Vec::from_slice(alloc, cert)?;
-    list.push(NamedFile::new("cert".to_string(alloc)?, bytes))?;
-    let Some(files) = FileList::from_vec(list) else {
-        return Err(Fail::from("two files have one name"));
-    };
-    let mut store = SureStore::new(files);
-    let mut sink = SureSink::new(alloc, 4096)?;
+    let files = files_with(alloc, &[("cart", cart)], "cert", cert)?;
     let mut rack: Rack = Vec::new(alloc);
-    let status = console(alloc, words.as_slice(), &mut store, &mut sink, &mut rack);
-    Ok((status, sink))
+    answered(alloc, 4_096, files, words, &mut rack)
 }
 
 /// What is written for a description and a certificate: its first line and its points.
@@ -151,37 +135,51 @@ const ROWS: [Row; 12] = [
     ("format = ", "F8CERT 1 1", &[START], 2, "error cart toml\n"),
 ];
 
-#[test]
-fn verifies_certificates(rt: HostRuntime) -> Result<(), Fail> {
-    for (cart, first, points, want, text) in ROWS {
-        let cert = certificate(rt.alloc(), first, points)?;
-        let (status, sink) = answered(
-            rt.alloc(),
-            &["verify", "cart", "cert"],
-            cart,
-            cert.as_slice(),
-        )?;
-        assert_eq!(rt; status, want, "{text}");
-        assert_eq!(rt; sink.bytes(), text.as_bytes(), "{text}");
-    }
+const VERIFY: &[&str] = &["verify", "cart", "cert"];
+
+fn check_row(rt: &impl Abort, alloc: Global, row: &Row) -> Result<(), Fail> {
+    let (cart, first, points, want, text) = *row;
+    let cert = certificate(alloc, first, points)?;
+    let (status, sink) = answered_of(alloc, VERIFY, cart, cert)?;
+    assert_eq!(rt; status, want, "{text}");
+    assert_eq!(rt; sink.bytes(), text.as_bytes(), "{text}");
     Ok(())
 }
 
 #[test]
+fn verifies_certificates(rt: HostRuntime) -> Result<(), Fail> {
+    for row in &ROWS {
+        check_row(&rt, rt.alloc(), row)?;
+    }
+    Ok(())
+}
+
+const TELL: &[&str] = &["check", "--cert", "cart"];
+
+#[test]
 fn tells_certificates(rt: HostRuntime) -> Result<(), Fail> {
-    let words: &[&str] = &["check", "--cert", "cart"];
     let wanted = certificate(rt.alloc(), "F8CERT 1 3", &[START, NOP, BRANCH])?;
-    let (status, sink) = answered(rt.alloc(), words, LOOP_CART, b"")?;
+    let (status, told) = answered_of(rt.alloc(), TELL, LOOP_CART, Vec::new(rt.alloc()))?;
     assert_eq!(rt; status, 0);
-    assert_eq!(rt; sink.bytes(), wanted.as_slice());
-    let (status, told) = answered(rt.alloc(), words, DATA_CART, b"")?;
+    assert_eq!(rt; told.bytes(), wanted.as_slice());
+    Ok(())
+}
+
+#[test]
+fn verifies_what_it_told(rt: HostRuntime) -> Result<(), Fail> {
+    let (status, told) = answered_of(rt.alloc(), TELL, DATA_CART, Vec::new(rt.alloc()))?;
     assert_eq!(rt; status, 0);
-    let words: &[&str] = &["verify", "cart", "cert"];
-    let (status, sink) = answered(rt.alloc(), words, DATA_CART, told.bytes())?;
+    let told = Vec::from_slice(rt.alloc(), told.bytes())?;
+    let (status, sink) = answered_of(rt.alloc(), VERIFY, DATA_CART, told)?;
     assert_eq!(rt; status, 0);
     assert_eq!(rt; sink.bytes(), b"agreed 3\n".as_slice());
+    Ok(())
+}
+
+#[test]
+fn tells_no_certificate_of_an_unsafe_cartridge(rt: HostRuntime) -> Result<(), Fail> {
     let words: &[&str] = &["check", "cart", "--cert"];
-    let (status, sink) = answered(rt.alloc(), words, RESERVED_CART, b"")?;
+    let (status, sink) = answered_of(rt.alloc(), words, RESERVED_CART, Vec::new(rt.alloc()))?;
     assert_eq!(rt; status, 7);
     assert_eq!(rt; sink.bytes(), b"refused 0000 ---- . 3\n".as_slice());
     Ok(())

@@ -1,5 +1,5 @@
 // Interrupts by the program's words: that of a timer, and those of two pulses which come at one frame.
-use super::tests::answered_in_room;
+use super::calls::{File, answered, files_of};
 use chip_fakes::Listener;
 use f8_machine::Rack;
 use psu3851::Psu;
@@ -88,25 +88,38 @@ const PLAIN: &[&str] = &["play", "cart", "script"];
 
 const TRACED: &[&str] = &["play", "--trace", "cart", "script"];
 
-/// Both rows, without and with the trace.
-fn answer_both_rows(rt: &impl Abort, alloc: Global, rack: &mut Rack) -> Result<(), Fail> {
-    let timer = [("cart", TIMER_CART), ("script", TIMER_SCRIPT)];
-    let pulses = [
-        ("cart", PULSES_CART),
-        ("loop.f8", PULSES_SOURCE),
-        ("script", PULSES_SCRIPT),
-    ];
-    let rows = [
-        (timer.as_slice(), PLAIN, TIMER_PLAY),
-        (timer.as_slice(), TRACED, TIMER_TRACE),
-        (pulses.as_slice(), PLAIN, PULSES_PLAY),
-        (pulses.as_slice(), TRACED, PULSES_TRACE_END),
-    ];
-    for (files, words, end) in rows {
-        let (status, sink) = answered_in_room(alloc, 100_000, files, words, rack)?;
-        assert_eq!(rt; status, 0, "{words:?}");
-        assert!(rt; sink.bytes().ends_with(end.as_bytes()), "{words:?}");
-        assert!(rt; sink.bytes().starts_with(b"verdict none\n"), "{words:?}");
+const TIMER: [File; 2] = [("cart", TIMER_CART), ("script", TIMER_SCRIPT)];
+
+const PULSES: [File; 3] = [
+    ("cart", PULSES_CART),
+    ("loop.f8", PULSES_SOURCE),
+    ("script", PULSES_SCRIPT),
+];
+
+/// Files, words, and how what is written ends.
+type Row<'a> = (&'a [File<'a>], &'a [&'a str], &'a str);
+
+const ROWS: [Row; 4] = [
+    (&TIMER, PLAIN, TIMER_PLAY),
+    (&TIMER, TRACED, TIMER_TRACE),
+    (&PULSES, PLAIN, PULSES_PLAY),
+    (&PULSES, TRACED, PULSES_TRACE_END),
+];
+
+fn check_row(rt: &impl Abort, alloc: Global, row: &Row, rack: &mut Rack) -> Result<(), Fail> {
+    let (files, words, end) = *row;
+    let files = files_of(alloc, files)?;
+    let (status, sink) = answered(alloc, 100_000, files, words, rack)?;
+    assert_eq!(rt; status, 0, "{words:?}");
+    assert!(rt; sink.bytes().ends_with(end.as_bytes()), "{words:?}");
+    assert!(rt; sink.bytes().starts_with(b"verdict none\n"), "{words:?}");
+    Ok(())
+}
+
+/// Both cartridges, without and with the trace.
+fn check_all(rt: &impl Abort, alloc: Global, rack: &mut Rack) -> Result<(), Fail> {
+    for row in &ROWS {
+        check_row(rt, alloc, row, rack)?;
     }
     Ok(())
 }
@@ -117,7 +130,7 @@ fn plays_interrupts(rt: HostRuntime) -> Result<(), Fail> {
     for _ in 0..2 {
         rack.push(Box::new(rt.alloc(), Psu::blank())?)?;
     }
-    answer_both_rows(&rt, rt.alloc(), &mut rack)
+    check_all(&rt, rt.alloc(), &mut rack)
 }
 
 /// On chips that hear each of the steps.
@@ -128,5 +141,5 @@ fn plays_interrupts_on_listeners(rt: HostRuntime) -> Result<(), Fail> {
         let psu = Listener::round_psu(rt.alloc(), 10_000)?;
         rack.push(Box::new(rt.alloc(), psu)?)?;
     }
-    answer_both_rows(&rt, rt.alloc(), &mut rack)
+    check_all(&rt, rt.alloc(), &mut rack)
 }

@@ -1,13 +1,9 @@
 // Sessions of the debugger: what they print, and what refuses them.
-use super::tests::answered_in_room;
+use super::calls::{LOOP_CART, Row, check_rows};
 use f8_machine::Rack;
 use psu3851::Psu;
 use smi3853::Smi;
 use std::test::Fail;
-
-/// LIS 1, NOP, and a branch back to the NOP.
-const LOOP_CART: &str =
-    "format = 1\n[[chip]]\nkind = '3851'\nbase = 0\nports = 4\nrom = '712B90FE'\n";
 
 /// DCI 2800, XDC, DCI 0010, XDC and LM, with a page of RAM.
 const RAM_CART: &str = "format = 1\n\
@@ -18,13 +14,10 @@ const RAM_CART: &str = "format = 1\n\
 const PARTED_CART: &str =
     "format = 1\n[[chip]]\nkind = '3851'\nbase = 0\nports = 4\nrom = '2A00052C16'\n";
 
-/// A description, commands, the status, and what is written.
-type Row = (&'static str, &'static str, u8, &'static str);
-
-const ROWS: [Row; 6] = [
+const SESSIONS: [Row; 6] = [
     (
-        RAM_CART,
-        "step 4\nshow chips\n",
+        &[("cart", RAM_CART), ("commands", "step 4\nshow chips\n")],
+        &["debug", "cart", "commands"],
         0,
         "ran 4\n\
          chip 0 3851 PC0=0009 PC1=0000 DC0=0010\n\
@@ -32,16 +25,19 @@ const ROWS: [Row; 6] = [
          probe PC0=0009 PC1=0000 DC0=2800 DC1=0010\n",
     ),
     (
-        PARTED_CART,
-        "break apart\nrun 9\nstep 1\nmem 0000 5\n",
+        &[
+            ("cart", PARTED_CART),
+            ("commands", "break apart\nrun 9\nstep 1\nmem 0000 5\n"),
+        ],
+        &["debug", "cart", "commands"],
         0,
         "ran 2\nbreak\nran 0\n\
          stop astray romc 02 socket 0 at 0005 reference 0000\n\
          mem 0000 2A 00 05 2C 16\n",
     ),
     (
-        LOOP_CART,
-        "step 3\nshow regs\n",
+        &[("cart", LOOP_CART), ("commands", "step 3\nshow regs\n")],
+        &["debug", "cart", "commands"],
         0,
         "ran 3\n\
          regs P=0001 P1=0000 D0=0000 D1=0000 A=01 IS=00 W=00\n\
@@ -52,18 +48,26 @@ const ROWS: [Row; 6] = [
          total 3 instructions 36 phi\n",
     ),
     (
-        LOOP_CART,
-        "break at 0002\nrun 9\nclear\nrun 3\npower 00\n",
+        &[
+            ("cart", LOOP_CART),
+            ("commands", "break at 0002\nrun 9\nclear\nrun 3\npower 00\n"),
+        ],
+        &["debug", "cart", "commands"],
         0,
         "ran 2\nbreak\nran 3\nready\n",
     ),
     (
-        LOOP_CART,
-        "step 5\nstep 1000001\n",
+        &[("cart", LOOP_CART), ("commands", "step 5\nstep 1000001\n")],
+        &["debug", "cart", "commands"],
         2,
         "error debug line 2 cause 3\n",
     ),
-    (LOOP_CART, "walk 5\n", 2, "error debug line 1 cause 1\n"),
+    (
+        &[("cart", LOOP_CART), ("commands", "walk 5\n")],
+        &["debug", "cart", "commands"],
+        2,
+        "error debug line 1 cause 1\n",
+    ),
 ];
 
 #[test]
@@ -75,12 +79,5 @@ fn carries_commands_out(rt: HostRuntime) -> Result<(), Fail> {
     for _ in 0..4 {
         rack.push(Box::new(rt.alloc(), Smi::blank())?)?;
     }
-    for (cart, commands, want, text) in ROWS {
-        let files = [("cart", cart), ("commands", commands)];
-        let words = ["debug", "cart", "commands"];
-        let (status, sink) = answered_in_room(rt.alloc(), 4096, &files, &words, &mut rack)?;
-        assert_eq!(rt; status, want, "{commands:?}");
-        assert_eq!(rt; sink.bytes(), text.as_bytes(), "{commands:?}");
-    }
-    Ok(())
+    check_rows(&rt, rt.alloc(), &SESSIONS, &mut rack)
 }
