@@ -1,6 +1,6 @@
 -- Command files worked out by hand, computed from the definitions.
-use Rattle.std.proofs.Common.{◌≡◌, [], ◌∷◌, Ok, Err, refl}
-use Rattle.std.specs.Prelude.{codes}
+use Rattle.std.proofs.Common.{◌≡◌, ℕ, List, [], ◌∷◌, Ok, Err, refl}
+use Rattle.std.specs.Prelude.{◌++◌, codes}
 use Rattle.hex.specs.Hex.{decode_pairs}
 use Rattle.line_words.specs.Numbers.{decimal_on}
 use Rattle.chip_debug.specs.declared.answers.DebugCause.TheVariants.{Word, Number, Range, Total}
@@ -24,7 +24,11 @@ two_numbers : commands_of (codes "step 5 6\n") ≡ Err (record { line = 1; cause
 unfolding line_of read_line read_lines
 two_numbers = refl
 
-too_many : commands_of (codes "step 1000000\nstep 1000000\nstep 1000000\nstep 1000000\nstep 1000000\nstep 1000000\nstep 1000000\nstep 1000000\nstep 1000000\nstep 1000000\nstep 1000000\n") ≡ Err (record { line = 11; cause = Total })
+-- five lines, of a million instructions each
+abbrev five_millions : List ℕ
+five_millions = codes "step 1000000\nstep 1000000\nstep 1000000\nstep 1000000\nstep 1000000\n"
+
+too_many : commands_of (five_millions ++ five_millions ++ codes "step 1000000\n") ≡ Err (record { line = 11; cause = Total })
 unfolding decimal_on step_of line_of read_line read_lines
 too_many = refl
 

@@ -161,7 +161,8 @@ number_of_line read ls before l behind is parts =
     omega arith
 
 number_of_placed : (room : Room) (read : Reading) (laid : Layout PlacedLine) (ls : List (List ℕ)) (before : List PlacedLine)
-    (p : PlacedLine) (behind : List PlacedLine) → AreStatements ls read → ArePlaced room read.lines laid → laid.placed ≡ before ++ p ∷ behind → p.line.number ≡ length before + 1
+    (p : PlacedLine) (behind : List PlacedLine) → AreStatements ls read → ArePlaced room read.lines laid → laid.placed ≡ before ++ p ∷ behind →
+    p.line.number ≡ length before + 1
 number_of_placed room read laid ls before p behind is placed parts =
     let lines_are = sym (placed_lines room (no_layout 65536) laid read.lines placed) ∙ ap lines_in parts
     ∙ map-append (λ (q : PlacedLine). q.line) before (p ∷ behind) in

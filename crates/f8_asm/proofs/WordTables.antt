@@ -80,9 +80,9 @@ initial_below name = from (map to_ascii_lowercase name)
 pub plain_row : (name : List ℕ) →
     at_word name (map own_word (get_or (map (λ row. row.now) PLAIN_OPS) (initial_of name) [])) ≡ at_word name (map own_word plain_ops)
 plain_row name =
-    ap (at_word name) (same_below (λ k. map own_word (get_or (map (λ row. row.now) PLAIN_OPS) k [])) (λ k. filter (λ w. initial_of w.0 == k) (map own_word plain_ops))
-    27 (initial_of name) plain_rows (initial_below name))
-    ∙ in_row name (map own_word plain_ops)
+    let coded : ℕ → List (List ℕ × Op) = λ k. map own_word (get_or (map (λ row. row.now) PLAIN_OPS) k []) in
+    let listed : ℕ → List (List ℕ × Op) = λ k. filter (λ w. initial_of w.0 == k) (map own_word plain_ops) in
+    ap (at_word name) (same_below coded listed 27 (initial_of name) plain_rows (initial_below name)) ∙ in_row name (map own_word plain_ops)
 
 pub plain_at : (name : List ℕ) (rows : List (Bor (List Op))) (i : ℕ) (other : Bor (List Op)) → i ≡ initial_of name → i < length rows →
     at_word name (map own_word (get_or rows i other).now) ≡ at_word name (map own_word (get_or (map (λ row. row.now) rows) (initial_of name) []))
@@ -98,9 +98,9 @@ field_rows = refl
 pub field_row : (name : List ℕ) →
     at_word name (map field_word (get_or (map (λ row. row.now) FIELD_WORDS) (initial_of name) [])) ≡ at_word name (map field_word field_words)
 field_row name =
-    ap (at_word name) (same_below (λ k. map field_word (get_or (map (λ row. row.now) FIELD_WORDS) k [])) (λ k. filter (λ w. initial_of w.0 == k) (map field_word field_words))
-    27 (initial_of name) field_rows (initial_below name))
-    ∙ in_row name (map field_word field_words)
+    let coded : ℕ → List (List ℕ × Shape) = λ k. map field_word (get_or (map (λ row. row.now) FIELD_WORDS) k []) in
+    let listed : ℕ → List (List ℕ × Shape) = λ k. filter (λ w. initial_of w.0 == k) (map field_word field_words) in
+    ap (at_word name) (same_below coded listed 27 (initial_of name) field_rows (initial_below name)) ∙ in_row name (map field_word field_words)
 
 pub field_at : (name : List ℕ) (rows : List (Bor (List (Op × Shape)))) (i : ℕ) (other : Bor (List (Op × Shape))) → i ≡ initial_of name → i < length rows →
     at_word name (map field_word (get_or rows i other).now) ≡ at_word name (map field_word (get_or (map (λ row. row.now) rows) (initial_of name) []))

@@ -50,7 +50,8 @@ field_words =
     ∷ (op.Ds 0, shape.Register field.Ds) ∷ (op.LrAKu, shape.Load) ∷ (op.Ns 0, shape.Register field.Ns)
     ∷ (op.Sl1, shape.One (single.Small field.Sl)) ∷ (op.Sr1, shape.One (single.Small field.Sr)) ∷ (op.Xs 0, shape.Register field.Xs)
     ∷ (op.Asd 0, shape.Register field.Asd) ∷ (op.Ins 0, shape.One (single.Small field.Ins)) ∷ (op.Lis 0, shape.One (single.Small field.Lis))
-    ∷ (op.Lisl 0, shape.One (single.Small field.Lisl)) ∷ (op.Lisu 0, shape.One (single.Small field.Lisu)) ∷ (op.Outs 0, shape.One (single.Small field.Outs)) ∷ []
+    ∷ (op.Lisl 0, shape.One (single.Small field.Lisl)) ∷ (op.Lisu 0, shape.One (single.Small field.Lisu))
+    ∷ (op.Outs 0, shape.One (single.Small field.Outs)) ∷ []
 
 unfoldable pub directives : List (List ℕ × Shape)
 directives =

@@ -11,7 +11,8 @@ returns-in-Some-clause-value c = ap (λ a. option_or a (at_word c.args.name.now 
 
 pub returns-in-Some-clause-room : goal.returns-in-Some-clause-room
 returns-in-Some-clause-room c =
-    subst (λ found. IfSome found HasRoom) (sym (ap (λ a. option_or a (at_word c.args.name.now directives)) c.in-Some.ensures)) (others_have_room c.args.name.now)
+    let found = ap (λ a. option_or a (at_word c.args.name.now directives)) c.in-Some.ensures in
+    subst (λ shape. IfSome shape HasRoom) (sym found) (others_have_room c.args.name.now)
 
 pub returns-in-None-clause-value : goal.returns-in-None-clause-value
 unfolding directives
