@@ -67,7 +67,9 @@ fn told(romc: Romc, byte: u8, phi: u8, first: bool) -> Heard
 impl Chip for Listener {
     ghost use Rattle.std.specs.Prelude.{◌≡◌, ◌≢◌, ◌↔◌, false, OnOk, OnErr, IsErrOf};
     ghost use Rattle.f8_spec.specs.ChipState.{IsWhole, MayHear, PowersOn, Settles, TakesKeys, TakesPulse, told_step};
+    ghost use Rattle.f8_spec.specs.ChipState.{has_ram_at, held_byte, latch_at, offered, told_counters};
     ghost use Rattle.chip_face.specs.Fitting.{Fits, IsSpec, is_blank, kind_of};
+    ghost use Rattle.chip_face.specs.Queries.{one_more};
     ghost use Rattle.chip_face.specs.Steps.{IsStepLength};
     ghost use Rattle.chip_fakes.specs.ListenerState.{listener_state, listener_queries, recording_of};
     ghost use Rattle.chip_fakes.specs.Recording.{emptied, recorded};
@@ -104,7 +106,13 @@ impl Chip for Listener {
         self.recorder.forget();
     }
 
-    fn offer(&mut self, romc: Romc, first: bool) -> Option<Offer> {
+    fn offer(&mut self, romc: Romc, first: bool) -> Option<Offer>
+        requires { MayHear romc first (listener_state self.old).view }
+        ensures answer { result ≡ offered romc first (listener_state self.old).view }
+        ensures stays { listener_state self.new ≡ listener_state self.old }
+        ensures asked { listener_queries self.new ≡ one_more (listener_queries self.old) }
+        ensures recording { recording_of self.new ≡ recording_of self.old }
+    {
         self.chip.offer(romc, first)
     }
 
@@ -135,19 +143,39 @@ impl Chip for Listener {
         self.chip.asks()
     }
 
-    fn counters(&mut self) -> Counters {
+    fn counters(&mut self) -> Counters
+        ensures answer { result ≡ told_counters (listener_state self.old).view }
+        ensures stays { listener_state self.new ≡ listener_state self.old }
+        ensures asked { listener_queries self.new ≡ one_more (listener_queries self.old) }
+        ensures recording { recording_of self.new ≡ recording_of self.old }
+    {
         self.chip.counters()
     }
 
-    fn peek(&mut self, at: u16) -> Option<u8> {
+    fn peek(&mut self, at: u16) -> Option<u8>
+        ensures answer { result ≡ held_byte (listener_state self.old).view at }
+        ensures stays { listener_state self.new ≡ listener_state self.old }
+        ensures asked { listener_queries self.new ≡ one_more (listener_queries self.old) }
+        ensures recording { recording_of self.new ≡ recording_of self.old }
+    {
         self.chip.peek(at)
     }
 
-    fn takes(&mut self, at: u16) -> bool {
+    fn takes(&mut self, at: u16) -> bool
+        ensures answer { result ≡ has_ram_at (listener_state self.old).view at }
+        ensures stays { listener_state self.new ≡ listener_state self.old }
+        ensures asked { listener_queries self.new ≡ one_more (listener_queries self.old) }
+        ensures recording { recording_of self.new ≡ recording_of self.old }
+    {
         self.chip.takes(at)
     }
 
-    fn latch(&mut self, port: u8) -> Option<u8> {
+    fn latch(&mut self, port: u8) -> Option<u8>
+        ensures answer { result ≡ latch_at (listener_state self.old).view port }
+        ensures stays { listener_state self.new ≡ listener_state self.old }
+        ensures asked { listener_queries self.new ≡ one_more (listener_queries self.old) }
+        ensures recording { recording_of self.new ≡ recording_of self.old }
+    {
         self.chip.latch(port)
     }
 
