@@ -1,5 +1,5 @@
 -- What is shown after some writes, and after one more.
-use Rattle.std.proofs.Common.{◌≡◌, ◌≢◌, ℕ, ◌+◌, ◌<◌, true, false, List, [], ◌∷◌, ◌++◌, get_or, set, map, refl}
+use Rattle.std.proofs.Common.{◌≡◌, ◌≢◌, ℕ, ◌+◌, ◌<◌, ◌≤◌, true, false, List, [], ◌∷◌, ◌++◌, get_or, set, map, refl}
 use Rattle.std.proofs.Common.{sym, ap, ◌∙◌, arith, eq-eqb, lit<}
 use Rattle.std.specs.Prelude.{Bool, ◌&&◌, ◌==◌, if◌then◌else◌, codes}
 use Rattle.std.specs.List.{range_with_len}
@@ -108,6 +108,21 @@ shown_palette s ws y e below =
     let first : pixel_in s.rows 125 y ≡ pixel_of 125 y ws = shown_pixel s ws 125 y e (lit< tt) below in
     let second : pixel_in s.rows 126 y ≡ pixel_of 126 y ws = shown_pixel s ws 126 y e (lit< tt) below in
     cc
+
+-- past the last row nothing is drawn
+pixel_of-past : (ws : List PortWrite) (x y : ℕ) → 64 ≤ y → pixel_of x y ws ≡ 0
+pixel_of-past [] x y past = refl
+pixel_of-past (w ∷ ws) x y past = pixel_of-next w ws x y ∙ by (is_rise w ws) (pixel_of-past ws x y past)
+  where
+    off : y ≢ y_drawn (latches_of ws)
+    off = λ e. omega (arith, e, past)
+
+    by : (rise : Bool) → pixel_of x y ws ≡ 0 → (if rise then with_pixel (latches_of ws) (pixels_of ws) x y else pixel_of x y ws) ≡ 0
+    by true before = with_pixel-off (latches_of ws) (pixels_of ws) x y off ∙ before
+    by false before = before
+
+pub palette_of-past : (ws : List PortWrite) (y : ℕ) → 64 ≤ y → palette_of y ws ≡ 0
+palette_of-past ws y past = rw (pixel_of-past ws 125 y past, pixel_of-past ws 126 y past) refl
 
 pub shown_plane : (s : Shown) (ws : List PortWrite) (y bit : ℕ) → s ≡ screen_after ws → y < 64 →
     plane_of (λ x. pixel_in s.rows x y) bit ≡ plane_of (λ x. pixel_of x y ws) bit

@@ -111,15 +111,18 @@ impl Screen {
         self.row_at(y).pixel(x)
     }
 
-    /// The palette of a row, from 0 to 3: the high bit of its pixel 125, and twice that of its pixel 126. `y` is below 64.
+    /// The palette of a row, from 0 to 3: the high bit of its pixel 125, and twice that of its pixel 126. Past the last row it is 0, as there
+    /// are no pixels.
     pub fn palette(&self, y: u8) -> u8
-        requires { y < 64 }
         ensures value { result ≡ palette_in (pixel_in self.now.rows) y }
         ensures number { result < 4 }
         ensures display { (ws : List PortWrite) → self.now ≡ screen_after ws →
             result ≡ palette_of y ws }
     {
-        self.row_at(y).palette()
+        match self.rows.get(usize::from(y)) {
+            Some(row) => row.palette(),
+            None => 0,
+        }
     }
 
     /// The text of a row: the digit of its palette, a blank, and the digits of its 128 pixels from x 0 on. `y` is below 64.
