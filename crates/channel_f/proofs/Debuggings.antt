@@ -197,12 +197,13 @@ module _ (a b : Output) (said : ℕ) (asked : Debugging) (rack fitted : List Chi
       (subst (λ (vs : List ChipView). Reports a b said 0 (told_by asked.commands (first_scene asked.cart.chips vs))) same
       reports)
 
-  pub debugs : (news : List ChipState) →
+  pub debugs : (news : List ChipState) (before after : ℕ) →
       (said ≢ 5 → AreOf (scene_by asked.commands (first_scene asked.cart.chips (views fitted))) news) →
       (said ≡ 5 → FailedAt a b asked.commands (first_scene asked.cart.chips (views fitted)) news) →
-      Debugs a b said asked rack news
-  debugs news whole failed = record {
+      Debugs a b said asked rack news before after
+  debugs news before after whole failed = record {
     wanting = λ six. absurd (zero_not_six said reports.which six);
+    unasked = λ six. absurd (zero_not_six said reports.which six);
     whole = λ five six.
         subst (λ (vs : List ChipView). AreOf (scene_by asked.commands (first_scene asked.cart.chips vs)) news) same
         (whole five);
@@ -211,7 +212,11 @@ module _ (a b : Output) (said : ℕ) (asked : Debugging) (rack fitted : List Chi
         (failed five);
   }
 
-pub debugs_wanting : (a b : Output) (asked : Debugging) (rack news : List ChipState) →
-    RackFitsInPart (seated asked.cart.chips rack) rack news → Debugs a b 6 asked rack news
-debugs_wanting a b asked rack news partly =
-    record { wanting = λ six. partly; whole = λ five six. absurd (six refl); failed = λ five. cc }
+pub debugs_wanting : (a b : Output) (asked : Debugging) (rack news : List ChipState) (before after : ℕ) → after ≡ before →
+    RackFitsInPart (seated asked.cart.chips rack) rack news → Debugs a b 6 asked rack news before after
+debugs_wanting a b asked rack news before after none partly = record {
+  wanting = λ six. partly;
+  unasked = λ six. none;
+  whole = λ five six. absurd (six refl);
+  failed = λ five. cc;
+}

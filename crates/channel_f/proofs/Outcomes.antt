@@ -55,14 +55,16 @@ module _ (old new : Around) (said : ℕ) where
 
   pub tells_debugging : (work : Work Debugging) (asked : Debugging) → Works old.input new.input work (Ok asked) →
       AnswersDue old.output new.output said (debug_due old.rack asked) →
-      RackDebugged old.output new.output said (Ok asked) old.rack new.rack → TellsDebugging old new said work
+      RackDebugged old.output new.output said (Ok asked) old.rack new.rack old.asked new.asked →
+      TellsDebugging old new said work
   tells_debugging work asked works answers chips =
       record { outcome = Ok asked; works = works; ends = answers; chips = chips }
 
   pub tells_no_debugging : (work : Work Debugging) (stop : Stop) → Works old.input new.input work (Err stop) →
-      Stops old.output new.output said stop → new.rack ≡ old.rack → TellsDebugging old new said work
-  tells_no_debugging work stop works stops same =
-      record { outcome = Err stop; works = works; ends = stops; chips = same }
+      Stops old.output new.output said stop → new.rack ≡ old.rack → new.asked ≡ old.asked →
+      TellsDebugging old new said work
+  tells_no_debugging work stop works stops same none =
+      record { outcome = Err stop; works = works; ends = stops; chips = record { same = same; unasked = none } }
 
   -- ---- all commands
 
@@ -136,7 +138,7 @@ module _ (now : Around) where
   says_wanting (Some (Ref cart script)) = tells_wanting (game_of cart script) (λ game. Plain (ref_answer game))
   says_wanting (Some (Debug cart commands)) =
       tells_no_debugging now now 6 (debugging_of cart commands) Memory
-      (works_memory now.input (debugging_of cart commands)) wanting refl
+      (works_memory now.input (debugging_of cart commands)) wanting refl refl
   says_wanting (Some (Asm file)) = tells_wanting (image_by file) (λ picture. Plain (asm_answer picture))
   says_wanting (Some (Dis file)) = tells_wanting (bytes_by file) (λ bytes. Plain (dis_answer bytes))
   says_wanting (Some (Gen seed)) = record {

@@ -57,7 +57,7 @@ pub record TellsDebugging (old new : Around) (said : ℕ) (work : Work Debugging
   pub outcome : Result Debugging Stop
   pub works : Works old.input new.input work outcome
   pub ends : Ends old.output new.output said (outcome_as (debug_due old.rack) outcome)
-  pub chips : RackDebugged old.output new.output said outcome old.rack new.rack
+  pub chips : RackDebugged old.output new.output said outcome old.rack new.rack old.asked new.asked
 
 -- a command that plays the generated game on the rack, and asks for no file
 pub record TellsGenerated (old new : Around) (said : ℕ) (seed : ℕ) : Type 0 where

@@ -1,5 +1,5 @@
 // A session of the debugger on a rack.
-ghost use Rattle.std.specs.Prelude.{◌≡◌, ◌≢◌, ◌≤◌, length, map, OnErr, OnOk};
+ghost use Rattle.std.specs.Prelude.{◌≡◌, ◌≢◌, ◌≤◌, length, map, sum_by, OnErr, OnOk};
 ghost use Rattle.f8_spec.specs.BusArbitration.{seat_of};
 ghost use Rattle.console_spec.specs.RunText.{text_of};
 ghost use Rattle.cpu3850.specs.OwnWrites.{LeaveOwnPorts};
@@ -83,7 +83,8 @@ fn fit_and_debug<K: Sink>(alloc: Global, asked: &Debugging, sink: &mut K, rack: 
     ensures answers { Answers (K.output sink.old) (K.output sink.new) (exit_code result)
         (debug_answer asked.now (map state rack.old.items)) }
     ensures rack { Debugs (K.output sink.old) (K.output sink.new) (exit_code result) asked.now
-        (map state rack.old.items) (map state rack.new.items) }
+        (map state rack.old.items) (map state rack.new.items)
+        (sum_by queries rack.old.items) (sum_by queries rack.new.items) }
 {
     match fit_all(alloc, &asked.cart.chips, rack) {
         Ok(()) => debug_fitted(asked, sink, rack),
@@ -97,7 +98,8 @@ pub fn debug<K: Sink>(alloc: Global, asked: &Debugging, sink: &mut K, rack: &mut
         (debug_due (map state rack.old.items) asked.now) }
     ensures rack { DebugsUnless (spelled_refusal asked.now.cart.chips (map state rack.old.items))
         (K.output sink.old) (K.output sink.new) (exit_code result) asked.now
-        (map state rack.old.items) (map state rack.new.items) }
+        (map state rack.old.items) (map state rack.new.items)
+        (sum_by queries rack.old.items) (sum_by queries rack.new.items) }
 {
     match refusal(&asked.cart.chips, rack) {
         Some(line) => put_lines(sink, [line].as_slice(), Status::Input),

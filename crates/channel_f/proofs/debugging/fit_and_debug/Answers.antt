@@ -1,4 +1,5 @@
 -- The chips are fitted, and then the session is theirs.
+use Rattle.rack_run.proofs.AskingLaws.{none_asked}
 use Rattle.channel_f.specs.Answers.{debug_answer}
 use Rattle.channel_f.proofs.Debuggings.{debug_answers, debugs, debugs_wanting}
 use Rattle.channel_f.proofs.Games.{answers_wanting}
@@ -10,11 +11,14 @@ returns-in-Ok-clause-answers g c =
 
 pub returns-in-Ok-clause-rack : goal.returns-in-Ok-clause-rack
 returns-in-Ok-clause-rack g c =
-    debugs _ _ _ c.args.asked.now _ _ c.in-Ok.ensures.views c.debug_fitted.ensures.reports _ c.debug_fitted.ensures.whole
+    debugs _ _ _ c.args.asked.now _ _ c.in-Ok.ensures.views c.debug_fitted.ensures.reports _ _ _ c.debug_fitted.ensures.whole
     c.debug_fitted.ensures.failed
 
 pub returns-in-Err-clause-answers : goal.returns-in-Err-clause-answers
 returns-in-Err-clause-answers g c = answers_wanting _ (debug_answer c.args.asked.now _)
 
 pub returns-in-Err-clause-rack : goal.returns-in-Err-clause-rack
-returns-in-Err-clause-rack g c = debugs_wanting _ _ c.args.asked.now _ _ c.in-Err.ensures.partly
+returns-in-Err-clause-rack g c =
+    debugs_wanting _ _ c.args.asked.now _ _ _ _
+    (none_asked (λ b. (goal.Chip-dyn g (b.vtable, b.value)).queries b.value) c.args.rack.now.items c.fit_all.new.rack.items
+    c.fit_all.ensures.asked) c.in-Err.ensures.partly
