@@ -1,4 +1,5 @@
 pub mod WorkedResults
+pub mod WorkedLeast
 pub mod WorkedFlow
 pub mod WorkedSteps
 pub mod Knowing
