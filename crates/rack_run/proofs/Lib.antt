@@ -18,6 +18,7 @@ pub mod PlayAsking
 pub mod FlatTurns
 pub mod EndLaws
 pub mod TraceLaws
+pub mod Chains
 mod WorkedSockets
 mod WorkedQuestions
 mod WorkedLives

@@ -3,6 +3,7 @@ pub mod Asking
 pub mod Lives
 pub mod Progressing
 pub mod Endings
+pub mod ChainLaw
 pub mod EndLaw
 pub mod TraceLaw
 pub mod Turns

@@ -1,4 +1,5 @@
 // Laws of the definitions of a run, as calls.
+ghost use Rattle.rack_run.specs.ChainLaw.{ChainLaw};
 ghost use Rattle.rack_run.specs.EndLaw.{EndLaw};
 ghost use Rattle.rack_run.specs.TraceLaw.{TraceLaw};
 
@@ -12,4 +13,11 @@ pub fn end_law()
 /// steps of an instruction that is done, or of reset, take as many Φ as it takes. This call does nothing; its contract is the law.
 pub fn trace_law()
     ensures { TraceLaw }
+{}
+
+/// The chain of a description names, in its order, the sockets in which its chips sit, where the rack has a socket for each of them (this
+/// project's own). This call does nothing; its contract is the law.
+#[tactic(auto, using(crate::proofs::Chains::chain_sits))]
+pub fn chain_law()
+    ensures { ChainLaw }
 {}

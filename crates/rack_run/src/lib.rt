@@ -17,7 +17,7 @@ mod telling;
 
 pub use detail::Detail;
 pub use ending::{Ending, Halt};
-pub use law::{end_law, trace_law};
+pub use law::{chain_law, end_law, trace_law};
 pub use on_flat::{ReferFault, refer};
 pub use on_rack::play;
 pub use seat::fit_all;
