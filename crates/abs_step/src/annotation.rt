@@ -39,7 +39,7 @@ impl Annotation {
 
     /// The states of a map.
     pub fn from_map(notes: BTreeMap<Point, Abs>) -> Annotation
-        requires few { length notes.entries ≤ 65536 }
+        requires few { length notes.entries ≤ MOST_POINTS }
         ensures { result ≡ states_of notes.entries }
     {
         // That the points of a map ascend is known by its length.
@@ -57,7 +57,7 @@ impl Annotation {
     /// How many points there are.
     pub fn len(&self) -> usize
         ensures count { result ≡ length self.now }
-        ensures few { result ≤ 65536 }
+        ensures few { result ≤ MOST_POINTS }
         ensures ascends { IsStrictlySortedBy point_cmp (keys_of self.now) }
     {
         self.notes.len()
