@@ -2,11 +2,20 @@
 use Rattle.std.proofs.Common.{◌≡◌, ℕ, List, [], ◌++◌, refl, sym, ap, ◌∙◌, append_assoc, subst, ◌≤◌}
 use Rattle.std.proofs.lemmas.List.{append-nil}
 use Rattle.outside.specs.Counts.{Rose}
-use Rattle.outside.specs.SinkRules.{Output, Adds, AddsPart}
+use Rattle.outside.specs.SinkRules.{Output, untold_output, Adds, AddsPart}
 
 -- nothing was put
 pub adds_none : (a : Output) → Adds a a []
 adds_none a = record { told = λ now e. (now, e, sym (append-nil now)); count = refl }
+
+-- a sink that tells nothing has failed, whose count stood before
+pub untold_failed : (a b c : ℕ) (bytes : List ℕ) → b ≡ a → b ≤ c → Rose b c →
+    AddsPart (untold_output a) (untold_output c) bytes
+untold_failed a b c bytes same later rose = record {
+  told = λ now e. cc;
+  later = subst (λ (n : ℕ). n ≤ c) same later;
+  rose = subst (λ (n : ℕ). Rose n c) same rose;
+}
 
 -- one piece after another
 pub adds_then : (a b c : Output) (x y : List ℕ) → Adds a b x → Adds b c y → Adds a c (x ++ y)

@@ -3,6 +3,7 @@
 
 mod call_list;
 mod counted_reader;
+mod counted_writer;
 mod cut_list;
 mod file_list;
 mod file_store;
