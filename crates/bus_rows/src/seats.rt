@@ -1,4 +1,4 @@
-// Worked bus steps on chips in two to four sockets.
+// Chips for worked bus steps, each in its socket with its counters.
 ghost use Rattle.chip_face.specs.Fitting.{IsSpec};
 
 use chip_face::{Bytes, Chip, ChipSpec, Page, PageList, PageSort};

@@ -1,4 +1,4 @@
-// What the types of points and states tell of them: all that is known is within its range. The calls do nothing; their contracts are laws.
+// What the types of points and states tell of them: all that is known is within its range. The calls change nothing; their contracts are laws.
 ghost use Rattle.std.specs.Prelude.{◌<◌, map};
 ghost use Rattle.std.specs.Option.{ForSome};
 ghost use Rattle.abs_domain.specs.KnownParts.{known_byte, known_word};

@@ -33,7 +33,8 @@ pub fn script_law(script: &Script)
     let _events = script.events.as_slice();
 }
 
-/// What `check --cert` tells is read by `verify`, which finds the same verdict on the cartridge, with as many points. This call does nothing;
+/// What `check --cert` tells isn't longer than a file may be that `verify` reads, and is read by it; and it finds the same verdict on the
+/// cartridge, with as many points. This call does nothing;
 /// its contract is the law.
 #[tactic(auto, using(crate::proofs::CheckedCertificates::checked_certificates))]
 pub fn checked_certificate_law()

@@ -1,3 +1,4 @@
+// What the words ask for.
 /// What the words ask for. The names are paths of files.
 #[derive(Debug, Clone, Copy, PartialEq, Eq)]
 pub enum Command<'a> {

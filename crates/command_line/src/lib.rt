@@ -4,7 +4,7 @@
 //! The first word is the command, and the rest is read by that command's own `clap` command, which has no help and no version. The
 //! number of plain words has to be exact. After the first word `--` behind the command every word is plain; before it a word of two or
 //! more bytes that begins with `-` is refused, but for the command's flag, `--trace` behind `play` and `--cert` behind `check`, which may
-//! stand once, at any place. A word `-` and an empty word are plain. N is a number of one to ten decimal digits, of at most 4,294,967,295.
+//! stand once, at any place. Plain are the word `-` and the empty one, too. N is a number of one to ten decimal digits, of at most 4,294,967,295.
 #![tactic(auto)]
 
 mod asked;

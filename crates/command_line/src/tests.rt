@@ -1,3 +1,4 @@
+// Words of each command, and what they ask for.
 use super::*;
 use std::alloc::Global;
 use std::test::Fail;

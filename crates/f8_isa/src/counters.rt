@@ -1,3 +1,4 @@
+// The one set of counters.
 /// The one set of counters, each an address: the instruction that comes next, the stack register and the two data counters.
 #[derive(Clone, Copy, Default)]
 pub struct Flow {

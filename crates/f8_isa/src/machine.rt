@@ -458,7 +458,7 @@ impl Isa {
         self.phi
     }
 
-    /// The byte at an address, and 255 where no chip holds it.
+    /// The byte at an address, and 255 where no chip holds it or several do.
     #[inline]
     pub fn peek(&self, at: u16) -> u8
         ensures { result ≡ byte_at self.now.memory at }

@@ -1,4 +1,4 @@
-// What the error says.
+// Opcodes both ways, clocks and lengths, shielding, and names.
 use super::*;
 
 // the first and the last opcode of ranges beside reserved ones

@@ -1,3 +1,4 @@
+// A bus step: who drives its byte, what comes of it, and the counters.
 /// Who puts the byte of a bus step on the data bus (Mostek 3850, 3851 and 3853 data sheets, ROMC states).
 #[derive(Clone, Copy, Debug, PartialEq, Eq)]
 pub enum Driver {

@@ -1,3 +1,4 @@
+// Storage chips: their kinds, their pages, and the byte that one offers.
 /// The kinds of storage chip.
 #[derive(Clone, Copy, Debug, PartialEq, Eq)]
 pub enum ChipKind {

@@ -1,3 +1,4 @@
+// The instructions, and the rows of their table.
 /// An instruction of the F8 without its operand bytes (Fairchild F8 User's Guide, instruction set).
 ///
 /// The field `r` is 0 to 14, where 12 names the register that ISAR points to, and 13 and 14 also step ISAR up and down. `n` is 0

@@ -1,3 +1,4 @@
+// The status word.
 /// The status word W of the 3850: the flags of the last result that set them, and the interrupt control bit (Fairchild F8 User's
 /// Guide, status register).
 #[derive(Clone, Copy, Debug, Default, PartialEq, Eq)]

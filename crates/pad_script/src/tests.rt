@@ -1,3 +1,4 @@
+// Scripts, and the faults of their lines.
 use super::*;
 use std::alloc::Global;
 use std::test::Fail;

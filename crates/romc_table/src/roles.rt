@@ -5,8 +5,8 @@ ghost use Rattle.f8_spec.specs.BusCodes.{driver_of as driver_by_table, counter_o
 use super::Romc;
 use f8_spec::{Counter, Driver};
 
-/// Who drives the byte in a step with this code (Mostek 3850 data sheet, ROMC states). At 1C it is `Cpu`: the code alone doesn't
-/// tell whether the CPU places a byte there.
+/// Who drives the byte in a step with this code (Mostek 3850 data sheet, ROMC states). At 1C it is `Cpu`, though it depends on
+/// the instruction whether the CPU gives a byte.
 pub fn driver_of(romc: Romc) -> Driver
     ensures { result ≡ driver_by_table romc }
 {
