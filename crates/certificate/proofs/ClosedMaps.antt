@@ -20,6 +20,7 @@ use Rattle.certificate.specs.CertificateLaws.{AllFit}
 use Rattle.certificate.specs.ClosedMaps.{ClosedMapLaw}
 use Rattle.certificate.proofs.Examinations.{whole_exactly, agreed_exactly}
 use Rattle.certificate.proofs.RoundTrip.{again}
+use Rattle.certificate.proofs.TextSizes.{text_size, whole_where_fit}
 
 by_recursion : {X : Type 0} (P : X → Type 0) (xs : List X) → All P xs → AllByRecursion P xs
 by_recursion P [] all = tt
@@ -57,6 +58,8 @@ closed_maps = record {
   read = λ m tracked notes few closed.
       again tracked notes few (some_points m tracked notes start_point closed.closed.start.upper closed.closed.start.noted) closed.is_map.few
       closed.is_map.ascends (all_fit m tracked notes closed.is_map);
+  size = λ m tracked notes few closed.
+      text_size tracked notes few closed.is_map.few (whole_where_fit tracked notes (all_fit m tracked notes closed.is_map));
   whole = λ m tracked notes closed free.
       (whole_exactly (analysis m tracked) point_laws.total point_laws.exact notes closed.is_map).1 (closed, free);
   agreed = λ m tracked notes closed none.

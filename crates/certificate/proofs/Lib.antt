@@ -12,6 +12,7 @@ mod PartsAgain
 mod ReadFits
 mod EntriesAgain
 mod LineEnds
+mod TextSizes
 pub mod RoundTrip
 mod WorkedCertificates
 mod WorkedExaminations

@@ -4,8 +4,6 @@ use Rattle.abs_domain.specs.AbstractState.{AbstractState}
 use Rattle.abs_domain.specs.declared.points.Point.{Point}
 use Rattle.abs_domain.specs.declared.state.Abs.{Abs}
 use Rattle.abs_step.specs.StatesAtPoints.{state_in}
-use Rattle.text_lines.specs.declared.read_error.ReadError.{ReadError}
-use Rattle.text_lines.specs.declared.read_error.ReadError.TheVariants as answer
 use Rattle.certificate.specs.declared.answers.CertCause.{CertCause}
 use Rattle.certificate.specs.declared.answers.CertCause.TheVariants.{Header, Count, Field, Order, End, SplitField}
 use Rattle.certificate.specs.declared.answers.CertFault.{CertFault}

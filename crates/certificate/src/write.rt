@@ -1,5 +1,5 @@
 // The text of an invariant map.
-ghost use Rattle.std.specs.Prelude.{◌≡◌, ◌<◌, ◌≤◌, ◌++◌, OnOk, IfOk, length, codes, map};
+ghost use Rattle.std.specs.Prelude.{◌≡◌, ◌<◌, ◌+◌, ◌*◌, ◌≤◌, ◌++◌, OnOk, IfOk, length, codes, map};
 ghost use Rattle.std.specs.Option.{ForSome};
 ghost use Rattle.abs_domain.specs.KnownParts.{known_byte, known_digit, known_bit, known_word};
 ghost use Rattle.abs_domain.specs.StateView.{status_of, counters_of, state_of};
@@ -247,7 +247,7 @@ fn text_of(alloc: Global, tracked: usize, notes: &Annotation) -> Result<Vec<u8>,
 }
 
 /// The text of a certificate: a first line with the number of points, and a line for each point with its state. Where points and states
-/// fit each other, and there is at least one, `read_cert` gives the map again.
+/// fit each other, and there is at least one, `read_cert` gives the map again. It has at most 15 bytes, and 195 more for each point.
 ///
 /// # Errors
 ///
@@ -255,6 +255,7 @@ fn text_of(alloc: Global, tracked: usize, notes: &Annotation) -> Result<Vec<u8>,
 #[tactic(auto, unfolding(crate::specs::CertificateText::certificate_text))]
 pub fn write_cert(alloc: Global, notes: &Annotation, split: &Split) -> Result<Text, Memory>
     ensures text { IfOk result (λ text. text ≡ certificate_text split.now notes.now) }
+    ensures size { IfOk result (λ text. length text ≤ 15 + 195 * length notes.now) }
     ensures round_trip { IfOk result (λ text. HaveSplit split.now notes.now → 1 ≤ length notes.now
         → certificate_of split.now text ≡ Ok notes.now) }
 {

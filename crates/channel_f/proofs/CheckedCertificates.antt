@@ -1,5 +1,5 @@
 -- A certificate that is told is read and verified.
-use Rattle.std.proofs.Common.{ap}
+use Rattle.std.proofs.Common.{ap, arith}
 use Rattle.std.specs.Prelude.{length}
 use Rattle.abs_step.specs.MapView.{chips_view}
 use Rattle.cartridge.specs.Splits.{IsSplit}
@@ -19,6 +19,7 @@ checked_certificates law = record { verified = λ cart right tracked. by cart ri
     by cart (Whole notes) tracked is carries =
         let closed = carries.0.least.closed in
         record {
+          fits = omega (arith, law.size (chips_view cart.chips) cart.split notes tracked.few closed, closed.is_map.few);
           read = law.read (chips_view cart.chips) cart.split notes tracked.few closed;
           told = ap (λ (found : VerifyAnswer). found_answer cart.split (length notes) found)
               (law.whole (chips_view cart.chips) cart.split notes closed carries.1);
@@ -26,6 +27,7 @@ checked_certificates law = record { verified = λ cart right tracked. by cart ri
     by cart (Agreed notes) tracked is carries =
         let closed = carries.least.closed in
         record {
+          fits = omega (arith, law.size (chips_view cart.chips) cart.split notes tracked.few closed, closed.is_map.few);
           read = law.read (chips_view cart.chips) cart.split notes tracked.few closed;
           told = ap (λ (found : VerifyAnswer). found_answer cart.split (length notes) found)
               (law.agreed (chips_view cart.chips) cart.split notes closed (λ free. is.1 (notes, closed, free)));

@@ -1,5 +1,5 @@
 -- What `check --cert` tells of a cartridge, and what `verify` says of that.
-use Rattle.std.specs.Prelude.{◌≡◌, Ok, List}
+use Rattle.std.specs.Prelude.{◌≡◌, ◌≤◌, Ok, List, length}
 use Rattle.abs_domain.specs.AbstractState.{AbstractState}
 use Rattle.abs_domain.specs.declared.points.Point.{Point}
 use Rattle.cartridge.specs.Splits.{IsSplit}
@@ -10,8 +10,10 @@ use Rattle.cart_checker.specs.declared.verdict.Verdict.TheVariants.{Whole, Agree
 use Rattle.certificate.specs.CertificateText.{certificate_of, certificate_text}
 use Rattle.channel_f.specs.Answers.{check_answer, verify_answer}
 
--- The certificate of the map is read as the map, and what is found of it is told as the verdict is.
+-- The certificate of the map is no longer than a file may be that `verify` reads, it is read as the map, and what is found of it is told as
+-- the verdict is.
 pub record IsVerifiedAs (cart : Cart) (verdict : Verdict) (notes : List (Point × AbstractState)) : Type 0 where
+  pub fits : length (certificate_text cart.split notes) ≤ 16777216
   pub read : certificate_of cart.split (certificate_text cart.split notes) ≡ Ok notes
   pub told : verify_answer (record { cart = cart; notes = notes }) ≡ check_answer cart.split verdict
 

@@ -3,6 +3,7 @@ use Rattle.std.proofs.Common.{◌≡◌, ◌≤◌, length, ◌∙◌, arith}
 use Rattle.certificate.specs.CertificateText.{certificate_text}
 use Rattle.certificate.specs.CertificateLaws.{AllInRange}
 use Rattle.certificate.proofs.RoundTrip.{again_in_range}
+use Rattle.certificate.proofs.TextSizes.{text_size, whole_in_range}
 use Rattle.certificate.proofs.write.write_cert.Goals as goal
 
 pub returns-in-Ok-clause-round_trip : goal.returns-in-Ok-clause-round_trip
@@ -16,3 +17,15 @@ returns-in-Ok-clause-round_trip c =
     let ranges : AllInRange notes = rw c.as_map.ensures at c.range_law.ensures in
     let written : c.from_vec.result ≡ certificate_text tracked notes = c.from_vec.ensures ∙ rw same at c.in-Ok.ensures in
     λ fits some. rw written (again_in_range tracked notes few most c.len-count.ensures.ascends ranges fits some)
+
+pub returns-in-Ok-clause-size : goal.returns-in-Ok-clause-size
+unfolding certificate_text
+returns-in-Ok-clause-size c =
+    let tracked = c.args.split.now in
+    let notes = c.args.notes.now in
+    let same = c.as_slice-tracked.ensures.value in
+    let few : length tracked ≤ 8 = rw same at c.as_slice-tracked.ensures.limits.few in
+    let most : length notes ≤ 65536 = omega (arith, c.len-count.ensures.few, c.len-count.ensures.count) in
+    let ranges : AllInRange notes = rw c.as_map.ensures at c.range_law.ensures in
+    let written : c.from_vec.result ≡ certificate_text tracked notes = c.from_vec.ensures ∙ rw same at c.in-Ok.ensures in
+    rw written (text_size tracked notes few most (whole_in_range notes ranges))
