@@ -79,8 +79,10 @@ class Trace(unittest.TestCase):
     def test_refusal_and_nothing_pass(self):
         self.assertEqual(self.piped(stdin='error cart toml\n').text, 'error cart toml\n')
         self.assertEqual(self.piped(stdin='').text, '')
-        (self.folder / 'cart.toml').write_text('not TOML')
-        self.assertEqual(self.piped(stdin='error cart toml\n').text, 'error cart toml\n')
+        for cart in ('not TOML', CART.replace('0x0000', '1' * 5000), 'chip = ' + '[' * 2000, CART.replace('"3851"', '["3851"]')):
+            (self.folder / 'cart.toml').write_text(cart)
+            done = self.piped(stdin='error cart toml\n')
+            self.assertEqual((done.text, done.told, done.returncode), ('error cart toml\n', '', 0))
 
     def test_what_cannot_be_done(self):
         for words, hint in (([], '--cart'), (['ls', 'play', 'x'], 'play CART SCRIPT'), (['--cart', 'no/such/file'], 'No such file')):
