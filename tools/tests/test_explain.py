@@ -85,6 +85,8 @@ class Explain(unittest.TestCase):
         self.assertIn('there twice', self.explained('error cart toml', cart=CHIP + 'ports = 4\n'))
         self.assertIn('`"a.f8"`', self.explained('error cart toml', cart=CHIP + 'source = a.f8\n'))
         self.assertIn('not UTF-8', call('explain', '--cart', '/bin/sh', stdin='error cart toml\n').told)
+        self.assertIn('too many digits', self.explained('error cart toml', cart=CHIP.replace('0x0000', '1' * 5000)))
+        self.assertIn('nested too deep', self.explained('error cart toml', cart='split = ' + '[' * 2000))
 
     @unittest.skipUnless(HAS_TOML, 'Python before 3.11 has no reader of TOML')
     def test_keys_of_a_description(self):
@@ -97,6 +99,7 @@ class Explain(unittest.TestCase):
         self.assertIn("there is ' '", self.explained('error cart chip 0 key rom cause 7', cart=CHIP + 'rom = "2B 00"\n'))
         self.assertIn('`kind = "3851"`', self.explained('error cart chip 0 key kind cause 3', cart=CHIP.replace('"', '')))
         self.assertIn('Put it before', self.explained('error cart key format cause 1', cart=CHIP[10:] + 'format = 1\n'))
+        self.assertIn('too many digits', self.explained('error cart chip 0 key base cause 4', cart=CHIP.replace('0x0000', '0x' + 'F' * 5000)))
 
     @unittest.skipUnless(HAS_TOML, 'Python before 3.11 has no reader of TOML')
     def test_a_source_beside_the_description(self):
@@ -138,6 +141,17 @@ class Explain(unittest.TestCase):
         told = self.explained('refused 0009 ---- 03 7', cart='format = 1\nsplit = [5]\n' + CHIP.split('\n', 1)[-1] + 'rom = "2B"\n')
         self.assertRegex(told, r'(?s)Reason 7: a data access.*What helps: .*0009 lies in chip 0.*r5 is 03.*The return is not known')
         self.assertIn('`split`', call('explain', 'toomany').told)
+
+    @unittest.skipUnless(HAS_TOML, 'Python before 3.11 has no reader of TOML')
+    def test_a_description_of_another_run(self):
+        cart = f'split = [0x{"F" * 5000}]\n' + CHIP.partition('\n')[2] + 'rom_page = "x"\nram_page = 0x28\nram_pages = [1]\n'
+        for line in ('stop undriven romc 00 at 0000', 'refused 0000 ---- 03 7', 'unsafe 0000 ---- 03 7', 'notclosed start to 0000 ---- 03'):
+            self.assertIn('chip 0', self.explained(line, cart=cart), line)
+
+    def test_addresses_are_four_digits(self):
+        for line in ('refused zzzz ---- . 7', 'unsafe 009 ---- . 7', 'notclosed start to 000g ---- .', 'stop undriven romc 00 at 00a0',
+                     'stop astray romc 02 socket 0 at 0014 reference 13', 'stop reserved FF at 00010', 'error script line ' + '1' * 5000 + ' cause 3'):
+            self.assertEqual(self.explained(line), '', line)
 
     def test_certificates(self):
         told = self.explained('error cert line 2 cause 4', cert='F8CERT 1 2\n0000\n')
