@@ -1,5 +1,6 @@
 from __future__ import annotations
 
+import os
 import random
 import tempfile
 import unittest
@@ -37,6 +38,14 @@ class Describe(unittest.TestCase):
         self.assertEqual(done.text, 'format = 1\n\n# game.bin: 5 bytes from 0000 on, CRC-32 CC0F4489\n[[chip]]\nkind = "3851"\n'
                                     'base = 0x0000\nports = 4\nrom = "2B90FE"\n')
         self.assertEqual((done.returncode, done.told), (0, ''))
+
+    def test_a_description_is_utf_8_whatever_the_output_takes(self):
+        name = os.fsdecode('spiél.bin'.encode())
+        (self.folder / name).write_bytes(b'\x2b')
+        for taken in ('ascii', 'latin-1'):
+            done = call('describe', name, cwd=self.folder, PYTHONUTF8='1', PYTHONIOENCODING=taken)
+            self.assertEqual((done.returncode, done.told), (0, ''))
+            self.assertIn('# spiél.bin: 1 bytes'.encode(), done.stdout)
 
     @needs_toml
     def test_bytes_come_out_again(self):
