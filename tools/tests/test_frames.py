@@ -51,6 +51,14 @@ class Frames(unittest.TestCase):
     def test_bytes_that_are_no_text_pass(self):
         self.assertEqual(call('frames', stdin=b'\xff\x00\nno line feed').stdout, b'\xff\x00\nno line feed')
 
+    def test_lines_may_end_with_carriage_return_and_line_feed(self):
+        with tempfile.TemporaryDirectory() as folder:
+            path = Path(folder) / 'run.txt'
+            path.write_bytes((frame(7, CORNER) + AFTER).replace('\n', '\r\n').encode())
+            self.assertEqual(call('frames', '--plain', path).text.splitlines()[:2], ['frame 7 phi 596600 tone 0', '_jg#'])
+            self.assertEqual(call('frames', '--png', folder, path).text, 'frame 7 phi 596600 tone 0\r\n' + AFTER.replace('\n', '\r\n'))
+            self.assertTrue((Path(folder) / 'frame-007.png').is_file())
+
     def test_frame_that_is_cut_off_loses_no_line(self):
         whole = frame()
         for cut in (whole[:40], whole[:1000], whole[:-1][:-130], whole.split('\n')[0] + '\n' + AFTER):
