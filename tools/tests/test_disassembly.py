@@ -61,15 +61,12 @@ class Disassembly(unittest.TestCase):
         self.assertNotIn(';', done.text)
         self.assertEqual(done.text.count('NOP'), 8000)
 
-    @needs_program
-    def test_nothing_comes_of_nothing(self):
-        done = call('disassembly', '-')
-        self.assertEqual((done.text, done.told, done.returncode), ('', '', 0))
-
     def test_refusals(self):
         for words, stdin, hint in ((['--at', '0', '-'], LOOP, 'leave out --at'), (['-'], '2B9', 'half a byte'),
                                    (['--at', 'FFFF', '-'], '2B90', 'past FFFF'), (['-'], 'error store file\n', 'is a refusal'),
-                                   (['no/such/file'], '', 'No such file')):
+                                   (['no/such/file'], '', 'No such file'), (['-'], '', 'no bytes'), (['-'], 'sym X 1\n', 'no bytes'),
+                                   (['-'], '0000 2B2B\n0001 2C\n', 'two bytes at 0001'), (['-'], f'0000 2B\nsym X {"1" * 5000}\n', 'X has 5000 digits'),
+                                   (['--program', 'x "y', '-'], '2B', 'no closing quotation')):
             done = call('disassembly', *words, stdin=stdin)
             self.assertEqual((done.text, done.returncode), ('', 1))
             self.assertIn(hint, done.told)
