@@ -1,5 +1,6 @@
 from __future__ import annotations
 
+import re
 import sys
 import tempfile
 import unittest
@@ -89,6 +90,27 @@ class Listing(unittest.TestCase):
         done = self.listed('', '--program', stub)
         self.assertEqual((done.text, done.returncode), ('error words\n', 1))
         self.assertEqual(self.listed('', '--program', 'no/such/program').returncode, 1)
+        done = self.listed('', '--program', 'x "y')
+        self.assertEqual((done.text, done.returncode), ('', 1))
+        self.assertRegex(done.told, r'^listing: .* no closing quotation\n$')
+
+    def test_the_program_is_called_a_few_times_at_most(self):
+        listing = tool.load('listing')
+
+        class Stub(listing.Assembler):
+            runs = 0
+
+            def text(self, text):
+                self.runs += 1
+                return listing.Image(names={name: 0 for name in re.findall(rb'^(_\d+):', text, re.M)})
+
+        stub, image = Stub([]), listing.Image()
+        nops = b' NOP\n' * 5000
+        listing.placed(nops + b';' + b'x' * 236_434 + b'\n', image, stub)
+        self.assertEqual(stub.runs, 50)
+        with self.assertRaisesRegex(ValueError, '261,437 bytes is too long for a listing: with 5,001 lines it may have 261,436$'):
+            listing.placed(nops + b';' + b'x' * 236_435 + b'\n', image, stub)
+        self.assertEqual(stub.runs, 50)
 
 
 if __name__ == '__main__':
