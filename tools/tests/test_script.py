@@ -97,15 +97,15 @@ class Script(unittest.TestCase):
         (self.top / name).write_text(text)
         return self.top / name
 
-    def start(self, *words: str, with_rt: bool = True) -> subprocess.Popen:
-        path = f'{self.top}/bin:{os.environ["PATH"]}' if with_rt else '/usr/bin:/bin'
+    def start(self, *words: str, with_rt: bool = True, path: str = '') -> subprocess.Popen:
+        path = path or (f'{self.top}/bin:{os.environ["PATH"]}' if with_rt else '/usr/bin:/bin')
         environment = {**os.environ, 'PATH': path, 'TMPDIR': str(self.top / 'temporary')}
         return subprocess.Popen([self.top / 'channel_f', *words], cwd=self.top, env=environment, text=True, stdin=subprocess.DEVNULL,
                                 stdout=subprocess.PIPE, stderr=subprocess.PIPE, start_new_session=True,
                                 preexec_fn=heed_signals)
 
-    def call(self, *words: str, with_rt: bool = True) -> subprocess.CompletedProcess:
-        process = self.start(*words, with_rt=with_rt)
+    def call(self, *words: str, with_rt: bool = True, path: str = '') -> subprocess.CompletedProcess:
+        process = self.start(*words, with_rt=with_rt, path=path)
         wrote, told = process.communicate(timeout=30)
         return subprocess.CompletedProcess(words, process.returncode, wrote, told)
 
@@ -194,6 +194,18 @@ class Script(unittest.TestCase):
         done = self.call('gen', '1', with_rt=False)
         self.assertEqual((done.returncode, done.stdout), (70, ''))
         self.assertIn('the Rattle kit that README.md names', done.stderr)
+
+    def test_a_missing_command_is_named(self):
+        for missing in ('rt', 'python3', 'flock'):
+            folder = self.top / f'without {missing}'
+            folder.mkdir()
+            for name in {'readlink', 'dirname', 'rt', 'python3', 'flock'} - {missing}:
+                (folder / name).symlink_to(shutil.which(name, path=f'{self.top}/bin:{os.environ["PATH"]}'))
+            done = self.call('gen', '1', path=str(folder))
+            self.assertEqual((done.returncode, done.stdout), (70, ''))
+            self.assertRegex(done.stderr, rf"^channel_f: the command {missing} isn't in the path: .*\n$")
+            self.assertFalse(self.out.exists())
+        self.assertEqual(self.calls(), [])
 
     def test_failed_build(self):
         self.put('refuse', '')
