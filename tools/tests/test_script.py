@@ -182,7 +182,8 @@ class Script(unittest.TestCase):
 
     def test_status_is_the_programs_and_is_said_in_words(self):
         self.call('gen', '1')
-        for status, word in ((1, '--help'), (2, 'error'), (3, 'stop'), (4, 'error store'), (5, 'output'), (6, 'memory'), (8, 'reserved')):
+        for status, word in ((1, '--help'), (2, 'error'), (3, 'stop'), (4, 'error store'), (5, 'output'), (6, 'memory'),
+                             (7, 'CHECKER'), (8, 'reserved'), (10, 'the words')):
             self.put('status', str(status))
             done = self.call('gen', '1')
             self.assertEqual((done.returncode, done.stdout), (status, 'gen 1\n'))
