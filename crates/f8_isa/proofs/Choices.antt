@@ -189,29 +189,3 @@ pub sample_alike : (op : Op) (phi : ℕ) (taken : Bool) →
     phi + clocks_of op taken - (if has_long_fetch (row_of op) then 6 else 4) ≡ phi + clocks_before_fetch op taken
 sample_alike op phi taken = omega (arith, fetch_among (row_of op) taken)
 
-long_or_less : (row : Row) (taken : Bool) → row ≢ Call → row_clocks row taken ≤ 24
-long_or_less Call taken other = absurd (other refl)
-long_or_less Branch true other = omega arith
-long_or_less Branch false other = omega arith
-long_or_less BranchIsar true other = omega arith
-long_or_less BranchIsar false other = omega arith
-long_or_less row taken other = omega arith
-
-not_call : (test : Bool) (r s : Row) → r ≢ Call → s ≢ Call → (if test then r else s) ≢ Call
-not_call true r s not_r not_s = not_r
-not_call false r s not_r not_s = not_s
-
-no_call : (op : Op) → is_shielding op ≡ false → row_of op ≢ Call
-no_call Pi other = cc
-no_call (Ins n) other = not_call (nat_lt n 2) Idle ShortIn (λ e. cc) (λ e. cc)
-no_call (Outs n) other = not_call (nat_lt n 2) Idle ShortOut (λ e. cc) (λ e. cc)
-no_call op other = λ e. cc
-
--- with the clocks of an interrupt they take 46 at most
-pub most_before_fetch : (op : Op) (taken : Bool) → is_shielding op ≡ false → clocks_before_fetch op taken ≤ 20
-most_before_fetch op taken other =
-    by (has_long_fetch (row_of op)) (row_clocks (row_of op) taken) (long_or_less (row_of op) taken (no_call op other))
-  where
-    by : (long : Bool) (clocks : ℕ) → clocks ≤ 24 → clocks - (if long then 6 else 4) ≤ 20
-    by true clocks most = omega arith
-    by false clocks most = omega arith

@@ -39,7 +39,8 @@ use Rattle.f8_isa.specs.Requests.{KnowsChain, first_requests, asking_place, plac
 use Rattle.chip_face.specs.Fitting.{IsChipList}
 use Rattle.f8_isa.proofs.RequestChains.{chain-written, chain-acknowledged, chain-first}
 use Rattle.f8_isa.proofs.Choices.{IsChosen, AreChosen, some_alike, first_alike, chosen_alike, open_end, vector_alike, requests_left, latch_left}
-use Rattle.f8_isa.proofs.Choices.{sample_alike, most_before_fetch}
+use Rattle.f8_isa.proofs.Choices.{sample_alike}
+use Rattle.f8_ops.proofs.ClockBounds.{most_before_fetch}
 use Rattle.f8_isa.specs.KeptMemory.{KeptMemory, IsFirstMemory}
 use Rattle.f8_isa.specs.KeptPorts.{AreFirstPorts}
 

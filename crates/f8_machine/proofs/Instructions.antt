@@ -17,6 +17,7 @@ use Rattle.cpu3850.specs.CpuPorts.{PortBytes, put_by, with_latch}
 use Rattle.cpu3850.proofs.PortLaws.{own_ports-after_instruction}
 use Rattle.f8_machine.proofs.PortEnds.{OwnLatch, port_gets, op_write}
 use Rattle.std.proofs.lemmas.List.{get_or-set_same}
+use Rattle.f8_ops.proofs.ClockBounds.{most_clocks, most_before_fetch}
 use Rattle.std.proofs.lemmas.Bool.{ltb-true}
 use Rattle.console_spec.specs.declared.PortWrite.{PortWrite}
 use Rattle.cpu3850.specs.OwnWrites.{own_ports, LeaveOwnPorts}
@@ -87,39 +88,11 @@ clocks_planned cpu op (Some socket) held =
     (planned_before_as found cpu.registers) + interrupt_clocks) held
     ∙ ap (λ (n : ℕ). n + interrupt_clocks) (clocks_before_are (row_of op) (is_taken op cpu.registers))
 
--- the clocks of a row before the last fetch
-abbrev clocks_in_row : Row → Bool → ℕ
-clocks_in_row row taken = row_clocks row taken - (if has_long_fetch row then 6 else 4)
-
 -- an instruction takes 26 Φ at most, and with an interrupt at its end 46
-row_few : (row : Row) (taken : Bool) → row_clocks row taken ≤ 26
-row_few Branch true = omega arith
-row_few Branch false = omega arith
-row_few BranchIsar true = omega arith
-row_few BranchIsar false = omega arith
-row_few row taken = omega arith
-
-port_few : (own : Bool) (there here : Row) (taken : Bool) → clocks_in_row there taken ≤ 20 →
-    clocks_in_row here taken ≤ 20 → clocks_in_row (if own then there else here) taken ≤ 20
-port_few true there here taken a b = a
-port_few false there here taken a b = b
-
-before_few : (op : Op) (taken : Bool) → is_shielding op ≡ false → clocks_in_row (row_of op) taken ≤ 20
-before_few Pi taken other = cc
-before_few (Bt t) true other = omega arith
-before_few (Bt t) false other = omega arith
-before_few (Bf t) true other = omega arith
-before_few (Bf t) false other = omega arith
-before_few Br7 true other = omega arith
-before_few Br7 false other = omega arith
-before_few (Ins n) taken other = port_few (nat_lt n 2) Idle ShortIn taken (omega arith) (omega arith)
-before_few (Outs n) taken other = port_few (nat_lt n 2) Idle ShortOut taken (omega arith) (omega arith)
-before_few op taken other = omega arith
-
 pub few_clocks : (op : Op) (taken : Bool) (chosen : Option ℕ) → IfSome chosen (λ socket. is_shielding op ≡ false) →
     clocks_by chosen op taken ≤ 46
-few_clocks op taken None unshielded = let few = row_few (row_of op) taken in omega (arith, few)
-few_clocks op taken (Some socket) unshielded = let few = before_few op taken unshielded in omega (arith, few)
+few_clocks op taken None unshielded = let few = most_clocks op taken in omega (arith, few)
+few_clocks op taken (Some socket) unshielded = let few = most_before_fetch op taken unshielded in omega (arith, few)
 
 -- the counters, from the probe's
 pub flow_before_fetch-fetched : (c : Flow) → AreAddresses c → flow_before_fetch (fetched c) ≡ c

@@ -7,10 +7,11 @@ use console_spec::Who;
 use romc_table::Romc;
 use std::marker::Model;
 
-/// The most bus steps of an instruction: four, and the five of an interrupt (this project's own, after the Fairchild F8 User's Guide).
+/// How many bus steps a record has room for: those of an instruction and of an interrupt at its end, which never are more (this
+/// project's own, after the Fairchild F8 User's Guide).
 pub const MOST_HEARD: usize = 9;
 
-/// The served bus steps of an instruction or of reset, at most nine, in order. Contracts see the list.
+/// The served bus steps of an instruction or of reset, in order. Contracts see the list.
 #[derive(Debug, Drop)]
 pub struct Record {
     items: [Heard; MOST_HEARD],

@@ -1,2 +1,3 @@
 pub mod OpcodeTable
 pub mod CodeTable
+pub mod ClockBounds

@@ -1,7 +1,8 @@
 // The instruction table: rows, lengths, clocks and shielding.
-ghost use Rattle.std.specs.Prelude.{◌≡◌, ◌+◌, Bool, false};
+ghost use Rattle.std.specs.Prelude.{◌≡◌, ◌≤◌, ◌+◌, Bool, false};
 ghost use Rattle.f8_spec.specs.Instructions.{row_of, row_clocks, length_of, clocks_of, clocks_before_fetch, is_shielding};
 ghost use Rattle.f8_spec.specs.MicroSteps.{clocks_along, interrupt_steps, reset_steps};
+ghost use Rattle.f8_spec.specs.declared.instructions.Op.{Op};
 
 use f8_spec::{Op, Row};
 
@@ -101,14 +102,17 @@ fn row_phi(row: Row, taken: bool) -> u8
     }
 }
 
-/// What the constants of clocks are: reset's and an interrupt's are those of their bus steps; `PI` takes the most clocks of an
-/// instruction, and `DCI` up to its last fetch, with an interrupt, the most of one that is interrupted. That no instruction takes more
-/// is shown where instructions run. This call does nothing; its contract is the law.
+/// What the constants of clocks are. Reset's and an interrupt's are those of their bus steps. No instruction takes more than `MOST_PHI`,
+/// which `PI` takes; and with an interrupt at its end none takes more than `MOST_INTERRUPTED_PHI`, which `DCI` takes. This call does
+/// nothing; its contract is the law.
 pub fn clocks_law()
     ensures reset { clocks_along reset_steps ≡ RESET_PHI }
     ensures interrupt { clocks_along interrupt_steps ≡ INTERRUPT_PHI }
-    ensures most { (taken : Bool) → clocks_of Op.Pi taken ≡ MOST_PHI }
-    ensures interrupted { clocks_before_fetch Op.Dci false + INTERRUPT_PHI ≡ MOST_INTERRUPTED_PHI }
+    ensures most { (op : Op) (taken : Bool) → clocks_of op taken ≤ MOST_PHI }
+    ensures reached { (taken : Bool) → clocks_of Op.Pi taken ≡ MOST_PHI }
+    ensures most_interrupted { (op : Op) (taken : Bool) → is_shielding op ≡ false →
+        clocks_before_fetch op taken + INTERRUPT_PHI ≤ MOST_INTERRUPTED_PHI }
+    ensures reached_interrupted { clocks_before_fetch Op.Dci false + INTERRUPT_PHI ≡ MOST_INTERRUPTED_PHI }
 {}
 
 /// No interrupt is taken at the end of the instruction: so at `PK`, `PI`, `POP`, `JMP`, `EI`, `LR W,J`, `OUT`, and `OUTS` of the
