@@ -99,7 +99,7 @@ fn answer_words<S: Store, K: Sink>(
 /// Where a run of `play` or `gen` began, each chip has heard its bus steps and has taken its key bytes and pulses, and nothing else. Where the
 /// sink failed at a line of the run, that is so up to the end of the instruction, or of the reset, whose line it was. The chips were put in all
 /// at most 512 questions for each, and the allowances of the bus steps that were tried (clause `says`). Where no run and no session began, and
-/// in every other command, they were put none.
+/// in every other command, they were put none. Each chip counts its questions up to the greatest `u64`, and the clause goes by these counts.
 #[tactic(auto, using(crate::proofs::Completeness::completed))]
 pub fn console<S: Store, K: Sink>(
     alloc: Global,
