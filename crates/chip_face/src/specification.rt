@@ -1,5 +1,5 @@
 // What a chip is fitted as.
-use super::{Bytes, PageList};
+use super::{Bytes, PageList, SMI_FIRST_PORT};
 use f8_spec::ChipKind;
 
 /// What a chip is fitted as (Mostek 3851 and 3853 data sheets; the pages of a 3853 are this project's own). A 3851 has 1,024 bytes
@@ -42,8 +42,8 @@ pub enum ChipSpec {
 }
 
 impl ChipSpec {
-    ghost use Rattle.std.specs.Prelude.{◌≡◌};
-    ghost use Rattle.chip_face.specs.Fitting.{kind_of};
+    ghost use Rattle.std.specs.Prelude.{◌≡◌, None};
+    ghost use Rattle.chip_face.specs.Fitting.{fitted, kind_of};
 
     /// The kind of chip that it is for.
     pub fn kind(&self) -> ChipKind
@@ -53,6 +53,27 @@ impl ChipSpec {
             ChipSpec::Blank(kind) => *kind,
             ChipSpec::Psu { .. } => ChipKind::Psu,
             ChipSpec::Smi { .. } => ChipKind::Smi,
+        }
+    }
+
+    /// The first of the four ports that the chip has, and none of a blank one.
+    pub fn first_port(&self) -> Option<u8>
+        ensures { result ≡ (fitted None self.now).ports }
+    {
+        match self {
+            ChipSpec::Blank(_) => None,
+            ChipSpec::Psu { ports, .. } => Some(*ports),
+            ChipSpec::Smi { .. } => Some(SMI_FIRST_PORT),
+        }
+    }
+
+    /// The chip can ask for an interrupt.
+    pub fn is_wired(&self) -> bool
+        ensures { result ≡ (fitted None self.now).wired }
+    {
+        match self {
+            ChipSpec::Blank(_) => false,
+            ChipSpec::Psu { wired, .. } | ChipSpec::Smi { wired, .. } => *wired,
         }
     }
 }

@@ -1,7 +1,7 @@
 -- What the instruction set keeps of the requests of each chip described, in place of all writes, acknowledgements and pulses and of a
 -- timer that runs. The rules of a request are this project's own.
 use Rattle.std.specs.Prelude.{ℕ, ◌≡◌, ◌+◌, ◌-◌, ◌/◌, ◌%◌, ◌<◌, ◌≢◌, Bool, true, false, ◌&&◌, ◌||◌, ◌==◌, nat_lt, nat_le, if◌then◌else◌}
-use Rattle.std.specs.Prelude.{AllPairs, List, [], ◌∷◌, map, position, slice_get, slice_set, slice_index, Option, Some, None}
+use Rattle.std.specs.Prelude.{AllPairs, List, [], ◌∷◌, map, position, slice_get, slice_set, slice_index, Option, Some, None, unwrap_or}
 use Rattle.f8_spec.specs.Words.{word}
 use Rattle.f8_spec.specs.ChipState.{has_fixed_vector, vector_under}
 use Rattle.f8_spec.specs.ShiftTimer.{cycle_period, timer_loaded, clocks_to_expiry, next_in_cycle}
@@ -10,22 +10,12 @@ use Rattle.console_spec.specs.Writes.{latch_of}
 use Rattle.console_spec.specs.InterruptRequests.{History, IsPast, time_of, last_load, last_write_time, has_expiry, has_mark}
 use Rattle.console_spec.specs.InterruptRequests.{control_port, timer_port, since_of, request_by}
 use Rattle.console_spec.specs.declared.PortWrite.{PortWrite}
+use Rattle.chip_face.specs.Fitting.{fitted}
 use Rattle.chip_face.specs.declared.specification.ChipSpec.{ChipSpec}
 use Rattle.chip_face.specs.declared.specification.ChipSpec.TheVariants.{Blank, Psu, Smi}
 use Rattle.f8_isa.specs.declared.requests.ChipRequests.{ChipRequests}
 
 -- ---- power-on
-
--- the first of a chip's four ports
-abbrev pub first_port_of : ChipSpec → ℕ
-first_port_of (Blank kind) = 0
-first_port_of (Psu base rom ports vector wired) = ports
-first_port_of (Smi pages rom wired) = 0x0C
-
-abbrev pub is_wired : ChipSpec → Bool
-is_wired (Blank kind) = false
-is_wired (Psu base rom ports vector wired) = wired
-is_wired (Smi pages rom wired) = wired
 
 -- the vector that is a part of the chip, and none where ports write it
 abbrev pub fixed_vector_of : ChipSpec → Option ℕ
@@ -35,8 +25,8 @@ fixed_vector_of (Smi pages rom wired) = None
 
 abbrev pub first_requests : ChipSpec → ChipRequests
 first_requests chip = record {
-  first_port = first_port_of chip;
-  wired = is_wired chip;
+  first_port = unwrap_or (fitted None chip).ports 0;
+  wired = (fitted None chip).wired;
   fixed_vector = fixed_vector_of chip;
   control = 0;
   since = 0;

@@ -1,7 +1,7 @@
 // What each chip described asks for, without a timer that runs.
 ghost use Rattle.std.specs.Prelude.{◌≡◌, ◌+◌, map};
 ghost use Rattle.f8_spec.specs.ShiftTimer.{clocks_to_expiry, timer_loaded};
-ghost use Rattle.f8_isa.specs.Requests.{first_port_of, is_wired, fixed_vector_of, expiries_up_to, expires_by, after_port_write};
+ghost use Rattle.f8_isa.specs.Requests.{fixed_vector_of, expiries_up_to, expires_by, after_port_write};
 
 use super::ports::Ports;
 use chip_face::{ChipList, ChipSpec, SMI_FIRST_PORT};
@@ -26,7 +26,7 @@ const PULSES: u8 = 1;
 /// What is kept of a chip's requests: what it asks for by its control, since when, and whether that has come. Times are in Φ since power-on.
 #[derive(Clone, Copy)]
 pub struct ChipRequests {
-    /// The first of its four ports.
+    /// The first of its four ports, and 0 of a blank chip.
     first_port: u8,
 
     /// The chip can interrupt.
@@ -64,8 +64,8 @@ impl ChipRequests {
         ensures { result ≡ first_requests chip.now }
     {
         ChipRequests {
-            first_port: first_port(chip),
-            wired: is_wired(chip),
+            first_port: chip.first_port().unwrap_or(0),
+            wired: chip.is_wired(),
             fixed_vector: fixed_vector(chip),
             control: 0,
             since: 0,
@@ -158,27 +158,6 @@ impl ChipRequests {
             pulsed: true,
             ..self
         }
-    }
-}
-
-/// The first of a chip's four ports.
-fn first_port(chip: &ChipSpec) -> u8
-    ensures { result ≡ first_port_of chip.now }
-{
-    match chip {
-        ChipSpec::Blank(_) => 0,
-        ChipSpec::Psu { ports, .. } => *ports,
-        ChipSpec::Smi { .. } => SMI_FIRST_PORT,
-    }
-}
-
-/// The chip can interrupt.
-fn is_wired(chip: &ChipSpec) -> bool
-    ensures { result ≡ is_wired chip.now }
-{
-    match chip {
-        ChipSpec::Blank(_) => false,
-        ChipSpec::Psu { wired, .. } | ChipSpec::Smi { wired, .. } => *wired,
     }
 }
 

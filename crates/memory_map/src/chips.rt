@@ -38,16 +38,6 @@ fn has_pages(chip: &ChipSpec, kind: ChipKind) -> bool
     }
 }
 
-/// A chip can interrupt.
-fn is_wired(chip: &ChipSpec) -> bool
-    ensures { result ≡ (fitted None chip.now).wired }
-{
-    match chip {
-        ChipSpec::Blank(_) => false,
-        ChipSpec::Psu { wired, .. } | ChipSpec::Smi { wired, .. } => *wired,
-    }
-}
-
 /// Some chip of a kind holds the page of a number.
 pub fn some_holds(chips: &[ChipSpec], kind: ChipKind, number: u8) -> bool
     requires { All IsSpec chips.now }
@@ -74,5 +64,5 @@ pub fn some_has_pages(chips: &[ChipSpec], kind: ChipKind) -> bool
 pub fn some_wired(chips: &[ChipSpec]) -> bool
     ensures { result ≡ list_any (λ chip. (fitted None chip).wired) chips.now }
 {
-    chips.iter().any(|chip| is_wired(chip))
+    chips.iter().any(|chip| chip.is_wired())
 }

@@ -6,7 +6,7 @@ ghost use Rattle.chip_face.specs.Fitting.{IsSpec, fitted};
 ghost use Rattle.memory_map.specs.MapOf.{seats_of};
 ghost use Rattle.memory_map.specs.MapPorts.{AreReaders, AreTakers};
 
-use chip_face::{ChipSpec, MOST_CHIPS, SMI_FIRST_PORT};
+use chip_face::{ChipSpec, MOST_CHIPS};
 
 /// A chip has a port as a data port. Of a 3851's four ports those are the first two; a 3853 has none.
 fn has_data_port(chip: &ChipSpec, port: u8) -> bool
@@ -24,10 +24,9 @@ fn has_port(chip: &ChipSpec, port: u8) -> bool
     requires { IsSpec chip.now }
     ensures { result ≡ seat_has_port (seat_of (fitted None chip.now)) port }
 {
-    match chip {
-        ChipSpec::Blank(_) => false,
-        ChipSpec::Psu { ports, .. } => port >= *ports && port - *ports < 4,
-        ChipSpec::Smi { .. } => port >= SMI_FIRST_PORT && port - SMI_FIRST_PORT < 4,
+    match chip.first_port() {
+        Some(first) => port >= first && port - first < 4,
+        None => false,
     }
 }
 
