@@ -5,18 +5,12 @@ ghost use Rattle.f8_spec.specs.BusCodes.{driver_of as driver_by_table};
 ghost use Rattle.f8_spec.specs.Instructions.{clocks_of, step_clocks};
 ghost use Rattle.cpu3850.specs.CpuSteps.{bus_step, listed};
 
-use f8_ops::{Op, Row, row_of};
+use f8_ops::{Op, Row, has_long_fetch, row_of, step_phi};
 use romc_table::{Driver, Romc, driver_of};
 use std::marker::Model;
 
 /// The steps of the longest list: four, and the last fetch.
 const MOST_STEPS: usize = 5;
-
-/// The clocks of a short step, in Φ.
-const SHORT: u8 = 4;
-
-/// The clocks of a long step, in Φ.
-const LONG: u8 = 6;
 
 /// A bus step as the CPU asks for it: its code, and whether it is a long one, of 6 Φ in place of 4 (Mostek 3850 data sheet).
 #[derive(Clone, Copy, Debug, PartialEq, Eq)]
@@ -201,14 +195,7 @@ fn clocks_of_steps(steps: &[Step]) -> u8
     ensures value { result ≡ sum_by (λ step. step_clocks step.long) steps.now }
     ensures most { result ≤ length steps.now * 6 }
 {
-    steps.iter().map(|step| clocks_of_step(step.long)).sum()
-}
-
-fn clocks_of_step(long: bool) -> u8
-    ensures value { result ≡ step_clocks long }
-    ensures most { result ≤ 6 }
-{
-    if long { LONG } else { SHORT }
+    steps.iter().map(|step| step_phi(step.long)).sum()
 }
 
 /// The bus steps of an instruction, the last of which fetches the next opcode. `taken` says that a branch is taken, and counts at
@@ -218,10 +205,9 @@ pub fn list(op: Op, taken: bool) -> Steps
     ensures clocks { sum_by (λ step. step_clocks step.long) result ≡ clocks_of op taken }
 {
     let row = row_of(op);
-    let long = matches!(row, Row::PlainLong);
     before_fetch(row, taken).then(Step {
         romc: Romc::FETCH,
-        long,
+        long: has_long_fetch(row),
         driver: Driver::Memory,
     })
 }

@@ -8,13 +8,14 @@ ghost use Rattle.data_bus.specs.Racks.{AllMayHear, RackSettles, SettlesStep};
 use super::ask::is_first;
 use super::{Cycle, Rack};
 use chip_face::{Chip, MOST_CHIPS};
+use f8_spec::{LONG_STEP_PHI, SHORT_STEP_PHI};
 use romc_table::Romc;
 
 /// The length of a step in Φ.
 fn clocks(long: bool) -> u8
     ensures { result ≡ step_clocks long }
 {
-    if long { 6 } else { 4 }
+    if long { LONG_STEP_PHI } else { SHORT_STEP_PHI }
 }
 
 /// The chip in a socket hears a served step: its code, its length, its byte, and whether it is the chip whose interrupt is acknowledged.

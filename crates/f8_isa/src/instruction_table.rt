@@ -2,7 +2,7 @@
 ghost use Rattle.std.specs.Prelude.{◌≡◌};
 ghost use Rattle.f8_isa.specs.InstructionRows.{IsTable, IsRow};
 
-use f8_ops::{Op, Row, decode, phi, row_of};
+use f8_ops::{Op, Row, decode, has_long_fetch, phi, row_of, step_phi};
 use std::marker::Model;
 
 /// An instruction, with what its opcode alone says of it: its row, and its clocks, in Φ, where no branch is taken and where one is.
@@ -24,7 +24,7 @@ impl Instruction {
         requires { IsInstruction self.now }
         ensures { result ≡ fetch_clocks (row_of self.now.op) }
     {
-        if self.row == Row::PlainLong { 6 } else { 4 }
+        u64::from(step_phi(has_long_fetch(self.row)))
     }
 
     fn of(op: Op) -> Instruction

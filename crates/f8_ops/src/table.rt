@@ -1,10 +1,10 @@
 // The instruction table: rows, lengths, clocks and shielding.
-ghost use Rattle.std.specs.Prelude.{◌≡◌, ◌≤◌, ◌+◌, Bool, false};
-ghost use Rattle.f8_spec.specs.Instructions.{row_of, row_clocks, length_of, clocks_of, clocks_before_fetch, is_shielding};
+ghost use Rattle.std.specs.Prelude.{◌≡◌, ◌+◌, ◌≤◌, Bool, false};
+ghost use Rattle.f8_spec.specs.Instructions.{row_of, row_clocks, length_of, clocks_of, clocks_before_fetch, has_long_fetch, step_clocks, is_shielding};
 ghost use Rattle.f8_spec.specs.MicroSteps.{clocks_along, interrupt_steps, reset_steps};
 ghost use Rattle.f8_spec.specs.declared.instructions.Op.{Op};
 
-use f8_spec::{Op, Row};
+use f8_spec::{LONG_STEP_PHI, Op, Row, SHORT_STEP_PHI};
 
 /// The clocks of reset, in Φ: those of its three bus steps, 4, 6 and 4 (this project's own, after the Fairchild F8 User's Guide).
 pub const RESET_PHI: u64 = 14;
@@ -66,6 +66,23 @@ pub fn length(op: Op) -> u8
     }
 }
 
+/// The clocks of a bus step, in Φ, by whether it is a long one.
+#[inline]
+pub fn step_phi(long: bool) -> u8
+    ensures value { result ≡ step_clocks long }
+    ensures most { result ≤ 6 }
+{
+    if long { LONG_STEP_PHI } else { SHORT_STEP_PHI }
+}
+
+/// The last fetch of an instruction in the row, that of the next opcode, is a long step.
+#[inline]
+pub fn has_long_fetch(row: Row) -> bool
+    ensures { result ≡ has_long_fetch row }
+{
+    row == Row::PlainLong
+}
+
 /// The clocks of an instruction, in Φ, the fetch of the next opcode counted: the sum over its bus steps, whose lists are this
 /// project's own, after the Fairchild F8 User's Guide. `taken` says that a branch is taken, and counts at `BT`, `BF` and `BR7`
 /// alone.
@@ -79,8 +96,8 @@ fn row_phi(row: Row, taken: bool) -> u8
     ensures { result ≡ row_clocks row taken }
 {
     match row {
-        Row::Plain => 4,
-        Row::PlainLong => 6,
+        Row::Plain => SHORT_STEP_PHI,
+        Row::PlainLong => LONG_STEP_PHI,
         Row::Idle | Row::Return | Row::Exchange => 8,
         Row::ReadData | Row::StoreData | Row::Immediate | Row::AddData => 10,
         Row::BranchIsar => if taken { 10 } else { 8 },

@@ -1,4 +1,10 @@
-// A bus step: who drives its byte, what comes of it, and the counters.
+// A bus step: its length, who drives its byte, what comes of it, and the counters.
+/// The clocks of a short bus step, in Φ (Mostek 3850 data sheet).
+pub const SHORT_STEP_PHI: u8 = 4;
+
+/// The clocks of a long bus step, in Φ (Mostek 3850 data sheet).
+pub const LONG_STEP_PHI: u8 = 6;
+
 /// Who puts the byte of a bus step on the data bus (Mostek 3850, 3851 and 3853 data sheets, ROMC states).
 #[derive(Clone, Copy, Debug, PartialEq, Eq)]
 pub enum Driver {
