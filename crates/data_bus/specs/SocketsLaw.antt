@@ -1,4 +1,4 @@
--- The chips that a fault names come by ascending sockets, and the one that stands by is in the lowest socket of those that do.
+-- The chips that drive or take come by ascending sockets, and so do those that stand by.
 use Rattle.std.specs.Prelude.{ℕ, ◌+◌, ◌≤◌, List, [], ◌∷◌}
 use Rattle.std.specs.List.{enumerate_from}
 use Rattle.f8_spec.specs.BusArbitration.{PlacedSeat, parties, bystanders}

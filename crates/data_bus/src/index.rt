@@ -2,11 +2,12 @@
 ghost use Rattle.std.specs.Prelude.{◌≡◌, ◌≤◌, List, length, map, true};
 ghost use Rattle.f8_spec.specs.BusArbitration.{Seat};
 ghost use Rattle.f8_spec.specs.BusCodes.{counter_of as counter_by_table};
-ghost use Rattle.data_bus.specs.KnownAgreement.{knows, no_marks};
+ghost use Rattle.probe.specs.ProbeState.{ProbeState};
+ghost use Rattle.data_bus.specs.KnownAgreement.{AllAddresses, knows, no_marks};
 ghost use Rattle.data_bus.specs.KnownPlaces.{goes_by_counter};
-ghost use Rattle.data_bus.specs.PageIndex.{IsIndexOf, Lists, followed, holding, seats};
+ghost use Rattle.data_bus.specs.PageIndex.{IsIndexOf, Lists, StandsFor, followed, holding, seats};
 ghost use Rattle.data_bus.specs.Questions.{AskedAtMost};
-ghost use Rattle.data_bus.specs.Racks.{NumberedZip};
+ghost use Rattle.data_bus.specs.Racks.{NumberedZip, views};
 
 use super::Rack;
 use super::marks::Marks;
@@ -32,11 +33,14 @@ pub struct Index {
 }
 
 impl Index {
-    /// The index of a rack of at most 16 chips. Nothing is known to agree. It puts at most 512 questions to each chip.
+    /// The index of a rack of at most 16 chips. Nothing is known to agree, so it stands for the rack and any probe, if the chips'
+    /// counters are addresses. It puts at most 512 questions to each chip.
     pub fn of(rack: &mut Rack) -> Index
         requires { length rack.old.items ≤ MOST_CHIPS }
         ensures lists { IsIndexOf result (seats (map state rack.old.items)) }
         ensures marks { result.marks ≡ no_marks }
+        ensures stands { (probe : ProbeState) → AllAddresses (views (map state rack.old.items)) →
+            StandsFor result probe (map state rack.new.items) }
         ensures stays { map state rack.new.items ≡ map state rack.old.items }
         ensures asked { NumberedZip (AskedAtMost 512) 0 (map queries rack.old.items)
             (map queries rack.new.items) }

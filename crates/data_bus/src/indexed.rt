@@ -1,15 +1,12 @@
 // A bus step by the index of a rack.
 ghost use Rattle.std.specs.Prelude.{◌≡◌, ◌+◌, ◌<◌, ◌≤◌, length, map, sum_by, IfOk, IfSome, OnErr, is_some};
 ghost use Rattle.f8_spec.specs.BusArbitration.{rule_of as rule_by_table};
-ghost use Rattle.f8_spec.specs.BusCodes.{counter_of as counter_by_table};
 ghost use Rattle.probe.specs.ProbeState.{probe_after};
-ghost use Rattle.data_bus.specs.Allowances.{allowance_by};
 ghost use Rattle.data_bus.specs.KnownAgreement.{knows};
 ghost use Rattle.data_bus.specs.KnownSteps.{tells_served};
 ghost use Rattle.data_bus.specs.PageIndex.{StandsFor, allowance, followed};
-ghost use Rattle.data_bus.specs.Polling.{no_poll, polled};
 ghost use Rattle.data_bus.specs.Questions.{AskedBy};
-ghost use Rattle.data_bus.specs.Racks.{AllMayHear, ChosenAsks, NumberedZip, RackSettles, RackStays, views};
+ghost use Rattle.data_bus.specs.Racks.{ChosenAsks, NumberedZip, RackSettles, RackStays};
 ghost use Rattle.data_bus.specs.Steps.{step_answer};
 
 use super::decide::{decide, served};

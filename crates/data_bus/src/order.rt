@@ -9,7 +9,7 @@ pub fn order_law()
     ensures { OrderLaw }
 {}
 
-/// The chips that a fault names come by ascending sockets, and the one that is told as standing by is in the lowest socket of those that do.
+/// The chips that drive or take come by ascending sockets, and so do those that stand by, of which the rule tells the first.
 /// This call does nothing; its contract is the law.
 pub fn sockets_law()
     ensures { SocketsLaw }

@@ -1,5 +1,5 @@
 // One pass over the chips of a rack, and what it gathers.
-ghost use Rattle.std.specs.Prelude.{◌≡◌, ◌+◌, ◌<◌, ◌≤◌, [], ◌∷◌, false, None, length, map, sum_by};
+ghost use Rattle.std.specs.Prelude.{◌≡◌, ◌+◌, ◌<◌, ◌≤◌, false, None, length, map, sum_by};
 ghost use Rattle.data_bus.specs.Allowances.{allowance_by};
 ghost use Rattle.data_bus.specs.Questions.{AskedBy};
 ghost use Rattle.data_bus.specs.Racks.{AllMayHear, NumberedZip, views};

@@ -32,24 +32,12 @@ use Rattle.f8_machine.proofs.FirstViews.{seat_of-powered}
 
 -- ---- power-on
 
-nothing_known : (reference : Count) (vs : List ChipView) → AllAgree no_marks reference vs
-nothing_known reference [] = tt
-nothing_known reference (v ∷ vs) = (
-  λ held. record {
-    pc0 = record { low = λ e. cc; high = λ e. cc };
-    pc1 = record { low = λ e. cc; high = λ e. cc };
-    dc0 = record { low = λ e. cc; high = λ e. cc };
-    dc1 = λ second. record { low = λ e. cc; high = λ e. cc };
-  },
-  nothing_known reference vs,
-)
-
 start_addresses : (kind : ChipKind) (fill socket : ℕ) (own : Count) →
     AreAddresses (if has_counters kind then count_at (power_start fill socket) else own)
 start_addresses Psu fill socket own = record { pc0 = omega arith; pc1 = omega arith; dc0 = omega arith; dc1 = omega arith }
 start_addresses Smi fill socket own = record { pc0 = omega arith; pc1 = omega arith; dc0 = omega arith; dc1 = omega arith }
 
-powered_addresses : (fill n : ℕ) (olds news : List ChipState) → NumberedZip (PowersInSocket fill) n olds news → AllAddresses (views news)
+pub powered_addresses : (fill n : ℕ) (olds news : List ChipState) → NumberedZip (PowersInSocket fill) n olds news → AllAddresses (views news)
 powered_addresses fill n [] [] powers = tt
 powered_addresses fill n [] (new ∷ news) powers = absurd powers
 powered_addresses fill n (old ∷ olds) [] powers = absurd powers
@@ -57,15 +45,6 @@ powered_addresses fill n (old ∷ olds) (new ∷ news) powers = (
   subst (λ (v : ChipView). AreAddresses v.counters) (sym powers.0.view) (start_addresses old.view.kind fill n old.view.counters),
   powered_addresses fill (n + 1) olds news powers.1,
 )
-
-pub power_fits : (fill : ℕ) (index : Index) (probe : ProbeState) (olds mids news : List ChipState) → news ≡ mids →
-    IsIndexOf index (seats mids) → index.marks ≡ no_marks → RackPowers fill olds mids → StandsFor index probe news
-power_fits fill index probe olds mids news same lists unknown powers =
-    subst (λ (states : List ChipState). StandsFor index probe states) (sym same) (record {
-      lists = lists;
-      marks = subst (λ (marks : Marks). AllAgree marks probe.count (views mids)) (sym unknown) (nothing_known probe.count (views mids));
-      addresses = powered_addresses fill 0 olds mids powers;
-    })
 
 powered_seats : (fill n : ℕ) (olds news : List ChipState) → NumberedZip (PowersInSocket fill) n olds news → seats news ≡ seats olds
 powered_seats fill n [] [] powers = refl

@@ -7,6 +7,7 @@ use Rattle.f8_spec.specs.BusArbitration.{Seat}
 use Rattle.f8_spec.specs.declared.bus.BusRule.TheVariants.{Read, Store}
 use Rattle.data_bus.specs.PageIndex.{Lists, holding, seats}
 use Rattle.data_bus.specs.Surveys.{parts_at}
+use Rattle.data_bus.proofs.Standing.{stands-unmarked}
 use Rattle.data_bus.proofs.Indexing.{lists-more, any-parts-more, any-parts-none, asked-nothing, asked-page, parts_below}
 use Rattle.data_bus.proofs.index.Index.of.Goals as goal
 
@@ -60,3 +61,7 @@ returns-clause-lists g c =
       parted = subst (λ (n : ℕ). c.loop-page.is_parted ≡ list_any (parts_below n)
           (seats (map (λ b. (goal.Chip-dyn g (b.vtable, b.value)).state b.value) c.args.rack.now.items))) whole c.loop-page.invariant.parted;
     }
+
+pub returns-clause-stands : goal.returns-clause-stands
+returns-clause-stands g c =
+    λ probe small. stands-unmarked _ probe _ _ c.loop-page.invariant.stays (returns-clause-lists g c) c.none.ensures small

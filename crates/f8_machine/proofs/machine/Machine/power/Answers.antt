@@ -1,6 +1,6 @@
 -- Power-on makes the position of power-on.
 use Rattle.std.proofs.Common.{◌<◌, rules}
-use Rattle.f8_machine.proofs.FitMachines.{power_fits, power_parted}
+use Rattle.f8_machine.proofs.FitMachines.{powered_addresses, power_parted}
 use Rattle.f8_machine.proofs.PowerPositions.{powers_pair}
 use Rattle.f8_machine.proofs.machine.Machine.power.Goals as goal
 
@@ -13,8 +13,7 @@ returns-clause-pair g c = λ whole free.
 
 pub returns-clause-fits : goal.returns-clause-fits
 returns-clause-fits g c =
-    power_fits c.args.fill c.of-index.result _ _ _ _ c.of-index.ensures.stays c.of-index.ensures.lists c.of-index.ensures.marks
-    c.power_all.ensures.powered
+    c.of-index.ensures.stands _ (powered_addresses c.args.fill 0 _ _ c.power_all.ensures.powered)
 
 pub returns-clause-parted : goal.returns-clause-parted
 returns-clause-parted g c =
