@@ -13,13 +13,11 @@ pub(crate) struct Worklist {
 }
 
 impl Worklist {
-    ghost use Rattle.std.specs.Prelude.{◌≡◌, ◌≤◌, List, ℕ, OnOk, IfErr, length};
-    ghost use Rattle.abs_domain.specs.AbstractState.{AbstractState};
+    ghost use Rattle.std.specs.Prelude.{◌≤◌, OnOk, IfErr, length};
     ghost use Rattle.abs_domain.specs.StateView.{state_of};
     ghost use Rattle.abs_domain.specs.PointOrder.{point_cmp};
     ghost use Rattle.abs_domain.specs.Joins.{is_state_below, joined_state};
     ghost use Rattle.abs_domain.specs.declared.points.Point.{Point};
-    ghost use Rattle.abs_step.specs.Analysis.{Analysis};
     ghost use Rattle.cart_checker.specs.Worklists.{Wrote, Added};
     ghost use Rattle.cart_checker.specs.WorkView.{work_of, AddHalts};
 

@@ -1,5 +1,5 @@
 // The commands of some lines.
-ghost use Rattle.std.specs.Prelude.{◌≡◌, ◌<◌, ◌≤◌, [], ◌∷◌, length};
+ghost use Rattle.std.specs.Prelude.{◌≡◌, ◌<◌, ◌≤◌, [], length};
 ghost use Rattle.text_lines.specs.ReadErrors.{OnMemory, StepsTo};
 ghost use Rattle.chip_debug.specs.Commands.{line_of as spelled_line};
 ghost use Rattle.chip_debug.specs.Limits.{IsCommand};

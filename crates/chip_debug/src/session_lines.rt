@@ -1,5 +1,5 @@
 // The lines of a session (this project's own), each on a buffer of its own.
-ghost use Rattle.std.specs.Prelude.{◌≡◌, ◌≤◌, ◌+◌, ◌++◌, ◌∷◌, [], length, map};
+ghost use Rattle.std.specs.Prelude.{◌≡◌, ◌≤◌, ◌+◌, ◌++◌, length, map};
 ghost use Rattle.data_bus.specs.Racks.{views};
 ghost use Rattle.chip_debug.specs.Carried.{bytes_held};
 ghost use Rattle.chip_debug.specs.DebugText.{ready_line as spelled_ready, ran_line as spelled_ran, break_line as spelled_break, second_text, counters_text, chip_line as spelled_chip, probe_line as spelled_probe, byte_text, mem_line as spelled_mem};

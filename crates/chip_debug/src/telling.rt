@@ -1,5 +1,5 @@
 // What a session tells. Each line is one put.
-ghost use Rattle.std.specs.Prelude.{◌≡◌, ◌≤◌, ◌<◌, ◌∷◌, [], length, map, option_map, slice_get, Some};
+ghost use Rattle.std.specs.Prelude.{◌≡◌, ◌≤◌, ◌<◌, ◌∷◌, length, map, option_map, slice_get, Some};
 ghost use Rattle.f8_spec.specs.ChipState.{ChipState, told_counters};
 ghost use Rattle.console_spec.specs.RunText.{stop_line, text_of};
 ghost use Rattle.data_bus.specs.Racks.{views};

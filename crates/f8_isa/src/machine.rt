@@ -63,8 +63,8 @@ impl Isa {
     ghost use Rattle.f8_isa.specs.Counters.{flow_of};
     ghost use Rattle.f8_isa.specs.InstructionRows.{IsInstruction};
     ghost use Rattle.f8_isa.specs.Ports.{clocked, value_read, with_key_byte};
-    ghost use Rattle.f8_isa.specs.Requests.{asking_place, pulse_at_place, place_vector};
-    ghost use Rattle.f8_isa.specs.IsaState.{state_of, kept_inputs, kept_write, isa_after, phi_after};
+    ghost use Rattle.f8_isa.specs.Requests.{asking_place, pulse_at_place};
+    ghost use Rattle.f8_isa.specs.IsaState.{state_of, kept_inputs, kept_write, isa_after};
     ghost use Rattle.f8_isa.specs.IsaState.{sample_time, chosen_place, with_interrupt, finished, VectorFits};
     ghost use Rattle.f8_isa.specs.IsaState.{GoesTo, TellsInterrupt, StopsBy, StandsAt, InReach, TakesKey, TakesPulse, TakesEarlyPulse};
 

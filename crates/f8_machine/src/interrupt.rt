@@ -1,9 +1,7 @@
 //! The bus steps of an interrupt (Fairchild F8 User's Guide; the list is this project's own).
 ghost use Rattle.std.specs.Prelude.{◌≡◌, ◌<◌, ◌≤◌, ◌+◌, ◌-◌, false, Some, length, map, sum_by, IfSome};
 ghost use Rattle.f8_spec.specs.BusArbitration.{rule_of};
-ghost use Rattle.f8_spec.specs.MicroSteps.{NoByte, Opcode, VectorHigh, VectorLow, long_step, short_step};
 ghost use Rattle.console_spec.specs.BusTrace.{is_access};
-ghost use Rattle.cpu3850.specs.CpuSteps.{bus_step as step_of};
 ghost use Rattle.data_bus.specs.PageIndex.{StandsFor};
 ghost use Rattle.data_bus.specs.Racks.{ChosenAsks, NamesAsking};
 ghost use Rattle.f8_machine.specs.BusSteps.{IsServedBy};

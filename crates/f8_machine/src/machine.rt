@@ -58,20 +58,18 @@ impl Model for Machine {
 }
 
 impl Machine {
-    ghost use Rattle.std.specs.Prelude.{◌≡◌, ◌≤◌, ◌<◌, ◌+◌, ◌^◌, [], length, map, sum_by, slice_get, IsSome};
-    ghost use Rattle.f8_spec.specs.Instructions.{decoded};
+    ghost use Rattle.std.specs.Prelude.{◌≡◌, ◌≤◌, ◌<◌, ◌+◌, ◌^◌, [], length, map, sum_by, slice_get};
     ghost use Rattle.f8_spec.specs.BusArbitration.{seat_of};
     ghost use Rattle.cpu3850.specs.OwnWrites.{LeaveOwnPorts};
     ghost use Rattle.console_spec.specs.Processor.{told_regs};
     ghost use Rattle.console_spec.specs.Run.{Position, power_position};
-    ghost use Rattle.cpu3850.specs.CpuSteps.{planned};
     ghost use Rattle.probe.specs.ProbeState.{probe_counters};
     ghost use Rattle.std.specs.List.{list_any};
     ghost use Rattle.data_bus.specs.KnownAgreement.{no_marks, parts};
     ghost use Rattle.data_bus.specs.PageIndex.{seats};
     ghost use Rattle.data_bus.specs.Questions.{AskedAtMost};
     ghost use Rattle.data_bus.specs.Racks.{NumberedZip, views};
-    ghost use Rattle.f8_machine.specs.Fitting.{Fits, tried, tried_in};
+    ghost use Rattle.f8_machine.specs.Fitting.{Fits, tried};
     ghost use Rattle.f8_machine.specs.Questions.{allowances};
     ghost use Rattle.f8_machine.specs.MachineState.{IsReset, powered_machine};
     ghost use Rattle.f8_machine.specs.Refinement.{AreWhole, Represents, IsPowered, ResetRefines};

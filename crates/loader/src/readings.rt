@@ -1,5 +1,5 @@
 // What is read of the bytes of a file.
-ghost use Rattle.std.specs.Prelude.{◌≡◌, ◌≤◌, IfOk, length};
+ghost use Rattle.std.specs.Prelude.{◌≤◌, IfOk, length};
 ghost use Rattle.toml.specs.View.{table_view};
 ghost use Rattle.cartridge.specs.Filling.{IsPlan};
 ghost use Rattle.cartridge.specs.Rooms.{LiesIn};

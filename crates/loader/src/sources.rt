@@ -4,7 +4,7 @@ ghost use Rattle.cartridge.specs.Filling.{filled_plan};
 ghost use Rattle.cartridge.specs.Rooms.{LiesIn};
 ghost use Rattle.cartridge.specs.Carts.{wants_image};
 ghost use Rattle.loader.specs.Games.{image_for, filled_at, filled_up_to, planned_cart};
-ghost use Rattle.loader.specs.Works.{Works, RefusesFrom, outcome_as};
+ghost use Rattle.loader.specs.Works.{Works, RefusesFrom};
 
 use super::fetching::fetch;
 use super::purposes::Purpose;

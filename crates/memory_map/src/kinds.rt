@@ -13,7 +13,7 @@ pub struct KindPages {
 }
 
 impl KindPages {
-    ghost use Rattle.std.specs.Prelude.{◌≡◌, All};
+    ghost use Rattle.std.specs.Prelude.{All};
     ghost use Rattle.chip_face.specs.Fitting.{IsSpec};
     ghost use Rattle.memory_map.specs.KindTables.{AreKindPages};
 

@@ -1,5 +1,5 @@
 // A run on the flat instruction set alone.
-ghost use Rattle.std.specs.Prelude.{◌≡◌, ◌≤◌, ◌+◌, IfOk, IfErr};
+ghost use Rattle.std.specs.Prelude.{◌≤◌, IfOk, IfErr};
 ghost use Rattle.console_spec.specs.Run.{power_position, chain_in_order, position_after_reset};
 ghost use Rattle.f8_isa.specs.IsaState.{StandsAt};
 ghost use Rattle.memory_map.specs.MapOf.{views_of};
@@ -26,11 +26,8 @@ use std::alloc::Global;
 use thiserror::Error;
 
 impl Player for Isa {
-    ghost use Rattle.std.specs.Prelude.{◌≡◌, ℕ, List};
-    ghost use Rattle.f8_spec.specs.ChipState.{ChipState};
-    ghost use Rattle.console_spec.specs.Run.{Position};
     ghost use Rattle.console_spec.specs.Telling.{on_flat};
-    ghost use Rattle.f8_isa.specs.IsaState.{IsaState, StandsAt};
+    ghost use Rattle.f8_isa.specs.IsaState.{StandsAt};
     ghost use Rattle.rack_run.specs.Machines.{BeginsAt, flat_readout, flat_reads};
 
     ghost most_chips = { 0 };

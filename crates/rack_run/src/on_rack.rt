@@ -1,5 +1,5 @@
 // A run on a rack of chips.
-ghost use Rattle.std.specs.Prelude.{◌≡◌, ◌≤◌, ◌+◌, length, map, sum_by, IfOk, OnOk, OnErr};
+ghost use Rattle.std.specs.Prelude.{◌≡◌, ◌≤◌, length, map, sum_by, IfOk, OnOk, OnErr};
 ghost use Rattle.f8_spec.specs.BusArbitration.{seat_of};
 ghost use Rattle.console_spec.specs.Telling.{code_of as told_code};
 ghost use Rattle.cpu3850.specs.OwnWrites.{LeaveOwnPorts};
@@ -56,13 +56,11 @@ fn tell_outcome<K: Sink>(sink: &mut K, detail: Detail, outcome: &Outcome) -> Res
 }
 
 impl Player for Machine {
-    ghost use Rattle.std.specs.Prelude.{◌≡◌, ℕ, List};
+    ghost use Rattle.std.specs.Prelude.{◌≡◌};
     ghost use Rattle.chip_face.specs.declared.sizes.TheConstants.{MOST_CHIPS};
-    ghost use Rattle.f8_spec.specs.ChipState.{ChipState};
-    ghost use Rattle.console_spec.specs.Run.{Position};
     ghost use Rattle.console_spec.specs.Telling.{on_rack};
     ghost use Rattle.f8_machine.specs.Fitting.{Fits};
-    ghost use Rattle.f8_machine.specs.MachineState.{MachineState, IsReset};
+    ghost use Rattle.f8_machine.specs.MachineState.{IsReset};
     ghost use Rattle.f8_machine.specs.Questions.{allowances};
     ghost use Rattle.f8_machine.specs.Refinement.{IsPowered, Represents};
     ghost use Rattle.rack_run.specs.Machines.{machine_readout, machine_reads};

@@ -1,5 +1,5 @@
 // What is told of a run on its way. Each line is one put.
-ghost use Rattle.std.specs.Prelude.{◌≡◌, ◌≤◌, ◌<◌, ◌+◌, ◌^◌, [], ◌∷◌, ◌++◌, List, map, option_map, IfOk};
+ghost use Rattle.std.specs.Prelude.{◌≡◌, ◌≤◌, ◌<◌, ◌+◌, ◌^◌, [], ◌∷◌, ◌++◌, List, map, IfOk};
 ghost use Rattle.console_spec.specs.Processor.{with_write};
 ghost use Rattle.console_spec.specs.Run.{Position, Goes};
 ghost use Rattle.console_spec.specs.RunText.{frame_lines, text_of};

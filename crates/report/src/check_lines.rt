@@ -1,5 +1,5 @@
 // The lines of the verdict on a cartridge and on a certificate.
-ghost use Rattle.std.specs.Prelude.{◌≡◌, ◌+◌, ◌≤◌, ◌++◌, List, Option, ℕ, length};
+ghost use Rattle.std.specs.Prelude.{◌≡◌, ◌+◌, ◌≤◌, ◌++◌, Option, length};
 ghost use Rattle.report.specs.CheckLines.{return_text, value_text, values_text, point_text};
 ghost use Rattle.report.specs.CheckLines.{whole_line as spelled_whole, agreed_line as spelled_agreed};
 ghost use Rattle.report.specs.CheckLines.{refused_line as spelled_refused, toomany_line as spelled_toomany};
