@@ -27,6 +27,3 @@ pub use laws::{
 };
 pub use step::{Unsafe, after, start};
 pub use succs::Succs;
-
-#[cfg(test)]
-mod tests;

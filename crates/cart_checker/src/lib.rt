@@ -9,6 +9,3 @@ mod worklist;
 
 pub use check::check_cart;
 pub use verdict::Verdict;
-
-#[cfg(test)]
-mod tests;

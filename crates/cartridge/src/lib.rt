@@ -22,6 +22,3 @@ pub use keys::Key;
 pub use plan::{Plan, read_cart};
 pub use refusal::{CartAnswer, CartCause, CartFault};
 pub use split::Split;
-
-#[cfg(test)]
-mod tests;

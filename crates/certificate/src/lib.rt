@@ -16,6 +16,3 @@ pub use examined::{VerifyAnswer, verify};
 pub use laws::{closed_map_law, round_trip_law};
 pub use read::read_cert;
 pub use write::write_cert;
-
-#[cfg(test)]
-mod tests;

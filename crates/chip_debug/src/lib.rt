@@ -19,6 +19,3 @@ pub use command::Command;
 pub use command_list::CommandList;
 pub use read::read_commands;
 pub use session::Session;
-
-#[cfg(test)]
-mod tests;

@@ -18,6 +18,3 @@ mod seed;
 pub use asked::Command;
 pub use f8_spec::Memory;
 pub use read::read_words;
-
-#[cfg(test)]
-mod tests;

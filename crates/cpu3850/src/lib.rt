@@ -17,6 +17,3 @@ pub use kept::Kept;
 pub use laws::{instruction_law, plan_law, port_law, restore_law};
 pub use romc_table::Romc;
 pub use steps::{Step, Steps, list};
-
-#[cfg(test)]
-mod tests;

@@ -15,6 +15,3 @@ pub use console_spec::Regs;
 pub use f8_ops::Reserved;
 pub use f8_spec::Memory;
 pub use machine::{Done, Isa};
-
-#[cfg(test)]
-mod tests;

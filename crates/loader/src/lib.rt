@@ -17,6 +17,3 @@ pub use games::{Debugging, Game};
 pub use loading::{load_bytes, load_cart, load_claim, load_debugging, load_game, load_image};
 pub use purposes::Purpose;
 pub use refusals::{Refusal, Stop};
-
-#[cfg(test)]
-mod tests;

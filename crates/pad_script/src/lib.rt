@@ -16,6 +16,3 @@ pub use event_list::EventList;
 pub use read::read_script;
 pub use script::{At, End, Event, Script};
 pub use show_list::ShowList;
-
-#[cfg(test)]
-mod tests;

@@ -1,6 +1,6 @@
 // Worked instructions, step by step.
-use super::*;
-use romc_table::Driver;
+use cpu3850::{Cpu, Step, list};
+use romc_table::{Driver, Romc};
 use std::process::Abort;
 use std::test::Fail;
 

@@ -1,12 +1,11 @@
 // Certificates as texts: a worked one, each fault, a map that is written and read again; and what is found of some.
-ghost use Rattle.std.specs.Prelude.{◌≡◌, ◌≤◌, IfOk, false, length};
-ghost use Rattle.chip_face.specs.Fitting.{IsSpec, is_blank};
+ghost use Rattle.std.specs.Prelude.{◌≤◌, length};
 
-use super::*;
+use super::chips::lone_cart;
 use abs_domain::{Abs, Bit, Digit, Point, Val, Word};
 use abs_step::{Annotation, start};
-use cartridge::{Cart, Split};
-use chip_face::{Bytes, ChipList, ChipSpec};
+use cartridge::Split;
+use certificate::{CertAnswer, VerifyAnswer, read_cert, verify, write_cert};
 use std::alloc::Global;
 use std::collections::BTreeMap;
 use std::test::Fail;
@@ -121,35 +120,11 @@ fn reads_what_it_writes(rt: HostRuntime) -> Result<(), Fail> {
     Ok(())
 }
 
-/// A 3851 at address 0 with some bytes, and FF behind them.
-fn psu(alloc: Global, code: &[u8]) -> Result<ChipSpec, Fail>
-    requires { length code.now ≤ 16 }
-    ensures spec { IfOk result IsSpec }
-    ensures kept { IfOk result (λ chip. is_blank chip ≡ false) }
-{
-    let mut rom = [0xFF; 1024];
-    for (place, byte) in code.iter().enumerate() {
-        rom[place] = *byte;
-    }
-    Ok(ChipSpec::Psu {
-        base: 0x0000,
-        rom: Bytes::of(alloc, &rom)?,
-        ports: 0x04,
-        vector: 0x0000,
-        wired: false,
-    })
-}
-
-/// What is found of a certificate of such a chip alone, with no register tracked.
+/// What is found of a certificate of a 3851 with these bytes alone, with no register tracked.
 fn found(alloc: Global, code: &[u8], points: &[&[u8]]) -> Result<VerifyAnswer, Fail>
     requires { length code.now ≤ 16 }
 {
-    let mut chips = Vec::with_capacity(alloc, 1)?;
-    chips.push(psu(alloc, code)?)?;
-    let cart = Cart {
-        split: Split::new(),
-        chips: ChipList::from_vec(chips),
-    };
+    let cart = lone_cart(alloc, code)?;
     let first: &[u8] = if points.len() == 1 {
         b"F8CERT 1 1\n"
     } else {

@@ -2,9 +2,8 @@
 ghost use Rattle.std.specs.Prelude.{◌≡◌, ◌%◌, ◌≤◌, IfOk, false, length};
 ghost use Rattle.chip_face.specs.Fitting.{IsSpec, is_blank};
 
-use super::requests::Requests;
-use super::*;
 use chip_face::{Bytes, ChipList, ChipSpec, Page, PageList, PageSort};
+use f8_isa::{Done, Isa, PortWrite, Regs, Reserved};
 use memory_map::Map;
 use std::alloc::Global;
 use std::process::Abort;
@@ -353,45 +352,28 @@ fn interrupt_of_a_timer(rt: HostRuntime) -> Result<(), Fail> {
     Ok(())
 }
 
-// the place of the first chip that asks at each of these times
-fn asking(requests: &Requests, times: [u64; 2]) -> [Option<usize>; 2] {
-    [
-        requests.first_asking(times[0]),
-        requests.first_asking(times[1]),
-    ]
-}
-
-// what a 3851 with ports 4 to 7 asks for after a write at each of these clocks
-fn requests_after(alloc: Global, writes: &[(u64, u8, u8)]) -> Result<Requests, Fail> {
+// control 1: pulses at another chip and at no chip, and then one at the chip, whose interrupt leads to its vector with bit 7 set
+#[test]
+fn interrupt_of_a_pulse(rt: HostRuntime) -> Result<(), Fail> {
+    let alloc = rt.alloc();
+    let code = [0x71, 0xB6, 0x1B, 0x2B, 0x2B];
     let chips = listed(
         alloc,
-        psu_wired(alloc, 0x0000, &[], 0x0000, true)?,
+        psu_wired(alloc, 0x0000, &code, 0x0180, true)?,
         smi(alloc)?,
     )?;
-    let mut requests = Requests::new(alloc, &chips)?;
-    for &(phi, port, byte) in writes {
-        requests.take(Some(PortWrite { phi, port, byte }));
+    let mut isa = isa_of(alloc, &chips, 0x00)?;
+    for _ in 0..3 {
+        let _done = step(&rt, &mut isa)?;
     }
-    Ok(requests)
-}
-
-// control 3 at 30 Φ, and the timer loaded with 7F at 56 Φ: it expires 31 Φ later
-#[test]
-fn asks_from_the_expiry_on(rt: HostRuntime) -> Result<(), Fail> {
-    let requests = requests_after(rt.alloc(), &[(34, 6, 0x03), (60, 7, 0x7F)])?;
-    assert_eq!(rt; asking(&requests, [86, 87]), [None, Some(0)]);
-    Ok(())
-}
-
-// control 1 at 30 Φ: a pulse asks at once, at the chip that it is for
-#[test]
-fn asks_from_a_pulse_on(rt: HostRuntime) -> Result<(), Fail> {
-    let mut requests = requests_after(rt.alloc(), &[(34, 6, 0x01)])?;
-    requests.pulse(1);
-    requests.pulse(2);
-    assert_eq!(rt; asking(&requests, [34, 7000]), [None, None]);
-    requests.pulse(0);
-    assert_eq!(rt; asking(&requests, [34, 7000]), [Some(0), Some(0)]);
+    isa.pulse(1);
+    isa.pulse(2);
+    let done = step(&rt, &mut isa)?;
+    assert!(rt; !done.vectored);
+    isa.pulse(0);
+    let done = step(&rt, &mut isa)?;
+    assert!(rt; done.vectored);
+    assert_eq!(rt; counters(&isa.regs()), [0x0180, 0x0005, 0x0000, 0x0000]);
     Ok(())
 }
 

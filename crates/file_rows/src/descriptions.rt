@@ -1,5 +1,5 @@
 // Descriptions and what is answered to them.
-use super::*;
+use cartridge::{Cart, CartAnswer, Plan, read_cart};
 use chip_face::ChipSpec;
 use f8_asm::{Room, assemble};
 use std::alloc::Global;
@@ -118,7 +118,7 @@ fn plan_with_sources(alloc: Global) -> Result<Plan, Fail> {
 const LIMIT: usize = 1_000;
 
 /// Puts the image of a text into a chip.
-#[tactic(auto, using(crate::proofs::ImageRooms::room_for_image))]
+#[tactic(auto, using(cartridge::proofs::ImageRooms::room_for_image))]
 fn put(alloc: Global, plan: &mut Plan, chip: u8, text: &str) -> Result<(), Fail> {
     if text.len() > LIMIT {
         return Ok(());

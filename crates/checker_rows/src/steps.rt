@@ -1,49 +1,14 @@
 // Steps of small cartridges.
-ghost use Rattle.std.specs.Prelude.{◌≡◌, ◌≤◌, IfOk, None, false, length, replicate};
-ghost use Rattle.chip_face.specs.Fitting.{IsSpec, is_blank};
+ghost use Rattle.std.specs.Prelude.{◌≡◌, ◌≤◌, None, length, replicate};
 
-use super::*;
+use super::chips::{psu, smi};
 use abs_domain::{Bit, Point, Word};
+use abs_step::{Unsafe, after, start, whole};
 use cartridge::Split;
-use chip_face::{Bytes, ChipList, ChipSpec, Page, PageList, PageSort};
+use chip_face::ChipList;
 use memory_map::Map;
 use std::alloc::Global;
 use std::test::Fail;
-
-// a 3851 at address 0 with some bytes, and FF behind them
-fn psu(alloc: Global, code: &[u8]) -> Result<ChipSpec, Fail>
-    requires { length code.now ≤ 16 }
-    ensures spec { IfOk result IsSpec }
-    ensures kept { IfOk result (λ chip. is_blank chip ≡ false) }
-{
-    let mut rom = [0xFF; 1024];
-    for (place, byte) in code.iter().enumerate() {
-        rom[place] = *byte;
-    }
-    Ok(ChipSpec::Psu {
-        base: 0x0000,
-        rom: Bytes::of(alloc, &rom)?,
-        ports: 0x04,
-        vector: 0x0000,
-        wired: false,
-    })
-}
-
-// a 3853 with a RAM page at 28
-fn smi(alloc: Global) -> Result<ChipSpec, Fail>
-    ensures spec { IfOk result IsSpec }
-    ensures kept { IfOk result (λ chip. is_blank chip ≡ false) }
-{
-    let pages = [Page {
-        number: 0x28,
-        sort: PageSort::Ram,
-    }];
-    Ok(ChipSpec::Smi {
-        pages: PageList::of(alloc, &pages)?,
-        rom: Bytes::of(alloc, &[])?,
-        wired: false,
-    })
-}
 
 // the map of a 3851 alone
 fn lone(alloc: Global, code: &[u8]) -> Result<Map, Fail>

@@ -1,5 +1,5 @@
 // Scripts, and the faults of their lines.
-use super::*;
+use pad_script::{At, End, Event, ScriptAnswer, read_script};
 use std::alloc::Global;
 use std::test::Fail;
 

@@ -1,44 +1,17 @@
 // Verdicts on small cartridges.
-ghost use Rattle.std.specs.Prelude.{◌≡◌, ◌≤◌, IfOk, false, length};
-ghost use Rattle.chip_face.specs.Fitting.{IsSpec, is_blank};
+ghost use Rattle.std.specs.Prelude.{◌≤◌, length};
 
-use super::*;
-use cartridge::{Cart, Split};
-use chip_face::{Bytes, ChipList, ChipSpec};
+use super::chips::lone_cart;
+use cart_checker::{Verdict, check_cart};
 use console_spec::VerdictWord;
 use std::alloc::Global;
 use std::test::Fail;
 
-// a 3851 at address 0 with some bytes, and FF behind them
-fn psu(alloc: Global, code: &[u8]) -> Result<ChipSpec, Fail>
-    requires { length code.now ≤ 16 }
-    ensures spec { IfOk result IsSpec }
-    ensures kept { IfOk result (λ chip. is_blank chip ≡ false) }
-{
-    let mut rom = [0xFF; 1024];
-    for (place, byte) in code.iter().enumerate() {
-        rom[place] = *byte;
-    }
-    Ok(ChipSpec::Psu {
-        base: 0x0000,
-        rom: Bytes::of(alloc, &rom)?,
-        ports: 0x04,
-        vector: 0x0000,
-        wired: false,
-    })
-}
-
-// the verdict on such a chip alone
+// the verdict on a 3851 with these bytes alone
 fn verdict_on(alloc: Global, code: &[u8]) -> Result<Verdict, Fail>
     requires { length code.now ≤ 16 }
 {
-    let mut chips = Vec::with_capacity(alloc, 1)?;
-    chips.push(psu(alloc, code)?)?;
-    let cart = Cart {
-        split: Split::new(),
-        chips: ChipList::from_vec(chips),
-    };
-    Ok(check_cart(alloc, &cart)?)
+    Ok(check_cart(alloc, &lone_cart(alloc, code)?)?)
 }
 
 // how many points the annotation has

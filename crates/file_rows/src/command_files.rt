@@ -1,5 +1,5 @@
 // Command files.
-use super::*;
+use chip_debug::{Command, DebugAnswer, read_commands};
 use std::test::Fail;
 
 #[test]

@@ -1,6 +1,6 @@
 // Each call on files in memory, on its happy path and at its refusals.
-use super::*;
 use certificate::CertCause;
+use loader::{Refusal, Stop, load_bytes, load_cart, load_claim, load_game, load_image};
 use outside::{FileList, NamedFile, SureStore};
 use pad_script::{At, Event};
 use std::alloc::Global;

@@ -1,5 +1,5 @@
 // Words of each command, and what they ask for.
-use super::*;
+use command_line::{Command, read_words};
 use std::alloc::Global;
 use std::test::Fail;
 
