@@ -241,7 +241,7 @@ fn generate(alloc: Global, seed: u32) -> Result<Game, Memory>
         script: Script {
             power: 0,
             end: End::Frames(60),
-            events: EventList::from_vec(Vec::new(alloc)),
+            events: EventList::new(alloc),
             shows: ShowList::from_vec(Vec::new(alloc)),
         },
     })

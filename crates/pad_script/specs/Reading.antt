@@ -1,5 +1,5 @@
 -- The script of a text, or its first fault.
-use Rattle.std.specs.Prelude.{◌≡◌, ℕ, ◌+◌, ◌==◌, Bool, if◌then◌else◌, List, [], ◌∷◌, ◌++◌, length, Option, Some, None}
+use Rattle.std.specs.Prelude.{ℕ, ◌+◌, ◌==◌, Bool, if◌then◌else◌, List, [], ◌∷◌, ◌++◌, length, Option, Some, None}
 use Rattle.std.specs.Prelude.{is_some, unwrap_or, Result, Ok, Err}
 use Rattle.pad_script.specs.declared.answers.ScriptCause.{ScriptCause}
 use Rattle.pad_script.specs.declared.answers.ScriptCause.TheVariants.{Twice, TooMany, NoEnd}

@@ -10,7 +10,7 @@ ghost use Rattle.pad_script.specs.Telling.{said_in};
 
 use super::answers::{ScriptAnswer, ScriptCause, ScriptFault, fault};
 use super::event_list::EventList;
-use super::script::{At, End, Script};
+use super::script::{End, Script};
 use super::show_list::ShowList;
 use super::statement::{Statement, line_of};
 use std::alloc::Global;
@@ -24,7 +24,7 @@ const MOST_LINES: usize = 1024;
 pub struct Draft {
     power: Option<u8>,
     end: Option<End>,
-    events: Vec<At>,
+    events: EventList,
     shows: Vec<u32>,
 }
 
@@ -34,9 +34,9 @@ impl Model for Draft {
 
     ghost Value = { Draft };
 
-    ghost view = { λ d. record { power = d.power; end = d.end; events = d.events.items; shows = d.shows.items } };
+    ghost view = { λ d. record { power = d.power; end = d.end; events = d.events; shows = d.shows.items } };
 
-    ghost invariant = { λ d. length d.events.items + length d.shows.items ≤ 1024 };
+    ghost invariant = { λ d. length d.events + length d.shows.items ≤ 1024 };
 }
 
 impl Draft {
@@ -48,7 +48,7 @@ impl Draft {
         Draft {
             power: None,
             end: None,
-            events: Vec::new(alloc),
+            events: EventList::new(alloc),
             shows: Vec::new(alloc),
         }
     }
@@ -123,7 +123,7 @@ impl Draft {
         Ok(Script {
             power: self.power.unwrap_or(0),
             end,
-            events: EventList::from_vec(self.events),
+            events: self.events,
             shows: ShowList::from_vec(self.shows),
         })
     }

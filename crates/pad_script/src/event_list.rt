@@ -1,10 +1,11 @@
 // The events of a script.
-ghost use Rattle.std.specs.Prelude.{◌≡◌, ◌≤◌, length, slice_get, vec_len};
+ghost use Rattle.std.specs.Prelude.{◌≡◌, ◌<◌, ◌≤◌, [], ◌∷◌, ◌++◌, length, slice_get, OnOk, OnErr};
 ghost use Rattle.console_spec.specs.FreeRuns.{HasByte};
 ghost use Rattle.pad_script.specs.Limits.{HaveBytes};
 
 use super::script::At;
 use console_spec::Event;
+use std::alloc::{AllocError, Global};
 use std::marker::Model;
 
 /// The events of a script, in the order of its text, at most 1,024. Contracts see the list of them.
@@ -26,13 +27,28 @@ impl Model for EventList {
 }
 
 impl EventList {
-    /// The events of a vector, which is kept as it is.
-    pub fn from_vec(items: Vec<At>) -> EventList
-        requires { vec_len items ≤ 1024 }
-        ensures { result ≡ items.items }
+    /// No event. This takes no memory.
+    pub fn new(alloc: Global) -> EventList
+        ensures { result ≡ [] }
     {
-        bytes_law(items.as_slice());
-        EventList { items }
+        EventList {
+            items: Vec::new(alloc),
+        }
+    }
+
+    /// Adds an event behind the others.
+    ///
+    /// # Errors
+    ///
+    /// Memory is missing.
+    pub fn push(&mut self, at: At) -> Result<(), AllocError>
+        requires room { length self.old < 1024 }
+        ensures ok { OnOk result (self.new ≡ self.old ++ at ∷ []) }
+        ensures err { OnErr result (self.new ≡ self.old) }
+    {
+        byte_law(at.event);
+        self.items.push(at)?;
+        Ok(())
     }
 
     /// All of the events.
@@ -60,15 +76,7 @@ impl EventList {
     }
 }
 
-/// What a port gets from outside is a byte. This call changes nothing; its contract is the law.
-fn bytes_law(events: &[At])
-    ensures { HaveBytes events.now }
-{
-    for at in events {
-        byte_law(at.event);
-    }
-}
-
+/// What a port gets from outside is a byte. This call does nothing; its contract is the law.
 fn byte_law(event: Event)
     ensures { HasByte event }
 {}
