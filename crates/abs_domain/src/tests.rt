@@ -67,6 +67,14 @@ fn knows_of_values_what_both_know(rt: HostRuntime) {
 }
 
 #[test]
+fn tells_values_as_options(rt: HostRuntime) {
+    assert_eq!(rt; Val::Known(1).known(), Some(1));
+    assert_eq!(rt; Digit::from(Some(7)).known(), Some(7));
+    assert_eq!(rt; Bit::from(None), Bit::Any);
+    assert_eq!(rt; Word::Any.known(), None);
+}
+
+#[test]
 fn orders_points_with_what_is_unset_first(rt: HostRuntime) {
     let unset = Point {
         at: 0x0100,

@@ -32,6 +32,17 @@ pub enum Word {
 }
 
 impl Val {
+    /// The byte, where it is known.
+    #[inline]
+    pub fn known(self) -> Option<u8>
+        ensures { result ≡ known_byte self }
+    {
+        match self {
+            Val::Known(byte) => Some(byte),
+            Val::Any => None,
+        }
+    }
+
     /// The byte that both know.
     #[inline]
     pub fn join(self, other: Val) -> Val
@@ -55,7 +66,30 @@ impl Val {
     }
 }
 
+impl From<Option<u8>> for Val {
+    ghost from_gives = { λ byte part. known_byte part ≡ byte };
+
+    #[inline]
+    fn from(byte: Option<u8>) -> Val {
+        match byte {
+            Some(byte) => Val::Known(byte),
+            None => Val::Any,
+        }
+    }
+}
+
 impl Digit {
+    /// The digit, where it is known.
+    #[inline]
+    pub fn known(self) -> Option<u8>
+        ensures { result ≡ known_digit self }
+    {
+        match self {
+            Digit::Known(digit) => Some(digit),
+            Digit::Any => None,
+        }
+    }
+
     /// The digit that both know.
     #[inline]
     pub fn join(self, other: Digit) -> Digit
@@ -79,7 +113,30 @@ impl Digit {
     }
 }
 
+impl From<Option<u8>> for Digit {
+    ghost from_gives = { λ digit part. known_digit part ≡ digit };
+
+    #[inline]
+    fn from(digit: Option<u8>) -> Digit {
+        match digit {
+            Some(digit) => Digit::Known(digit),
+            None => Digit::Any,
+        }
+    }
+}
+
 impl Bit {
+    /// The bit, where it is known.
+    #[inline]
+    pub fn known(self) -> Option<bool>
+        ensures { result ≡ known_bit self }
+    {
+        match self {
+            Bit::Known(bit) => Some(bit),
+            Bit::Any => None,
+        }
+    }
+
     /// The bit that both know.
     #[inline]
     pub fn join(self, other: Bit) -> Bit
@@ -103,7 +160,30 @@ impl Bit {
     }
 }
 
+impl From<Option<bool>> for Bit {
+    ghost from_gives = { λ bit part. known_bit part ≡ bit };
+
+    #[inline]
+    fn from(bit: Option<bool>) -> Bit {
+        match bit {
+            Some(bit) => Bit::Known(bit),
+            None => Bit::Any,
+        }
+    }
+}
+
 impl Word {
+    /// The address, where it is known.
+    #[inline]
+    pub fn known(self) -> Option<u16>
+        ensures { result ≡ known_word self }
+    {
+        match self {
+            Word::Known(at) => Some(at),
+            Word::Any => None,
+        }
+    }
+
     /// The address that both know.
     #[inline]
     pub fn join(self, other: Word) -> Word
@@ -123,6 +203,18 @@ impl Word {
         match upper {
             Word::Any => true,
             Word::Known(_) => self == upper,
+        }
+    }
+}
+
+impl From<Option<u16>> for Word {
+    ghost from_gives = { λ at part. known_word part ≡ at };
+
+    #[inline]
+    fn from(at: Option<u16>) -> Word {
+        match at {
+            Some(at) => Word::Known(at),
+            None => Word::Any,
         }
     }
 }

@@ -2,14 +2,27 @@
 ghost use Rattle.std.specs.Prelude.{◌≡◌, option_map, option_and_then};
 ghost use Rattle.f8_spec.specs.Words.{displaced};
 ghost use Rattle.abs_domain.specs.StateView.{counters_of};
+ghost use Rattle.abs_step.specs.Known.{agree};
 ghost use Rattle.abs_step.specs.KnownFlow.{with_loaded, with_moved, with_exchanged, known_counters};
 ghost use Rattle.abs_step.specs.WorkView.{counters_view, inputs_view};
 
 use super::inputs::Inputs;
-use super::known::{agree, known_word};
 use abs_domain::Abs;
 use f8_ops::Row;
 use f8_words::wrap_add;
+
+/// Whether two addresses are known to be the same.
+fn agree(first: Option<u16>, second: Option<u16>) -> bool
+    ensures { result ≡ agree first second }
+{
+    match first {
+        Some(first) => match second {
+            Some(second) => first == second,
+            None => false,
+        },
+        None => false,
+    }
+}
 
 /// What is known of the data counters, and the facts on the chips' copies, as a state has them.
 #[derive(Clone, Copy)]
@@ -29,9 +42,9 @@ impl Counters {
         ensures { counters_view result ≡ counters_of abs.now }
     {
         Counters {
-            d0: known_word(abs.d0),
-            d1: known_word(abs.d1),
-            c: known_word(abs.c),
+            d0: abs.d0.known(),
+            d1: abs.d1.known(),
+            c: abs.c.known(),
             s0: abs.s0,
             s1: abs.s1,
             p0: abs.p0,

@@ -6,7 +6,6 @@ ghost use Rattle.abs_step.specs.MapView.{view_of};
 ghost use Rattle.abs_step.specs.StepView.{invariant_at};
 
 use super::hazards::reads_at_data;
-use super::known::known_word;
 use super::step::instruction_at;
 use abs_domain::{Abs, Point};
 use chip_face::ChipKind;
@@ -21,7 +20,7 @@ pub fn whole(abs: &Abs, point: &Point, map: &Map) -> bool
     ensures { result ≡ is_fault_free (view_of map.now) (invariant_at point.now abs.now) }
 {
     match instruction_at(map, point.at) {
-        Some(op) => !reads_at_data(row_of(op)) || is_answered(map, known_word(abs.d0), abs.p0),
+        Some(op) => !reads_at_data(row_of(op)) || is_answered(map, abs.d0.known(), abs.p0),
         None => true,
     }
 }

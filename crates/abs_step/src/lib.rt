@@ -8,7 +8,6 @@ mod exits;
 mod fault_free;
 mod hazards;
 mod inputs;
-mod known;
 mod laws;
 mod pairs;
 mod registers;

@@ -4,11 +4,10 @@ use super::bytes::{
     moved_digit, one_less, or, sum_value, xor,
 };
 use super::counters::Counters;
-use super::known::{digit_of, known_byte, known_digit, value_of, word_of};
 use super::pairs::Pair;
 use super::status::{Status, known_not};
 use super::writes::{Target, Write, Writes};
-use abs_domain::{Abs, Val};
+use abs_domain::{Abs, Digit, Val, Word};
 use f8_ops::Op;
 use f8_ops::registers::{H, J, K, Q};
 use std::marker::Model;
@@ -73,9 +72,9 @@ impl Registers {
         ensures { result ≡ registers_of abs.now }
     {
         Registers {
-            accumulator: known_byte(abs.a),
-            high: known_digit(abs.hi),
-            low: known_digit(abs.lo),
+            accumulator: abs.a.known(),
+            high: abs.hi.known(),
+            low: abs.lo.known(),
             status: Status::of(&abs.w),
             scratchpad: abs.regs,
         }
@@ -87,14 +86,14 @@ impl Registers {
             ≡ record { registers = self.now; counters = counters_view counters } }
     {
         Abs {
-            a: value_of(self.accumulator),
+            a: Val::from(self.accumulator),
             regs: self.scratchpad,
-            hi: digit_of(self.high),
-            lo: digit_of(self.low),
+            hi: Digit::from(self.high),
+            lo: Digit::from(self.low),
             w: self.status.bits(),
-            d0: word_of(counters.d0),
-            d1: word_of(counters.d1),
-            c: word_of(counters.c),
+            d0: Word::from(counters.d0),
+            d1: Word::from(counters.d1),
+            c: Word::from(counters.c),
             s0: counters.s0,
             s1: counters.s1,
             p0: counters.p0,
@@ -107,7 +106,7 @@ impl Registers {
         requires { number < 64 }
         ensures { result ≡ known_register number self.now }
     {
-        known_byte(self.scratchpad[usize::from(number)])
+        self.scratchpad[usize::from(number)].known()
     }
 
     /// The register that a field names.

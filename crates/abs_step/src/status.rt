@@ -7,7 +7,6 @@ ghost use Rattle.abs_step.specs.KnownResults.{known_status_byte};
 ghost use Rattle.abs_step.specs.KnownFlow.{known_any_chosen, chosen_flag};
 ghost use Rattle.abs_step.specs.WorkView.{status_view, status_after};
 
-use super::known::{bit_of, known_bit};
 use abs_domain::Bit;
 use f8_words::{Flags, Sum};
 
@@ -27,11 +26,11 @@ impl Status {
         ensures { status_view result ≡ status_of bits.now }
     {
         Status {
-            sign: known_bit(bits[0]),
-            carry: known_bit(bits[1]),
-            zero: known_bit(bits[2]),
-            overflow: known_bit(bits[3]),
-            icb: known_bit(bits[4]),
+            sign: bits[0].known(),
+            carry: bits[1].known(),
+            zero: bits[2].known(),
+            overflow: bits[3].known(),
+            icb: bits[4].known(),
         }
     }
 
@@ -40,11 +39,11 @@ impl Status {
         ensures { status_of result ≡ status_view self }
     {
         [
-            bit_of(self.sign),
-            bit_of(self.carry),
-            bit_of(self.zero),
-            bit_of(self.overflow),
-            bit_of(self.icb),
+            Bit::from(self.sign),
+            Bit::from(self.carry),
+            Bit::from(self.zero),
+            Bit::from(self.overflow),
+            Bit::from(self.icb),
         ]
     }
 

@@ -7,7 +7,6 @@ ghost use Rattle.abs_step.specs.RegisterWrites.{is_exact, written_to};
 ghost use Rattle.abs_step.specs.Safety.{blurs};
 ghost use Rattle.abs_step.specs.WorkView.{target_view, write_view};
 
-use super::known::value_of;
 use super::pairs::Pair;
 use super::scratchpad::scratchpad_after;
 use abs_domain::Val;
@@ -76,7 +75,7 @@ impl Write {
     pub fn value_after(self, number: u8, old: Val) -> Val
         ensures { known_byte result ≡ written_to (write_view self) number (known_byte old) }
     {
-        let value = value_of(self.value);
+        let value = Val::from(self.value);
         if !self.target.allows(number) {
             old
         } else if self.target.is_exact() {

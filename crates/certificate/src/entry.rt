@@ -13,7 +13,6 @@ use super::parts::{
     address_at, behind, bit_at, bytes_at, known_address_at, known_bit_at, known_byte_at,
     known_octal_at,
 };
-use super::values::{bit_of, digit_of, val_of, word_of};
 use abs_domain::{Abs, Bit, Digit, Point, Val, Word};
 
 /// The places of a point for tracked registers.
@@ -78,7 +77,7 @@ fn isar_at(text: &[u8]) -> Option<((Digit, Digit), &[u8])>
 {
     let (high, rest) = known_octal_at(text)?;
     let (low, rest) = known_octal_at(rest)?;
-    Some(((digit_of(high), digit_of(low)), rest))
+    Some(((Digit::from(high), Digit::from(low)), rest))
 }
 
 /// The five bits of the status word, from bit 0 on.
@@ -92,11 +91,11 @@ fn status_at(text: &[u8]) -> Option<([Bit; 5], &[u8])>
     let (overflow, rest) = known_bit_at(rest)?;
     let (icb, rest) = known_bit_at(rest)?;
     let bits = [
-        bit_of(sign),
-        bit_of(carry),
-        bit_of(zero),
-        bit_of(overflow),
-        bit_of(icb),
+        Bit::from(sign),
+        Bit::from(carry),
+        Bit::from(zero),
+        Bit::from(overflow),
+        Bit::from(icb),
     ];
     Some((bits, rest))
 }
@@ -114,9 +113,9 @@ fn counters_at(text: &[u8]) -> Option<(Counters, &[u8])>
     let (p0, rest) = bit_at(rest)?;
     let (p1, rest) = bit_at(rest)?;
     let counters = Counters {
-        d0: word_of(d0),
-        d1: word_of(d1),
-        c: word_of(c),
+        d0: Word::from(d0),
+        d1: Word::from(d1),
+        c: Word::from(c),
         s0,
         s1,
         p0,
@@ -131,7 +130,7 @@ fn registers_of(bytes: &[Option<u8>; REGISTERS]) -> [Val; REGISTERS]
 {
     let mut registers = [Val::Any; REGISTERS];
     for number in 0..REGISTERS {
-        registers[number] = val_of(bytes[number]);
+        registers[number] = Val::from(bytes[number]);
     }
     registers
 }
@@ -162,7 +161,7 @@ pub fn entry_of(tracked: usize, line: &[u8]) -> Option<(Point, Abs)>
         return None;
     }
     let state = Abs {
-        a: val_of(a),
+        a: Val::from(a),
         regs,
         hi,
         lo,

@@ -8,7 +8,6 @@ mod laws;
 mod parts;
 mod ranges;
 mod read;
-mod values;
 mod write;
 
 pub use answers::{CertAnswer, CertCause, CertFault};

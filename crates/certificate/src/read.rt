@@ -14,7 +14,6 @@ ghost use Rattle.certificate.specs.CertificateText.{entry_in as spelled_entry, e
 use super::answers::{CertAnswer, CertCause, CertFault};
 use super::entry::entry_of;
 use super::parts::{behind as after_mark, digit_in};
-use super::values::byte_in;
 use abs_domain::{Abs, Point};
 use abs_step::{Annotation, MOST_POINTS};
 use cartridge::Split;
@@ -108,7 +107,7 @@ fn has_split(tracked: &[u8], point: &Point, state: &Abs) -> bool
     ensures { result ≡ spelled_split tracked.now (point.now, state_of state.now) }
 {
     for (place, number) in tracked.iter().enumerate() {
-        if byte_in(state.regs[usize::from(*number)]) != point.split[place] {
+        if state.regs[usize::from(*number)].known() != point.split[place] {
             return false;
         }
     }

@@ -12,7 +12,6 @@ ghost use Rattle.certificate.specs.CertificateText.{header_text, line_text, entr
 ghost use Rattle.certificate.specs.CertificateLaws.{HaveSplit};
 
 use super::ranges::range_law;
-use super::values::{address_in, bit_in, byte_in, digit_within};
 use abs_domain::{Abs, Bit, Digit, Point, Val, Word};
 use abs_step::Annotation;
 use cartridge::Split;
@@ -123,7 +122,7 @@ fn put_scratchpad(out: &mut Vec<u8>, registers: &[Val; 64]) -> Result<(), AllocE
         ≡ out.old.items ++ bytes_text (codes "") (map known_byte registers.now)) }
 {
     for register in registers {
-        put_known_byte(out, byte_in(*register))?;
+        put_known_byte(out, register.known())?;
     }
     Ok(())
 }
@@ -154,11 +153,11 @@ fn put_point(out: &mut Vec<u8>, tracked: usize, point: &Point) -> Result<(), All
 fn put_status(out: &mut Vec<u8>, bits: &[Bit; 5]) -> Result<(), AllocError>
     ensures { OnOk result (out.new.items ≡ out.old.items ++ status_text (status_of bits.now)) }
 {
-    put_known_bit(out, bit_in(bits[0]))?;
-    put_known_bit(out, bit_in(bits[1]))?;
-    put_known_bit(out, bit_in(bits[2]))?;
-    put_known_bit(out, bit_in(bits[3]))?;
-    put_known_bit(out, bit_in(bits[4]))
+    put_known_bit(out, bits[0].known())?;
+    put_known_bit(out, bits[1].known())?;
+    put_known_bit(out, bits[2].known())?;
+    put_known_bit(out, bits[3].known())?;
+    put_known_bit(out, bits[4].known())
 }
 
 /// Writes the data counters with the facts about them.
@@ -167,11 +166,11 @@ fn put_counters(out: &mut Vec<u8>, state: &Abs) -> Result<(), AllocError>
     ensures { OnOk result (out.new.items
         ≡ out.old.items ++ counters_text (counters_of state.now)) }
 {
-    put_known_address(out, address_in(state.d0))?;
+    put_known_address(out, state.d0.known())?;
     put_blank(out)?;
-    put_known_address(out, address_in(state.d1))?;
+    put_known_address(out, state.d1.known())?;
     put_blank(out)?;
-    put_known_address(out, address_in(state.c))?;
+    put_known_address(out, state.c.known())?;
     put_blank(out)?;
     put_bit(out, state.s0)?;
     put_bit(out, state.s1)?;
@@ -193,10 +192,10 @@ fn put_entry(
 {
     put_point(out, tracked, point)?;
     put_blank(out)?;
-    put_known_byte(out, byte_in(state.a))?;
+    put_known_byte(out, state.a.known())?;
     put_blank(out)?;
-    put_known_octal(out, digit_within(state.hi))?;
-    put_known_octal(out, digit_within(state.lo))?;
+    put_known_octal(out, state.hi.known())?;
+    put_known_octal(out, state.lo.known())?;
     put_blank(out)?;
     put_status(out, &state.w)?;
     put_blank(out)?;

@@ -11,7 +11,7 @@ returns-then-ne c =
     let place = c.loop-place.place in
     let within : place < length tracked = omega arith in
     let small : c.from.result < length s.regs = omega (arith, c.requires.below place 0 within, c.from.ensures, s.all_registers) in
-    let test = place_as tracked split s place c.from.result within c.from.ensures small c.byte_in.result c.byte_in.ensures in
+    let test = place_as tracked split s place c.from.result within c.from.ensures small c.known.result c.known.ensures in
     sym (sym (passes_at_start _ (length tracked)) ∙ sym c.loop-place.invariant ∙ next_fails _ place (length tracked) within (test ∙ not_true _ c.if-ne.ensures))
 
 pub loop-place-preserved : goal.loop-place-preserved
@@ -22,5 +22,5 @@ loop-place-preserved c =
     let place = c.loop-place.place in
     let within : place < length tracked = omega arith in
     let small : c.from.result < length s.regs = omega (arith, c.requires.below place 0 within, c.from.ensures, s.all_registers) in
-    let test = place_as tracked split s place c.from.result within c.from.ensures small c.byte_in.result c.byte_in.ensures in
+    let test = place_as tracked split s place c.from.result within c.from.ensures small c.known.result c.known.ensures in
     sym (next_passes _ place (length tracked) within (test ∙ not_false _ c.if-ne.ensures)) ∙ c.loop-place.invariant

@@ -11,7 +11,7 @@ returns c =
     c.put_known_byte.new.out.items c.put_blank-2.new.out.items c.put_known_octal.new.out.items c.put_known_octal-2.new.out.items
     c.put_blank-3.new.out.items c.put_status.new.out.items c.put_blank-4.new.out.items c.put_counters.new.out.items
     c.put_blank-5.new.out.items c.put_scratchpad.new.out.items
-    c.in_ok-put_point.ensures c.in_ok-put_blank.ensures (rw c.byte_in.ensures at c.in_ok-put_known_byte.ensures) c.in_ok-put_blank-2.ensures
-    (rw c.digit_within.ensures at c.in_ok-put_known_octal.ensures) (rw c.digit_within-2.ensures at c.in_ok-put_known_octal-2.ensures)
+    c.in_ok-put_point.ensures c.in_ok-put_blank.ensures (rw c.known.ensures at c.in_ok-put_known_byte.ensures) c.in_ok-put_blank-2.ensures
+    (rw c.known-2.ensures at c.in_ok-put_known_octal.ensures) (rw c.known-3.ensures at c.in_ok-put_known_octal-2.ensures)
     c.in_ok-put_blank-3.ensures c.in_ok-put_status.ensures c.in_ok-put_blank-4.ensures c.in_ok-put_counters.ensures c.in_ok-put_blank-5.ensures)
     c.put_scratchpad.ensures

@@ -16,10 +16,10 @@ returns c =
       c.in_ok-put_known_bit-3.ensures,
       c.in_ok-put_known_bit-2.ensures,
       c.in_ok-put_known_bit.ensures,
-      bit_known bits 0 _ _ (omega (arith, c.told-bits)) c.bit_in.ensures,
-      bit_known bits 1 _ _ (omega (arith, c.told-bits)) c.bit_in-2.ensures,
-      bit_known bits 2 _ _ (omega (arith, c.told-bits)) c.bit_in-3.ensures,
-      bit_known bits 3 _ _ (omega (arith, c.told-bits)) c.bit_in-4.ensures,
-      bit_known bits 4 _ _ (omega (arith, c.told-bits)) c.bit_in-5.ensures,
+      bit_known bits 0 _ _ (omega (arith, c.told-bits)) c.known.ensures,
+      bit_known bits 1 _ _ (omega (arith, c.told-bits)) c.known-2.ensures,
+      bit_known bits 2 _ _ (omega (arith, c.told-bits)) c.known-3.ensures,
+      bit_known bits 3 _ _ (omega (arith, c.told-bits)) c.known-4.ensures,
+      bit_known bits 4 _ _ (omega (arith, c.told-bits)) c.known-5.ensures,
     ) (simp append_assoc))
     c.put_known_bit-5.ensures
