@@ -1,15 +1,13 @@
-// What the types of points and states tell of them: all that is known is within its range. The calls change nothing; their contracts are laws.
+// What the types of a point and a state tell of them: all that is known is within its range. The calls do nothing; their contracts are laws.
 ghost use Rattle.std.specs.Prelude.{◌<◌, map};
 ghost use Rattle.std.specs.Option.{ForSome};
 ghost use Rattle.abs_domain.specs.KnownParts.{known_byte, known_word};
 ghost use Rattle.abs_domain.specs.StateView.{state_of};
-ghost use Rattle.abs_step.specs.StatesAtPoints.{states_of};
-ghost use Rattle.certificate.specs.CertificateLaws.{AreKnownBytes, IsInRange, AllInRange};
+ghost use Rattle.certificate.specs.CertificateLaws.{AreKnownBytes, IsInRange};
 
 use abs_domain::{Abs, Point, Val, Word};
-use std::collections::BTreeMap;
 
-fn byte_law(val: Val)
+pub fn byte_law(val: Val)
     ensures { ForSome (known_byte val) (λ byte. byte < 256) }
 {}
 
@@ -25,31 +23,14 @@ fn return_law(ret: Option<u16>)
     ensures { ForSome ret (λ at. at < 65536) }
 {}
 
-fn scratchpad_law(registers: &[Val; 64])
-    ensures { AreKnownBytes (map known_byte registers.now) }
-{
-    for register in registers {
-        byte_law(*register);
-    }
-}
-
-fn entry_law(point: &Point, state: &Abs)
-    ensures { IsInRange (point.now, state_of state.now) }
+/// Where the registers of the scratchpad have bytes, all that is known at a point is within its range.
+pub fn entry_law(point: &Point, state: &Abs)
+    ensures { AreKnownBytes (map known_byte state.now.regs) → IsInRange (point.now, state_of state.now) }
 {
     address_law(point.at);
     return_law(point.ret);
     byte_law(state.a);
-    scratchpad_law(&state.regs);
     word_law(state.d0);
     word_law(state.d1);
     word_law(state.c);
-}
-
-/// All that is known at the points of a map is within its range.
-pub fn range_law(notes: &BTreeMap<Point, Abs>)
-    ensures { AllInRange (states_of notes.now.entries) }
-{
-    for (point, state) in notes {
-        entry_law(point, state);
-    }
 }

@@ -9,9 +9,9 @@ ghost use Rattle.certificate.specs.Parts.{bit_text, known_byte_text, known_addre
 ghost use Rattle.certificate.specs.Parts.{bytes_text, values_text};
 ghost use Rattle.certificate.specs.Entries.{point_text, status_text, counters_text, entry_text};
 ghost use Rattle.certificate.specs.CertificateText.{header_text, line_text, entries_text, certificate_text, certificate_of};
-ghost use Rattle.certificate.specs.CertificateLaws.{HaveSplit};
+ghost use Rattle.certificate.specs.CertificateLaws.{HaveSplit, AreKnownBytes, IsInRange, AllInRange};
 
-use super::ranges::range_law;
+use super::ranges::{byte_law, entry_law};
 use abs_domain::{Abs, Bit, Digit, Point, Val, Word};
 use abs_step::Annotation;
 use cartridge::Split;
@@ -118,10 +118,12 @@ fn put_values(out: &mut Vec<u8>, values: &[Option<u8>]) -> Result<(), AllocError
 
 /// Writes the bytes of the scratchpad.
 fn put_scratchpad(out: &mut Vec<u8>, registers: &[Val; 64]) -> Result<(), AllocError>
-    ensures { OnOk result (out.new.items
+    ensures text { OnOk result (out.new.items
         ≡ out.old.items ++ bytes_text (codes "") (map known_byte registers.now)) }
+    ensures bytes { OnOk result (AreKnownBytes (map known_byte registers.now)) }
 {
     for register in registers {
+        byte_law(*register);
         put_known_byte(out, register.known())?;
     }
     Ok(())
@@ -187,9 +189,11 @@ fn put_entry(
     state: &Abs,
 ) -> Result<(), AllocError>
     requires { tracked ≤ 8 }
-    ensures { OnOk result (out.new.items
+    ensures text { OnOk result (out.new.items
         ≡ out.old.items ++ entry_text tracked (point.now, state_of state.now)) }
+    ensures range { OnOk result (IsInRange (point.now, state_of state.now)) }
 {
+    entry_law(point, state);
     put_point(out, tracked, point)?;
     put_blank(out)?;
     put_known_byte(out, state.a.known())?;
@@ -223,8 +227,9 @@ fn put_entries(
     notes: &BTreeMap<Point, Abs>,
 ) -> Result<(), AllocError>
     requires { tracked ≤ 8 }
-    ensures { OnOk result (out.new.items
+    ensures text { OnOk result (out.new.items
         ≡ out.old.items ++ entries_text tracked (states_of notes.now.entries)) }
+    ensures ranges { OnOk result (AllInRange (states_of notes.now.entries)) }
 {
     for (point, state) in notes {
         put_entry(out, tracked, point, state)?;
@@ -236,8 +241,9 @@ fn put_entries(
 /// All lines of a certificate, where so many registers are tracked.
 fn text_of(alloc: Global, tracked: usize, notes: &Annotation) -> Result<Vec<u8>, AllocError>
     requires { tracked ≤ 8 }
-    ensures { IfOk result (λ text. text.items
+    ensures text { IfOk result (λ text. text.items
         ≡ line_text (header_text (length notes.now)) ++ entries_text tracked notes.now) }
+    ensures ranges { OnOk result (AllInRange notes.now) }
 {
     let mut out = Vec::with_capacity(alloc, FIRST_LINE_ROOM + LINE_ROOM * notes.len())?;
     put_header(&mut out, notes.len())?;
@@ -261,7 +267,6 @@ pub fn write_cert(alloc: Global, notes: &Annotation, split: &Split) -> Result<Te
     let tracked = split.as_slice().len();
     // That points ascend, and that there aren't too many, is known by the count.
     let _count = notes.len();
-    range_law(notes.as_map());
     match text_of(alloc, tracked, notes) {
         Ok(text) => Ok(Text::from_vec(text)),
         Err(_) => Err(Memory),

@@ -14,8 +14,8 @@ returns-in-Ok-clause-round_trip c =
     let same = c.as_slice-tracked.ensures.value in
     let few : length tracked ≤ 8 = rw same at c.as_slice-tracked.ensures.limits.few in
     let most : length notes ≤ 65536 = omega (arith, c.len-count.ensures.few, c.len-count.ensures.count) in
-    let ranges : AllInRange notes = rw c.as_map.ensures at c.range_law.ensures in
-    let written : c.from_vec.result ≡ certificate_text tracked notes = c.from_vec.ensures ∙ rw same at c.in-Ok.ensures in
+    let ranges : AllInRange notes = c.in-Ok.ensures.ranges in
+    let written : c.from_vec.result ≡ certificate_text tracked notes = c.from_vec.ensures ∙ rw same at c.in-Ok.ensures.text in
     λ fits some. rw written (again_in_range tracked notes few most c.len-count.ensures.ascends ranges fits some)
 
 pub returns-in-Ok-clause-size : goal.returns-in-Ok-clause-size
@@ -26,6 +26,6 @@ returns-in-Ok-clause-size c =
     let same = c.as_slice-tracked.ensures.value in
     let few : length tracked ≤ 8 = rw same at c.as_slice-tracked.ensures.limits.few in
     let most : length notes ≤ 65536 = omega (arith, c.len-count.ensures.few, c.len-count.ensures.count) in
-    let ranges : AllInRange notes = rw c.as_map.ensures at c.range_law.ensures in
-    let written : c.from_vec.result ≡ certificate_text tracked notes = c.from_vec.ensures ∙ rw same at c.in-Ok.ensures in
+    let ranges : AllInRange notes = c.in-Ok.ensures.ranges in
+    let written : c.from_vec.result ≡ certificate_text tracked notes = c.from_vec.ensures ∙ rw same at c.in-Ok.ensures.text in
     rw written (text_size tracked notes few most (whole_in_range notes ranges))
