@@ -20,7 +20,8 @@ use Rattle.console_spec.specs.Run.{Position, seats_of}
 use Rattle.console_spec.specs.declared.Sort.TheVariants.{Shared}
 use Rattle.abs_domain.specs.Lattice.{Below}
 use Rattle.abs_domain.specs.AbstractState.{KnownCounters}
-use Rattle.abs_step.specs.MapView.{MapView, IsViewOf, is_held, holds_every_address}
+use Rattle.memory_map.specs.MapKinds.{is_held}
+use Rattle.abs_step.specs.MapView.{MapView, IsViewOf, holds_every_address}
 use Rattle.abs_step.specs.Successors.{Invariant}
 use Rattle.abs_step.specs.Safety.{reads_at_data, is_answered, is_row_fault_free, is_fault_free}
 use Rattle.abs_step.specs.Concretization.{ChipTells}

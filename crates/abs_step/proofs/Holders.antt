@@ -9,8 +9,7 @@ use Rattle.f8_spec.specs.declared.chips.PageSort.{PageSort}
 use Rattle.f8_spec.specs.declared.chips.PageSort.TheVariants.{Rom, Ram, Void}
 use Rattle.console_spec.specs.FlatMemory.{sort_among, sort_of}
 use Rattle.console_spec.specs.declared.Sort.TheVariants.{Shared}
-use Rattle.memory_map.specs.MapKinds.{has_pages}
-use Rattle.abs_step.specs.MapView.{is_held}
+use Rattle.memory_map.specs.MapKinds.{has_pages, is_held}
 use Rattle.abs_step.proofs.Members.{SomeOf}
 
 -- ---- one chip

@@ -55,6 +55,5 @@ pub mod KnownSums
 pub mod Joinings
 pub mod Fitting
 pub mod StepParts
-pub mod HeldPages
 pub mod SomeSuccessor
 pub mod StatesRead

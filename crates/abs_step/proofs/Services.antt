@@ -16,10 +16,10 @@ use Rattle.console_spec.specs.Services.{Fault, Undriven, placed_copy, access_fau
 use Rattle.console_spec.specs.Run.{seats_of}
 use Rattle.console_spec.specs.declared.Sort.{Sort}
 use Rattle.console_spec.specs.declared.Sort.TheVariants.{Rom, Ram, Void, Nothing, Shared}
-use Rattle.memory_map.specs.MapKinds.{is_held_once}
+use Rattle.memory_map.specs.MapKinds.{is_held, is_held_once}
 use Rattle.abs_domain.specs.Lattice.{Below}
 use Rattle.abs_domain.specs.AbstractState.{KnownCounters}
-use Rattle.abs_step.specs.MapView.{MapView, is_held}
+use Rattle.abs_step.specs.MapView.{MapView}
 use Rattle.abs_step.specs.Safety.{may_be_held_by_psu}
 use Rattle.abs_step.specs.Concretization.{Holds, ChipTells, CopyTells}
 use Rattle.console_spec.specs.FreeRuns.{AreAddresses}

@@ -11,7 +11,7 @@ use Rattle.console_spec.specs.declared.Sort.TheVariants.{Rom, Ram, Void, Nothing
 use Rattle.chip_face.specs.declared.specification.ChipSpec.{ChipSpec}
 use Rattle.memory_map.specs.MapOf.{MapTable, mapped_sort, mapped_byte, mapped_held, mapped_readers, mapped_takers, mapped_any}
 use Rattle.memory_map.specs.MapOf.{mapped_overlaps, mapped_wired, views_of, seats_of, IsMapOf, IsWholeMap}
-use Rattle.memory_map.specs.MapKinds.{is_held_once, kind_holds, kind_has_pages, some_wired}
+use Rattle.memory_map.specs.MapKinds.{is_held, is_held_once, kind_holds, kind_has_pages, some_wired}
 
 -- by address what it is, the byte that stays there, and whether a chip of a kind holds it; how many chips have a port as a data port, and
 -- how many have it at all; whether some chip of a kind has pages; whether two chips hold an address; and whether some chip can interrupt
@@ -31,14 +31,6 @@ is_shared Ram = false
 is_shared Void = false
 is_shared Nothing = false
 is_shared Shared = true
-
--- one chip or more holds an address
-abbrev pub is_held : Sort → Bool
-is_held Rom = true
-is_held Ram = true
-is_held Void = true
-is_held Nothing = false
-is_held Shared = true
 
 -- every address is held: the first of each page is
 unfoldable pub holds_every_address : MapView → Bool

@@ -1,6 +1,5 @@
 // Whether each read at the data counter is answered.
 ghost use Rattle.std.specs.Prelude.{◌≡◌};
-ghost use Rattle.abs_step.specs.MapView.{is_held, holds_every_address};
 ghost use Rattle.abs_step.specs.Safety.{is_answered, is_fault_free};
 ghost use Rattle.abs_step.specs.MapView.{view_of};
 ghost use Rattle.abs_step.specs.StepView.{invariant_at};
@@ -9,7 +8,6 @@ use super::hazards::reads_at_data;
 use super::step::instruction_at;
 use abs_domain::{Abs, Point};
 use chip_face::ChipKind;
-use console_spec::Sort;
 use f8_ops::row_of;
 use memory_map::Map;
 
@@ -26,33 +24,12 @@ pub fn whole(abs: &Abs, point: &Point, map: &Map) -> bool
 }
 
 /// Some chip answers at D0. The flag says that each 3851's own DC0 is there.
+#[tactic(auto, unfolding(crate::specs::MapView::holds_every_address, memory_map::specs::MapOf::mapped_held_everywhere))]
 fn is_answered(map: &Map, at: Option<u16>, same: bool) -> bool
     ensures { result ≡ is_answered (view_of map.now) at same }
 {
     match at {
         Some(at) => map.held(at, ChipKind::Smi) || (map.held(at, ChipKind::Psu) && same),
-        None => holds_every_address(map) && (!map.any(ChipKind::Psu) || same),
-    }
-}
-
-/// Each address is held by one chip or more.
-fn holds_every_address(map: &Map) -> bool
-    ensures { result ≡ holds_every_address (view_of map.now) }
-{
-    for number in 0..256 {
-        if !is_held(map.sort(number * 256)) {
-            return false;
-        }
-    }
-    true
-}
-
-/// One chip or more holds an address.
-fn is_held(sort: Sort) -> bool
-    ensures { result ≡ is_held sort }
-{
-    match sort {
-        Sort::Nothing => false,
-        Sort::Rom | Sort::Ram | Sort::Void | Sort::Shared => true,
+        None => map.held_everywhere() && (!map.any(ChipKind::Psu) || same),
     }
 }

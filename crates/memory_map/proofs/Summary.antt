@@ -1,7 +1,7 @@
 -- What holds of all addresses together, by the pages of the map; and of some chip, by the chips that are fitted.
-use Rattle.std.proofs.Common.{◌≡◌, ℕ, suc, ◌*◌, ◌/◌, ◌<◌, Bool, true, false, List, [], ◌∷◌, length, get_or, refl, ap, sym, ◌∙◌, arith}
-use Rattle.std.specs.Prelude.{◌||◌, ◌↔◌, IsTrue, slice_index_or, None}
-use Rattle.std.specs.List.{list_any, list_all}
+use Rattle.std.proofs.Common.{◌≡◌, ℕ, suc, ◌+◌, ◌*◌, ◌/◌, ◌<◌, Bool, true, false, List, [], ◌∷◌, length, get_or, refl, ap, sym, ◌∙◌, ap₂, arith}
+use Rattle.std.specs.Prelude.{◌&&◌, ◌||◌, ◌↔◌, IsTrue, slice_index_or, None}
+use Rattle.std.specs.List.{list_any, list_all, range_with_len}
 use Rattle.std.proofs.lemmas.List.Folds.{list_any_at, list_all_at}
 use Rattle.f8_spec.specs.ChipState.{ChipView}
 use Rattle.f8_spec.specs.BusArbitration.{Seat, seat_of}
@@ -10,9 +10,9 @@ use Rattle.console_spec.specs.FlatMemory.{sort_of}
 use Rattle.console_spec.specs.declared.Sort.TheVariants.{Shared as ManyChips}
 use Rattle.chip_face.specs.Fitting.{fitted}
 use Rattle.chip_face.specs.declared.specification.ChipSpec.{ChipSpec}
-use Rattle.memory_map.specs.MapEntries.{is_held, is_shared}
-use Rattle.memory_map.specs.MapKinds.{is_held_once, IsCovered, Overlap}
-use Rattle.memory_map.specs.MapOf.{sort_by, seats_of, views_of}
+use Rattle.memory_map.specs.MapEntries.{is_held, is_shared, is_taken}
+use Rattle.memory_map.specs.MapKinds.{is_held as is_held_by_some, is_held_once, IsCovered, Overlap}
+use Rattle.memory_map.specs.MapOf.{MapTable, entry_at, mapped_held_everywhere, mapped_sort, sort_by, seats_of, views_of}
 use Rattle.memory_map.specs.declared.entry.Entry.{Entry}
 use Rattle.memory_map.specs.declared.entry.Entry.TheVariants.{Nothing, Held, Shared}
 
@@ -75,6 +75,13 @@ sort-from_shared Nothing same = absurd (cc)
 sort-from_shared (Held sort owner) same = absurd (cc)
 sort-from_shared Shared same = refl
 
+held-sort_by : (entry : Entry) → is_held_by_some (sort_by entry) ≡ is_taken entry
+held-sort_by Nothing = refl
+held-sort_by (Held Rom owner) = refl
+held-sort_by (Held Ram owner) = refl
+held-sort_by (Held Void owner) = refl
+held-sort_by Shared = refl
+
 -- the sort of each address is that of its page in the map
 pub record SortsBy (seats : List Seat) (pages : List Entry) : Type 0 where
   pub size : length pages ≡ 256
@@ -114,3 +121,26 @@ overlap_by seats pages sorts = (
       list_any_at is_shared pages (overlap.0 / 256) Nothing in_table
       (shared-from_sort (slice_index_or pages (overlap.0 / 256) Nothing) (sym (sorts.sort overlap.0 overlap.1) ∙ overlap.2)),
 )
+
+-- ---- all pages are held
+
+-- a test of each element is one of each place
+each_place : {A : Type 0} (test : A → Bool) (d : A) (by : ℕ → Bool) (start : ℕ) (xs : List A) →
+    ((k : ℕ) → k < length xs → by (start + k) ≡ test (slice_index_or xs k d)) →
+    list_all by (range_with_len start (length xs)) ≡ list_all test xs
+each_place test d by start [] same = refl
+each_place test d by start (x ∷ xs) same =
+    let none : start + 0 ≡ start = omega arith in
+    let first : by start ≡ test x = rw none at (same 0 (omega arith)) in
+    ap₂ (λ (a : Bool) (b : Bool). a && b) first
+    (each_place test d by (start + 1) xs
+    (λ k within. let on : start + 1 + k ≡ start + suc k = omega arith in rw on (same (suc k) (omega arith))))
+
+pub everywhere_by : (m : MapTable) → length m.pages ≡ 256 → mapped_held_everywhere m ≡ list_all is_taken m.pages
+unfolding mapped_held_everywhere mapped_sort
+everywhere_by m size =
+    ap (λ n. list_all (λ number. is_held_by_some (mapped_sort m (number * 256))) (range_with_len 0 n)) (sym size)
+    ∙ each_place is_taken Nothing (λ number. is_held_by_some (mapped_sort m (number * 256))) 0 m.pages
+    (λ k within.
+    let page : (0 + k) * 256 / 256 ≡ k = omega arith in
+    held-sort_by (entry_at m ((0 + k) * 256)) ∙ ap (λ n. is_taken (slice_index_or m.pages n Nothing)) page)

@@ -1,5 +1,6 @@
 -- What the map keeps of a page, by the chips that hold it.
-use Rattle.std.specs.Prelude.{ℕ, Bool, true, false, List, replicate}
+use Rattle.std.specs.Prelude.{◌≡◌, ℕ, Bool, true, false, List, length, replicate}
+use Rattle.std.specs.List.{list_all}
 use Rattle.f8_spec.specs.declared.chips.PageSort.{PageSort}
 use Rattle.f8_spec.specs.declared.chips.PageSort.TheVariants.{Rom, Ram, Void}
 use Rattle.memory_map.specs.Holders.{OwnedPage, Few, Empty, One, Several}
@@ -24,6 +25,11 @@ page_bytes Several = replicate 256 255
 
 -- ---- what an entry says of the holders
 
+abbrev pub is_taken : Entry → Bool
+is_taken Nothing = false
+is_taken (Held sort owner) = true
+is_taken Shared = true
+
 abbrev pub is_held : Entry → Bool
 is_held Nothing = false
 is_held (Held sort owner) = true
@@ -33,3 +39,11 @@ abbrev pub is_shared : Entry → Bool
 is_shared Nothing = false
 is_shared (Held sort owner) = false
 is_shared Shared = true
+
+-- ---- what a map keeps of all pages
+
+-- an entry for each page, a byte for each address, and whether each page has a holder
+pub record KeepsPages (pages : List Entry) (bytes : List ℕ) (everywhere : Bool) : Type 0 where
+  pub each_page : length pages ≡ 256
+  pub each_byte : length bytes ≡ 65536
+  pub each_taken : everywhere ≡ list_all is_taken pages

@@ -39,6 +39,14 @@ kind_has_pages kind seats = list_any (has_kind_and_pages kind) seats
 
 -- ---- all addresses
 
+-- one chip or more holds an address
+abbrev pub is_held : Sort → Bool
+is_held Rom = true
+is_held Ram = true
+is_held Void = true
+is_held Nothing = false
+is_held Shared = true
+
 abbrev pub is_held_once : Sort → Bool
 is_held_once Rom = true
 is_held_once Ram = true

@@ -1,5 +1,6 @@
 -- What a map tells of each address and of each port, and that it is the map of some chips.
-use Rattle.std.specs.Prelude.{◌≡◌, ℕ, ◌/◌, ◌<◌, ◌↔◌, Bool, false, IsTrue, List, length, map, slice_index, slice_index_or, Option, Some, None}
+use Rattle.std.specs.Prelude.{◌≡◌, ℕ, ◌*◌, ◌/◌, ◌<◌, ◌↔◌, Bool, false, IsTrue, List, length, map, slice_index, slice_index_or, Option, Some, None}
+use Rattle.std.specs.List.{list_all, range_with_len}
 use Rattle.f8_spec.specs.ChipState.{ChipView}
 use Rattle.f8_spec.specs.BusArbitration.{Seat, seat_of}
 use Rattle.f8_spec.specs.declared.chips.ChipKind.{ChipKind}
@@ -13,7 +14,7 @@ use Rattle.console_spec.specs.declared.Sort.{Sort}
 use Rattle.console_spec.specs.declared.Sort.TheVariants.{Rom, Ram, Void, Nothing as NoChip, Shared as ManyChips}
 use Rattle.chip_face.specs.Fitting.{fitted}
 use Rattle.chip_face.specs.declared.specification.ChipSpec.{ChipSpec}
-use Rattle.memory_map.specs.MapKinds.{kind_holds, kind_has_pages, IsCovered, Overlap, some_wired}
+use Rattle.memory_map.specs.MapKinds.{kind_holds, kind_has_pages, is_held, IsCovered, Overlap, some_wired}
 use Rattle.memory_map.specs.declared.entry.Entry.{Entry}
 use Rattle.memory_map.specs.declared.entry.Entry.TheVariants.{Nothing, Held, Shared}
 use Rattle.memory_map.specs.declared.kinds.KindPages.{KindPages}
@@ -82,6 +83,10 @@ unfoldable pub mapped_any : MapTable → ChipKind → Bool
 mapped_any m kind = (kind_pages kind m).any
 
 -- ---- what it tells of all addresses, and of all chips
+
+-- every address is held: the first of each page is
+unfoldable pub mapped_held_everywhere : MapTable → Bool
+mapped_held_everywhere m = list_all (λ number. is_held (mapped_sort m (number * 256))) (range_with_len 0 256)
 
 unfoldable pub mapped_covered : MapTable → Bool
 mapped_covered m = m.covered

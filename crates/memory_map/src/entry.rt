@@ -1,7 +1,7 @@
 // What the map keeps of a page.
 ghost use Rattle.std.specs.Prelude.{◌≡◌};
 ghost use Rattle.std.specs.List.{list_all, list_any};
-ghost use Rattle.memory_map.specs.MapEntries.{is_held, is_shared};
+ghost use Rattle.memory_map.specs.MapEntries.{is_held, is_shared, is_taken};
 
 use chip_face::PageSort;
 
@@ -14,6 +14,13 @@ pub enum Entry {
     Held { sort: PageSort, owner: u8 },
     /// Two or more chips hold it.
     Shared,
+}
+
+/// Whether each page has one holder or more.
+pub fn all_taken(pages: &[Entry]) -> bool
+    ensures { result ≡ list_all is_taken pages.now }
+{
+    pages.iter().all(|page| !matches!(page, Entry::Nothing))
 }
 
 /// Whether each page has one holder alone.

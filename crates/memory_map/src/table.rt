@@ -2,7 +2,7 @@
 ghost use Rattle.console_spec.specs.FreeRuns.{AreBytes};
 
 use super::chips::some_wired;
-use super::entry::{Entry, all_held, any_shared};
+use super::entry::{Entry, all_held, all_taken, any_shared};
 use super::holders::Holder;
 use super::kinds::KindPages;
 use super::ports::{all_readers, all_takers};
@@ -30,14 +30,15 @@ pub struct Map {
     psu: KindPages,
     smi: KindPages,
 
-    /// Each address has one holder alone; some address has several; some chip can interrupt.
+    /// Each address has a holder; each has one alone; some address has several; some chip can interrupt.
+    held_everywhere: bool,
     covered: bool,
     overlaps: bool,
     wired: bool,
 }
 
 impl Model for Map {
-    ghost use Rattle.std.specs.Prelude.{◌≡◌, length};
+    ghost use Rattle.memory_map.specs.MapEntries.{KeepsPages};
     ghost use Rattle.memory_map.specs.MapOf.{MapTable};
 
     ghost Value = { MapTable };
@@ -54,14 +55,14 @@ impl Model for Map {
       wired = m.wired;
     } };
 
-    ghost invariant = { λ m. length m.bytes.items ≡ 65536 };
+    ghost invariant = { λ m. KeepsPages m.pages m.bytes.items m.held_everywhere };
 }
 
 impl Map {
     ghost use Rattle.std.specs.Prelude.{◌≡◌, ◌≤◌, ◌/◌, ℕ, All, IfOk, length};
     ghost use Rattle.chip_face.specs.Fitting.{IsSpec};
     ghost use Rattle.memory_map.specs.MapOf.{IsMapOf, IsWholeMap, entry_at, mapped_sort, mapped_owner, mapped_byte, mapped_readers, mapped_takers};
-    ghost use Rattle.memory_map.specs.MapOf.{kind_pages, mapped_held, mapped_any, mapped_covered, mapped_overlaps, mapped_wired};
+    ghost use Rattle.memory_map.specs.MapOf.{kind_pages, mapped_held, mapped_any, mapped_held_everywhere, mapped_covered, mapped_overlaps, mapped_wired};
 
     /// The map of some chips, or want of memory. What it tells is copied.
     pub fn of(alloc: Global, chips: &ChipList) -> Result<Map, Memory>
@@ -90,6 +91,7 @@ impl Map {
             pages[number] = holder.entry();
         }
         Ok(Map {
+            held_everywhere: all_taken(&pages),
             covered: all_held(&pages),
             overlaps: any_shared(&pages),
             pages,
@@ -199,6 +201,14 @@ impl Map {
         ensures { result ≡ mapped_any self.now kind }
     {
         self.of_kind(kind).any
+    }
+
+    /// Each address has one holder or more.
+    #[inline]
+    pub fn held_everywhere(&self) -> bool
+        ensures { result ≡ mapped_held_everywhere self.now }
+    {
+        self.held_everywhere
     }
 
     /// Each address has one holder alone.
