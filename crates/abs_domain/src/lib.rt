@@ -9,7 +9,7 @@ mod status;
 mod values;
 
 pub use laws::{join_law, order_law, point_law, rank_law};
-pub use points::Point;
+pub use points::{MOST_TRACKED, Point};
 pub use state::Abs;
 pub use values::{Bit, Digit, Val, Word};
 

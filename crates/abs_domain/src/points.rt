@@ -1,5 +1,8 @@
 // Points, by which abstract states are told apart.
 
+/// The most registers of the scratchpad that are tracked (this project's own).
+pub const MOST_TRACKED: usize = 8;
+
 /// Where an abstract state stands (this project's own). Points are in order by address, then by return, then by the bytes of the tracked
 /// registers, with what is unset first.
 #[derive(Clone, Copy, Debug, PartialEq, Eq, PartialOrd, Ord)]
@@ -11,5 +14,5 @@ pub struct Point {
     pub ret: Option<u16>,
 
     /// The bytes in the tracked registers, in their order. `None` stands for any byte, and past the last.
-    pub split: [Option<u8>; 8],
+    pub split: [Option<u8>; MOST_TRACKED],
 }

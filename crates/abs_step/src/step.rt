@@ -24,7 +24,7 @@ use super::registers::Registers;
 use super::succs::Succs;
 use super::tracked::tracked_bytes;
 use super::writes::Writes;
-use abs_domain::{Abs, Bit, Digit, Point, Val, Word};
+use abs_domain::{Abs, Bit, Digit, MOST_TRACKED, Point, Val, Word};
 use cartridge::Split;
 use f8_ops::{Op, decode, row_of};
 use memory_map::Map;
@@ -80,7 +80,7 @@ pub fn start(split: &Split) -> (Point, Abs)
     let point = Point {
         at: 0,
         ret: None,
-        split: [None; 8],
+        split: [None; MOST_TRACKED],
     };
     (point, START)
 }
@@ -226,7 +226,7 @@ fn successors(split: &Split, registers: &Registers, counters: Counters, exits: E
 }
 
 /// The point to which an exit leads.
-fn point_at(exit: Exit, split: [Option<u8>; 8]) -> Point
+fn point_at(exit: Exit, split: [Option<u8>; MOST_TRACKED]) -> Point
     ensures { result ≡ record { at = exit.at; ret = exit.ret; split = split } }
 {
     Point {

@@ -3,17 +3,15 @@ ghost use Rattle.std.specs.Prelude.{◌≡◌, ◌<◌, All};
 ghost use Rattle.abs_step.specs.Successors.{tracked_byte, tracked_bytes};
 
 use super::registers::Registers;
+use abs_domain::MOST_TRACKED;
 use cartridge::Split;
 
-/// The most registers that are tracked.
-const PLACES: usize = 8;
-
 /// What is known of the tracked registers, in their order, and nothing past the last.
-pub fn tracked_bytes(split: &Split, registers: &Registers) -> [Option<u8>; PLACES]
+pub fn tracked_bytes(split: &Split, registers: &Registers) -> [Option<u8>; MOST_TRACKED]
     ensures { result ≡ tracked_bytes split.now registers.now }
 {
-    let mut bytes = [None; PLACES];
-    for place in 0..PLACES {
+    let mut bytes = [None; MOST_TRACKED];
+    for place in 0..MOST_TRACKED {
         bytes[place] = tracked_byte(split.as_slice(), place, registers);
     }
     bytes

@@ -10,11 +10,9 @@ use super::keys::Key;
 use super::refusal::{CartCause, KeyFault};
 use super::split::Split;
 use super::values::{number_in, value_at};
+use abs_domain::MOST_TRACKED;
 use std::alloc::{AllocError, Global};
 use toml::{Table, Value};
-
-/// The most registers that are tracked.
-const MOST_REGISTERS: usize = 8;
 
 /// Registers of the scratchpad, no two of them equal.
 #[tactic(auto, using(crate::proofs::Registers::registers_none, crate::proofs::Registers::registers_more, crate::proofs::Registers::registers_bad, crate::proofs::Registers::registers_twice, crate::proofs::Registers::registers_all))]
@@ -41,7 +39,7 @@ fn registers_of(entries: &[Value]) -> Result<Split, CartCause>
 fn split_of(entries: &[Value]) -> Result<Split, CartCause>
     ensures { result ≡ split_listed (items_view entries.now) }
 {
-    if entries.len() > MOST_REGISTERS {
+    if entries.len() > MOST_TRACKED {
         return Err(CartCause::TooMany);
     }
     registers_of(entries)

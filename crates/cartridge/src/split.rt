@@ -3,15 +3,13 @@ ghost use Rattle.std.specs.Prelude.{◌≡◌, ◌<◌, ◌++◌, [], ◌∷◌,
 ghost use Rattle.cartridge.specs.Values.{is_among};
 ghost use Rattle.cartridge.specs.Splits.{IsSplit};
 
+use abs_domain::MOST_TRACKED;
 use std::marker::Model;
-
-/// The most registers that are tracked.
-const REGISTERS: usize = 8;
 
 /// The registers of the scratchpad that the checker tracks: at most 8, all different, each below 64. Contracts see the list of them.
 #[derive(Debug, Drop)]
 pub struct Split {
-    registers: [u8; REGISTERS],
+    registers: [u8; MOST_TRACKED],
     len: usize,
 }
 
@@ -32,7 +30,7 @@ impl Split {
         ensures { result ≡ [] }
     {
         Split {
-            registers: [0; REGISTERS],
+            registers: [0; MOST_TRACKED],
             len: 0,
         }
     }

@@ -13,10 +13,7 @@ use super::parts::{
     address_at, behind, bit_at, bytes_at, known_address_at, known_bit_at, known_byte_at,
     known_octal_at,
 };
-use abs_domain::{Abs, Bit, Digit, Point, Val, Word};
-
-/// The places of a point for tracked registers.
-const PLACES: usize = 8;
+use abs_domain::{Abs, Bit, Digit, MOST_TRACKED, Point, Val, Word};
 
 /// The registers of the scratchpad.
 const REGISTERS: usize = 64;
@@ -62,7 +59,7 @@ fn point_at(tracked: usize, text: &[u8]) -> Option<(Point, &[u8])>
 {
     let (at, rest) = address_at(text)?;
     let (ret, rest) = known_address_at(field(rest)?)?;
-    let mut split = [None; PLACES];
+    let mut split = [None; MOST_TRACKED];
     let rest = values_at(&mut split[..tracked], field(rest)?)?;
     Some((Point { at, ret, split }, rest))
 }
