@@ -4,7 +4,7 @@ use Rattle.std.specs.Prelude.{codes, replicate}
 use Rattle.asm_text.specs.Bytes.{value, narrow}
 use Rattle.asm_text.specs.Lexemes.{name_of, name_lexeme, number_of, number_lexeme, quoted_lexeme, lexeme}
 use Rattle.asm_text.specs.Tokens.{tokens_at, tokens_of}
-use Rattle.asm_text.specs.Spelling.{hex2, hex4}
+use Rattle.f8_spec.specs.Spelling.{hex2, hex4}
 use Rattle.asm_text.proofs.Spelled.{hex2_read, hex4_read}
 use Rattle.asm_text.specs.declared.answers.Token.{Token}
 use Rattle.asm_text.specs.declared.answers.TokenKind.{TokenKind}
@@ -126,9 +126,9 @@ marks = refl
 
 -- a listing's byte and word, whichever they are
 listed_byte : (b : ℕ) → b < 256 → tokens_of (codes "LI $" ++ hex2 b) ≡ Ok (token 1 3 (kind.Name (codes "LI")) ∷ token 4 7 (kind.Number b) ∷ [])
-unfolding tokens_at lexeme name_lexeme name_of hex2
+unfolding tokens_at lexeme name_lexeme name_of
 listed_byte b small = rw (hex2_read b [] small refl) refl
 
 listed_word : (w : ℕ) → w < 65536 → tokens_of (codes "PI $" ++ hex4 w) ≡ Ok (token 1 3 (kind.Name (codes "PI")) ∷ token 4 9 (kind.Number w) ∷ [])
-unfolding tokens_at lexeme name_lexeme name_of hex4 hex2
+unfolding tokens_at lexeme name_lexeme name_of
 listed_word w small = rw (hex4_read w [] small refl) refl

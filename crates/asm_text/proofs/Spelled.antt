@@ -7,7 +7,7 @@ use Rattle.std.proofs.lemmas.Bool.Decides.{nat_tests}
 use Rattle.std.proofs.lemmas.Grind.{common_steps}
 use Rattle.asm_text.specs.Bytes.{is_name_byte, is_name, value, narrow, stops}
 use Rattle.asm_text.specs.Lexemes.{name_of, name_lexeme, number_of, number_lexeme}
-use Rattle.asm_text.specs.Spelling.{hex_digit, hex2, hex4}
+use Rattle.f8_spec.specs.Spelling.{hex_digit, hex2, hex4}
 use Rattle.asm_text.specs.declared.front.Lexeme.TheVariants.{Wide, Lexed}
 use Rattle.asm_text.specs.declared.answers.TokenKind.TheVariants as kind
 
@@ -89,12 +89,12 @@ digit_again d small = grind (arith, nat_tests)
 
 -- two hex digits spell their byte
 pub hex2_value : (b : ℕ) → b < 256 → value 16 (hex2 b) ≡ b
-unfolding value hex2
+unfolding value
 hex2_value b small = omega (arith, digit_again (b / 16) (omega arith), digit_again (b % 16) (omega arith))
 
 -- four hex digits spell their word
 pub hex4_value : (w : ℕ) → w < 65536 → value 16 (hex4 w) ≡ w
-unfolding value hex2 hex4
+unfolding value
 hex4_value w small =
     omega (
       arith,
@@ -110,14 +110,12 @@ hex_digit_is d small = grind (arith, nat_tests, digit_again d small)
 
 -- a byte in two hex digits is read again
 pub hex2_read : (b : ℕ) (rest : List ℕ) → b < 256 → stops (λ c. is_digit c 16) rest ≡ true → number_lexeme 16 1 (hex2 b ++ rest) ≡ Lexed (kind.Number b) 3
-unfolding hex2
 hex2_read b rest small stop =
     let all : list_all (λ c. is_digit c 16) (hex2 b) ≡ true = rw (hex_digit_is (b / 16) (omega arith), hex_digit_is (b % 16) (omega arith)) refl in
     number_read 16 1 b (hex2 b) rest (lit< tt) all (hex2_value b small) (omega arith) stop
 
 -- a word in four hex digits is read again
 pub hex4_read : (w : ℕ) (rest : List ℕ) → w < 65536 → stops (λ c. is_digit c 16) rest ≡ true → number_lexeme 16 1 (hex4 w ++ rest) ≡ Lexed (kind.Number w) 5
-unfolding hex2 hex4
 hex4_read w rest small stop =
     let all : list_all (λ c. is_digit c 16) (hex4 w) ≡ true =
     rw (

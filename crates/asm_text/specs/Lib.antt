@@ -1,5 +1,4 @@
 pub mod Bytes
 pub mod Lexemes
 pub mod Tokens
-pub mod Spelling
 pub mod Grammar

@@ -4,7 +4,7 @@ ghost use Rattle.std.specs.Option.{ForSome};
 ghost use Rattle.abs_domain.specs.KnownParts.{known_byte, known_digit, known_bit, known_word};
 ghost use Rattle.abs_domain.specs.StateView.{status_of, counters_of, state_of};
 ghost use Rattle.abs_step.specs.StatesAtPoints.{states_of};
-ghost use Rattle.f8_spec.specs.Spelling.{hex_digit as spelled_digit, hex2, hex4};
+ghost use Rattle.f8_spec.specs.Spelling.{hex2, hex4};
 ghost use Rattle.certificate.specs.Parts.{bit_text, known_byte_text, known_address_text, known_octal_text, known_bit_text};
 ghost use Rattle.certificate.specs.Parts.{bytes_text, values_text};
 ghost use Rattle.certificate.specs.Entries.{point_text, status_text, counters_text, entry_text};
@@ -19,25 +19,18 @@ use f8_asm::Text;
 use f8_spec::Memory;
 use std::alloc::{AllocError, Global};
 use std::collections::BTreeMap;
+use text_lines::hex2;
 
 /// The most bytes of the first line, and of a line behind it.
 const FIRST_LINE_ROOM: usize = 15;
 
 const LINE_ROOM: usize = 195;
 
-/// The character of a hexadecimal digit.
-fn hex_digit(digit: u8) -> u8
-    requires { digit < 16 }
-    ensures { result ≡ spelled_digit digit }
-{
-    if digit < 10 { b'0' + digit } else { 55 + digit }
-}
-
 /// Writes a byte as two hexadecimal digits.
 fn put_byte(out: &mut Vec<u8>, byte: u8) -> Result<(), AllocError>
     ensures { OnOk result (out.new.items ≡ out.old.items ++ hex2 byte) }
 {
-    out.extend_from_slice(&[hex_digit(byte / 16), hex_digit(byte % 16)])
+    out.extend_from_slice(&hex2(byte))
 }
 
 /// Writes an address as four hexadecimal digits.

@@ -3,7 +3,7 @@ use Rattle.std.proofs.Common.{◌≡◌, ℕ, List, [], ◌∷◌, ◌++◌, Res
 use Rattle.std.specs.Prelude.{codes}
 use Rattle.asm_text.specs.Bytes.{value, narrow}
 use Rattle.asm_text.specs.Lexemes.{name_of, name_lexeme, number_of, number_lexeme, quoted_lexeme, lexeme}
-use Rattle.asm_text.specs.Spelling.{hex2, hex4}
+use Rattle.f8_spec.specs.Spelling.{hex2, hex4}
 use Rattle.asm_text.specs.Tokens.{tokens_at, tokens_of}
 use Rattle.f8_spec.specs.Instructions.{decoded, mnemonic_of}
 use Rattle.f8_asm.specs.declared.answers.AsmCause.TheVariants.{Unknown, Undefined, Range, BranchRange}
@@ -134,11 +134,11 @@ inner_return = refl
 
 -- a reserved code, and an instruction that the end cuts
 cut_listing : listing (0x71 ∷ 0x2D ∷ 0x20 ∷ []) ≡ codes "ORG $0000" ++ 10 ∷ codes "LIS 1" ++ 10 ∷ codes "DB $2D" ++ 10 ∷ codes "DB $20" ++ 10 ∷ []
-unfolding listing entries piece decoded pair_text gap_of front_of mnemonic_of hex2
+unfolding listing entries piece decoded pair_text gap_of front_of mnemonic_of
 cut_listing = refl
 
 -- a branch to itself, and one that leads out of the addresses, whose second byte is no opcode either
 branch_listing : listing (0x90 ∷ 0xFF ∷ 0x90 ∷ 0x80 ∷ 0x2B ∷ []) ≡ codes "ORG $0000" ++ 10 ∷ codes "BF 0,$0000" ++ 10 ∷
     codes "DB $90" ++ 10 ∷ codes "DB $80" ++ 10 ∷ codes "NOP" ++ 10 ∷ []
-unfolding listing entries piece decoded pair_text gap_of front_of mnemonic_of hex2 hex4
+unfolding listing entries piece decoded pair_text gap_of front_of mnemonic_of
 branch_listing = refl

@@ -6,7 +6,7 @@ use Rattle.std.specs.List.{list_all}
 use Rattle.std.proofs.lemmas.Bool.Decides.{nat_tests}
 use Rattle.asm_text.specs.Bytes.{value, narrow}
 use Rattle.asm_text.specs.Lexemes.{name_of, name_lexeme, number_of, number_lexeme, lexeme}
-use Rattle.asm_text.specs.Spelling.{hex_digit, hex2, hex4}
+use Rattle.f8_spec.specs.Spelling.{hex_digit, hex2, hex4}
 use Rattle.asm_text.specs.Tokens.{tokens_at, tokens_of}
 use Rattle.asm_text.specs.declared.answers.Token.{Token}
 use Rattle.asm_text.specs.declared.answers.TokenKind.TheVariants as kind
@@ -83,7 +83,7 @@ abbrev pub alone : ℕ → List ℕ
 alone b = line_of (op_piece 0 b [] (decoded b)).entry
 
 alone_computes : (at : ℕ) → Computes alone (λ b. tokens_in (alone b)) (λ b. b ∷ []) 256 at
-unfolding numbers_open hex2
+unfolding numbers_open
 alone_computes at = record {
   printable = refl;
   short = refl;
@@ -102,7 +102,7 @@ abbrev data_line : ℕ → List ℕ
 data_line b = line_of (entry.Data b)
 
 data_computes : (at : ℕ) → Computes data_line (λ b. tokens_in (data_line b)) (λ b. b ∷ []) 256 at
-unfolding numbers_open hex2
+unfolding numbers_open
 data_computes at = record {
   printable = refl;
   short = refl;
@@ -123,11 +123,9 @@ hex_digit_printable : (d : ℕ) → d < 16 → is_printable (hex_digit d) ≡ tr
 hex_digit_printable d h = grind (arith, nat_tests)
 
 hex2_printable : (b : ℕ) → b < 256 → list_all is_printable (hex2 b) ≡ true
-unfolding hex2
 hex2_printable b h = rw (hex_digit_printable (b / 16) (omega arith), hex_digit_printable (b % 16) (omega arith)) refl
 
 hex4_printable : (w : ℕ) → w < 65536 → list_all is_printable (hex4 w) ≡ true
-unfolding hex4 hex2
 hex4_printable w h = rw (
   hex_digit_printable (w / 256 / 16) (omega arith),
   hex_digit_printable (w / 256 % 16) (omega arith),
@@ -172,8 +170,8 @@ module _ (c : ℕ) (is_byte : c < 256) where
   unfolding all_open
   byte_computes at = record {
     printable = rw (hex2_printable c is_byte) refl;
-    short = unfold hex2 in refl;
-    read = unfold hex2 in rw (hex2_read c [] is_byte refl) refl;
+    short = refl;
+    read = rw (hex2_read c [] is_byte refl) refl;
     behind_label = refl;
     statement_at = λ address. refl;
     fills = refl;
@@ -195,8 +193,8 @@ module _ (c d : ℕ) (high : c < 256) (low : d < 256) where
   unfolding all_open
   word_computes at = record {
     printable = rw (hex4_printable (256 * c + d) is_word) refl;
-    short = unfold hex4 in unfold hex2 in refl;
-    read = unfold hex4 in unfold hex2 in rw (hex4_read (256 * c + d) [] is_word refl) refl;
+    short = refl;
+    read = rw (hex4_read (256 * c + d) [] is_word refl) refl;
     behind_label = refl;
     statement_at = λ address. refl;
     fills = refl;
@@ -218,8 +216,8 @@ module _ (w c at : ℕ) (is_word : w < 65536) (reaches : octet 127 (pos w -ℤ p
   unfolding numbers_open
   mask_computes = record {
     printable = rw (hex4_printable w is_word) refl;
-    short = unfold hex4 in unfold hex2 in refl;
-    read = unfold hex4 in unfold hex2 in rw (hex4_read w [] is_word refl) refl;
+    short = refl;
+    read = rw (hex4_read w [] is_word refl) refl;
     behind_label = refl;
     statement_at = λ address. refl;
     fills = refl;
@@ -230,8 +228,8 @@ module _ (w c at : ℕ) (is_word : w < 65536) (reaches : octet 127 (pos w -ℤ p
   unfolding numbers_open
   branch_computes = record {
     printable = rw (hex4_printable w is_word) refl;
-    short = unfold hex4 in unfold hex2 in refl;
-    read = unfold hex4 in unfold hex2 in rw (hex4_read w [] is_word refl) refl;
+    short = refl;
+    read = rw (hex4_read w [] is_word refl) refl;
     behind_label = refl;
     statement_at = λ address. refl;
     fills = refl;

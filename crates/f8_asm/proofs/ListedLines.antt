@@ -4,7 +4,7 @@ use Rattle.text_lines.specs.Printable.{is_printable}
 use Rattle.std.specs.Prelude.{codes}
 use Rattle.std.specs.List.{list_all}
 use Rattle.std.proofs.lemmas.Bool.Decides.{nat_tests}
-use Rattle.asm_text.specs.Spelling.{hex2, hex4}
+use Rattle.f8_spec.specs.Spelling.{hex2, hex4}
 use Rattle.asm_text.specs.Tokens.{tokens_of}
 use Rattle.asm_text.specs.declared.answers.Token.{Token}
 use Rattle.f8_spec.specs.Instructions.{mnemonic_of}

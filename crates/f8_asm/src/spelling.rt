@@ -1,11 +1,12 @@
 // How a listing writes statements.
 ghost use Rattle.std.specs.Prelude.{◌≡◌, ◌<◌, ◌++◌, OnOk};
-ghost use Rattle.asm_text.specs.Spelling.{hex_digit, hex2, hex4};
+ghost use Rattle.f8_spec.specs.Spelling.{hex2, hex4};
 ghost use Rattle.f8_asm.specs.Listing.{small_decimal, register_text, pair_text, seen_text, gap_of, front_of, field_of, FieldFits, EntryFits, field_text, back_of, with_head, with_entry};
 
 use f8_ops::name;
 use f8_spec::Op;
 use std::alloc::AllocError;
+use text_lines::hex2;
 
 /// A statement of a listing.
 #[derive(Clone, Copy)]
@@ -30,39 +31,19 @@ pub enum FieldText {
     Small(u8),
 }
 
-/// A hex digit in capitals.
-fn hex_digit(digit: u8) -> u8
-    requires { digit < 16 }
-    ensures { result ≡ hex_digit digit }
-{
-    if digit < 10 {
-        b'0' + digit
-    } else {
-        b'A' + (digit - 10)
-    }
-}
-
 /// Writes a byte in two hex digits.
-#[tactic(auto, unfolding(asm_text::specs::Spelling::hex2))]
 fn push_byte(text: &mut Vec<u8>, byte: u8) -> Result<(), AllocError>
     ensures { OnOk result (text.new.items ≡ text.old.items ++ hex2 byte) }
 {
-    text.extend_from_slice(&[hex_digit(byte / 16), hex_digit(byte % 16)])
+    text.extend_from_slice(&hex2(byte))
 }
 
 /// Writes a word in four hex digits.
-#[tactic(auto, unfolding(asm_text::specs::Spelling::hex2, asm_text::specs::Spelling::hex4))]
 fn push_word(text: &mut Vec<u8>, word: u16) -> Result<(), AllocError>
     ensures { OnOk result (text.new.items ≡ text.old.items ++ hex4 word) }
 {
-    let high = (word / 256) as u8;
-    let low = (word % 256) as u8;
-    text.extend_from_slice(&[
-        hex_digit(high / 16),
-        hex_digit(high % 16),
-        hex_digit(low / 16),
-        hex_digit(low % 16),
-    ])
+    push_byte(text, (word / 256) as u8)?;
+    push_byte(text, (word % 256) as u8)
 }
 
 /// Writes a number below 16 in decimal.

@@ -1,9 +1,10 @@
 // A line on a buffer of its own.
 ghost use Rattle.std.specs.Prelude.{◌≡◌, ◌+◌, ◌≤◌, ◌<◌, ◌++◌, ◌∷◌, [], length, decimal};
 ghost use Rattle.std.specs.Fmt.{signed_decimal};
-ghost use Rattle.f8_spec.specs.Spelling.{hex_digit, hex2 as spelled_hex2, hex4 as spelled_hex4, octal2 as spelled_octal2};
+ghost use Rattle.f8_spec.specs.Spelling.{hex2 as spelled_hex2, hex4 as spelled_hex4, octal2 as spelled_octal2};
 
 use std::marker::Model;
+use text_lines::hex2;
 
 /// The bytes that a line has room for.
 pub const LINE_ROOM: usize = 512;
@@ -70,23 +71,15 @@ impl Line {
         }
     }
 
-    fn hex_digit(&mut self, digit: u8)
-        requires digit { digit < 16 }
-        requires room { length self.old < 512 }
-        ensures text { self.new ≡ self.old ++ hex_digit digit ∷ [] }
-        ensures len { length self.new ≡ length self.old + 1 }
-    {
-        self.byte(if digit < 10 { b'0' + digit } else { 55 + digit });
-    }
-
     /// Writes a byte as two hexadecimal digits.
     pub fn hex2(&mut self, byte: u8)
         requires { length self.old + 2 ≤ 512 }
         ensures text { self.new ≡ self.old ++ spelled_hex2 byte }
         ensures len { length self.new ≡ length self.old + 2 }
     {
-        self.hex_digit(byte / 16);
-        self.hex_digit(byte % 16);
+        let digits = hex2(byte);
+        self.byte(digits[0]);
+        self.byte(digits[1]);
     }
 
     /// Writes an address as four hexadecimal digits.

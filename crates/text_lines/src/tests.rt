@@ -1,4 +1,4 @@
-// Lines and printable characters.
+// Lines, printable characters and digits.
 use super::*;
 use std::test::Fail;
 
@@ -20,4 +20,10 @@ fn printable_characters(rt: HostRuntime) -> Result<(), Fail> {
     assert!(rt; !all_printable(b"\x1F".as_slice()));
     assert!(rt; !all_printable(b"a\x7F".as_slice()));
     Ok(())
+}
+
+#[test]
+fn digits_of_a_byte(rt: HostRuntime) {
+    assert_eq!(rt; hex2(0x9A), *b"9A");
+    assert_eq!(rt; hex2(0x0F), *b"0F");
 }
