@@ -1,9 +1,8 @@
 // What an instruction gets of what is known.
 ghost use Rattle.std.specs.Prelude.{◌≡◌, option_and_then};
-ghost use Rattle.f8_spec.specs.Words.{places_on, displaced};
+ghost use Rattle.f8_spec.specs.Words.{places_on};
 ghost use Rattle.abs_step.specs.Known.{known_word};
 ghost use Rattle.abs_step.specs.KnownFlow.{known_inputs, known_used_byte, branch_target};
-ghost use Rattle.abs_step.specs.MapView.{MapView};
 ghost use Rattle.abs_step.specs.MapView.{view_of};
 ghost use Rattle.abs_step.specs.WorkView.{inputs_view};
 

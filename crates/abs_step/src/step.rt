@@ -3,7 +3,6 @@ ghost use Rattle.std.specs.Prelude.{◌≡◌, ◌<◌, None, Some, length, IfOk
 ghost use Rattle.std.specs.List.{AllByRecursion};
 ghost use Rattle.std.specs.Option.{ForSome};
 ghost use Rattle.f8_spec.specs.Instructions.{InRange, decoded, row_of};
-ghost use Rattle.console_spec.specs.Processor.{port_field};
 ghost use Rattle.abs_domain.specs.StateView.{state_of};
 ghost use Rattle.abs_step.specs.Successors.{Fits, start_point, start_state};
 ghost use Rattle.abs_step.specs.Successors.{successors};

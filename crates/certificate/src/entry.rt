@@ -1,5 +1,5 @@
 // A line of a certificate: a point with the state that holds there.
-ghost use Rattle.std.specs.Prelude.{◌≡◌, ◌<◌, ◌≤◌, ◌-◌, ◌++◌, Option, Some, None, option_map, IfSome, length, map, replicate, codes};
+ghost use Rattle.std.specs.Prelude.{◌≡◌, ◌<◌, ◌≤◌, ◌-◌, Option, Some, None, option_map, IfSome, length, map, codes};
 ghost use Rattle.std.specs.Option.{ForSome};
 ghost use Rattle.abs_domain.specs.KnownParts.{known_byte, known_digit};
 ghost use Rattle.abs_domain.specs.StateView.{status_of, state_of};

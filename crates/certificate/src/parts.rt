@@ -1,5 +1,5 @@
 // The parts of a line, read from the front of a text.
-ghost use Rattle.std.specs.Prelude.{◌≡◌, ◌<◌, ◌≤◌, IfSome, MatchOption, length};
+ghost use Rattle.std.specs.Prelude.{◌≡◌, ◌<◌, ◌≤◌, IfSome, length};
 ghost use Rattle.std.specs.Option.{ForSome};
 ghost use Rattle.certificate.specs.Answers.{Gives};
 ghost use Rattle.certificate.specs.Parts.{behind as spelled_behind, digit_in as spelled_digit, digit_at as spelled_digit_at};

@@ -1,7 +1,7 @@
 // The text of an invariant map.
 ghost use Rattle.std.specs.Prelude.{◌≡◌, ◌<◌, ◌+◌, ◌*◌, ◌≤◌, ◌++◌, OnOk, IfOk, length, codes, map};
 ghost use Rattle.std.specs.Option.{ForSome};
-ghost use Rattle.abs_domain.specs.KnownParts.{known_byte, known_digit, known_bit, known_word};
+ghost use Rattle.abs_domain.specs.KnownParts.{known_byte};
 ghost use Rattle.abs_domain.specs.StateView.{status_of, counters_of, state_of};
 ghost use Rattle.abs_step.specs.StatesAtPoints.{states_of};
 ghost use Rattle.f8_spec.specs.Spelling.{hex2, hex4};
