@@ -9,6 +9,7 @@ pub mod Starts
 pub mod Turned
 pub mod Halts
 pub mod Happening
+pub mod ChainLaws
 pub mod GoingLaws
 pub mod PutLines
 pub mod SocketLaws

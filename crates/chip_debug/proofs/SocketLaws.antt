@@ -1,18 +1,20 @@
 -- The chips of a rack socket by socket.
 use Rattle.std.proofs.Common.{◌≡◌, ℕ, zero, suc, ◌+◌, ◌<◌, ◌≤◌, Bool, true, false, List, [], ◌∷◌, ◌++◌, length, drop, refl}
 use Rattle.std.proofs.Common.{sym, ap, ◌∙◌, arith, add-one, zero-add}
-use Rattle.std.specs.Prelude.{◌==◌, if◌then◌else◌, filter_map, is_some, slice_get, Option, Some, None}
+use Rattle.std.specs.Prelude.{◌==◌, filter_map, is_some, option_map, slice_get, Option, Some, None}
 use Rattle.std.specs.List.{enumerate_from, filter, list_any}
 use Rattle.std.proofs.lemmas.List.{length-map}
+use Rattle.std.proofs.lemmas.Option.{slice_get-map}
 use Rattle.std.proofs.lemmas.List.FromFn.{length-enumerate_from}
 use Rattle.f8_spec.specs.ChipState.{ChipView, ChipState, held_byte, told_counters}
 use Rattle.f8_spec.specs.declared.bus.Counters.{Counters}
 use Rattle.data_bus.specs.Racks.{views}
 use Rattle.console_spec.specs.RunText.{text_of}
 use Rattle.report.proofs.TextLaws.{text_of-nil, text_of-cons}
-use Rattle.chip_debug.specs.Breaks.{is_parted}
+use Rattle.chip_debug.specs.Breaks.{is_parted, are_apart}
 use Rattle.chip_debug.specs.Carried.{fitted_lines, sole}
 use Rattle.chip_debug.specs.DebugText.{chip_line}
+use Rattle.chip_debug.proofs.ChainLaws.{passes, any_named}
 
 -- a chip sits in a socket of the rack
 pub seated : (states : List ChipState) (socket : ℕ) → socket < length states →
@@ -98,34 +100,34 @@ fitted_none chain socket states past = ap (filter (is_in chain)) (named_none soc
 
 -- ---- counters that part
 
-abbrev pub apart_from : Counters → List ℕ → ℕ → List ChipState → Bool
-apart_from reference chain socket states =
-    list_any (λ x. is_parted reference (told_counters x.1)) (fitted_from chain socket states)
+-- the chip in a socket parts, if one sits there
+abbrev pub parts_in : Counters → List ChipState → ℕ → Bool
+parts_in reference states socket =
+    passes (λ v. is_parted reference (told_counters v)) (slice_get (views states) socket)
 
-any_first : (b : Bool) (p : ℕ × ChipView → Bool) (x : ℕ × ChipView) (xs : List (ℕ × ChipView)) → p x ≡ b →
-    list_any p (x ∷ xs) ≡ (if b then true else list_any p xs)
-any_first true p x xs is = rw is refl
-any_first false p x xs is = rw is refl
+-- the chips of the chain decide
+pub apart_by_chain : (reference : Counters) (chain : List ℕ) (states : List ChipState) →
+    are_apart reference chain (views states) ≡ list_any (parts_in reference states) chain
+apart_by_chain reference chain states = any_named (λ v. is_parted reference (told_counters v)) chain (views states)
 
-pub apart_here : (b : Bool) (reference : Counters) (chain : List ℕ) (socket : ℕ) (states : List ChipState) (s : ChipState) →
-    slice_get states socket ≡ Some s → list_any (λ held. held == socket) chain ≡ true →
-    is_parted reference (told_counters s.view) ≡ b →
-    apart_from reference chain socket states
-    ≡ (if b then true else apart_from reference chain (socket + 1) states)
-apart_here b reference chain socket states s here is parted =
-    ap (list_any (λ x. is_parted reference (told_counters x.1))) (fitted_here chain socket states s here is)
-    ∙ any_first b (λ x. is_parted reference (told_counters x.1)) (socket, s.view) (fitted_from chain (socket + 1) states) parted
+pub parts_seated : (b : Bool) (reference : Counters) (states : List ChipState) (socket : ℕ) (s : ChipState) →
+    slice_get states socket ≡ Some s → is_parted reference (told_counters s.view) ≡ b → parts_in reference states socket ≡ b
+parts_seated b reference states socket s here is =
+    ap (passes (λ v. is_parted reference (told_counters v)))
+    (slice_get-map (λ (t : ChipState). t.view) states socket
+    ∙ ap (λ (o : Option ChipState). option_map (λ (t : ChipState). t.view) o) here)
+    ∙ is
 
-pub apart_not : (reference : Counters) (chain : List ℕ) (socket : ℕ) (states : List ChipState) → socket < length states →
-    list_any (λ held. held == socket) chain ≡ false →
-    apart_from reference chain socket states ≡ apart_from reference chain (socket + 1) states
-apart_not reference chain socket states within is =
-    ap (list_any (λ x. is_parted reference (told_counters x.1))) (fitted_not chain socket states within is)
+nothing_past : {A : Type 0} → (xs : List A) (place : ℕ) → length xs ≤ place → slice_get xs place ≡ None
+nothing_past [] place past = refl
+nothing_past (x ∷ xs) zero past = absurd (omega (arith, past))
+nothing_past (x ∷ xs) (suc place) past = nothing_past xs place (omega (arith, past))
 
-pub apart_none : (reference : Counters) (chain : List ℕ) (socket : ℕ) (states : List ChipState) →
-    length states ≤ socket → apart_from reference chain socket states ≡ false
-apart_none reference chain socket states past =
-    ap (list_any (λ x. is_parted reference (told_counters x.1))) (fitted_none chain socket states past)
+pub parts_past : (reference : Counters) (states : List ChipState) (socket : ℕ) → length states ≤ socket →
+    parts_in reference states socket ≡ false
+parts_past reference states socket past =
+    ap (passes (λ v. is_parted reference (told_counters v)))
+    (nothing_past (views states) socket (omega (arith, past, length-map states (λ (s : ChipState). s.view))))
 
 -- ---- their lines
 

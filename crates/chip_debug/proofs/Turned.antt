@@ -1,5 +1,5 @@
 -- An instruction leads to the next scene.
-use Rattle.std.proofs.Common.{◌≡◌, ℕ, ◌+◌, Bool, true, false, List, sym, ap, ap₂, subst, ◌∙◌}
+use Rattle.std.proofs.Common.{◌≡◌, ℕ, ◌+◌, Bool, true, false, List, refl, sym, ap, ap₂, subst, ◌∙◌}
 use Rattle.std.specs.Prelude.{◌||◌, ◌&&◌, if◌then◌else◌, Option, Some, None, is_some}
 use Rattle.std.specs.List.{list_any}
 use Rattle.f8_spec.specs.ChipState.{ChipView, ChipState}
@@ -135,20 +135,26 @@ met_at s states scene steps at running =
     ∙ ap (λ (l : List ℕ). met scene.breaks scene.position.flat.state.flow.p scene.probe l (views states)) at.chain
     ∙ ap (λ (vs : List ChipView). met scene.breaks scene.position.flat.state.flow.p scene.probe scene.position.chain vs) at.chips
 
+-- a break is heeded wherever it is met
+heeded : (heeds steps behind : Bool) → ((heeds && steps) || (heeds && behind)) ≡ (heeds && (steps || behind))
+heeded true steps behind = refl
+heeded false steps behind = refl
+
 -- and so what came of the instruction
 pub turned_is : (met heeds steps_meet : Bool) (s : SessionState) (news : List ChipState) (scene : Scene) →
-    IsAt s news (turned scene) → s.halt ≡ None → steps_meet ≡ list_any (meets_step s.breaks) (next_steps scene) →
+    IsAt s news (turned scene) → s.halt ≡ None →
+    steps_meet ≡ (heeds && list_any (meets_step s.breaks) (next_steps scene)) →
     met
-    ≡ (heeds
-    && (steps_meet || meets_behind s.breaks s.machine.flow.p (probe_counters s.machine.probe) s.machine.chain (views news))) →
+    ≡ (steps_meet
+    || (heeds && meets_behind s.breaks s.machine.flow.p (probe_counters s.machine.probe) s.machine.chain (views news))) →
     came_by false met ≡ came_of heeds scene
 turned_is met heeds steps_meet s news scene at none steps is =
+    let behind = meets_behind s.breaks s.machine.flow.p (probe_counters s.machine.probe) s.machine.chain (views news) in
     done_is met heeds scene s news at (ap (λ (o : Option Halt). is_some o) none)
     (ap (λ (m : Bool). heeds && m)
     (sym (met_at s news (turned scene) (next_steps scene) at (runs_at s news (turned scene) at none)))
-    ∙ ap
-    (λ (m : Bool). heeds && (m || meets_behind s.breaks s.machine.flow.p (probe_counters s.machine.probe) s.machine.chain (views news)))
-    (sym steps)
+    ∙ sym (heeded heeds (list_any (meets_step s.breaks) (next_steps scene)) behind)
+    ∙ ap (λ (m : Bool). m || (heeds && behind)) (sym steps)
     ∙ sym is)
 
 -- on a rack that stays

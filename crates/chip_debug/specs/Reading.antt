@@ -1,5 +1,5 @@
 -- The commands of a text, or its first fault.
-use Rattle.std.specs.Prelude.{◌≡◌, ℕ, ◌+◌, nat_le, if◌then◌else◌, List, [], ◌∷◌, ◌++◌, Option, Some, None, Result, Ok, Err}
+use Rattle.std.specs.Prelude.{ℕ, ◌+◌, nat_le, if◌then◌else◌, List, [], ◌∷◌, ◌++◌, Option, Some, None, Result, Ok, Err}
 use Rattle.text_lines.specs.Lines.{lines}
 use Rattle.chip_debug.specs.declared.answers.DebugCause.{DebugCause}
 use Rattle.chip_debug.specs.declared.answers.DebugCause.TheVariants.{Total}

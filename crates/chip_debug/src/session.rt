@@ -185,16 +185,16 @@ impl Session {
             || (self.breaks.apart && are_apart(&machine.reference(), machine.chain(), rack))
     }
 
-    /// Breaks are heeded, and one is met by a bus step, as is told, or behind the instruction.
+    /// A break that is heeded is met by a bus step, as is told, or behind the instruction.
     fn is_met(&self, heeds: bool, meets_steps: bool, rack: &mut Rack) -> bool
         requires few { length rack.old.items ≤ MOST_CHIPS }
-        ensures met { result ≡ (heeds && (meets_steps || met_behind self.now.breaks
+        ensures met { result ≡ (meets_steps || (heeds && met_behind self.now.breaks
             self.now.machine.flow.p (probe_counters self.now.machine.probe) self.now.machine.chain
             (views (map state rack.old.items)))) }
         ensures stays { map state rack.new.items ≡ map state rack.old.items }
         ensures chips { length rack.new.items ≡ length rack.old.items }
     {
-        heeds && (meets_steps || self.meets_behind(rack))
+        meets_steps || (heeds && self.meets_behind(rack))
     }
 
     /// The next instruction of a session that hasn't stopped.
@@ -211,7 +211,7 @@ impl Session {
         ensures chips { length rack.new.items ≡ length rack.old.items }
     {
         let outcome = self.machine.instr(rack);
-        let meets_steps = self.breaks.meets_steps(outcome.steps());
+        let meets_steps = self.breaks.meets_heeded(heeds, outcome.steps());
         match halt_of(outcome) {
             Some(halt) => {
                 self.halt = Some(halt);

@@ -67,8 +67,9 @@ pub(crate) fn are_apart(reference: &Counters, chain: &Chain, rack: &mut Rack) ->
     ensures stays { map state rack.new.items ≡ map state rack.old.items }
     ensures chips { length rack.new.items ≡ length rack.old.items }
 {
-    for socket in 0..rack.len() as u8 {
-        if chain.contains(socket) && is_parted(reference, &counters_in(rack, socket)) {
+    for &socket in chain.as_slice() {
+        let sits = usize::from(socket) < rack.len();
+        if sits && is_parted(reference, &counters_in(rack, socket)) {
             return true;
         }
     }

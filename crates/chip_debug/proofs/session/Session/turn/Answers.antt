@@ -1,6 +1,8 @@
 -- An instruction leads to the next scene.
-use Rattle.std.proofs.Common.{◌∙◌, ◌≡◌, ap, refl, sym, None}
+use Rattle.std.proofs.Common.{◌∙◌, ◌≡◌, ap, refl, sym, List, None}
+use Rattle.std.specs.Prelude.{◌&&◌}
 use Rattle.std.specs.List.{list_any}
+use Rattle.f8_machine.specs.declared.heard.Heard.{Heard}
 use Rattle.chip_debug.specs.Breaks.{meets_step}
 use Rattle.chip_debug.proofs.Halts.{runs_at}
 use Rattle.chip_debug.specs.Standing.{SessionState, halt_in}
@@ -28,14 +30,14 @@ returns-then-is_met-clause-turned g c = λ scene stands.
     let goes : halt_in c.instr-outcome.result ≡ None = sym c.halt_of.ensures ∙ c.in-None.is in
     let done = rw goes at turned in
     let none : c.self.inside.halt ≡ None = ap (λ (s : SessionState). s.halt) c.self.view_is ∙ c.requires.running in
-    let steps = c.meets_steps-meets_steps.ensures
-    ∙ ap (list_any (meets_step c.self.inside.breaks))
+    let steps = c.meets_heeded-meets_steps.ensures
+    ∙ ap (λ (hs : List Heard). c.args.heeds && list_any (meets_step c.self.inside.breaks) hs)
     (c.steps.ensures.value ∙ steps_are _ c.instr-outcome.new.self _ _ scene there running c.instr-outcome.result refines) in
     rw none
     (record {
       at = still_at _ _ _ _ c.is_met.ensures.stays done;
       is = rw c.if-is_met.true at
-          (turned_is c.is_met.result c.args.heeds c.meets_steps-meets_steps.result _ _ scene done refl steps c.is_met.ensures.met);
+          (turned_is c.is_met.result c.args.heeds c.meets_heeded-meets_steps.result _ _ scene done refl steps c.is_met.ensures.met);
     })
 
 pub returns-else-is_met-clause-turned : goal.returns-else-is_met-clause-turned
@@ -48,12 +50,12 @@ returns-else-is_met-clause-turned g c = λ scene stands.
     let goes : halt_in c.instr-outcome.result ≡ None = sym c.halt_of.ensures ∙ c.in-None.is in
     let done = rw goes at turned in
     let none : c.self.inside.halt ≡ None = ap (λ (s : SessionState). s.halt) c.self.view_is ∙ c.requires.running in
-    let steps = c.meets_steps-meets_steps.ensures
-    ∙ ap (list_any (meets_step c.self.inside.breaks))
+    let steps = c.meets_heeded-meets_steps.ensures
+    ∙ ap (λ (hs : List Heard). c.args.heeds && list_any (meets_step c.self.inside.breaks) hs)
     (c.steps.ensures.value ∙ steps_are _ c.instr-outcome.new.self _ _ scene there running c.instr-outcome.result refines) in
     rw none
     (record {
       at = still_at _ _ _ _ c.is_met.ensures.stays done;
       is = rw c.if-is_met.false at
-          (turned_is c.is_met.result c.args.heeds c.meets_steps-meets_steps.result _ _ scene done refl steps c.is_met.ensures.met);
+          (turned_is c.is_met.result c.args.heeds c.meets_heeded-meets_steps.result _ _ scene done refl steps c.is_met.ensures.met);
     })
