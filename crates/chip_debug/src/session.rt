@@ -85,7 +85,6 @@ fn halt_of(outcome: Outcome) -> Option<Halt>
 impl Session {
     ghost use Rattle.std.specs.Prelude.{◌≡◌, ◌≤◌, ◌<◌, ◌+◌, ◌^◌, ◌&&◌, ◌||◌, length, map, None};
     ghost use Rattle.f8_spec.specs.BusArbitration.{seat_of};
-    ghost use Rattle.f8_spec.specs.ChipState.{ChipState};
     ghost use Rattle.console_spec.specs.declared.Event.{Event};
     ghost use Rattle.console_spec.specs.RunText.{text_of};
     ghost use Rattle.cpu3850.specs.OwnWrites.{LeaveOwnPorts};
