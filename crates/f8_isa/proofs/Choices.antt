@@ -188,4 +188,3 @@ fetch_among row taken = omega arith
 pub sample_alike : (op : Op) (phi : ℕ) (taken : Bool) →
     phi + clocks_of op taken - (if has_long_fetch (row_of op) then 6 else 4) ≡ phi + clocks_before_fetch op taken
 sample_alike op phi taken = omega (arith, fetch_among (row_of op) taken)
-
