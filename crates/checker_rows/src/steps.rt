@@ -1,7 +1,7 @@
 // Steps of small cartridges.
 ghost use Rattle.std.specs.Prelude.{◌≡◌, ◌≤◌, None, length, replicate};
 
-use super::chips::{psu, smi};
+use super::chips::{lone_cart, psu, smi};
 use abs_domain::{Bit, Point, Word};
 use abs_step::{Unsafe, after, start, whole};
 use cartridge::Split;
@@ -14,9 +14,8 @@ use std::test::Fail;
 fn lone(alloc: Global, code: &[u8]) -> Result<Map, Fail>
     requires { length code.now ≤ 16 }
 {
-    let mut chips = Vec::with_capacity(alloc, 1)?;
-    chips.push(psu(alloc, code)?)?;
-    Ok(Map::of(alloc, &ChipList::from_vec(chips))?)
+    let cart = lone_cart(alloc, code)?;
+    Ok(Map::of(alloc, &cart.chips)?)
 }
 
 // the map of a 3851 and a 3853

@@ -1,7 +1,7 @@
 // What the rows have in common: files, and calls over stores and sinks in memory.
 use channel_f::console;
 use f8_machine::Rack;
-use outside::{CallList, FileList, MemStore, NamedFile, Sink, Store, SureSink, SureStore};
+use outside::{CallList, CutList, FileList, MemSink, MemStore, NamedFile};
 use std::alloc::Global;
 use std::process::Abort;
 use std::test::Fail;
@@ -104,37 +104,40 @@ fn words_of(alloc: Global, texts: &[&str]) -> Result<Vec<String>, Fail> {
     Ok(words)
 }
 
+/// A store with these files, in which no fetch fails but of a missing one.
+pub(crate) fn store_of(alloc: Global, files: FileList) -> MemStore {
+    MemStore::new(files, CallList::from_vec(Vec::new(alloc)))
+}
+
 /// The status of the program.
-pub(crate) fn status_of<S: Store, K: Sink>(
+pub(crate) fn status_of(
     alloc: Global,
     words: &[&str],
-    store: &mut S,
-    sink: &mut K,
+    store: &mut MemStore,
+    sink: &mut MemSink,
     rack: &mut Rack,
 ) -> Result<u8, Fail> {
     let words = words_of(alloc, words)?;
     Ok(console(alloc, words.as_slice(), store, sink, rack))
 }
 
-/// The status, with what is written, over a store and a sink that don't fail. The sink has room for so many bytes.
+/// The status, with what is written, over a store and a sink in which no call is made to fail. The sink has room for so many bytes.
 pub(crate) fn answered(
     alloc: Global,
     room: u32,
     files: FileList,
     words: &[&str],
     rack: &mut Rack,
-) -> Result<(u8, SureSink), Fail> {
-    let mut store = SureStore::new(files);
-    let mut sink = SureSink::new(alloc, room)?;
+) -> Result<(u8, MemSink), Fail> {
+    let mut store = store_of(alloc, files);
+    let mut sink = MemSink::new(alloc, room, CutList::from_vec(Vec::new(alloc)))?;
     let status = status_of(alloc, words, &mut store, &mut sink, rack)?;
     Ok((status, sink))
 }
 
 fn check_row(rt: &impl Abort, alloc: Global, row: &Row, rack: &mut Rack) -> Result<(), Fail> {
     let (files, words, want, text) = *row;
-    let mut store = MemStore::new(files_of(alloc, files)?, CallList::from_vec(Vec::new(alloc)));
-    let mut sink = SureSink::new(alloc, 4_096)?;
-    let status = status_of(alloc, words, &mut store, &mut sink, rack)?;
+    let (status, sink) = answered(alloc, 4_096, files_of(alloc, files)?, words, rack)?;
     assert_eq!(rt; status, want, "{text}");
     assert_eq!(rt; sink.bytes(), text.as_bytes(), "{text}");
     Ok(())

@@ -1,7 +1,7 @@
 // Certificates: told, verified, and refused with one line.
 use super::calls::{LOOP_CART, answered, files_with};
 use f8_machine::Rack;
-use outside::SureSink;
+use outside::MemSink;
 use std::alloc::Global;
 use std::process::Abort;
 use std::test::Fail;
@@ -39,7 +39,7 @@ fn answered_of(
     words: &[&str],
     cart: &str,
     cert: Vec<u8>,
-) -> Result<(u8, SureSink), Fail> {
+) -> Result<(u8, MemSink), Fail> {
     let files = files_with(alloc, &[("cart", cart)], "cert", cert)?;
     let mut rack: Rack = Vec::new(alloc);
     answered(alloc, 4_096, files, words, &mut rack)

@@ -1,7 +1,7 @@
 // Sinks that fail in mid-run.
-use super::calls::{File, LOOP_CART, answered, files_of, status_of};
+use super::calls::{File, LOOP_CART, answered, files_of, status_of, store_of};
 use f8_machine::Rack;
-use outside::{Cut, CutList, MemSink, SureStore};
+use outside::{Cut, CutList, MemSink};
 use psu3851::Psu;
 use std::alloc::Global;
 use std::process::Abort;
@@ -26,7 +26,7 @@ fn cut_short(
     let mut cuts = Vec::new(alloc);
     cuts.push(cut)?;
     let mut sink = MemSink::new(alloc, room, CutList::from_vec(cuts))?;
-    let mut store = SureStore::new(files_of(alloc, &FILES)?);
+    let mut store = store_of(alloc, files_of(alloc, &FILES)?);
     let status = status_of(alloc, words, &mut store, &mut sink, rack)?;
     Ok((status, sink))
 }
