@@ -70,13 +70,16 @@ fn undriven(rt: &impl Abort, alloc: Global, rack: &mut Rack) -> Result<(), Fail>
     cart.play(rt, alloc, rack)
 }
 
+const FOUR_TAKE_0C: &str =
+    "conflict romc 1A socket 0 at 000C socket 1 at 000C socket 2 at 000C socket 3 at 000C";
+
+const FOUR_TAKE_0E: &str =
+    "conflict romc 1A socket 0 at 000E socket 1 at 000E socket 2 at 000E socket 3 at 000E";
+
+const TWO_DRIVE_0C: &str = "conflict romc 1B socket 0 at 000C socket 1 at 000C";
+
 /// Two 3851s and two 3853s with ports from 0C: all would take a byte, and the 3851s drive one at a data port.
 fn four_share(rt: &impl Abort, alloc: Global, rack: &mut Rack) -> Result<(), Fail> {
-    let at_0c =
-        "conflict romc 1A socket 0 at 000C socket 1 at 000C socket 2 at 000C socket 3 at 000C";
-    let at_0e =
-        "conflict romc 1A socket 0 at 000E socket 1 at 000E socket 2 at 000E socket 3 at 000E";
-    let drive = "conflict romc 1B socket 0 at 000C socket 1 at 000C";
     let cart = Cart {
         name: "four share a port",
         psus: &[
@@ -95,10 +98,10 @@ fn four_share(rt: &impl Abort, alloc: Global, rack: &mut Rack) -> Result<(), Fai
         ],
         rows: &[
             (Romc::IDLE, 0x0C, "served 0C"),
-            (Romc::WRITE_PORT, 0x55, at_0c),
-            (Romc::READ_PORT, 0x77, drive),
+            (Romc::WRITE_PORT, 0x55, FOUR_TAKE_0C),
+            (Romc::READ_PORT, 0x77, TWO_DRIVE_0C),
             (Romc::IDLE, 0x0E, "served 0E"),
-            (Romc::WRITE_PORT, 0x55, at_0e),
+            (Romc::WRITE_PORT, 0x55, FOUR_TAKE_0E),
             (Romc::READ_PORT, 0x77, "undriven romc 1B at 000E"),
         ],
         chips: &[

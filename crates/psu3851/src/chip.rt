@@ -2,7 +2,7 @@
 ghost use Rattle.std.specs.Prelude.{◌≡◌, ◌<◌, ◌%◌, ◌≤◌};
 
 use chip_face::{Chip, ChipKind, ChipSpec, FitFault, Offer, PSU_ROM_SIZE};
-use f8_counters::{Interrupts, Registers, high_byte, low_byte, port_offset};
+use f8_counters::{Interrupts, Registers, high_byte, low_byte, offered, offered_if, port_offset};
 use romc_table::{Counters, Romc};
 use std::alloc::Global;
 
@@ -115,8 +115,7 @@ impl Psu {
     fn byte_at(&self, at: u16) -> Option<Offer>
         ensures { result ≡ option_map (byte_offer at) (held_byte (psu_view self.now) at) }
     {
-        let byte = self.byte(at)?;
-        Some(Offer { byte, at })
+        offered(self.byte(at)?, at)
     }
 
     /// The high byte of one of the chip's counters, where the chip holds that address.
@@ -125,14 +124,7 @@ impl Psu {
         ensures { result ≡ (if holds (psu_view self.now) at then Some
             (byte_offer at (at / 256)) else None) }
     {
-        if self.holds(at) {
-            Some(Offer {
-                byte: high_byte(at),
-                at,
-            })
-        } else {
-            None
-        }
+        offered_if(self.holds(at), high_byte(at), at)
     }
 
     /// The low byte of one of the chip's counters, where the chip holds that address.
@@ -141,14 +133,7 @@ impl Psu {
         ensures { result ≡ (if holds (psu_view self.now) at then Some
             (byte_offer at (at % 256)) else None) }
     {
-        if self.holds(at) {
-            Some(Offer {
-                byte: low_byte(at),
-                at,
-            })
-        } else {
-            None
-        }
+        offered_if(self.holds(at), low_byte(at), at)
     }
 }
 
@@ -303,25 +288,21 @@ impl Chip for Psu {
             Romc::TELL_PROGRAM_HIGH => self.high_of(counters.pc0),
             Romc::VECTOR_LOW if first => {
                 let at = self.interrupts.given_vector(self.vector);
-                let byte = low_byte(at);
-                Some(Offer { byte, at })
+                offered(low_byte(at), at)
             }
             Romc::VECTOR_HIGH if first => {
                 let at = self.interrupts.given_vector(self.vector);
-                let byte = high_byte(at);
-                Some(Offer { byte, at })
+                offered(high_byte(at), at)
             }
             // A port goes by the last byte, which names it. The chip takes a byte.
             Romc::WRITE_PORT => {
                 let _offset = self.port_offset(self.last)?;
-                let at = u16::from(self.last);
-                Some(Offer { byte: 0, at })
+                offered(0, u16::from(self.last))
             }
             Romc::READ_PORT => {
                 let place = self.data_port(self.last)?;
                 let byte = self.latches[place] | self.key_bytes[place];
-                let at = u16::from(self.last);
-                Some(Offer { byte, at })
+                offered(byte, u16::from(self.last))
             }
             // A 3851 has no RAM, so it takes no store.
             _ => None,

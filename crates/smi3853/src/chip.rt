@@ -3,7 +3,10 @@ ghost use Rattle.std.specs.Prelude.{◌≡◌, ◌<◌};
 
 use super::space::Space;
 use chip_face::{Chip, ChipKind, ChipSpec, FitFault, Offer, SMI_FIRST_PORT};
-use f8_counters::{Interrupts, Registers, high_byte, low_byte, port_offset, with_high, with_low};
+use f8_counters::{
+    Interrupts, Registers, high_byte, low_byte, offered, offered_if, port_offset, with_high,
+    with_low,
+};
 use romc_table::{Counters, Romc};
 use std::alloc::Global;
 
@@ -105,8 +108,7 @@ impl Smi {
     fn byte_at(&self, at: u16) -> Option<Offer>
         ensures { result ≡ option_map (byte_offer at) (held_byte (smi_view self.now) at) }
     {
-        let byte = self.byte(at)?;
-        Some(Offer { byte, at })
+        offered(self.byte(at)?, at)
     }
 
     /// The high byte of one of the chip's counters, where the chip holds that address.
@@ -115,14 +117,7 @@ impl Smi {
         ensures { result ≡ (if holds (smi_view self.now) at then Some
             (byte_offer at (at / 256)) else None) }
     {
-        if self.holds(at) {
-            Some(Offer {
-                byte: high_byte(at),
-                at,
-            })
-        } else {
-            None
-        }
+        offered_if(self.holds(at), high_byte(at), at)
     }
 
     /// The low byte of one of the chip's counters, where the chip holds that address.
@@ -131,14 +126,7 @@ impl Smi {
         ensures { result ≡ (if holds (smi_view self.now) at then Some
             (byte_offer at (at % 256)) else None) }
     {
-        if self.holds(at) {
-            Some(Offer {
-                byte: low_byte(at),
-                at,
-            })
-        } else {
-            None
-        }
+        offered_if(self.holds(at), low_byte(at), at)
     }
 
     /// A store at one of the chip's counters, which the chip takes in RAM.
@@ -147,11 +135,7 @@ impl Smi {
         ensures { result ≡ (if has_ram_at (smi_view self.now) at then Some
             (byte_offer at 0) else None) }
     {
-        if self.has_ram(at) {
-            Some(Offer { byte: 0, at })
-        } else {
-            None
-        }
+        offered_if(self.has_ram(at), 0, at)
     }
 }
 
@@ -306,19 +290,16 @@ impl Chip for Smi {
             Romc::TELL_PROGRAM_HIGH => self.high_of(counters.pc0),
             Romc::VECTOR_LOW if first => {
                 let at = self.interrupts.given_vector(self.vector);
-                let byte = low_byte(at);
-                Some(Offer { byte, at })
+                offered(low_byte(at), at)
             }
             Romc::VECTOR_HIGH if first => {
                 let at = self.interrupts.given_vector(self.vector);
-                let byte = high_byte(at);
-                Some(Offer { byte, at })
+                offered(high_byte(at), at)
             }
             // A port goes by the last byte, which names it. The chip takes a byte.
             Romc::WRITE_PORT => {
                 let _offset = self.port_offset(self.last)?;
-                let at = u16::from(self.last);
-                Some(Offer { byte: 0, at })
+                offered(0, u16::from(self.last))
             }
             // No port of a 3853 can be read.
             _ => None,

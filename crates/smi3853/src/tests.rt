@@ -76,6 +76,14 @@ fn stores_in_ram_alone(rt: HostRuntime) -> Result<(), Fail> {
     Ok(())
 }
 
+/// The counters once D0 was set and exchanged.
+const EXCHANGED: Counters = Counters {
+    pc0: 0x0101,
+    pc1: 0x0101,
+    dc0: 0x0101,
+    dc1: Some(0x0177),
+};
+
 // The data counters change places, and the ports 0C and 0D set the vector that a pulse under control 1 gives. Each of
 // the five questions is put once.
 #[test]
@@ -92,15 +100,7 @@ fn exchanges_and_vectors(rt: HostRuntime) -> Result<(), Fail> {
     smi.power(0x00, 0x0101);
     hear(smi, Romc::SET_DATA_LOW, 0x77);
     hear(smi, Romc::EXCHANGE, 0x00);
-    assert_eq!(rt;
-        smi.counters(),
-        Counters {
-            pc0: 0x0101,
-            pc1: 0x0101,
-            dc0: 0x0101,
-            dc1: Some(0x0177)
-        }
-    );
+    assert_eq!(rt; smi.counters(), EXCHANGED);
 
     hear(smi, Romc::IDLE, 0x0C);
     hear(smi, Romc::WRITE_PORT, 0x12);
