@@ -9,7 +9,7 @@ mod registers;
 mod words;
 
 pub use interrupts::Interrupts;
-pub use offers::{offered, offered_if};
+pub use offers::{counter_byte, offered, offered_if};
 pub use ports::port_offset;
 pub use registers::Registers;
 pub use words::{high_byte, low_byte, with_high, with_low};

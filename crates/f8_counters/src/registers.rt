@@ -1,10 +1,10 @@
 // The counters of a storage chip.
 ghost use Rattle.std.specs.Prelude.{◌≡◌};
-ghost use Rattle.f8_spec.specs.BusCodes.{count_at, moved_by, told_count};
+ghost use Rattle.f8_spec.specs.BusCodes.{count_at, counter_value, moved_by, told_count};
 
 use super::words::{with_high, with_low};
 use f8_words::wrap_add;
-use romc_table::{Counters, Romc};
+use romc_table::{Counter, Counters, Romc};
 use std::marker::Model;
 
 /// The counters of a storage chip: program counter, stack register and two data counters, each an address (Mostek 3851 and 3853 data
@@ -50,6 +50,19 @@ impl Registers {
             pc1: self.pc1,
             dc0: self.dc0,
             dc1: if dc1 { Some(self.dc1) } else { None },
+        }
+    }
+
+    /// The counter by which a bus step goes, and `None` where it goes by none.
+    #[inline]
+    pub fn value(&self, counter: Counter) -> Option<u16>
+        ensures { result ≡ counter_value counter self.now }
+    {
+        match counter {
+            Counter::Pc0 => Some(self.pc0),
+            Counter::Pc1 => Some(self.pc1),
+            Counter::Dc0 => Some(self.dc0),
+            Counter::NoCounter => None,
         }
     }
 

@@ -2,8 +2,10 @@
 ghost use Rattle.std.specs.Prelude.{◌≡◌, ◌<◌, ◌%◌, ◌≤◌};
 
 use chip_face::{Chip, ChipKind, ChipSpec, FitFault, Offer, PSU_ROM_SIZE};
-use f8_counters::{Interrupts, Registers, high_byte, low_byte, offered, offered_if, port_offset};
-use romc_table::{Counters, Romc};
+use f8_counters::{
+    Interrupts, Registers, counter_byte, high_byte, low_byte, offered, offered_if, port_offset,
+};
+use romc_table::{Counters, Driver, Romc, counter_of, driver_of};
 use std::alloc::Global;
 
 /// A 3851. It tells no step that it heard, and has no patch.
@@ -85,8 +87,8 @@ impl Psu {
 
 /// What a chip offers.
 impl Psu {
-    ghost use Rattle.std.specs.Prelude.{◌/◌, Some, None, if◌then◌else◌, option_map, option_and_then};
-    ghost use Rattle.f8_spec.specs.ChipState.{byte_offer, held_byte, holds};
+    ghost use Rattle.f8_spec.specs.BusCodes.{driver_of as driver_by_table};
+    ghost use Rattle.f8_spec.specs.ChipState.{held_byte, holds, offered_at as offer_at};
     ghost use Rattle.psu3851.specs.PsuState.{psu_view};
 
     /// The address lies in the chip's ROM.
@@ -110,30 +112,16 @@ impl Psu {
         }
     }
 
-    /// The byte at one of the chip's counters.
+    /// What the chip offers at its counter by which a step goes. A 3851 has no RAM, so it takes no store.
     #[inline]
-    fn byte_at(&self, at: u16) -> Option<Offer>
-        ensures { result ≡ option_map (byte_offer at) (held_byte (psu_view self.now) at) }
+    fn offered_at(&self, romc: Romc, at: u16) -> Option<Offer>
+        ensures { result ≡ offer_at (driver_by_table romc) romc (psu_view self.now) at }
     {
-        offered(self.byte(at)?, at)
-    }
-
-    /// The high byte of one of the chip's counters, where the chip holds that address.
-    #[inline]
-    fn high_of(&self, at: u16) -> Option<Offer>
-        ensures { result ≡ (if holds (psu_view self.now) at then Some
-            (byte_offer at (at / 256)) else None) }
-    {
-        offered_if(self.holds(at), high_byte(at), at)
-    }
-
-    /// The low byte of one of the chip's counters, where the chip holds that address.
-    #[inline]
-    fn low_of(&self, at: u16) -> Option<Offer>
-        ensures { result ≡ (if holds (psu_view self.now) at then Some
-            (byte_offer at (at % 256)) else None) }
-    {
-        offered_if(self.holds(at), low_byte(at), at)
+        match driver_of(romc) {
+            Driver::Memory => offered(self.byte(at)?, at),
+            Driver::CounterByte => offered_if(self.holds(at), counter_byte(romc, at), at),
+            _ => None,
+        }
     }
 }
 
@@ -271,21 +259,7 @@ impl Chip for Psu {
 
     fn offer(&mut self, romc: Romc, first: bool) -> Option<Offer> {
         self.count();
-        let counters = self.registers.counters(false);
         match romc {
-            Romc::FETCH
-            | Romc::DISPLACEMENT
-            | Romc::OPERAND
-            | Romc::JUMP_LOW
-            | Romc::LOAD_DATA_LOW
-            | Romc::LOAD_DATA_HIGH => self.byte_at(counters.pc0),
-            Romc::READ_DATA => self.byte_at(counters.dc0),
-            Romc::TELL_DATA_HIGH => self.high_of(counters.dc0),
-            Romc::TELL_STACK_HIGH => self.high_of(counters.pc1),
-            Romc::TELL_DATA_LOW => self.low_of(counters.dc0),
-            Romc::TELL_STACK_LOW => self.low_of(counters.pc1),
-            Romc::TELL_PROGRAM_LOW => self.low_of(counters.pc0),
-            Romc::TELL_PROGRAM_HIGH => self.high_of(counters.pc0),
             Romc::VECTOR_LOW if first => {
                 let at = self.interrupts.given_vector(self.vector);
                 offered(low_byte(at), at)
@@ -304,8 +278,7 @@ impl Chip for Psu {
                 let byte = self.latches[place] | self.key_bytes[place];
                 offered(byte, u16::from(self.last))
             }
-            // A 3851 has no RAM, so it takes no store.
-            _ => None,
+            _ => self.offered_at(romc, self.registers.value(counter_of(romc))?),
         }
     }
 

@@ -4,10 +4,10 @@ ghost use Rattle.std.specs.Prelude.{◌≡◌, ◌<◌};
 use super::space::Space;
 use chip_face::{Chip, ChipKind, ChipSpec, FitFault, Offer, SMI_FIRST_PORT};
 use f8_counters::{
-    Interrupts, Registers, high_byte, low_byte, offered, offered_if, port_offset, with_high,
-    with_low,
+    Interrupts, Registers, counter_byte, high_byte, low_byte, offered, offered_if, port_offset,
+    with_high, with_low,
 };
-use romc_table::{Counters, Romc};
+use romc_table::{Counters, Driver, Romc, counter_of, driver_of};
 use std::alloc::Global;
 
 /// A 3853. It tells no step that it heard, and has no patch.
@@ -69,8 +69,8 @@ impl Smi {
 
 /// What a chip offers.
 impl Smi {
-    ghost use Rattle.std.specs.Prelude.{◌/◌, ◌%◌, Some, None, if◌then◌else◌, option_map};
-    ghost use Rattle.f8_spec.specs.ChipState.{byte_offer, has_ram_at, held_byte, holds};
+    ghost use Rattle.f8_spec.specs.BusCodes.{driver_of as driver_by_table};
+    ghost use Rattle.f8_spec.specs.ChipState.{has_ram_at, held_byte, holds, offered_at as offer_at};
     ghost use Rattle.smi3853.specs.SmiState.{smi_view};
 
     /// The address lies in one of the chip's pages.
@@ -103,39 +103,17 @@ impl Smi {
         }
     }
 
-    /// The byte at one of the chip's counters.
+    /// What the chip offers at its counter by which a step goes. A store is taken in RAM.
     #[inline]
-    fn byte_at(&self, at: u16) -> Option<Offer>
-        ensures { result ≡ option_map (byte_offer at) (held_byte (smi_view self.now) at) }
+    fn offered_at(&self, romc: Romc, at: u16) -> Option<Offer>
+        ensures { result ≡ offer_at (driver_by_table romc) romc (smi_view self.now) at }
     {
-        offered(self.byte(at)?, at)
-    }
-
-    /// The high byte of one of the chip's counters, where the chip holds that address.
-    #[inline]
-    fn high_of(&self, at: u16) -> Option<Offer>
-        ensures { result ≡ (if holds (smi_view self.now) at then Some
-            (byte_offer at (at / 256)) else None) }
-    {
-        offered_if(self.holds(at), high_byte(at), at)
-    }
-
-    /// The low byte of one of the chip's counters, where the chip holds that address.
-    #[inline]
-    fn low_of(&self, at: u16) -> Option<Offer>
-        ensures { result ≡ (if holds (smi_view self.now) at then Some
-            (byte_offer at (at % 256)) else None) }
-    {
-        offered_if(self.holds(at), low_byte(at), at)
-    }
-
-    /// A store at one of the chip's counters, which the chip takes in RAM.
-    #[inline]
-    fn taken_at(&self, at: u16) -> Option<Offer>
-        ensures { result ≡ (if has_ram_at (smi_view self.now) at then Some
-            (byte_offer at 0) else None) }
-    {
-        offered_if(self.has_ram(at), 0, at)
+        match driver_of(romc) {
+            Driver::Memory => offered(self.byte(at)?, at),
+            Driver::CounterByte => offered_if(self.holds(at), counter_byte(romc, at), at),
+            Driver::Cpu => offered_if(self.has_ram(at), 0, at),
+            _ => None,
+        }
     }
 }
 
@@ -272,22 +250,7 @@ impl Chip for Smi {
 
     fn offer(&mut self, romc: Romc, first: bool) -> Option<Offer> {
         self.count();
-        let counters = self.registers.counters(true);
         match romc {
-            Romc::FETCH
-            | Romc::DISPLACEMENT
-            | Romc::OPERAND
-            | Romc::JUMP_LOW
-            | Romc::LOAD_DATA_LOW
-            | Romc::LOAD_DATA_HIGH => self.byte_at(counters.pc0),
-            Romc::READ_DATA => self.byte_at(counters.dc0),
-            Romc::STORE_DATA => self.taken_at(counters.dc0),
-            Romc::TELL_DATA_HIGH => self.high_of(counters.dc0),
-            Romc::TELL_STACK_HIGH => self.high_of(counters.pc1),
-            Romc::TELL_DATA_LOW => self.low_of(counters.dc0),
-            Romc::TELL_STACK_LOW => self.low_of(counters.pc1),
-            Romc::TELL_PROGRAM_LOW => self.low_of(counters.pc0),
-            Romc::TELL_PROGRAM_HIGH => self.high_of(counters.pc0),
             Romc::VECTOR_LOW if first => {
                 let at = self.interrupts.given_vector(self.vector);
                 offered(low_byte(at), at)
@@ -302,7 +265,8 @@ impl Chip for Smi {
                 offered(0, u16::from(self.last))
             }
             // No port of a 3853 can be read.
-            _ => None,
+            Romc::READ_PORT => None,
+            _ => self.offered_at(romc, self.registers.value(counter_of(romc))?),
         }
     }
 
