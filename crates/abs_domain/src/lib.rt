@@ -10,6 +10,7 @@ mod values;
 
 pub use laws::{join_law, order_law, point_law, rank_law};
 pub use points::{MOST_TRACKED, Point};
+pub use scratchpad::SCRATCHPAD_SIZE;
 pub use state::Abs;
 pub use values::{Bit, Digit, Val, Word};
 

@@ -6,29 +6,32 @@ ghost use Rattle.abs_domain.specs.KnownParts.{known_byte};
 use super::values::Val;
 
 /// The number of registers in the scratchpad.
-const REGISTERS: usize = 64;
+pub const SCRATCHPAD_SIZE: usize = 64;
 
 /// The scratchpad of a join.
 pub(crate) fn scratchpad_join(
-    first: &[Val; REGISTERS],
-    second: &[Val; REGISTERS],
-) -> [Val; REGISTERS]
+    first: &[Val; SCRATCHPAD_SIZE],
+    second: &[Val; SCRATCHPAD_SIZE],
+) -> [Val; SCRATCHPAD_SIZE]
     ensures { map known_byte result
         ≡ common_each same_number (map known_byte first.now) (map known_byte second.now) }
 {
-    let mut joined = [Val::Any; REGISTERS];
-    for number in 0..REGISTERS {
+    let mut joined = [Val::Any; SCRATCHPAD_SIZE];
+    for number in 0..SCRATCHPAD_SIZE {
         joined[number] = first[number].join(second[number]);
     }
     joined
 }
 
 /// Whether the upper scratchpad says no more.
-pub(crate) fn scratchpad_below(lower: &[Val; REGISTERS], upper: &[Val; REGISTERS]) -> bool
+pub(crate) fn scratchpad_below(
+    lower: &[Val; SCRATCHPAD_SIZE],
+    upper: &[Val; SCRATCHPAD_SIZE],
+) -> bool
     ensures { result
         ≡ is_each_below same_number (map known_byte lower.now) (map known_byte upper.now) }
 {
-    for number in 0..REGISTERS {
+    for number in 0..SCRATCHPAD_SIZE {
         if !lower[number].below(upper[number]) {
             return false;
         }

@@ -4,7 +4,7 @@ ghost use Rattle.std.specs.Option.{ForSome};
 ghost use Rattle.abs_domain.specs.KnownParts.{known_digit};
 ghost use Rattle.abs_domain.specs.Lattice.{is_fact_below};
 
-use super::scratchpad::{scratchpad_below, scratchpad_join};
+use super::scratchpad::{SCRATCHPAD_SIZE, scratchpad_below, scratchpad_join};
 use super::status::{status_below, status_join};
 use super::values::{Bit, Digit, Val, Word};
 
@@ -16,7 +16,7 @@ pub struct Abs {
     pub a: Val,
 
     /// The scratchpad.
-    pub regs: [Val; 64],
+    pub regs: [Val; SCRATCHPAD_SIZE],
 
     /// ISAR's high digit.
     pub hi: Digit,

@@ -4,7 +4,7 @@ use super::*;
 // What is known at reset: the status word and the data counters of the flat machine, which are 0.
 const START: Abs = Abs {
     a: Val::Any,
-    regs: [Val::Any; 64],
+    regs: [Val::Any; SCRATCHPAD_SIZE],
     hi: Digit::Any,
     lo: Digit::Any,
     w: [Bit::Known(false); 5],

@@ -4,7 +4,7 @@ use Rattle.std.specs.Prelude.{Option, Some, None, not, ◌==◌}
 use Rattle.std.specs.List.{AllByRecursion, enumerate_from}
 use Rattle.std.proofs.lemmas.Bool.Decides.{nat_tests}
 use Rattle.f8_spec.specs.BusArbitration.{PlacedSeat, answers, would_answer, parties, bystanders, lowest}
-use Rattle.f8_spec.specs.BusArbitration.{Verdict, Served, Undriven, one_party, read_verdict, store_verdict}
+use Rattle.f8_spec.specs.BusArbitration.{Ruling, Served, Undriven, one_party, read_ruling, store_ruling}
 use Rattle.f8_spec.specs.declared.bus.BusRule.{BusRule}
 use Rattle.f8_spec.specs.declared.bus.BusRule.TheVariants.{Read, Store}
 use Rattle.f8_spec.specs.declared.bus.Party.{Party}
@@ -125,7 +125,7 @@ module _ (rule : BusRule) (by_place : GoesByPlace rule) (reference : ℕ) where
 -- ---- reads
 
 -- a read is served, or no chip answers it where the flat machine is
-pub data ReadOutcome (reference : ℕ) (v : Verdict) : Type 0 where
+pub data ReadOutcome (reference : ℕ) (v : Ruling) : Type 0 where
   IsServed : (socket : Option ℕ) → v ≡ Served socket → ReadOutcome reference v
   IsUndriven : v ≡ Undriven reference → ReadOutcome reference v
 
@@ -135,36 +135,36 @@ at_itself n = grind (arith, nat_tests)
 one_is_served : (reference : ℕ) (p : Party) → p.at ≡ reference → one_party reference p None ≡ Served (Some p.socket)
 one_is_served reference p at = rw (at, at_itself reference) refl
 
-read_by : (reference : ℕ) (ps bs : List Party) → Taking Read read_by_place reference ps bs → ReadOutcome reference (read_verdict reference ps (lowest bs))
+read_by : (reference : ℕ) (ps bs : List Party) → Taking Read read_by_place reference ps bs → ReadOutcome reference (read_ruling reference ps (lowest bs))
 read_by reference ps bs (OneTakes p is at none) = IsServed (Some p.socket) (rw (is, none) (one_is_served reference p at))
 read_by reference ps bs (NobodyTakes none) = IsUndriven (rw none refl)
 
 pub read_outcome : (reference n : ℕ) (xs : List PlacedSeat) → AllByRecursion (IsThere Read reference) xs → AtMostOne Read reference xs →
-    ReadOutcome reference (read_verdict reference (parties Read (enumerate_from n xs)) (lowest (bystanders Read reference (enumerate_from n xs))))
+    ReadOutcome reference (read_ruling reference (parties Read (enumerate_from n xs)) (lowest (bystanders Read reference (enumerate_from n xs))))
 read_outcome reference n xs there most = read_by reference _ _ (taking Read read_by_place reference n xs there most)
 
 served_by : (reference : ℕ) (ps bs : List Party) → Taking Read read_by_place reference ps bs → (ps ≡ [] → ⊥) →
-    (socket : Option ℕ) × (read_verdict reference ps (lowest bs) ≡ Served socket)
+    (socket : Option ℕ) × (read_ruling reference ps (lowest bs) ≡ Served socket)
 served_by reference ps bs (OneTakes p is at none) some = (Some p.socket, rw (is, none) (one_is_served reference p at))
 served_by reference ps bs (NobodyTakes none) some = absurd (some none)
 
 -- where some chip takes part it is served
 pub read_served : (reference n : ℕ) (xs : List PlacedSeat) → AllByRecursion (IsThere Read reference) xs → AtMostOne Read reference xs →
     SomeOf (λ x. answers Read x ≡ true) xs → (socket : Option ℕ)
-    × (read_verdict reference (parties Read (enumerate_from n xs)) (lowest (bystanders Read reference (enumerate_from n xs))) ≡ Served socket)
+    × (read_ruling reference (parties Read (enumerate_from n xs)) (lowest (bystanders Read reference (enumerate_from n xs))) ≡ Served socket)
 read_served reference n xs there most some =
     served_by reference _ _ (taking Read read_by_place reference n xs there most) (some_take Read read_by_place reference n xs some)
 
 -- ---- stores
 
 store_by : (reference : ℕ) (ps bs : List Party) → Taking Store store_by_place reference ps bs → bs ≡ [] →
-    (socket : Option ℕ) × (store_verdict reference ps (lowest bs) ≡ Served socket)
+    (socket : Option ℕ) × (store_ruling reference ps (lowest bs) ≡ Served socket)
 store_by reference ps bs (OneTakes p is at none) stands = (Some p.socket, rw (is, none) (one_is_served reference p at))
 store_by reference ps bs (NobodyTakes none) stands = (None, rw (none, stands) refl)
 
 -- a store is served where all chips with RAM at the flat machine's place are there
 pub store_served : (reference n : ℕ) (xs : List PlacedSeat) → AllByRecursion (IsThere Store reference) xs →
     AllByRecursion (WouldBeThere Store reference) xs → AtMostOne Store reference xs → (socket : Option ℕ)
-    × (store_verdict reference (parties Store (enumerate_from n xs)) (lowest (bystanders Store reference (enumerate_from n xs))) ≡ Served socket)
+    × (store_ruling reference (parties Store (enumerate_from n xs)) (lowest (bystanders Store reference (enumerate_from n xs))) ≡ Served socket)
 store_served reference n xs there would most =
     store_by reference _ _ (taking Store store_by_place reference n xs there most) (nobody_stands Store store_by_place reference n xs would)

@@ -3,12 +3,12 @@ use Rattle.std.proofs.Common.{◌≡◌, ℕ, zero, suc, ◌+◌, ◌*◌, ◌/�
 use Rattle.std.specs.Prelude.{Option, Some, None, not, filter_map, option_map, option_and_then, slice_get}
 use Rattle.std.specs.List.{AllByRecursion, list_all, range_with_len}
 use Rattle.std.proofs.lemmas.Bool.{cases_eq}
-use Rattle.f8_spec.specs.ChipState.{place_of}
+use Rattle.f8_spec.specs.ChipState.{has_counters, place_of}
 use Rattle.f8_spec.specs.Instructions.{row_of}
 use Rattle.f8_spec.specs.BusArbitration.{Seat, seat_holds, rule_of}
 use Rattle.f8_spec.specs.declared.bus.BusRule.TheVariants.{Read}
 use Rattle.f8_spec.specs.declared.chips.ChipKind.{ChipKind}
-use Rattle.f8_spec.specs.declared.chips.ChipKind.TheVariants.{Psu, Smi}
+use Rattle.f8_spec.specs.declared.chips.ChipKind.TheVariants.{Psu, Smi, Pio}
 use Rattle.f8_spec.specs.declared.chips.Page.{Page}
 use Rattle.f8_spec.specs.declared.instructions.Op.{Op}
 use Rattle.console_spec.specs.Processor.{Flow}
@@ -72,10 +72,12 @@ smi_there Psu m k r c s is smi mapped alike t holds = absurd (cc)
 smi_there Smi m k r c s is smi mapped alike t holds =
     let any : m.any s.kind ≡ true = mapped.any r.d0 holds in
     holds_if k.s0 (alike (rw is at any)) t.first
+smi_there Pio m k r c s is smi mapped alike t holds = absurd (cc)
 
 psu_there : (kind : ChipKind) (k : KnownCounters) (r c : Flow) → kind ≡ Psu → k.p0 ≡ true → ChipTells kind k r c → c.d0 ≡ r.d0
 psu_there Psu k r c psu p0 t = holds_if k.p0 p0 t.first
 psu_there Smi k r c psu p0 t = absurd (cc)
+psu_there Pio k r c psu p0 t = absurd (cc)
 
 any_there : (kind : ChipKind) (m : MapView) (k : KnownCounters) (r c : Flow) (s : Seat) → s.kind ≡ kind → IsMapped m s →
     (m.any Smi ≡ true → k.s0 ≡ true) → (m.any Psu ≡ true → k.p0 ≡ true) → ChipTells kind k r c → seat_holds s r.d0 ≡ true → c.d0 ≡ r.d0
@@ -85,6 +87,7 @@ any_there Psu m k r c s is mapped alike p0 t holds =
 any_there Smi m k r c s is mapped alike p0 t holds =
     let any : m.any s.kind ≡ true = mapped.any r.d0 holds in
     holds_if k.s0 (alike (rw is at any)) t.first
+any_there Pio m k r c s is mapped alike p0 t holds = let has : has_counters s.kind ≡ true = mapped.counted r.d0 holds in absurd (cc (rw is at has))
 
 module _ (m : MapView) (ret : Option ℕ) (k : KnownCounters) (r : Flow) (cs : List Copy) (view : IsViewOf m (seats_of cs)) (alike : ReadsAlike m k)
     (told : AllByRecursion (IsTold m ret k r) cs) where

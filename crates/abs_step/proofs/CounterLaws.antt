@@ -5,7 +5,7 @@ use Rattle.std.proofs.lemmas.Bool.Decides.{nat_tests}
 use Rattle.f8_spec.specs.Words.{places_on, displaced}
 use Rattle.f8_spec.specs.ChipState.{has_second_counter}
 use Rattle.f8_spec.specs.declared.chips.ChipKind.{ChipKind}
-use Rattle.f8_spec.specs.declared.chips.ChipKind.TheVariants.{Psu, Smi}
+use Rattle.f8_spec.specs.declared.chips.ChipKind.TheVariants.{Psu, Smi, Pio}
 use Rattle.f8_spec.specs.declared.instructions.Row.{Row}
 use Rattle.f8_spec.specs.declared.instructions.Row.TheVariants.{DataFromQ, DataFromH, ReadData, StoreData, LoadData, Exchange, AddData}
 use Rattle.console_spec.specs.Processor.{Flow, Inputs, flow_after}
@@ -150,3 +150,4 @@ pub chip_tells : (kind : ChipKind) (row : Row) (i : Inputs) (j : KnownInputs) (k
     ChipTells kind (known_counters row j k) (flow_after row i true r) (flow_after row i (has_second_counter kind) c)
 chip_tells Psu row i j k r c p h t = psu_tells row i j k r c p h t
 chip_tells Smi row i j k r c p h t = smi_tells row i j k r c t
+chip_tells Pio row i j k r c p h t = tt

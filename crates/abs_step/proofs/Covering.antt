@@ -6,7 +6,7 @@ use Rattle.std.specs.declared.cmp.Ordering.{Ordering}
 use Rattle.std.specs.declared.cmp.Ordering.TheVariants.{Less, Equal, Greater}
 use Rattle.std.proofs.lemmas.List.{length-map}
 use Rattle.f8_spec.specs.declared.chips.ChipKind.{ChipKind}
-use Rattle.f8_spec.specs.declared.chips.ChipKind.TheVariants.{Psu, Smi}
+use Rattle.f8_spec.specs.declared.chips.ChipKind.TheVariants.{Psu, Smi, Pio}
 use Rattle.f8_spec.specs.declared.instructions.Op.{Op}
 use Rattle.console_spec.specs.Processor.{Flow}
 use Rattle.console_spec.specs.CounterCopies.{Copy}
@@ -166,6 +166,7 @@ chip_above Smi k l r c p h = record {
   first = holds_above (c.d0 ≡ r.d0) k.s0 l.s0 p.s0 h.first;
   second = holds_above (c.d1 ≡ r.d1) k.s1 l.s1 p.s1 h.second;
 }
+chip_above Pio k l r c p h = tt
 
 pub stands_above : (y z : Invariant) (here : Position) → StandsFor y here → z.point ≡ y.point → StateBelow y.state z.state → StandsFor z here
 stands_above y z here h point below = record {

@@ -1,21 +1,25 @@
 -- What the checker's map says of the chips of a rack and their copies: who may answer at an address, and at a port.
 use Rattle.std.proofs.Common.{◌≡◌, ℕ, suc, ◌+◌, ◌/◌, ◌<◌, Bool, true, false, List, [], ◌∷◌, length, map, refl, ap, ◌∙◌, arith}
-use Rattle.std.specs.Prelude.{Option, Some, None, ◌==◌, nat_le}
+use Rattle.std.specs.Prelude.{Option, Some, None, ◌==◌, nat_le, if◌then◌else◌}
 use Rattle.std.specs.List.{AllByRecursion, enumerate_from}
 use Rattle.std.proofs.lemmas.Bool.Decides.{nat_tests}
+use Rattle.f8_spec.specs.BusCodes.{count_at, counter_of}
+use Rattle.f8_spec.specs.ChipState.{has_counters, same_kind}
 use Rattle.f8_spec.specs.BusArbitration.{Seat, seat_holds, seat_has_ram, seat_has_data_port, seat_has_port, parties}
-use Rattle.f8_spec.specs.BusArbitration.{Served, port_read_verdict, port_write_verdict}
+use Rattle.f8_spec.specs.BusArbitration.{Served, place_in, port_read_ruling, port_write_ruling}
+use Rattle.f8_spec.specs.declared.bus.Counter.TheVariants.{NoCounter}
 use Rattle.f8_spec.specs.declared.bus.BusRule.TheVariants.{Read, Store, PortRead, PortWrite}
 use Rattle.f8_spec.specs.declared.bus.Party.{Party}
 use Rattle.f8_spec.specs.declared.chips.ChipKind.{ChipKind}
-use Rattle.f8_spec.specs.declared.chips.ChipKind.TheVariants.{Psu, Smi}
+use Rattle.f8_spec.specs.declared.chips.ChipKind.TheVariants.{Psu, Smi, Pio}
 use Rattle.console_spec.specs.Writes.{readers, takers}
 use Rattle.console_spec.specs.CounterCopies.{Copy}
 use Rattle.console_spec.specs.BusAccesses.{Access, at_port}
-use Rattle.console_spec.specs.Services.{placed_copy}
+use Rattle.console_spec.specs.Processor.{Flow}
+use Rattle.console_spec.specs.Services.{own_place, placed_copy}
 use Rattle.console_spec.specs.Run.{seats_of}
-use Rattle.memory_map.specs.MapKinds.{same_kind, has_kind_and_page, kind_holds, has_kind_and_pages}
-use Rattle.abs_step.specs.MapView.{MapView, IsViewOf, HasOwnRam}
+use Rattle.memory_map.specs.MapKinds.{has_kind_and_page, kind_holds, has_kind_and_pages}
+use Rattle.abs_step.specs.MapView.{MapView, IsViewOf, HasOwnRam, HoldsByCounters}
 use Rattle.abs_step.proofs.Knowing.{left_of, right_of, both_of}
 use Rattle.abs_step.proofs.Members.{SomeOf, some_of_any, some_map, all_of, any_in, from_all}
 use Rattle.abs_step.proofs.Accesses.{AtMostOne, WouldNot}
@@ -26,18 +30,25 @@ use Rattle.abs_step.proofs.Holders.{HeldByOne, NotHeld, ram_is_held, holder_has_
 itself : (kind : ChipKind) → same_kind kind kind ≡ true
 itself Psu = refl
 itself Smi = refl
+itself Pio = refl
 
 same : (first second : ChipKind) → same_kind first second ≡ true → second ≡ first
 same Psu Psu e = refl
-same Psu Smi e = absurd (cc)
-same Smi Psu e = absurd (cc)
 same Smi Smi e = refl
+same Pio Pio e = refl
+same Psu Smi e = absurd (cc)
+same Psu Pio e = absurd (cc)
+same Smi Psu e = absurd (cc)
+same Smi Pio e = absurd (cc)
+same Pio Psu e = absurd (cc)
+same Pio Smi e = absurd (cc)
 
 -- what the map says of one chip
 pub record IsMapped (m : MapView) (s : Seat) : Type 0 where
   pub held : (at : ℕ) → at < 65536 → seat_holds s at ≡ true → m.held at s.kind ≡ true
   pub any : (at : ℕ) → seat_holds s at ≡ true → m.any s.kind ≡ true
   pub ram : HasOwnRam s
+  pub counted : HoldsByCounters s
 
 pub all_mapped_seats : (m : MapView) (seats : List Seat) → IsViewOf m seats → AllByRecursion (IsMapped m) seats
 all_mapped_seats m seats view = all_of (IsMapped m) seats (λ s is. record {
@@ -46,6 +57,7 @@ all_mapped_seats m seats view = all_of (IsMapped m) seats (λ s is. record {
   any = λ at holds. view.any s.kind
       ∙ any_in (has_kind_and_pages s.kind) seats s is (both_of _ _ (itself s.kind) (holder_has_pages s at holds));
   ram = from_all HasOwnRam seats s view.ram is;
+  counted = from_all HoldsByCounters seats s view.counted is;
 })
 
 -- a chip of a kind that holds an address
@@ -87,46 +99,55 @@ one_would_store a at (c ∷ cs) one =
 
 -- ---- ports: as many chips take part as have the port
 
-readers_counted : (romc port n : ℕ) (cs : List Copy) →
+-- each chip is at the port, one without counters too
+port_place : (romc port : ℕ) (kind : ChipKind) (c : Flow) → counter_of romc ≡ NoCounter → own_place (at_port romc port) kind c ≡ port
+port_place romc port kind c none = by (has_counters kind)
+  where
+    by : (b : Bool) → (if b then port else place_in romc (count_at 0) port) ≡ port
+    by true = refl
+    by false = rw none refl
+
+readers_counted : (romc port n : ℕ) (cs : List Copy) → counter_of romc ≡ NoCounter →
     length (parties PortRead (enumerate_from n (map (placed_copy (at_port romc port)) cs))) ≡ readers port (seats_of cs)
-readers_counted romc port n [] = refl
-readers_counted romc port n (c ∷ cs) = by (seat_has_data_port c.seat port) refl (readers_counted romc port (n + 1) cs)
+readers_counted romc port n [] none = refl
+readers_counted romc port n (c ∷ cs) none = by (seat_has_data_port c.seat port) refl (readers_counted romc port (n + 1) cs none)
   where
     by : (b : Bool) → seat_has_data_port c.seat port ≡ b →
         length (parties PortRead (enumerate_from (n + 1) (map (placed_copy (at_port romc port)) cs))) ≡ readers port (seats_of cs) →
         length (parties PortRead (enumerate_from n (map (placed_copy (at_port romc port)) (c ∷ cs)))) ≡ readers port (seats_of (c ∷ cs))
-    by true e later = rw e (ap suc later)
-    by false e later = rw e later
+    by true e later = rw (port_place romc port c.seat.kind c.flow none, e) (ap suc later)
+    by false e later = rw (port_place romc port c.seat.kind c.flow none, e) later
 
-takers_counted : (romc port n : ℕ) (cs : List Copy) →
+takers_counted : (romc port n : ℕ) (cs : List Copy) → counter_of romc ≡ NoCounter →
     length (parties PortWrite (enumerate_from n (map (placed_copy (at_port romc port)) cs))) ≡ takers port (seats_of cs)
-takers_counted romc port n [] = refl
-takers_counted romc port n (c ∷ cs) = by (seat_has_port c.seat port) refl (takers_counted romc port (n + 1) cs)
+takers_counted romc port n [] none = refl
+takers_counted romc port n (c ∷ cs) none = by (seat_has_port c.seat port) refl (takers_counted romc port (n + 1) cs none)
   where
     by : (b : Bool) → seat_has_port c.seat port ≡ b →
         length (parties PortWrite (enumerate_from (n + 1) (map (placed_copy (at_port romc port)) cs))) ≡ takers port (seats_of cs) →
         length (parties PortWrite (enumerate_from n (map (placed_copy (at_port romc port)) (c ∷ cs)))) ≡ takers port (seats_of (c ∷ cs))
-    by true e later = rw e (ap suc later)
-    by false e later = rw e later
+    by true e later = rw (port_place romc port c.seat.kind c.flow none, e) (ap suc later)
+    by false e later = rw (port_place romc port c.seat.kind c.flow none, e) later
 
-one_reader : (port : ℕ) (ps : List Party) → length ps ≡ 1 → (socket : Option ℕ) × (port_read_verdict port ps ≡ Served socket)
+one_reader : (port : ℕ) (ps : List Party) → length ps ≡ 1 → (socket : Option ℕ) × (port_read_ruling port ps ≡ Served socket)
 one_reader port [] one = absurd (omega arith)
 one_reader port (p ∷ []) one = (Some p.socket, refl)
 one_reader port (p ∷ (q ∷ ps)) one = absurd (omega arith)
 
-pub port_read_served : (romc port n : ℕ) (cs : List Copy) → (readers port (seats_of cs) == 1) ≡ true → (socket : Option ℕ)
-    × (port_read_verdict port (parties PortRead (enumerate_from n (map (placed_copy (at_port romc port)) cs))) ≡ Served socket)
-port_read_served romc port n cs one =
+pub port_read_served : (romc port n : ℕ) (cs : List Copy) → counter_of romc ≡ NoCounter → (readers port (seats_of cs) == 1) ≡ true → (socket : Option ℕ)
+    × (port_read_ruling port (parties PortRead (enumerate_from n (map (placed_copy (at_port romc port)) cs))) ≡ Served socket)
+port_read_served romc port n cs none one =
     let exact : readers port (seats_of cs) ≡ 1 = grind (arith, nat_tests) in
-    one_reader port _ (readers_counted romc port n cs ∙ exact)
+    one_reader port _ (readers_counted romc port n cs none ∙ exact)
 
-few_takers : (ps : List Party) → length ps < 2 → (socket : Option ℕ) × (port_write_verdict ps ≡ Served socket)
+few_takers : (ps : List Party) → length ps < 2 → (socket : Option ℕ) × (port_write_ruling ps ≡ Served socket)
 few_takers [] few = (None, refl)
 few_takers (p ∷ []) few = (Some p.socket, refl)
 few_takers (p ∷ (q ∷ ps)) few = absurd (omega arith)
 
-pub port_write_served : (romc port n : ℕ) (cs : List Copy) → nat_le 2 (takers port (seats_of cs)) ≡ false → (socket : Option ℕ)
-    × (port_write_verdict (parties PortWrite (enumerate_from n (map (placed_copy (at_port romc port)) cs))) ≡ Served socket)
-port_write_served romc port n cs few =
+pub port_write_served : (romc port n : ℕ) (cs : List Copy) → counter_of romc ≡ NoCounter → nat_le 2 (takers port (seats_of cs)) ≡ false →
+    (socket : Option ℕ)
+    × (port_write_ruling (parties PortWrite (enumerate_from n (map (placed_copy (at_port romc port)) cs))) ≡ Served socket)
+port_write_served romc port n cs none few =
     let small : takers port (seats_of cs) < 2 = grind (arith, nat_tests) in
-    few_takers _ (rw (takers_counted romc port n cs) small)
+    few_takers _ (rw (takers_counted romc port n cs none) small)

@@ -7,7 +7,7 @@ use Rattle.std.specs.List.{AllByRecursion, list_any}
 use Rattle.f8_spec.specs.ChipState.{ChipView, is_ram, is_sort_at, place_of}
 use Rattle.f8_spec.specs.BusArbitration.{Seat, seat_of}
 use Rattle.f8_spec.specs.declared.chips.ChipKind.{ChipKind}
-use Rattle.f8_spec.specs.declared.chips.ChipKind.TheVariants.{Psu as PsuKind, Smi as SmiKind}
+use Rattle.f8_spec.specs.declared.chips.ChipKind.TheVariants.{Psu as PsuKind, Smi as SmiKind, Pio as PioKind}
 use Rattle.f8_spec.specs.declared.chips.Page.{Page}
 use Rattle.f8_spec.specs.declared.chips.PageSort.TheVariants.{Rom as RomPage}
 use Rattle.console_spec.specs.FlatMemory.{is_ram_sort, fixed_byte, fixed_byte_by, sort_of}
@@ -16,12 +16,12 @@ use Rattle.console_spec.specs.declared.Sort.{Sort}
 use Rattle.console_spec.specs.declared.Sort.TheVariants.{Rom, Ram, Void, Nothing, Shared}
 use Rattle.chip_face.specs.Fitting.{fitted, psu_pages}
 use Rattle.chip_face.specs.declared.specification.ChipSpec.{ChipSpec}
-use Rattle.chip_face.specs.declared.specification.ChipSpec.TheVariants.{Blank, Psu, Smi}
+use Rattle.chip_face.specs.declared.specification.ChipSpec.TheVariants.{Blank, Psu, Smi, Pio}
 use Rattle.memory_map.specs.MapKinds.{is_held_once, kind_holds, some_wired}
 use Rattle.memory_map.specs.MapOf.{MapTable, mapped_sort, mapped_byte, mapped_held, mapped_readers, mapped_takers, mapped_overlaps}
 use Rattle.memory_map.specs.MapOf.{views_of, seats_of, IsMapOf, IsWholeMap, sort_by, entry_at, kind_pages}
 use Rattle.memory_map.specs.declared.entry.Entry.TheVariants.{Nothing as NoChip}
-use Rattle.abs_step.specs.MapView.{IsViewOf, HasOwnRam, view_of, has_shared_page, chips_view, MapViewLaw}
+use Rattle.abs_step.specs.MapView.{IsViewOf, HasOwnRam, HoldsByCounters, view_of, has_shared_page, chips_view, MapViewLaw}
 use Rattle.abs_step.proofs.ChipPages.{byte_of_one, page_of_shared, shared_of_page}
 
 -- ---- bytes
@@ -72,10 +72,23 @@ own_ram : (c : ChipSpec) → HasOwnRam (seat_of (fitted None c))
 own_ram (Blank kind) = λ at ram. absurd (cc)
 own_ram (Psu base rom ports vector wired) = λ at ram. absurd (cc (no_ram (psu_pages base) at (refl, (refl, (refl, (refl, tt))))))
 own_ram (Smi pages rom wired) = λ at ram. refl
+own_ram (Pio ports vector wired) = λ at ram. absurd (cc)
 
 all_own_ram : (cs : List ChipSpec) → AllByRecursion HasOwnRam (seats_of cs)
 all_own_ram [] = tt
 all_own_ram (c ∷ cs) = (own_ram c, all_own_ram cs)
+
+-- ---- counters
+
+by_counters : (c : ChipSpec) → HoldsByCounters (seat_of (fitted None c))
+by_counters (Blank kind) = λ at holds. absurd (cc)
+by_counters (Psu base rom ports vector wired) = λ at holds. refl
+by_counters (Smi pages rom wired) = λ at holds. refl
+by_counters (Pio ports vector wired) = λ at holds. absurd (cc)
+
+all_by_counters : (cs : List ChipSpec) → AllByRecursion HoldsByCounters (seats_of cs)
+all_by_counters [] = tt
+all_by_counters (c ∷ cs) = (by_counters c, all_by_counters cs)
 
 -- ---- interrupts
 
@@ -97,6 +110,7 @@ view_is m chips h = record {
   overlaps = λ at small shared. h.all.overlaps.1 (at, small, shared);
   wired = h.all.wired ∙ wired_seats (views_of chips);
   ram = all_own_ram chips;
+  counted = all_by_counters chips;
 }
 
 -- ---- what is known of the chips
@@ -124,6 +138,7 @@ right_is chips = record {
   overlaps = λ at small shared. page_of_shared (seats_of chips) at small shared;
   wired = wired_seats (views_of chips);
   ram = all_own_ram chips;
+  counted = all_by_counters chips;
 }
 
 -- ---- each map tells just that
@@ -163,6 +178,7 @@ module _ (m : MapTable) (chips : List ChipSpec) (h : IsMapOf m chips) (whole : I
   held_size : (kind : ChipKind) → length (kind_pages kind m).held ≡ 256
   held_size PsuKind = whole.psu
   held_size SmiKind = whole.smi
+  held_size PioKind = whole.pio
 
   held_told : (at : ℕ) (kind : ChipKind) → mapped_held m at kind ≡ (nat_lt at 65536 && kind_holds kind (seats_of chips) at)
   unfolding mapped_held

@@ -6,7 +6,7 @@ use Rattle.f8_spec.specs.Instructions.{decoded, row_of}
 use Rattle.f8_spec.specs.Flags.{clear_status}
 use Rattle.f8_spec.specs.BusArbitration.{Seat}
 use Rattle.f8_spec.specs.declared.chips.ChipKind.{ChipKind}
-use Rattle.f8_spec.specs.declared.chips.ChipKind.TheVariants.{Psu, Smi}
+use Rattle.f8_spec.specs.declared.chips.ChipKind.TheVariants.{Psu, Smi, Pio}
 use Rattle.f8_spec.specs.declared.instructions.Op.{Op}
 use Rattle.console_spec.specs.Processor.{Flow}
 use Rattle.console_spec.specs.CounterCopies.{Copy}
@@ -41,6 +41,7 @@ nothing_told (x ∷ xs) = (tt, nothing_told xs)
 start_chip : (kind : ChipKind) (r c : Flow) → ChipTells kind start_state.counters r c
 start_chip Psu r c = record { value = tt; first = tt; second = tt }
 start_chip Smi r c = record { first = tt; second = tt }
+start_chip Pio r c = tt
 
 start_stands : (bytes : ℕ → Option ℕ) (seats : List Seat) (here : Position) → IsFreeStart bytes seats here → StandsFor start_invariant here
 start_stands bytes seats here h = record {

@@ -4,9 +4,10 @@ use Rattle.std.specs.Prelude.{Option, Some, None, not, is_none}
 use Rattle.std.specs.List.{AllByRecursion, AllZip}
 use Rattle.std.specs.Option.{ForSome}
 use Rattle.f8_spec.specs.Instructions.{row_of, is_shielding}
+use Rattle.f8_spec.specs.ChipState.{has_counters}
 use Rattle.f8_spec.specs.BusArbitration.{Seat, seat_holds}
 use Rattle.f8_spec.specs.declared.chips.ChipKind.{ChipKind}
-use Rattle.f8_spec.specs.declared.chips.ChipKind.TheVariants.{Psu, Smi}
+use Rattle.f8_spec.specs.declared.chips.ChipKind.TheVariants.{Psu, Smi, Pio}
 use Rattle.f8_spec.specs.declared.instructions.Op.{Op}
 use Rattle.f8_spec.specs.declared.instructions.Row.{Row}
 use Rattle.f8_spec.specs.declared.instructions.Row.TheVariants.{StackFromK, CallK, JumpQ}
@@ -217,6 +218,7 @@ held_by_kind m (s ∷ ss) at small mapped (inl holds) = by s.kind refl
         let held : m.held at s.kind ≡ true = mapped.0.held at small holds in
         let any : m.any s.kind ≡ true = mapped.0.any at holds in
         inr (rw is at held, rw is at any)
+    by Pio is = let has : has_counters s.kind ≡ true = mapped.0.counted at holds in absurd (cc (rw is at has))
 held_by_kind m (s ∷ ss) at small mapped (inr later) = held_by_kind m ss at small mapped.1 later
 
 some_every : (all any p0 q0 : Bool) → FactBelow p0 q0 → (all && (not any || q0)) ≡ true → (all && (not any || p0)) ≡ true

@@ -80,10 +80,13 @@ module _ (Q : Option Fault → Type 0) (q : Lasts Q) (m : MapView) (ret : Option
 
   last_served : (row : Row) → IsSafeRow Q row m ret k i r cs → access_fault r cs (last_access row i) ≡ None
   last_served row h = all_at_served r cs (last_access row i) refl
-      (all_map (IsTold m ret k r) _ cs (λ c t.
-      ap (λ (f : Flow). f.p) (uninterrupted row i (has_second_counter c.seat.kind) c.flow h.chosen)
-      ∙ same_next row i true (has_second_counter c.seat.kind) r c.flow t.tells.at (back_at_return row h.set c t)
-      ∙ sym (ap (λ (f : Flow). f.p) (uninterrupted row i true r h.chosen))) h.told)
+      (all_map (IsTold m ret k r) _ cs (λ c t. record {
+        same =
+            ap (λ (f : Flow). f.p) (uninterrupted row i (has_second_counter c.seat.kind) c.flow h.chosen)
+            ∙ same_next row i true (has_second_counter c.seat.kind) r c.flow t.tells.at (back_at_return row h.set c t)
+            ∙ sym (ap (λ (f : Flow). f.p) (uninterrupted row i true r h.chosen));
+        counted = t.mapped.counted;
+      }) h.told)
       (rw (uninterrupted row i true r h.chosen) h.next)
 
   -- ---- one after another
@@ -106,12 +109,12 @@ module _ (Q : Option Fault → Type 0) (q : Lasts Q) (m : MapView) (ret : Option
   ahead_served : (row : Row) (romc n : ℕ) → rule_of romc ≡ Read → IsSafeRow Q row m ret k i r cs →
       not (is_held_once (m.sort (places_on r.p n))) ≡ false → access_fault r cs (ahead romc n) ≡ None
   ahead_served row romc n rule h once = all_at_served r cs (ahead romc n) rule
-      (all_map (IsTold m ret k r) _ cs (λ c t. ap (λ at. places_on at n) t.tells.at) h.told)
+      (all_map (IsTold m ret k r) _ cs (λ c t. record { same = ap (λ at. places_on at n) t.tells.at; counted = t.mapped.counted }) h.told)
       (held_once (places_on r.p n) (omega arith) h.view once)
 
   stack_served : (romc : ℕ) → rule_of romc ≡ Read → IsSafeRow Q StackToK m ret k i r cs → access_fault r cs (at_stack romc) ≡ None
   stack_served romc rule h = all_at_served r cs (at_stack romc) rule
-      (all_map (IsTold m ret k r) _ cs (λ c t. holds_if_known ret h.set t.tells.back) h.told)
+      (all_map (IsTold m ret k r) _ cs (λ c t. record { same = holds_if_known ret h.set t.tells.back; counted = t.mapped.counted }) h.told)
       (by ret h.back h.held)
     where
       by : (o : Option ℕ) → Below (Some r.p1) o → return_is_unheld StackToK m o ≡ false → is_held_once (sort_of (seats_of cs) r.p1) ≡ true
@@ -123,12 +126,12 @@ module _ (Q : Option Fault → Type 0) (q : Lasts Q) (m : MapView) (ret : Option
   port_read : (port : ℕ) → port < 256 → IsViewOf m (seats_of cs) → not (m.readers port == 1) ≡ false → access_fault r cs (at_port 0x1B port) ≡ None
   port_read port small view good =
       let one = is_not _ good in
-      let v = port_read_served 0x1B port 0 cs (rw (view.readers port small) at one) in
+      let v = port_read_served 0x1B port 0 cs refl (rw (view.readers port small) at one) in
       rw v.1 refl
 
   port_write : (port : ℕ) → port < 256 → IsViewOf m (seats_of cs) → nat_le 2 (m.takers port) ≡ false → access_fault r cs (at_port 0x1A port) ≡ None
   port_write port small view good =
-      let v = port_write_served 0x1A port 0 cs (rw (view.takers port small) at good) in
+      let v = port_write_served 0x1A port 0 cs refl (rw (view.takers port small) at good) in
       rw v.1 refl
 
   branch_rule : (taken : Bool) → rule_of (if taken then 0x01 else 0x03) ≡ Read

@@ -4,6 +4,8 @@ use Rattle.std.specs.Prelude.{Option, Some, None, if◌then◌else◌}
 use Rattle.std.specs.List.{AllByRecursion}
 use Rattle.f8_spec.specs.Instructions.{decoded}
 use Rattle.f8_spec.specs.ChipState.{ChipView}
+use Rattle.f8_spec.specs.Powers.{ArePowers}
+use Rattle.f8_spec.specs.declared.chips.PowerOn.{PowerOn}
 use Rattle.f8_spec.specs.BusArbitration.{Seat, seat_of}
 use Rattle.f8_spec.specs.declared.instructions.Op.{Op}
 use Rattle.console_spec.specs.Services.{Fault}
@@ -74,21 +76,21 @@ module _ (bytes : ℕ → Option ℕ) (seats : List Seat) (claim : Position → 
 
 -- ---- whole runs
 
-module _ (m : MapView) (tracked : List ℕ) (notes : List Invariant) (vs : List ChipView) (chain : List ℕ) (traced : Bool) (script : Script)
-    (safe : IsSafeMap m (map seat_of vs) tracked notes) (for : IsScriptFor m.byte vs script) where
-  reset_goes : reset_fault (begun vs chain script) ≡ None
-  reset_goes = soundness.reset m (map seat_of vs) tracked notes safe (begun vs chain script) (begun_free m.byte vs chain script for)
+module _ (m : MapView) (tracked : List ℕ) (notes : List Invariant) (vs : List ChipView) (chain : List ℕ) (powers : List PowerOn) (traced : Bool)
+    (script : Script) (safe : IsSafeMap m (map seat_of vs) tracked notes) (are : ArePowers powers) (for : IsScriptFor m.byte vs script) where
+  reset_goes : reset_fault (begun vs chain powers script) ≡ None
+  reset_goes = soundness.reset m (map seat_of vs) tracked notes safe (begun vs chain powers script) (begun_free m.byte vs chain powers script are for)
 
   whole_ends : (claim : Position → Option Fault → Type 0) →
       ((n : ℕ) (here : Position) → IsReached m.byte (map seat_of vs) n here → GoesOn (claim here) here) →
-      EndsBy claim (played_by vs chain traced script).ending
+      EndsBy claim (played_by vs chain powers traced script).ending
   unfolding played_by
   whole_ends claim each =
-      let x : Position = begun vs chain script in
+      let x : Position = begun vs chain powers script in
       let rest : Position → Telling = telling (on_rack traced) script (most_instructions script.end) in
       let later : EndsBy claim (rest (position_after_reset x)).ending =
       telling_ends m.byte (map seat_of vs) claim each traced script for.events (most_instructions script.end) 0 (position_after_reset x)
-      (reset_free m.byte (map seat_of vs) x (begun_free m.byte vs chain script for)) in
+      (reset_free m.byte (map seat_of vs) x (begun_free m.byte vs chain powers script are for)) in
       subst (λ (f : Option Fault). EndsBy claim (telling_behind x rest (goes_unless f (position_after_reset x))).ending) (sym reset_goes) later
 
 done_of : (e : Ending) → EndsBy (λ here fault. fault ≡ None) e → e.stop ≡ Done
@@ -97,10 +99,11 @@ done_of e (inr (fault, is, none)) = absurd (cc)
 
 pub script_runs : ScriptRunLaw
 script_runs = record {
-  sound = λ m tracked notes vs chain traced script safe script_for.
-      whole_ends m tracked notes vs chain traced script safe script_for (λ here fault. OnlyUndriven here.flat.state.flow.d0 fault)
+  sound = λ m tracked notes vs chain powers traced script safe are script_for.
+      whole_ends m tracked notes vs chain powers traced script safe are script_for (λ here fault. OnlyUndriven here.flat.state.flow.d0 fault)
       (λ n here h. soundness.sound m (map seat_of vs) tracked notes safe n here h);
-  fault_free = λ m tracked notes vs chain traced script safe free script_for.
-      done_of (played_by vs chain traced script).ending (whole_ends m tracked notes vs chain traced script safe script_for (λ here fault. fault ≡ None)
+  fault_free = λ m tracked notes vs chain powers traced script safe free are script_for.
+      done_of (played_by vs chain powers traced script).ending
+      (whole_ends m tracked notes vs chain powers traced script safe are script_for (λ here fault. fault ≡ None)
       (λ n here h. soundness.fault_free m (map seat_of vs) tracked notes safe free n here h));
 }

@@ -4,9 +4,12 @@ use Rattle.std.specs.Prelude.{Option, Some, None, slice_get, Bool, true, false, 
 use Rattle.std.specs.List.{AllByRecursion, enumerate_from, range_with_len}
 use Rattle.std.proofs.lemmas.List.FromFn.{get_or-map-range_with_len}
 use Rattle.f8_spec.specs.ChipState.{ChipView}
+use Rattle.f8_spec.specs.Powers.{ArePowers}
+use Rattle.f8_spec.specs.declared.chips.PowerOn.{PowerOn}
 use Rattle.f8_spec.specs.BusArbitration.{Seat, seat_of}
 use Rattle.console_spec.specs.AddressSpace.{byte_at}
-use Rattle.console_spec.specs.FlatMemory.{sort_of, fixed_byte, fixed_byte_by, first_byte, first_byte_by, first_memory}
+use Rattle.console_spec.specs.FlatMemory.{sort_of, owner_of, fixed_byte, fixed_byte_by, fill_of_owner, first_byte, first_byte_by, first_memory}
+use Rattle.console_spec.specs.Powering.{fill_in, start_in}
 use Rattle.console_spec.specs.CounterCopies.{Copy, reset_copy}
 use Rattle.console_spec.specs.Run.{Position, seats_of, pulse_in, power_position, position_after_reset}
 use Rattle.console_spec.specs.Scripts.{Script, events_at}
@@ -18,6 +21,7 @@ use Rattle.console_spec.specs.declared.Sort.{Sort}
 use Rattle.console_spec.specs.declared.Sort.TheVariants.{Rom, Ram, Void, Nothing, Shared}
 use Rattle.console_spec.specs.FreeRuns.{AreBytes, AreAddresses, IsFreeStart, HasByte}
 use Rattle.abs_step.specs.ScriptRuns.{IsScriptFor}
+use Rattle.abs_step.proofs.FirstPowers.{fill_small, start_small}
 use Rattle.abs_step.proofs.Ranges.{set_bytes}
 
 -- ---- memory at power-on
@@ -40,65 +44,81 @@ first_small Void fill None small each = omega arith
 first_small Nothing fill None small each = omega arith
 first_small Shared fill None small each = omega arith
 
+owner_small : (fill : ℕ → ℕ) (owner : Option ℕ) → ((socket : ℕ) → fill socket < 256) → fill_of_owner fill owner < 256
+owner_small fill None each = omega arith
+owner_small fill (Some socket) each = each socket
+
 all_small : (f : ℕ → ℕ) (a n at : ℕ) → ((x : ℕ) → a ≤ x → x < a + n → f x < 256) → byte_at (map f (range_with_len a n)) at < 256
 all_small f a zero at each = omega arith
 all_small f a (suc n) zero each = each a (omega arith) (omega arith)
 all_small f a (suc n) (suc at) each = all_small f (a + 1) n at (λ x from small. each x (omega (arith, from)) (omega (arith, small)))
 
-memory_small : (vs : List ChipView) (fill at : ℕ) → ((x : ℕ) → x < 65536 → first_byte vs fill x < 256) → byte_at (first_memory vs fill) at < 256
+memory_small : (vs : List ChipView) (fill : ℕ → ℕ) (at : ℕ) → ((x : ℕ) → x < 65536 → first_byte vs fill x < 256) → byte_at (first_memory vs fill) at < 256
 unfolding first_memory
 memory_small vs fill at each = all_small (first_byte vs fill) 0 65536 at (λ x from small. each x (omega (arith, small)))
 
-memory_fixed : (vs : List ChipView) (fill at : ℕ) → at < 65536 → byte_at (first_memory vs fill) at ≡ first_byte vs fill at
+memory_fixed : (vs : List ChipView) (fill : ℕ → ℕ) (at : ℕ) → at < 65536 → byte_at (first_memory vs fill) at ≡ first_byte vs fill at
 unfolding first_memory
 memory_fixed vs fill at small = get_or-map-range_with_len (first_byte vs fill) 0 65536 at at 255 small (omega arith)
 
 -- ---- copies at power-on
 
-copies_seats : (fill n : ℕ) (ss : List Seat) → seats_of (map (reset_copy fill) (enumerate_from n ss)) ≡ ss
-copies_seats fill n [] = refl
-copies_seats fill n (s ∷ ss) = ap (λ (rest : List Seat). s ∷ rest) (copies_seats fill (n + 1) ss)
+module _ (start : ℕ → ℕ) where
+  copies_seats : (n : ℕ) (ss : List Seat) → seats_of (map (reset_copy start) (enumerate_from n ss)) ≡ ss
+  copies_seats n [] = refl
+  copies_seats n (s ∷ ss) = ap (λ (rest : List Seat). s ∷ rest) (copies_seats (n + 1) ss)
 
-copies_begin : (fill n : ℕ) (ss : List Seat) → AllByRecursion (λ (c : Copy). c.flow.p ≡ 0) (map (reset_copy fill) (enumerate_from n ss))
-copies_begin fill n [] = tt
-copies_begin fill n (s ∷ ss) = (refl, copies_begin fill (n + 1) ss)
+  copies_begin : (n : ℕ) (ss : List Seat) → AllByRecursion (λ (c : Copy). c.flow.p ≡ 0) (map (reset_copy start) (enumerate_from n ss))
+  copies_begin n [] = tt
+  copies_begin n (s ∷ ss) = (refl, copies_begin (n + 1) ss)
 
-copies_small : (fill n : ℕ) (ss : List Seat) → AllByRecursion (λ (c : Copy). AreAddresses c.flow) (map (reset_copy fill) (enumerate_from n ss))
-copies_small fill n [] = tt
-copies_small fill n (s ∷ ss) =
-    (record { p = omega arith; p1 = omega arith; d0 = omega arith; d1 = omega arith }, copies_small fill (n + 1) ss)
+  copies_small : (n : ℕ) (ss : List Seat) → ((socket : ℕ) → start socket < 65536) →
+      AllByRecursion (λ (c : Copy). AreAddresses c.flow) (map (reset_copy start) (enumerate_from n ss))
+  copies_small n [] each = tt
+  copies_small n (s ∷ ss) each = (record { p = omega arith; p1 = each n; d0 = each n; d1 = each n }, copies_small (n + 1) ss each)
 
 same_bytes : (n byte : ℕ) → byte < 256 → AreBytes (replicate n byte)
 same_bytes zero byte small place = omega arith
 same_bytes (suc n) byte small zero = small
 same_bytes (suc n) byte small (suc place) = same_bytes n byte small place
 
-power_free : (bytes : ℕ → Option ℕ) (vs : List ChipView) (chain : List ℕ) (script : Script) → IsScriptFor bytes vs script →
-    IsFreeStart bytes (map seat_of vs) (power_position vs chain script.power)
-power_free bytes vs chain script h = record {
-  counters = refl;
-  status = refl;
-  writes = refl;
-  acknowledged = refl;
-  chips = copies_seats script.power 0 (map seat_of vs);
-  fixed = λ at byte small is. memory_fixed vs script.power at small
-      ∙ first_fixed (sort_of (map seat_of vs) at) script.power byte _ (h.fixed at byte small is);
-  copies = copies_begin script.power 0 (map seat_of vs);
-  range = record {
-    registers = record {
-      accumulator = h.power;
-      isar = omega arith;
-      size = refl;
-      scratchpad = same_bytes 64 script.power h.power;
+module _ (bytes : ℕ → Option ℕ) (vs : List ChipView) (chain : List ℕ) (powers : List PowerOn) (script : Script) (are : ArePowers powers)
+    (for : IsScriptFor bytes vs script) where
+  abbrev fills : ℕ → ℕ
+  fills = fill_in script.power chain powers
+
+  abbrev starts : ℕ → ℕ
+  starts = start_in script.power chain powers
+
+  owned : (at : ℕ) → fill_of_owner fills (owner_of (map seat_of vs) at) < 256
+  owned at = owner_small fills (owner_of (map seat_of vs) at) (fill_small script.power chain powers for.power are)
+
+  power_free : IsFreeStart bytes (map seat_of vs) (power_position vs chain powers script.power)
+  power_free = record {
+    counters = refl;
+    status = refl;
+    writes = refl;
+    acknowledged = refl;
+    chips = copies_seats starts 0 (map seat_of vs);
+    fixed = λ at byte small is. memory_fixed vs fills at small
+        ∙ first_fixed (sort_of (map seat_of vs) at) (fill_of_owner fills (owner_of (map seat_of vs) at)) byte _ (for.fixed at byte small is);
+    copies = copies_begin starts 0 (map seat_of vs);
+    range = record {
+      registers = record {
+        accumulator = for.power;
+        isar = omega arith;
+        size = refl;
+        scratchpad = same_bytes 64 script.power for.power;
+      };
+      keys = same_bytes 256 0 (omega arith);
+      writes = tt;
+      memory = λ at. memory_small vs fills at
+          (λ x small. first_small (sort_of (map seat_of vs) x) (fill_of_owner fills (owner_of (map seat_of vs) x)) (fixed_byte vs x) (owned x)
+          (λ byte is. for.held x byte small is));
+      counters = record { p = omega arith; p1 = omega arith; d0 = omega arith; d1 = omega arith };
+      copies = copies_small starts 0 (map seat_of vs) (start_small script.power chain powers are);
     };
-    keys = same_bytes 256 0 (omega arith);
-    writes = tt;
-    memory = λ at. memory_small vs script.power at
-        (λ x small. first_small (sort_of (map seat_of vs) x) script.power (fixed_byte vs x) h.power (λ byte is. h.held x byte small is));
-    counters = record { p = omega arith; p1 = omega arith; d0 = omega arith; d1 = omega arith };
-    copies = copies_small script.power 0 (map seat_of vs);
-  };
-}
+  }
 
 -- ---- events and reset
 
@@ -160,11 +180,11 @@ events_small frame (a ∷ later) h = by (a.frame == frame) (events_small frame l
     by true rest = (h.0, rest)
     by false rest = rest
 
-pub begun_free : (bytes : ℕ → Option ℕ) (vs : List ChipView) (chain : List ℕ) (script : Script) → IsScriptFor bytes vs script →
-    IsFreeStart bytes (map seat_of vs) (begun vs chain script)
-begun_free bytes vs chain script h =
-    events_free bytes (map seat_of vs) (events_at 0 script.events) (power_position vs chain script.power) (events_small 0 script.events h.events)
-    (power_free bytes vs chain script h)
+pub begun_free : (bytes : ℕ → Option ℕ) (vs : List ChipView) (chain : List ℕ) (powers : List PowerOn) (script : Script) → ArePowers powers →
+    IsScriptFor bytes vs script → IsFreeStart bytes (map seat_of vs) (begun vs chain powers script)
+begun_free bytes vs chain powers script are for =
+    events_free bytes (map seat_of vs) (events_at 0 script.events) (power_position vs chain powers script.power) (events_small 0 script.events for.events)
+    (power_free bytes vs chain powers script are for)
 
 pub reset_free : (bytes : ℕ → Option ℕ) (seats : List Seat) (here : Position) → IsFreeStart bytes seats here →
     IsFreeStart bytes seats (position_after_reset here)

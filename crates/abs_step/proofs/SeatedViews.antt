@@ -2,13 +2,14 @@
 use Rattle.std.proofs.Common.{◌≡◌, ℕ, ◌/◌, Bool, true, false, ◌&&◌, List, [], ◌∷◌, ◌++◌, refl, sym, ◌∙◌}
 use Rattle.std.specs.Prelude.{Option, None}
 use Rattle.std.specs.List.{AllByRecursion}
+use Rattle.f8_spec.specs.ChipState.{same_kind}
 use Rattle.f8_spec.specs.BusArbitration.{Seat, seat_of, seat_has_port, seat_has_data_port}
 use Rattle.f8_spec.specs.declared.chips.ChipKind.{ChipKind}
 use Rattle.chip_face.specs.Fitting.{fitted}
 use Rattle.chip_face.specs.declared.specification.ChipSpec.{ChipSpec}
-use Rattle.chip_face.specs.declared.specification.ChipSpec.TheVariants.{Blank, Psu, Smi}
-use Rattle.memory_map.specs.MapKinds.{same_kind, has_kind_and_page, has_kind_and_pages}
-use Rattle.abs_step.specs.MapView.{MapView, IsViewOf, HasOwnRam}
+use Rattle.chip_face.specs.declared.specification.ChipSpec.TheVariants.{Blank, Psu, Smi, Pio}
+use Rattle.memory_map.specs.MapKinds.{has_kind_and_page, has_kind_and_pages}
+use Rattle.abs_step.specs.MapView.{MapView, IsViewOf, HasOwnRam, HoldsByCounters}
 use Rattle.abs_step.specs.RackSeats.{IsBlank, AreSeated, none_left, blank, chip, SeatedViewLaw}
 use Rattle.abs_step.proofs.SeatSums.{same_some, same_count, same_sort}
 
@@ -30,10 +31,13 @@ no_data_port port s is = rw is.ports refl
 no_port : (port : ℕ) (s : Seat) → IsBlank s → seat_has_port s port ≡ false
 no_port port s is = rw is.ports refl
 
--- ---- RAM
+-- ---- RAM and counters
 
 own_ram_of_blank : (s : Seat) → IsBlank s → HasOwnRam s
 own_ram_of_blank s is = λ at ram. absurd (cc (rw is.pages at ram))
+
+counters_of_blank : (s : Seat) → IsBlank s → HoldsByCounters s
+counters_of_blank s is = λ at holds. absurd (cc (rw is.pages at holds))
 
 all_but : (P : Seat → Type 0) (before : List Seat) (s : Seat) (after : List Seat) → AllByRecursion P (before ++ s ∷ after) →
     P s × AllByRecursion P (before ++ after)
@@ -62,6 +66,7 @@ seated_view m chips sockets seated h = record {
   overlaps = λ at small shared. h.overlaps at small (sym (same_sort at seated) ∙ shared);
   wired = h.wired ∙ sym (same_some (λ s. s.wired) (λ s is. is.wired) seated);
   ram = all_seated HasOwnRam own_ram_of_blank seated h.ram;
+  counted = all_seated HoldsByCounters counters_of_blank seated h.counted;
 }
 
 -- ---- fitted chips
@@ -73,6 +78,7 @@ same_seat : (patch : Option (ℕ × ℕ)) (spec : ChipSpec) → seat_of (fitted 
 same_seat patch (Blank kind) = refl
 same_seat patch (Psu base rom ports vector wired) = refl
 same_seat patch (Smi pages rom wired) = refl
+same_seat patch (Pio ports vector wired) = refl
 
 pub seated_views : SeatedViewLaw
 seated_views = record { view = seated_view; blank_is = blank_seat; patched = same_seat }

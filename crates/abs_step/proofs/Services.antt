@@ -1,25 +1,25 @@
 -- Which accesses are served at a safe point: those at a place where all chips are, stores, and reads at D0 where some chip answers.
-use Rattle.std.proofs.Common.{◌≡◌, ℕ, ◌<◌, Bool, true, false, List, map, refl, sym}
+use Rattle.std.proofs.Common.{◌≡◌, ℕ, ◌<◌, Bool, true, false, List, map, refl, sym, ◌∙◌}
 use Rattle.std.specs.Prelude.{Option, Some, None}
 use Rattle.std.specs.List.{AllByRecursion, enumerate_from}
-use Rattle.f8_spec.specs.ChipState.{has_second_counter}
+use Rattle.f8_spec.specs.ChipState.{has_counters, has_second_counter}
 use Rattle.f8_spec.specs.BusArbitration.{Seat, seat_holds, seat_has_ram, rule_of, Served}
-use Rattle.f8_spec.specs.BusArbitration.{parties, bystanders, lowest, read_verdict}
+use Rattle.f8_spec.specs.BusArbitration.{parties, bystanders, lowest, read_ruling}
 use Rattle.f8_spec.specs.declared.bus.BusRule.TheVariants.{Read}
 use Rattle.f8_spec.specs.declared.chips.ChipKind.{ChipKind}
-use Rattle.f8_spec.specs.declared.chips.ChipKind.TheVariants.{Psu, Smi}
+use Rattle.f8_spec.specs.declared.chips.ChipKind.TheVariants.{Psu, Smi, Pio}
 use Rattle.console_spec.specs.Processor.{Flow}
 use Rattle.console_spec.specs.CounterCopies.{Copy}
 use Rattle.console_spec.specs.FlatMemory.{sort_of}
 use Rattle.console_spec.specs.BusAccesses.{Access, at_data}
-use Rattle.console_spec.specs.Services.{Fault, Undriven, placed_copy, access_fault}
+use Rattle.console_spec.specs.Services.{Fault, Undriven, own_place, placed_copy, access_fault}
 use Rattle.console_spec.specs.Run.{seats_of}
 use Rattle.console_spec.specs.declared.Sort.{Sort}
 use Rattle.console_spec.specs.declared.Sort.TheVariants.{Rom, Ram, Void, Nothing, Shared}
 use Rattle.memory_map.specs.MapKinds.{is_held, is_held_once}
 use Rattle.abs_domain.specs.Lattice.{Below}
 use Rattle.abs_domain.specs.AbstractState.{KnownCounters}
-use Rattle.abs_step.specs.MapView.{MapView}
+use Rattle.abs_step.specs.MapView.{MapView, HoldsByCounters}
 use Rattle.abs_step.specs.Safety.{may_be_held_by_psu}
 use Rattle.abs_step.specs.Concretization.{Holds, ChipTells, CopyTells}
 use Rattle.console_spec.specs.FreeRuns.{AreAddresses}
@@ -42,12 +42,17 @@ once_held Shared once = refl
 
 -- ---- reads at a place where all chips are
 
--- each copy's own place of an access is the flat machine's
-abbrev pub IsAt : Access → Flow → Copy → Type 0
-IsAt a r c = a.place (has_second_counter c.seat.kind) c.flow ≡ a.place true r
+-- by the set of counters that its copy keeps a chip is where the flat machine is, and it has counters where it holds an address
+pub record IsAt (a : Access) (r : Flow) (c : Copy) : Type 0 where
+  pub same : a.place (has_second_counter c.seat.kind) c.flow ≡ a.place true r
+  pub counted : HoldsByCounters c.seat
+
+-- the place of a chip that has counters goes by them
+own_at : (a : Access) (c : Copy) → has_counters c.seat.kind ≡ true → own_place a c.seat.kind c.flow ≡ a.place (has_second_counter c.seat.kind) c.flow
+own_at a c has = rw has refl
 
 served : (r : Flow) (cs : List Copy) (a : Access) → rule_of a.romc ≡ Read →
-    (socket : Option ℕ) × (read_verdict (a.place true r) (parties Read (enumerate_from 0 (map (placed_copy a) cs)))
+    (socket : Option ℕ) × (read_ruling (a.place true r) (parties Read (enumerate_from 0 (map (placed_copy a) cs)))
     (lowest (bystanders Read (a.place true r) (enumerate_from 0 (map (placed_copy a) cs)))) ≡ Served socket) →
     access_fault r cs a ≡ None
 served r cs a rule v = rw (rule, v.1) refl
@@ -56,10 +61,10 @@ pub all_at_served : (r : Flow) (cs : List Copy) (a : Access) → rule_of a.romc 
     is_held_once (sort_of (seats_of cs) (a.place true r)) ≡ true → access_fault r cs a ≡ None
 all_at_served r cs a rule all once = served r cs a rule
     (read_served (a.place true r) 0 (map (placed_copy a) cs)
-    (all_mapped (placed_copy a) _ cs (all_map (IsAt a r) _ cs (λ c at takes. at) all))
+    (all_mapped (placed_copy a) _ cs (all_map (IsAt a r) _ cs (λ c at takes. own_at a c (at.counted _ takes) ∙ at.same) all))
     (one_would_read a _ cs (held_by_one _ (seats_of cs) (once_unshared _ once)))
     (some_mapped (placed_copy a) _ cs (some_map (λ (c : Copy). seat_holds c.seat (a.place true r) ≡ true) _ cs
-    (all_map (IsAt a r) _ cs (λ c at holds. rw at holds) all)
+    (all_map (IsAt a r) _ cs (λ c at holds. rw (own_at a c (at.counted _ holds), at.same) holds) all)
     (some_unmapped (λ (c : Copy). c.seat) _ cs (some_hold _ (seats_of cs) (once_held _ once))))))
 
 -- ---- the data counter
@@ -96,6 +101,7 @@ there_by Psu m k r c s is mapped alike small t holds =
 there_by Smi m k r c s is mapped alike small t holds =
     let any : m.any s.kind ≡ true = mapped.any c.d0 holds in
     holds_if k.s0 (alike.smi (rw is at any)) t.first
+there_by Pio m k r c s is mapped alike small t holds = let has : has_counters s.kind ≡ true = mapped.counted c.d0 holds in absurd (cc (rw is at has))
 
 -- a chip that has RAM somewhere
 ram_by : (kind : ChipKind) (m : MapView) (k : KnownCounters) (r c : Flow) (s : Seat) (at : ℕ) → s.kind ≡ kind → IsMapped m s → StoresAlike m k →
@@ -104,11 +110,14 @@ ram_by Psu m k r c s at is mapped alike t ram = let smi : s.kind ≡ Smi = mappe
 ram_by Smi m k r c s at is mapped alike t ram =
     let any : m.any s.kind ≡ true = mapped.any at (ram_is_held s at ram) in
     holds_if k.s0 (alike.smi (rw is at any)) t.first
+ram_by Pio m k r c s at is mapped alike t ram = let smi : s.kind ≡ Smi = mapped.ram at ram in absurd (cc)
 
 read_there : (m : MapView) (ret : Option ℕ) (k : KnownCounters) (r : Flow) (romc : ℕ) (cs : List Copy) → ReadsAlike m k →
     AllByRecursion (IsTold m ret k r) cs → AllByRecursion (IsThere Read r.d0) (map (placed_copy (at_data romc)) cs)
 read_there m ret k r romc cs alike told = all_mapped _ _ cs (all_map _ _ cs
-    (λ c h holds. there_by c.seat.kind m k r c.flow c.seat refl h.mapped alike h.addresses.d0 h.tells.chip holds) told)
+    (λ c h holds.
+    let own = own_at (at_data romc) c (h.mapped.counted _ holds) in
+    own ∙ there_by c.seat.kind m k r c.flow c.seat refl h.mapped alike h.addresses.d0 h.tells.chip (rw own at holds)) told)
 
 -- a read at D0 is served, or no chip answers there
 pub data DataOutcome (romc at : ℕ) (f : Option Fault) : Type 0 where
@@ -116,7 +125,7 @@ pub data DataOutcome (romc at : ℕ) (f : Option Fault) : Type 0 where
   NoAnswer : f ≡ Some (Undriven romc at) → DataOutcome romc at f
 
 outcome_of : (r : Flow) (cs : List Copy) (romc : ℕ) → rule_of romc ≡ Read →
-    ReadOutcome r.d0 (read_verdict r.d0 (parties Read (enumerate_from 0 (map (placed_copy (at_data romc)) cs)))
+    ReadOutcome r.d0 (read_ruling r.d0 (parties Read (enumerate_from 0 (map (placed_copy (at_data romc)) cs)))
     (lowest (bystanders Read r.d0 (enumerate_from 0 (map (placed_copy (at_data romc)) cs))))) →
     DataOutcome romc r.d0 (access_fault r cs (at_data romc))
 outcome_of r cs romc rule (IsServed socket v) = NoFault (rw (rule, v) refl)
@@ -138,7 +147,7 @@ pub data_read_served : (m : MapView) (ret : Option ℕ) (k : KnownCounters) (r :
 data_read_served m ret k r romc cs rule alike told unshared some = served r cs (at_data romc) rule
     (read_served r.d0 0 _ (read_there m ret k r romc cs alike told) (one_would_read (at_data romc) r.d0 cs (held_by_one r.d0 (seats_of cs) unshared))
     (some_mapped (placed_copy (at_data romc)) _ cs (some_map (Answers r) _ cs
-    (all_map _ _ cs (λ c h answer. rw answer.1 answer.0) told) some)))
+    (all_map _ _ cs (λ c h answer. rw (own_at (at_data romc) c (h.mapped.counted r.d0 answer.0), answer.1) answer.0) told) some)))
 
 pub data_store_served : (m : MapView) (ret : Option ℕ) (k : KnownCounters) (r : Flow) (cs : List Copy) →
     StoresAlike m k → AllByRecursion (IsTold m ret k r) cs → (sort_of (seats_of cs) r.d0 ≡ Shared → ⊥) →
@@ -146,8 +155,13 @@ pub data_store_served : (m : MapView) (ret : Option ℕ) (k : KnownCounters) (r 
 data_store_served m ret k r cs alike told unshared =
     let v = store_served r.d0 0 (map (placed_copy (at_data 0x05)) cs)
     (all_mapped _ _ cs (all_map _ _ cs
-    (λ c h ram. ram_by c.seat.kind m k r c.flow c.seat c.flow.d0 refl h.mapped alike h.tells.chip ram) told))
-    (all_mapped _ _ cs (all_map _ _ cs
-    (λ c h ram. ram_by c.seat.kind m k r c.flow c.seat r.d0 refl h.mapped alike h.tells.chip ram) told))
+    (λ c h ram. at_ram c (own_place (at_data 0x05) c.seat.kind c.flow) h ram) told))
+    (all_mapped _ _ cs (all_map _ _ cs (λ c h ram. at_ram c r.d0 h ram) told))
     (one_would_store (at_data 0x05) r.d0 cs (held_by_one r.d0 (seats_of cs) unshared)) in
     rw v.1 refl
+  where
+    -- a chip that has RAM somewhere is at D0
+    at_ram : (c : Copy) (at : ℕ) → IsTold m ret k r c → seat_has_ram c.seat at ≡ true → own_place (at_data 0x05) c.seat.kind c.flow ≡ r.d0
+    at_ram c at h ram =
+        own_at (at_data 0x05) c (h.mapped.counted at (ram_is_held c.seat at ram))
+        ∙ ram_by c.seat.kind m k r c.flow c.seat at refl h.mapped alike h.tells.chip ram

@@ -10,12 +10,12 @@ use Rattle.console_spec.specs.BusAccesses.{at_data}
 use Rattle.console_spec.specs.Services.{Fault, access_fault, or_later}
 use Rattle.console_spec.specs.Run.{Position, seats_of, gets_at, position_after, reset_fault, reset_access}
 use Rattle.memory_map.specs.MapKinds.{is_held_once}
-use Rattle.abs_step.specs.MapView.{MapView}
+use Rattle.abs_step.specs.MapView.{MapView, HoldsByCounters}
 use Rattle.abs_step.specs.Successors.{Invariant}
 use Rattle.abs_step.specs.Safety.{is_fault_free, reads_at_data}
 use Rattle.console_spec.specs.FreeRuns.{IsFreeStart, IsReached}
 use Rattle.abs_step.specs.Soundness.{IsSafeMap, IsFaultFree, IsDataRead, OnlyUndriven, GoesOn, SoundnessLaw}
-use Rattle.abs_step.proofs.Members.{from_all, all_map}
+use Rattle.abs_step.proofs.Members.{from_all, all_map, all_unmapped}
 use Rattle.abs_step.proofs.Services.{IsAt, all_at_served, DataOutcome, NoFault, NoAnswer}
 use Rattle.abs_step.proofs.SafeRows.{Lasts, fine, uninterrupted}
 use Rattle.abs_step.proofs.Standing.{opcode_told}
@@ -87,7 +87,9 @@ module _ (m : MapView) (seats : List Seat) (tracked : List ℕ) (notes : List In
       let s = at_start m seats tracked notes map_safe here h in
       let once = subst (λ (c : Flow). is_held_once (sort_of (seats_of here.copies) c.p) ≡ true) h.counters (held_there here s) in
       let served = all_at_served here.flat.state.flow here.copies reset_access refl
-      (all_map (λ (c : Copy). c.flow.p ≡ 0) (IsAt reset_access here.flat.state.flow) here.copies (λ c at. refl) h.copies) once in
+      (all_map (λ (c : Copy). HoldsByCounters c.seat) (IsAt reset_access here.flat.state.flow) here.copies
+      (λ c counted. record { same = refl; counted = counted })
+      (all_unmapped (λ (c : Copy). c.seat) HoldsByCounters here.copies s.safe.beside.view.counted)) once in
       rw served refl
 
   undriven_only : (n : ℕ) (here : Position) → IsReached m.byte seats n here → GoesOn (OnlyUndriven here.flat.state.flow.d0) here

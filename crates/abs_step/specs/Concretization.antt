@@ -3,7 +3,7 @@ use Rattle.std.specs.Prelude.{◌≡◌, ℕ, ◌/◌, ◌%◌, Bool, true, fals
 use Rattle.std.specs.List.{AllByRecursion}
 use Rattle.f8_spec.specs.Flags.{Status}
 use Rattle.f8_spec.specs.declared.chips.ChipKind.{ChipKind}
-use Rattle.f8_spec.specs.declared.chips.ChipKind.TheVariants.{Psu, Smi}
+use Rattle.f8_spec.specs.declared.chips.ChipKind.TheVariants.{Psu, Smi, Pio}
 use Rattle.console_spec.specs.Processor.{Flow, Registers}
 use Rattle.console_spec.specs.CounterCopies.{Copy}
 use Rattle.console_spec.specs.Run.{Position}
@@ -54,9 +54,11 @@ pub record SmiTells (k : KnownCounters) (r c : Flow) : Type 0 where
   pub first : Holds k.s0 (c.d0 ≡ r.d0)
   pub second : Holds k.s1 (c.d1 ≡ r.d1)
 
+-- A 3861 has none: nothing is told of the set that its copy keeps.
 abbrev pub ChipTells : ChipKind → KnownCounters → Flow → Flow → Type 0
 ChipTells Psu k r c = PsuTells k r c
 ChipTells Smi k r c = SmiTells k r c
+ChipTells Pio k r c = Unit {0}
 
 -- A chip's copy of the program counter is the flat machine's, and its copy of the stack register is where the return is set.
 pub record CopyTells (ret : Option ℕ) (k : KnownCounters) (r : Flow) (c : Copy) : Type 0 where

@@ -3,6 +3,7 @@ use Rattle.std.specs.Prelude.{ℕ, ◌/◌, ◌%◌, Bool, true, false, not, ◌
 use Rattle.std.specs.Prelude.{Option, Some, None, option_map, option_and_then}
 use Rattle.f8_spec.specs.Words.{places_on, displaced}
 use Rattle.f8_spec.specs.Instructions.{row_length}
+use Rattle.f8_spec.specs.RegisterNumbers.{register_hu, register_hl, register_ku, register_kl, register_qu, register_ql}
 use Rattle.f8_spec.specs.declared.instructions.Op.{Op}
 use Rattle.f8_spec.specs.declared.instructions.Op.TheVariants.{Bt, Br7, Bf}
 use Rattle.f8_spec.specs.declared.instructions.Row.{Row}
@@ -62,12 +63,12 @@ known_inputs op bytes at ret d0 k = record {
   counter_bytes = pair_of d0;
   stack_bytes = pair_of ret;
   accumulator = k.accumulator;
-  k_high = known_register 12 k;
-  k_low = known_register 13 k;
-  q_high = known_register 14 k;
-  q_low = known_register 15 k;
-  h_high = known_register 10 k;
-  h_low = known_register 11 k;
+  k_high = known_register register_ku k;
+  k_low = known_register register_kl k;
+  q_high = known_register register_qu k;
+  q_low = known_register register_ql k;
+  h_high = known_register register_hu k;
+  h_low = known_register register_hl k;
 }
 
 -- the byte that the instructions of a row use

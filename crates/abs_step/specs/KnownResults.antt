@@ -12,6 +12,7 @@ use Rattle.f8_spec.specs.declared.instructions.Op.TheVariants.{Am, Amd, Nm, Om, 
 use Rattle.abs_domain.specs.AbstractState.{KnownStatus, KnownRegisters}
 use Rattle.abs_step.specs.Known.{lift2, lift3}
 use Rattle.abs_step.specs.RegisterWrites.{known_register, known_field, exactly, target_of, RegisterWrite, written_all}
+use Rattle.f8_spec.specs.RegisterNumbers.{register_j, register_hu, register_ku, register_kl, register_qu, register_ql, up_field, down_field}
 
 -- ---- the status word
 
@@ -79,8 +80,8 @@ known_compared byte k = record k {
 -- The low digit of ISAR, stepped by the field 13 or 14. The high one stays.
 abbrev pub stepped_digit : ℕ → Option ℕ → Option ℕ
 stepped_digit field low =
-    if field == 13 then option_map (λ digit. (digit + 1) % 8) low else
-    if field == 14 then option_map (λ digit. (digit + 7) % 8) low else
+    if field == up_field then option_map (λ digit. (digit + 1) % 8) low else
+    if field == down_field then option_map (λ digit. (digit + 7) % 8) low else
     low
 
 abbrev pub with_digit_stepped : ℕ → KnownRegisters → KnownRegisters
@@ -88,10 +89,10 @@ with_digit_stepped field k = record k { low = stepped_digit field k.low }
 
 -- What is known after an instruction that uses one byte, but for the scratchpad.
 unfoldable pub known_effect : Op → Option ℕ → KnownRegisters → KnownRegisters
-known_effect LrAKu byte k = record k { accumulator = known_register 12 k }
-known_effect LrAKl byte k = record k { accumulator = known_register 13 k }
-known_effect LrAQu byte k = record k { accumulator = known_register 14 k }
-known_effect LrAQl byte k = record k { accumulator = known_register 15 k }
+known_effect LrAKu byte k = record k { accumulator = known_register register_ku k }
+known_effect LrAKl byte k = record k { accumulator = known_register register_kl k }
+known_effect LrAQu byte k = record k { accumulator = known_register register_qu k }
+known_effect LrAQl byte k = record k { accumulator = known_register register_ql k }
 known_effect LrAIs byte k = record k { accumulator = lift2 (λ high low. high * 8 + low) k.high k.low }
 known_effect LrIsA byte k = record k {
   high = option_map (λ a. a % 64 / 8) k.accumulator;
@@ -106,7 +107,7 @@ known_effect Com byte k = with_known_result (option_map (λ a. 255 - a) k.accumu
 known_effect Lnk byte k = with_known_sum (Some 0) k.status.carry k
 known_effect Di byte k = record k { status = record k.status { icb = Some false } }
 known_effect Ei byte k = record k { status = record k.status { icb = Some true } }
-known_effect LrWJ byte k = record k { status = known_status_of (known_register 9 k) }
+known_effect LrWJ byte k = record k { status = known_status_of (known_register register_j k) }
 known_effect Inc byte k = with_known_sum (Some 1) (Some false) k
 known_effect Li byte k = record k { accumulator = byte }
 known_effect Ni byte k = with_known_result (lift2 bit_and k.accumulator byte) k
@@ -160,9 +161,9 @@ register_writes LrKuA stack counter k = one_write 12 k.accumulator
 register_writes LrKlA stack counter k = one_write 13 k.accumulator
 register_writes LrQuA stack counter k = one_write 14 k.accumulator
 register_writes LrQlA stack counter k = one_write 15 k.accumulator
-register_writes LrKP stack counter k = pair_writes 12 stack
-register_writes LrQDc stack counter k = pair_writes 14 counter
-register_writes LrHDc stack counter k = pair_writes 10 counter
+register_writes LrKP stack counter k = pair_writes register_ku stack
+register_writes LrQDc stack counter k = pair_writes register_qu counter
+register_writes LrHDc stack counter k = pair_writes register_hu counter
 register_writes LrJW stack counter k = one_write 9 (known_status_byte k.status)
 register_writes (Ds r) stack counter k = field_write r (option_map (λ byte. sum_value byte 255 false) (known_field r k)) k
 register_writes (LrRA r) stack counter k = field_write r k.accumulator k

@@ -1,7 +1,8 @@
 -- What the checker knows of the chips: what a map tells of addresses, ports and kinds of chip, and that it is so of some chips.
 use Rattle.std.specs.Prelude.{◌≡◌, ℕ, ◌<◌, ◌*◌, nat_lt, Bool, true, false, ◌&&◌, if◌then◌else◌, List, Option, Some, None, is_some}
 use Rattle.std.specs.List.{AllByRecursion, list_any, list_all, range_with_len}
-use Rattle.f8_spec.specs.BusArbitration.{Seat, seat_has_ram}
+use Rattle.f8_spec.specs.ChipState.{has_counters}
+use Rattle.f8_spec.specs.BusArbitration.{Seat, seat_has_ram, seat_holds}
 use Rattle.f8_spec.specs.declared.chips.ChipKind.{ChipKind}
 use Rattle.f8_spec.specs.declared.chips.ChipKind.TheVariants.{Smi}
 use Rattle.console_spec.specs.FlatMemory.{sort_of, is_ram_sort, fixed_byte}
@@ -40,8 +41,12 @@ holds_every_address m = list_all (λ number. is_held (m.sort (number * 256))) (r
 abbrev pub HasOwnRam : Seat → Type 0
 HasOwnRam s = (at : ℕ) → seat_has_ram s at ≡ true → s.kind ≡ Smi
 
+-- a chip that holds an address has counters, by which it answers there
+abbrev pub HoldsByCounters : Seat → Type 0
+HoldsByCounters s = (at : ℕ) → seat_holds s at ≡ true → has_counters s.kind ≡ true
+
 -- The map is right of some chips. It tells the byte of each address that one chip alone holds and no store changes, and none that a store
--- changes. Only 3853s have RAM.
+-- changes. Only 3853s have RAM, and no chip without counters holds an address.
 pub record IsViewOf (m : MapView) (seats : List Seat) : Type 0 where
   pub sort : (at : ℕ) → at < 65536 → m.sort at ≡ sort_of seats at
   pub stays : (at byte : ℕ) → at < 65536 → m.byte at ≡ Some byte → is_ram_sort (sort_of seats at) ≡ false
@@ -53,6 +58,7 @@ pub record IsViewOf (m : MapView) (seats : List Seat) : Type 0 where
   pub overlaps : (at : ℕ) → at < 65536 → sort_of seats at ≡ Shared → m.overlaps ≡ true
   pub wired : m.wired ≡ list_any (λ s. s.wired) seats
   pub ram : AllByRecursion HasOwnRam seats
+  pub counted : AllByRecursion HoldsByCounters seats
 
 -- the view of a map
 abbrev pub view_of : MapTable → MapView

@@ -4,6 +4,7 @@ use Rattle.std.specs.Prelude.{slice_index_or, Option, Some, None, is_some, optio
 use Rattle.abs_domain.specs.Lattice.{common, same_number}
 use Rattle.abs_domain.specs.AbstractState.{KnownRegisters}
 use Rattle.abs_step.specs.Known.{lift2}
+use Rattle.f8_spec.specs.RegisterNumbers.{pointed_field}
 
 -- ---- registers
 
@@ -20,7 +21,7 @@ exactly number = record { high = Some (number / 8); low = Some (number % 8) }
 
 -- the register that a field names: from 12 on the one that ISAR points to
 abbrev pub target_of : ℕ → KnownRegisters → Target
-target_of field k = if nat_lt field 12 then exactly field else record { high = k.high; low = k.low }
+target_of field k = if nat_lt field pointed_field then exactly field else record { high = k.high; low = k.low }
 
 -- the number of a register whose digits are both known
 abbrev pub number_of : Target → Option ℕ

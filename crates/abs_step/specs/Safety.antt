@@ -5,6 +5,7 @@ use Rattle.std.specs.Prelude.{Option, Some, None, is_none, option_and_then}
 use Rattle.std.specs.List.{list_any}
 use Rattle.f8_spec.specs.Words.{places_on}
 use Rattle.f8_spec.specs.Instructions.{decoded, row_of, row_length, is_shielding}
+use Rattle.f8_spec.specs.RegisterNumbers.{register_ku, register_kl, register_qu, register_ql}
 use Rattle.f8_spec.specs.declared.chips.ChipKind.TheVariants.{Psu, Smi}
 use Rattle.f8_spec.specs.declared.instructions.Op.{Op}
 use Rattle.f8_spec.specs.declared.instructions.Row.{Row}
@@ -39,13 +40,13 @@ operand_reasons length m at =
 
 -- a call or a jump by a pair of registers of which a byte isn't known
 abbrev pub jump_is_lost : Row → KnownRegisters → Bool
-jump_is_lost CallK k = is_none (known_word (known_register 12 k) (known_register 13 k))
-jump_is_lost JumpQ k = is_none (known_word (known_register 14 k) (known_register 15 k))
+jump_is_lost CallK k = is_none (known_word (known_register register_ku k) (known_register register_kl k))
+jump_is_lost JumpQ k = is_none (known_word (known_register register_qu k) (known_register register_ql k))
 jump_is_lost row k = false
 
 -- a return that is loaded with an unknown byte
 abbrev pub return_is_lost : Row → KnownRegisters → Bool
-return_is_lost StackFromK k = is_none (known_word (known_register 12 k) (known_register 13 k))
+return_is_lost StackFromK k = is_none (known_word (known_register register_ku k) (known_register register_kl k))
 return_is_lost row k = false
 
 -- a return at which the copies may differ

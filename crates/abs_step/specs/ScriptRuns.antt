@@ -2,6 +2,8 @@
 use Rattle.std.specs.Prelude.{◌≡◌, ℕ, ◌<◌, ◌⊎◌, Bool, List, map, Option, Some}
 use Rattle.std.specs.List.{AllByRecursion}
 use Rattle.f8_spec.specs.ChipState.{ChipView}
+use Rattle.f8_spec.specs.Powers.{ArePowers}
+use Rattle.f8_spec.specs.declared.chips.PowerOn.{PowerOn}
 use Rattle.f8_spec.specs.BusArbitration.{seat_of}
 use Rattle.console_spec.specs.FlatMemory.{fixed_byte}
 use Rattle.console_spec.specs.Services.{Fault}
@@ -27,10 +29,10 @@ EndsBy claim e = (e.stop ≡ Done) ⊎ ((fault : Fault) × (e.stop ≡ Unserved 
 
 pub record ScriptRunLaw : Type 0 where
   -- where the map is safe, nothing stops a run but a read at D0 that no chip answers
-  pub sound : (m : MapView) (tracked : List ℕ) (notes : List Invariant) (vs : List ChipView) (chain : List ℕ) (traced : Bool) (script : Script) →
-      IsSafeMap m (map seat_of vs) tracked notes → IsScriptFor m.byte vs script →
-      EndsBy (λ here fault. OnlyUndriven here.flat.state.flow.d0 fault) (played_by vs chain traced script).ending
+  pub sound : (m : MapView) (tracked : List ℕ) (notes : List Invariant) (vs : List ChipView) (chain : List ℕ) (powers : List PowerOn) (traced : Bool)
+      (script : Script) → IsSafeMap m (map seat_of vs) tracked notes → ArePowers powers → IsScriptFor m.byte vs script →
+      EndsBy (λ here fault. OnlyUndriven here.flat.state.flow.d0 fault) (played_by vs chain powers traced script).ending
   -- where it is free of faults too, nothing does
-  pub fault_free : (m : MapView) (tracked : List ℕ) (notes : List Invariant) (vs : List ChipView) (chain : List ℕ) (traced : Bool) (script : Script) →
-      IsSafeMap m (map seat_of vs) tracked notes → IsFaultFree m notes → IsScriptFor m.byte vs script →
-      (played_by vs chain traced script).ending.stop ≡ Done
+  pub fault_free : (m : MapView) (tracked : List ℕ) (notes : List Invariant) (vs : List ChipView) (chain : List ℕ) (powers : List PowerOn) (traced : Bool)
+      (script : Script) → IsSafeMap m (map seat_of vs) tracked notes → IsFaultFree m notes → ArePowers powers → IsScriptFor m.byte vs script →
+      (played_by vs chain powers traced script).ending.stop ≡ Done

@@ -7,17 +7,10 @@ use super::counters::Counters;
 use super::pairs::Pair;
 use super::status::{Status, known_not};
 use super::writes::{Target, Write, Writes};
-use abs_domain::{Abs, Digit, Val, Word};
+use abs_domain::{Abs, Digit, SCRATCHPAD_SIZE, Val, Word};
 use f8_ops::Op;
-use f8_ops::registers::{H, J, K, Q};
+use f8_ops::registers::{H, J, K, POINTED, Q, STEPPED_DOWN, STEPPED_UP};
 use std::marker::Model;
-
-/// The field from which on a field names the register that ISAR points to, and the fields that also step ISAR up and down.
-const POINTED: u8 = 12;
-
-const STEPPED_UP: u8 = 13;
-
-const STEPPED_DOWN: u8 = 14;
 
 /// What is known of the registers of the processor, with ISAR as two octal digits.
 #[derive(Drop)]
@@ -26,7 +19,7 @@ pub struct Registers {
     high: Option<u8>,
     low: Option<u8>,
     status: Status,
-    scratchpad: [Val; 64],
+    scratchpad: [Val; SCRATCHPAD_SIZE],
 }
 
 impl Model for Registers {

@@ -23,7 +23,7 @@ use super::registers::Registers;
 use super::succs::Succs;
 use super::tracked::tracked_bytes;
 use super::writes::Writes;
-use abs_domain::{Abs, Bit, Digit, MOST_TRACKED, Point, Val, Word};
+use abs_domain::{Abs, Bit, Digit, MOST_TRACKED, Point, SCRATCHPAD_SIZE, Val, Word};
 use cartridge::Split;
 use f8_ops::{Op, decode, row_of};
 use memory_map::Map;
@@ -55,7 +55,7 @@ const RESERVED: u8 = 3;
 /// What is known as reset ends: the status word is clear, and both data counters are 0.
 const START: Abs = Abs {
     a: Val::Any,
-    regs: [Val::Any; 64],
+    regs: [Val::Any; SCRATCHPAD_SIZE],
     hi: Digit::Any,
     lo: Digit::Any,
     w: [Bit::Known(false); 5],

@@ -9,7 +9,7 @@ ghost use Rattle.abs_step.specs.WorkView.{target_view, write_view};
 
 use super::pairs::Pair;
 use super::scratchpad::scratchpad_after;
-use abs_domain::Val;
+use abs_domain::{SCRATCHPAD_SIZE, Val};
 
 /// A register by its two octal digits, each known or not.
 #[derive(Clone, Copy)]
@@ -147,7 +147,7 @@ impl Writes {
     }
 
     /// The scratchpad after the writes.
-    pub fn scratchpad_after(self, scratchpad: &[Val; 64]) -> [Val; 64]
+    pub fn scratchpad_after(self, scratchpad: &[Val; SCRATCHPAD_SIZE]) -> [Val; SCRATCHPAD_SIZE]
         ensures { map known_byte result
             ≡ written_all (writes_view self) (map known_byte scratchpad.now) }
     {

@@ -1,20 +1,30 @@
 -- An index stands for a rack that is just powered on, and goes on doing so when a chip takes a pulse.
-use Rattle.std.proofs.Common.{◌≡◌, ℕ, zero, suc, ◌+◌, ◌<◌, Bool, true, false, List, [], ◌∷◌, length, get_or, map, refl, sym, ap, subst, arith}
+use Rattle.std.proofs.Common.{◌≡◌, ℕ, zero, suc, ◌+◌, ◌<◌, Bool, true, false, List, [], ◌∷◌, length, get_or, map, refl, sym, ap, subst, ◌∙◌, arith}
 use Rattle.std.specs.Prelude.{if◌then◌else◌, Option, Some, None}
 use Rattle.std.proofs.Math.ListN.{set, get_or-map}
 use Rattle.std.proofs.lemmas.List.{map-set, length-map}
-use Rattle.f8_spec.specs.BusCodes.{Count}
+use Rattle.f8_spec.specs.BusCodes.{Count, count_at}
 use Rattle.f8_spec.specs.BusArbitration.{Seat, seat_of}
-use Rattle.f8_spec.specs.ChipState.{ChipView, ChipState, TakesPulse, admits_pulses, has_second_counter}
+use Rattle.f8_spec.specs.ChipState.{ChipView, ChipState, PowersOn, TakesPulse, admits_pulses, has_counters, has_second_counter}
 use Rattle.probe.specs.ProbeState.{ProbeState}
 use Rattle.data_bus.specs.declared.index.Index.{Index}
 use Rattle.data_bus.specs.declared.marks.Marks.{Marks}
-use Rattle.data_bus.specs.KnownAgreement.{AllAddresses, AllAgree, AreAddresses, ChipAgrees, CountAgrees, HalvesAgree, no_halves, no_marks}
+use Rattle.data_bus.specs.KnownAgreement.{AllAddresses, AllAgree, AreAddresses, ChipAgrees, CountAgrees, HalvesAgree, IsCounted, no_halves, no_marks}
 use Rattle.data_bus.specs.PageIndex.{IsIndexOf, StandsFor, seats}
 use Rattle.data_bus.specs.Racks.{NumberedZip, views}
 use Rattle.bus_rows.specs.Indexed.{Fits, HasAddresses}
 
 -- ---- after power-on
+
+pub powered_counted : (start : ℕ) (old new : ChipState) → start < 65536 → PowersOn 0 start old new → IsCounted new.view
+powered_counted start old new small powers = record {
+  addresses = subst (λ (v : ChipView). AreAddresses v.counters) (sym powers.view) (by (has_counters old.view.kind));
+  of_its_kind = powers.of_its_kind;
+}
+  where
+    by : (b : Bool) → AreAddresses (if b then count_at start else count_at 0)
+    by true = record { pc0 = small; pc1 = small; dc0 = small; dc1 = small }
+    by false = record { pc0 = omega arith; pc1 = omega arith; dc0 = omega arith; dc1 = omega arith }
 
 addresses_of : (n : ℕ) (olds news : List ChipState) → NumberedZip HasAddresses n olds news → AllAddresses (views news)
 addresses_of n [] [] all = tt
@@ -60,6 +70,15 @@ same_if false v = record { seat = refl; counters = refl }
 same_pulsed : (old new : ChipState) → TakesPulse old new → Same old.view new.view
 same_pulsed old new takes = subst (λ v. Same old.view v) (sym takes.view) (same_if (admits_pulses old.view.control) old.view)
 
+counted_same : (old new : ChipView) → Same old new → IsCounted old → IsCounted new
+counted_same old new same counted =
+    let pages = ap (λ (s : Seat). s.pages) same.seat in
+    let kind = ap (λ (s : Seat). s.kind) same.seat in
+    record {
+      addresses = subst (λ (c : Count). AreAddresses c) (sym same.counters) counted.addresses;
+      of_its_kind = record { pages = λ none. pages ∙ counted.of_its_kind.pages (sym (ap has_counters kind) ∙ none) };
+    }
+
 agrees_same : (marks : Marks) (reference : Count) (old new : ChipView) → Same old new → ChipAgrees marks reference old → ChipAgrees marks reference new
 agrees_same marks reference old new same agrees page =
     let pages = ap (λ (s : Seat). s.pages) same.seat in
@@ -82,7 +101,7 @@ agree_set marks reference (s ∷ states) (suc i) d new within same all = (all.0,
 addresses_set : (states : List ChipState) (i : ℕ) (d new : ChipState) → i < length states → Same (get_or states i d).view new.view →
     AllAddresses (views states) → AllAddresses (views (set states i new))
 addresses_set [] i d new within same all = absurd (omega arith)
-addresses_set (s ∷ states) zero d new within same all = (subst (λ (c : Count). AreAddresses c) (sym same.counters) all.0, all.1)
+addresses_set (s ∷ states) zero d new within same all = (counted_same s.view new.view same all.0, all.1)
 addresses_set (s ∷ states) (suc i) d new within same all = (all.0, addresses_set states i d new (omega arith) same all.1)
 
 stands_set : (index : Index) (probe : ProbeState) (states : List ChipState) (i : ℕ) (d new : ChipState) → i < length states →

@@ -2,7 +2,7 @@
 use Rattle.std.specs.Prelude.{ℕ, Option, Some, None, List}
 use Rattle.f8_spec.specs.ChipState.{ChipState}
 use Rattle.probe.specs.ProbeState.{ProbeState}
-use Rattle.data_bus.specs.KnownAgreement.{AreAddresses}
+use Rattle.data_bus.specs.KnownAgreement.{IsCounted}
 use Rattle.data_bus.specs.PageIndex.{StandsFor}
 use Rattle.data_bus.specs.declared.index.Index.{Index}
 
@@ -11,6 +11,6 @@ abbrev pub Fits : Option Index → ProbeState → List ChipState → Type 0
 Fits None probe states = Unit {0}
 Fits (Some index) probe states = StandsFor index probe states
 
--- a chip's counters are addresses from now on
+-- a chip's counters are addresses from now on, and it holds no page where it has none
 abbrev pub HasAddresses : ℕ → ChipState → ChipState → Type 0
-HasAddresses socket old new = AreAddresses new.view.counters
+HasAddresses socket old new = IsCounted new.view

@@ -6,7 +6,7 @@ use Rattle.std.proofs.lemmas.List.{length_push, length-set, map_push, map-id}
 use Rattle.std.proofs.lemmas.List.Elements.{All-nil, All-cons, All-head, All-tail}
 use Rattle.chip_face.specs.Fitting.{IsSpec, IsChipList, is_blank, rom_of}
 use Rattle.chip_face.specs.declared.specification.ChipSpec.{ChipSpec}
-use Rattle.chip_face.specs.declared.specification.ChipSpec.TheVariants.{Blank, Psu, Smi}
+use Rattle.chip_face.specs.declared.specification.ChipSpec.TheVariants.{Blank, Psu, Smi, Pio}
 use Rattle.cartridge.specs.declared.chip_table.ChipPlan.{ChipPlan}
 use Rattle.cartridge.specs.declared.rom_source.SourceRom.{SourceRom}
 use Rattle.cartridge.specs.ChipTables.{DescribedSource}
@@ -181,19 +181,15 @@ still_plan bytes specs roms i old new same within at is plan = (
 with_rom-spec : (rom : List ℕ) (spec : ChipSpec) → length rom ≡ length (rom_of spec) → IsSpec spec → IsSpec (with_rom rom spec)
 with_rom-spec rom (Blank kind) same is = tt
 with_rom-spec rom (Psu base old ports vector wired) same is =
-    record {
-      bytes = same ∙ is.bytes;
-      boundary = is.boundary;
-      above_cpu = is.above_cpu;
-      below_end = is.below_end;
-      ports_boundary = is.ports_boundary;
-    }
+    record { bytes = same ∙ is.bytes; boundary = is.boundary; four_ports = is.four_ports }
 with_rom-spec rom (Smi pages old wired) same is = record { ascending = is.ascending; bytes = same ∙ is.bytes }
+with_rom-spec rom (Pio ports vector wired) same is = is
 
 with_rom-blank : (rom : List ℕ) (spec : ChipSpec) → is_blank (with_rom rom spec) ≡ is_blank spec
 with_rom-blank rom (Blank kind) = refl
 with_rom-blank rom (Psu base old ports vector wired) = refl
 with_rom-blank rom (Smi pages old wired) = refl
+with_rom-blank rom (Pio ports vector wired) = refl
 
 from-spec : (source : Option PlannedSource) (spec : ChipSpec) → HasRom spec source → IsSpec spec → IsSpec (spec_from source spec)
 from-spec None spec has is = is

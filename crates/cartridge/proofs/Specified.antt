@@ -24,7 +24,7 @@ use Rattle.cartridge.specs.declared.refusal.CartCause.{CartCause}
 use Rattle.cartridge.specs.declared.refusal.CartCause.TheVariants.{Range, Boundary, BadHex, Both}
 use Rattle.cartridge.specs.declared.refusal.KeyFault.{KeyFault}
 use Rattle.cartridge.specs.Faults.{◌>>=◌, at_key}
-use Rattle.cartridge.specs.Keys.{value_at, known, chip_keys}
+use Rattle.cartridge.specs.Keys.{value_at, known, psu_keys, smi_keys}
 use Rattle.cartridge.specs.Pages.{lies_within, lie_apart, run_apart, run_at, pages_of}
 use Rattle.cartridge.specs.Values.{required_value, optional, value_needed, usually, value_of_type, text, within, number_in, multiple_of}
 use Rattle.cartridge.specs.Values.{multiple_in, kind_in, filled, fitting, rom_in, is_file_name, source_named, source_in}
@@ -161,7 +161,11 @@ psu-whole : (base ports vector : ℕ) (wired : Bool) (rom : List ℕ) (source : 
     → IsPlannedChip (planned_chip (record { spec = Psu base rom ports vector wired; source = named_source (psu_room base) source }))
 psu-whole base ports vector wired rom source space first size =
     record {
-      specified = record { bytes = size; boundary = space.even; above_cpu = first.above; below_end = first.below; ports_boundary = first.even };
+      specified = record {
+        bytes = size;
+        boundary = space.even;
+        four_ports = record { above_cpu = first.above; below_end = first.below; boundary = first.even };
+      };
       no_blank = refl;
       has_rom = without_image-rom (Psu base rom ports vector wired) (psu_room base) 1024 source size (λ name at_name. omega arith);
     }
@@ -234,11 +238,13 @@ smi_of-whole table chip h =
 -- ---- either
 
 either-whole : (k : ChipKind) (table : Members) (chip : DescribedChip) → chip_of_kind k table ≡ Ok chip → IsPlannedChip (planned_chip chip)
-either-whole kind.Psu table chip h = psu_of-whole table chip h
-either-whole kind.Smi table chip h = smi_of-whole table chip h
+either-whole kind.Psu table chip h =
+    bind-ok (IsPlannedChip (planned_chip chip)) (known psu_keys table) _ chip h (λ _ knows h. psu_of-whole table chip h)
+either-whole kind.Smi table chip h =
+    bind-ok (IsPlannedChip (planned_chip chip)) (known smi_keys table) _ chip h (λ _ knows h. smi_of-whole table chip h)
+either-whole kind.Pio table chip h = cc
 
 pub chip_of-whole : (table : Members) (chip : DescribedChip) → chip_of table ≡ Ok chip → IsPlannedChip (planned_chip chip)
 unfolding chip_of
 chip_of-whole table chip h =
-    bind-ok (IsPlannedChip (planned_chip chip)) (value_needed Kind kind_in table) _ chip h (λ k at_kind h.
-    bind-ok (IsPlannedChip (planned_chip chip)) (known (chip_keys k) table) _ chip h (λ _ knows h. either-whole k table chip h))
+    bind-ok (IsPlannedChip (planned_chip chip)) (value_needed Kind kind_in table) _ chip h (λ k at_kind h. either-whole k table chip h)

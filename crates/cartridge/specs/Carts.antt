@@ -2,7 +2,7 @@
 use Rattle.std.specs.Prelude.{ℕ, Bool, false, not, List, map, position, Option, Some, None, Result, Ok, Err}
 use Rattle.std.specs.Option.{option_map_or}
 use Rattle.chip_face.specs.declared.specification.ChipSpec.{ChipSpec}
-use Rattle.chip_face.specs.declared.specification.ChipSpec.TheVariants.{Blank, Psu, Smi}
+use Rattle.chip_face.specs.declared.specification.ChipSpec.TheVariants.{Blank, Psu, Smi, Pio}
 use Rattle.cartridge.specs.declared.finish.Cart.{Cart}
 use Rattle.cartridge.specs.declared.finish.Unfilled.{Unfilled}
 use Rattle.cartridge.specs.Filling.{PlannedSource, PlannedChip, Planned}
@@ -12,6 +12,7 @@ abbrev pub with_rom : List ℕ → ChipSpec → ChipSpec
 with_rom rom (Blank kind) = Blank kind
 with_rom rom (Psu base old ports vector wired) = Psu base rom ports vector wired
 with_rom rom (Smi pages old wired) = Smi pages rom wired
+with_rom rom (Pio ports vector wired) = Pio ports vector wired
 
 -- a chip with the bytes of its source, where it has one
 abbrev pub spec_from : Option PlannedSource → ChipSpec → ChipSpec

@@ -10,10 +10,10 @@ use Rattle.chip_face.specs.declared.specification.ChipSpec.{ChipSpec}
 use Rattle.chip_face.specs.declared.specification.ChipSpec.TheVariants.{Psu, Smi}
 use Rattle.cartridge.specs.declared.keys.Key.TheVariants.{Kind, Base, Ports, Vector, RomPage, RomPages, RamPage}
 use Rattle.cartridge.specs.declared.keys.Key.TheVariants.{RamPages, VoidPage, VoidPages, Interrupt, Rom, Source}
-use Rattle.cartridge.specs.declared.refusal.CartCause.TheVariants.{Missing}
+use Rattle.cartridge.specs.declared.refusal.CartCause.TheVariants.{Missing, Range}
 use Rattle.cartridge.specs.declared.refusal.KeyFault.{KeyFault}
 use Rattle.cartridge.specs.Faults.{◌>>=◌}
-use Rattle.cartridge.specs.Keys.{chip_keys, known, value_at}
+use Rattle.cartridge.specs.Keys.{known, psu_keys, smi_keys, value_at}
 use Rattle.cartridge.specs.Pages.{run_at, pages_of}
 use Rattle.cartridge.specs.Rooms.{psu_room, run_room}
 use Rattle.cartridge.specs.Values.{value_needed, usually, number_in, multiple_in, truth, kind_in, rom_in, source_in, filled}
@@ -72,12 +72,13 @@ smi_of table =
     source_of (256 * rom.count) table >>= λ source.
     Ok (record { spec = Smi (pages_of (rom ∷ ram ∷ void ∷ [])) bytes wired; source = named_source (run_room rom) source })
 
+-- No description has a 3861.
 abbrev pub chip_of_kind : ChipKind → Members → Result DescribedChip KeyFault
-chip_of_kind kind.Psu table = psu_of table
-chip_of_kind kind.Smi table = smi_of table
+chip_of_kind kind.Psu table = known psu_keys table >>= λ _. psu_of table
+chip_of_kind kind.Smi table = known smi_keys table >>= λ _. smi_of table
+chip_of_kind kind.Pio table = Err (record { key = Kind; cause = Range })
 
 unfoldable pub chip_of : Members → Result DescribedChip KeyFault
 chip_of table =
     value_needed Kind kind_in table >>= λ kind.
-    known (chip_keys kind) table >>= λ _.
     chip_of_kind kind table

@@ -2,8 +2,6 @@
 use Rattle.std.specs.Prelude.{ℕ, Bool, true, ◌&&◌, if◌then◌else◌, List, [], ◌∷◌, codes, bytes_eq, Option, Result, Ok, Err}
 use Rattle.std.specs.List.{list_any}
 use Rattle.toml.specs.Data.{Data, Members, no_members, member, get_member}
-use Rattle.f8_spec.specs.declared.chips.ChipKind.{ChipKind}
-use Rattle.f8_spec.specs.declared.chips.ChipKind.TheVariants.{Psu, Smi}
 use Rattle.cartridge.specs.declared.keys.Key.{Key}
 use Rattle.cartridge.specs.declared.keys.Key.TheVariants.{Format, Split, Chip, Kind, Base, Ports, Vector, RomPage}
 use Rattle.cartridge.specs.declared.keys.Key.TheVariants.{RomPages, RamPage, RamPages, VoidPage, VoidPages, Interrupt}
@@ -34,13 +32,15 @@ key_word Other = codes "?"
 abbrev pub top_keys : List Key
 top_keys = Format ∷ Split ∷ Chip ∷ []
 
--- the keys that the chips of one kind alone have
-abbrev pub own_keys : ChipKind → List Key
-own_keys Psu = Base ∷ Ports ∷ Vector ∷ []
-own_keys Smi = RomPage ∷ RomPages ∷ RamPage ∷ RamPages ∷ VoidPage ∷ VoidPages ∷ []
+-- the keys of a chip: those that each kind has, and then those that it alone has
+abbrev pub chip_keys : List Key → List Key
+chip_keys own = Kind ∷ Interrupt ∷ Rom ∷ Source ∷ own
 
-abbrev pub chip_keys : ChipKind → List Key
-chip_keys kind = Kind ∷ Interrupt ∷ Rom ∷ Source ∷ own_keys kind
+abbrev pub psu_keys : List Key
+psu_keys = chip_keys (Base ∷ Ports ∷ Vector ∷ [])
+
+abbrev pub smi_keys : List Key
+smi_keys = chip_keys (RomPage ∷ RomPages ∷ RamPage ∷ RamPages ∷ VoidPage ∷ VoidPages ∷ [])
 
 -- the name is the spelling of one of the keys
 abbrev pub is_spelled : List Key → List ℕ → Bool

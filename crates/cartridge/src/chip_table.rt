@@ -10,7 +10,7 @@ use super::content::{mask_at, rom_at, source_at};
 use super::keys::Key;
 use super::known::known;
 use super::page_run::{pages_of, run_at};
-use super::refusal::TableStop;
+use super::refusal::{CartCause, KeyFault, TableStop};
 use super::rom_source::ChipSource;
 use super::values::{kind_at, multiple_at, number_at, truth_at};
 use chip_face::{ChipKind, ChipSpec, PAGE_SIZE, PSU_ROM_SIZE, PageSort};
@@ -118,7 +118,7 @@ const SMI_KEYS: [Key; 10] = [
     Key::VoidPages,
 ];
 
-/// The chip of a table.
+/// The chip of a table. No description has a 3861.
 #[tactic(auto, unfolding(crate::specs::ChipTables::chip_of))]
 pub fn chip_of(alloc: Global, table: &Table) -> Result<ChipPlan, TableStop>
     ensures { SaysSeen seen_chip result (chip_told (table_view table.now)) }
@@ -132,5 +132,9 @@ pub fn chip_of(alloc: Global, table: &Table) -> Result<ChipPlan, TableStop>
             known(&SMI_KEYS, table)?;
             smi_of(alloc, table)
         }
+        ChipKind::Pio => Err(TableStop::Fault(KeyFault {
+            key: Key::Kind,
+            cause: CartCause::Range,
+        })),
     }
 }

@@ -27,7 +27,7 @@ fn set_rom(spec: &mut ChipSpec, bytes: Vec<u8>)
     ensures { spec.new ≡ with_rom bytes.items spec.old }
 {
     match spec {
-        ChipSpec::Blank(_) => {}
+        ChipSpec::Blank(_) | ChipSpec::Pio { .. } => {}
         ChipSpec::Psu { rom, .. } => *rom = Bytes::from_vec(bytes),
         ChipSpec::Smi { rom, .. } => *rom = Bytes::from_vec(bytes),
     }

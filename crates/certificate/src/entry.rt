@@ -13,10 +13,7 @@ use super::parts::{
     address_at, behind, bit_at, bytes_at, known_address_at, known_bit_at, known_byte_at,
     known_octal_at,
 };
-use abs_domain::{Abs, Bit, Digit, MOST_TRACKED, Point, Val, Word};
-
-/// The registers of the scratchpad.
-const REGISTERS: usize = 64;
+use abs_domain::{Abs, Bit, Digit, MOST_TRACKED, Point, SCRATCHPAD_SIZE, Val, Word};
 
 /// What a state says of the data counters.
 #[derive(Clone, Copy)]
@@ -122,22 +119,22 @@ fn counters_at(text: &[u8]) -> Option<(Counters, &[u8])>
 }
 
 /// Registers by their bytes.
-fn registers_of(bytes: &[Option<u8>; REGISTERS]) -> [Val; REGISTERS]
+fn registers_of(bytes: &[Option<u8>; SCRATCHPAD_SIZE]) -> [Val; SCRATCHPAD_SIZE]
     ensures { map known_byte result ≡ bytes.now }
 {
-    let mut registers = [Val::Any; REGISTERS];
-    for number in 0..REGISTERS {
+    let mut registers = [Val::Any; SCRATCHPAD_SIZE];
+    for number in 0..SCRATCHPAD_SIZE {
         registers[number] = Val::from(bytes[number]);
     }
     registers
 }
 
 /// The scratchpad.
-fn scratchpad_at(text: &[u8]) -> Option<([Val; REGISTERS], &[u8])>
+fn scratchpad_at(text: &[u8]) -> Option<([Val; SCRATCHPAD_SIZE], &[u8])>
     ensures { Gives (λ x. (map known_byte x.0, x.1.now)) result
         (spelled_bytes (codes "") 64 text.now) }
 {
-    let mut bytes = [None; REGISTERS];
+    let mut bytes = [None; SCRATCHPAD_SIZE];
     let rest = bytes_at(b"", &mut bytes, text)?;
     Some((registers_of(&bytes), rest))
 }

@@ -12,7 +12,7 @@ ghost use Rattle.certificate.specs.CertificateText.{header_text, line_text, entr
 ghost use Rattle.certificate.specs.CertificateLaws.{HaveSplit, AreKnownBytes, IsInRange, AllInRange};
 
 use super::ranges::{byte_law, entry_law};
-use abs_domain::{Abs, Bit, Digit, Point, Val, Word};
+use abs_domain::{Abs, Bit, Digit, Point, SCRATCHPAD_SIZE, Val, Word};
 use abs_step::Annotation;
 use cartridge::Split;
 use f8_asm::Text;
@@ -110,7 +110,7 @@ fn put_values(out: &mut Vec<u8>, values: &[Option<u8>]) -> Result<(), AllocError
 }
 
 /// Writes the bytes of the scratchpad.
-fn put_scratchpad(out: &mut Vec<u8>, registers: &[Val; 64]) -> Result<(), AllocError>
+fn put_scratchpad(out: &mut Vec<u8>, registers: &[Val; SCRATCHPAD_SIZE]) -> Result<(), AllocError>
     ensures text { OnOk result (out.new.items
         ≡ out.old.items ++ bytes_text (codes "") (map known_byte registers.now)) }
     ensures bytes { OnOk result (AreKnownBytes (map known_byte registers.now)) }

@@ -1,7 +1,8 @@
 -- What a verdict promises of a game on a rack that has a place for it.
-use Rattle.std.proofs.Common.{◌≡◌, ℕ, Bool, true, false, ◌⊎◌, inl, inr, List, length, refl, ap, ◌∙◌}
+use Rattle.std.proofs.Common.{◌≡◌, ℕ, Bool, true, false, ◌⊎◌, inl, inr, List, [], length, refl, ap, ◌∙◌}
 use Rattle.std.specs.Prelude.{nat_lt, if◌then◌else◌, Option, Some, None, option_map}
 use Rattle.f8_spec.specs.ChipState.{ChipState}
+use Rattle.f8_spec.specs.Powers.{ArePowers}
 use Rattle.console_spec.specs.Run.{Done}
 use Rattle.chip_face.specs.declared.sizes.TheConstants.{MOST_CHIPS}
 use Rattle.abs_step.specs.CartridgeAnalysis.{TellsBytes}
@@ -33,6 +34,9 @@ has_sockets : (game : Game) (rack : List ChipState) → refusal game.cart.chips 
 unfolding refusal
 has_sockets game rack e = no_shortage (nat_lt MOST_CHIPS (length rack)) (rack_line (length rack)) (shortage_of game.cart.chips (kinds_of rack)) e
 
+none_said : ArePowers []
+none_said place p e = cc
+
 module _ (law : SafeRunLaw) (said : ℕ) (manner : Manner) (game : Game) (rack : List ChipState) (script : HasScriptBytes game.script)
     (bytes : TellsBytes (chips_view game.cart.chips)) where
   as_described : refusal game.cart.chips rack ≡ None → HasNoPatches game.cart.chips rack → IsAsDescribed game.cart.chips rack game.script
@@ -45,7 +49,8 @@ module _ (law : SafeRunLaw) (said : ℕ) (manner : Manner) (game : Game) (rack :
 
   is_done : IsAsDescribed game.cart.chips rack game.script → IsFaultFreeCart game.cart → (game_run manner game rack).ending.stop ≡ Done
   is_done described whole =
-      law.done game.cart.chips game.cart.split rack (game_chain game rack) (is_traced (detail_of manner)) game.script described whole
+      law.done game.cart.chips game.cart.split rack (game_chain game rack) [] (is_traced (detail_of manner)) game.script described none_said
+      whole
 
   status_by : (game_run manner game rack).ending.stop ≡ Done →
       (said ≡ status_of (game_run manner game rack).ending.stop) ⊎ (said ≡ 5) → (said ≡ 0) ⊎ (said ≡ 5)
@@ -59,6 +64,6 @@ module _ (law : SafeRunLaw) (said : ℕ) (manner : Manner) (game : Game) (rack :
         done = is_done described;
         status = λ whole. status_by (is_done described whole) which;
         agreed = λ safe.
-            law.undriven game.cart.chips game.cart.split rack (game_chain game rack) (is_traced (detail_of manner)) game.script
-            described safe;
+            law.undriven game.cart.chips game.cart.split rack (game_chain game rack) [] (is_traced (detail_of manner)) game.script
+            described none_said safe;
       }

@@ -4,9 +4,10 @@ use Rattle.std.specs.Prelude.{Option, None, filter_map}
 use Rattle.std.specs.List.{AllByRecursion}
 use Rattle.std.proofs.lemmas.Bool.{lt-ltb}
 use Rattle.f8_spec.specs.ChipState.{ChipView, ChipState, held_byte}
+use Rattle.f8_spec.specs.Powers.{ArePowers}
 use Rattle.f8_spec.specs.BusArbitration.{seat_of}
 use Rattle.f8_spec.specs.declared.chips.ChipKind.{ChipKind}
-use Rattle.f8_spec.specs.declared.chips.ChipKind.TheVariants.{Psu as PsuKind, Smi as SmiKind}
+use Rattle.f8_spec.specs.declared.chips.PowerOn.{PowerOn}
 use Rattle.console_spec.specs.FlatMemory.{sort_of, fixed_byte, fixed_byte_by, only_of}
 use Rattle.console_spec.specs.Run.{Done}
 use Rattle.console_spec.specs.Scripts.{Script}
@@ -15,7 +16,7 @@ use Rattle.console_spec.specs.declared.Sort.{Sort}
 use Rattle.chip_face.specs.Fitting.{fitted}
 use Rattle.chip_face.specs.declared.specification.ChipSpec.{ChipSpec}
 use Rattle.memory_map.specs.MapOf.{MapTable, IsMapOf, IsWholeMap, views_of, seats_of}
-use Rattle.rack_run.specs.Seating.{kinds_of, seat_at, seated_from, fitted_as, fitted_views}
+use Rattle.rack_run.specs.Seating.{kinds_of, seat_at, no_sockets, counted, seated_from, fitted_as, fitted_views}
 use Rattle.rack_run.specs.Sockets.{shortage_of}
 use Rattle.abs_step.specs.CartridgeAnalysis.{TellsBytes, analysis, as_invariant, AnalysisLaw}
 use Rattle.abs_step.specs.MapView.{MapView, IsViewOf, chips_view, MapViewLaw}
@@ -30,20 +31,17 @@ use Rattle.channel_f.proofs.SeatedChips.{both_same, chips_sit, seated_law}
 -- ---- the premises
 
 -- where no chip has a patch, none shows
-unpatched : (states : List ChipState) (chips : List ChipSpec) (psus smis : ℕ) → AllByRecursion (λ (s : ChipState). s.patch ≡ None) states →
-    fitted_as states (seated_from chips psus smis (kinds_of states)) ≡ views_of (seated_from chips psus smis (kinds_of states))
-unpatched [] chips psus smis none = refl
-unpatched (s ∷ states) chips psus smis none = by s.view.kind (λ p q. unpatched states chips p q none.1)
-  where
-    by : (kind : ChipKind) → ((p q : ℕ) →
-        fitted_as states (seated_from chips p q (kinds_of states)) ≡ views_of (seated_from chips p q (kinds_of states))) →
-        fitted_as (s ∷ states) (seated_from chips psus smis (kind ∷ kinds_of states)) ≡ views_of (seated_from chips psus smis (kind ∷ kinds_of states))
-    by PsuKind later = both_same (ap (λ (o : Option (ℕ × ℕ)). fitted o (seat_at chips PsuKind psus)) none.0) (later (psus + 1) smis)
-    by SmiKind later = both_same (ap (λ (o : Option (ℕ × ℕ)). fitted o (seat_at chips SmiKind smis)) none.0) (later psus (smis + 1))
+unpatched : (states : List ChipState) (chips : List ChipSpec) (before : ChipKind → ℕ) →
+    AllByRecursion (λ (s : ChipState). s.patch ≡ None) states →
+    fitted_as states (seated_from chips before (kinds_of states)) ≡ views_of (seated_from chips before (kinds_of states))
+unpatched [] chips before none = refl
+unpatched (s ∷ states) chips before none =
+    both_same (ap (λ (o : Option (ℕ × ℕ)). fitted o (seat_at chips s.view.kind (before s.view.kind))) none.0)
+    (unpatched states chips (counted s.view.kind before) none.1)
 
 pub no_patches : (chips : List ChipSpec) (states : List ChipState) → AllByRecursion (λ (s : ChipState). s.patch ≡ None) states →
     HasNoPatches chips states
-no_patches chips states none = unpatched states chips 0 0 none
+no_patches chips states none = unpatched states chips no_sockets none
 
 -- a map of the chips that was made shows that their bytes are bytes
 pub bytes_told : MapViewLaw → AnalysisLaw → (m : MapTable) (chips : List ChipSpec) → IsMapOf m chips → IsWholeMap m → TellsBytes (chips_view chips)
@@ -99,21 +97,21 @@ module _ (runs : ScriptRunLaw) (analyses : AnalysisLaw) (maps : MapViewLaw) (sea
       analyses.sound (chips_view chips) (map seat_of (fitted_views chips states)) tracked some.0 (view_is maps seats chips states h.enough)
       some.1.is_map.ascends some.1.closed some.1.safe
 
-  is_done : (chips : List ChipSpec) (tracked : List ℕ) (states : List ChipState) (chain : List ℕ) (traced : Bool) (script : Script) →
-      IsAsDescribed chips states script → SomeIsFaultFree (analysis (chips_view chips) tracked) →
-      (played_by (fitted_views chips states) chain traced script).ending.stop ≡ Done
-  is_done chips tracked states chain traced script h some =
-      runs.fault_free (chips_view chips) tracked (map as_invariant some.0) (fitted_views chips states) chain traced script
+  is_done : (chips : List ChipSpec) (tracked : List ℕ) (states : List ChipState) (chain : List ℕ) (powers : List PowerOn)
+      (traced : Bool) (script : Script) → IsAsDescribed chips states script → ArePowers powers → SomeIsFaultFree (analysis (chips_view chips) tracked) →
+      (played_by (fitted_views chips states) chain powers traced script).ending.stop ≡ Done
+  is_done chips tracked states chain powers traced script h are some =
+      runs.fault_free (chips_view chips) tracked (map as_invariant some.0) (fitted_views chips states) chain powers traced script
       (safe_map chips tracked states script h (some.0, some.1))
       (analyses.fault_free (chips_view chips) tracked some.0 some.1.is_map.ascends some.2)
-      (script_for chips states script h)
+      are (script_for chips states script h)
 
-  ends_undriven : (chips : List ChipSpec) (tracked : List ℕ) (states : List ChipState) (chain : List ℕ) (traced : Bool) (script : Script) →
-      IsAsDescribed chips states script → SomeIsSafe (analysis (chips_view chips) tracked) →
-      EndsBy (λ here fault. OnlyUndriven here.flat.state.flow.d0 fault) (played_by (fitted_views chips states) chain traced script).ending
-  ends_undriven chips tracked states chain traced script h some =
-      runs.sound (chips_view chips) tracked (map as_invariant some.0) (fitted_views chips states) chain traced script
-      (safe_map chips tracked states script h some) (script_for chips states script h)
+  ends_undriven : (chips : List ChipSpec) (tracked : List ℕ) (states : List ChipState) (chain : List ℕ) (powers : List PowerOn)
+      (traced : Bool) (script : Script) → IsAsDescribed chips states script → ArePowers powers → SomeIsSafe (analysis (chips_view chips) tracked) →
+      EndsBy (λ here fault. OnlyUndriven here.flat.state.flow.d0 fault) (played_by (fitted_views chips states) chain powers traced script).ending
+  ends_undriven chips tracked states chain powers traced script h are some =
+      runs.sound (chips_view chips) tracked (map as_invariant some.0) (fitted_views chips states) chain powers traced script
+      (safe_map chips tracked states script h some) are (script_for chips states script h)
 
   pub safe_runs : SafeRunLaw
   safe_runs = record { done = is_done; undriven = ends_undriven }

@@ -1,21 +1,19 @@
 -- The chips of a description sit in the sockets of a rack that has enough of each kind: no chip is left, and no other is there.
-use Rattle.std.proofs.Common.{◌≡◌, ℕ, zero, suc, ◌+◌, ◌≤◌, Bool, true, false, cond, List, [], ◌∷◌, ◌++◌, length, map, refl, ap, sym, subst, ◌∙◌, arith}
-use Rattle.std.specs.Prelude.{Option, Some, None, drop, filter, slice_get, nat_lt, if◌then◌else◌}
-use Rattle.std.proofs.lemmas.Bool.{ltb-false}
+use Rattle.std.proofs.Common.{◌≡◌, ℕ, zero, suc, ◌+◌, ◌≤◌, Bool, true, false, List, [], ◌∷◌, ◌++◌, length, map, refl, ap, sym, subst, ◌∙◌, arith}
+use Rattle.std.specs.Prelude.{Option, Some, None, drop, filter, slice_get, if◌then◌else◌}
 use Rattle.std.proofs.lemmas.List.Sums.{length-filter}
-use Rattle.f8_spec.specs.ChipState.{ChipState}
+use Rattle.f8_spec.specs.ChipState.{ChipState, same_kind}
 use Rattle.f8_spec.specs.BusArbitration.{Seat, seat_of}
 use Rattle.f8_spec.specs.declared.chips.ChipKind.{ChipKind}
-use Rattle.f8_spec.specs.declared.chips.ChipKind.TheVariants.{Psu as PsuKind, Smi as SmiKind}
 use Rattle.chip_face.specs.Fitting.{fitted, kind_of}
 use Rattle.chip_face.specs.declared.specification.ChipSpec.{ChipSpec}
-use Rattle.chip_face.specs.declared.specification.ChipSpec.TheVariants.{Blank, Psu, Smi}
+use Rattle.chip_face.specs.declared.specification.ChipSpec.TheVariants.{Blank, Psu, Smi, Pio}
 use Rattle.memory_map.specs.MapOf.{seats_of}
 use Rattle.abs_step.specs.RackSeats.{IsBlank, AreSeated, none_left as no_socket, blank, chip}
-use Rattle.rack_run.specs.Seating.{is_kind, of_kind, seat_at, seated_from, kinds_of, fitted_as, fitted_views}
-use Rattle.rack_run.specs.Seating.{before_of, psus_after, smis_after}
-use Rattle.rack_run.specs.Sockets.{shortage_of, shortage_in, short_by, or_else, sockets_of, needed_of}
-use Rattle.rack_run.specs.declared.sockets.Shortage.{Shortage}
+use Rattle.rack_run.specs.Seating.{of_kind, seat_at, no_sockets, counted, seated_from, kinds_of, fitted_as, fitted_views}
+use Rattle.rack_run.specs.Sockets.{shortage_of}
+use Rattle.rack_run.proofs.Chains.{enough_of}
+use Rattle.rack_run.proofs.CountedKinds.{itself, is_same, count_own, count_other}
 
 -- ---- chips in sockets
 
@@ -56,18 +54,6 @@ none_of (x ∷ xs) (suc place) left =
     let one : suc place + 1 ≡ suc (place + 1) = omega arith in
     record { here = later.here; left = rw one later.left }
 
--- ---- kinds
-
-itself : (kind : ChipKind) → is_kind kind kind ≡ true
-itself PsuKind = refl
-itself SmiKind = refl
-
-same_kind : (first second : ChipKind) → is_kind first second ≡ true → first ≡ second
-same_kind PsuKind PsuKind e = refl
-same_kind PsuKind SmiKind e = absurd (cc)
-same_kind SmiKind PsuKind e = absurd (cc)
-same_kind SmiKind SmiKind e = refl
-
 -- ---- the first chip of a kind, taken out
 
 pub record Taken (kind : ChipKind) (rest : List ChipSpec) (c : ChipSpec) (later : List ChipSpec) : Type 0 where
@@ -75,11 +61,11 @@ pub record Taken (kind : ChipKind) (rest : List ChipSpec) (c : ChipSpec) (later 
   pub after : List ChipSpec
   pub whole : rest ≡ before ++ c ∷ after
   pub this : of_kind kind (before ++ after) ≡ later
-  pub other : (k : ChipKind) → is_kind k kind ≡ false → of_kind k (before ++ after) ≡ of_kind k rest
+  pub other : (k : ChipKind) → same_kind k kind ≡ false → of_kind k (before ++ after) ≡ of_kind k rest
 
 -- a chip put before chips of which as many are of a kind
 put_before : (k : ChipKind) (r : ChipSpec) (cs ds : List ChipSpec) → of_kind k cs ≡ of_kind k ds → of_kind k (r ∷ cs) ≡ of_kind k (r ∷ ds)
-put_before k r cs ds same = by (is_kind k (kind_of r))
+put_before k r cs ds same = by (same_kind k (kind_of r))
   where
     by : (b : Bool) → (if b then r ∷ of_kind k cs else of_kind k cs) ≡ (if b then r ∷ of_kind k ds else of_kind k ds)
     by true = ap (λ (es : List ChipSpec). r ∷ es) same
@@ -87,9 +73,9 @@ put_before k r cs ds same = by (is_kind k (kind_of r))
 
 taken_out : (kind : ChipKind) (rest : List ChipSpec) (c : ChipSpec) (later : List ChipSpec) → of_kind kind rest ≡ c ∷ later → Taken kind rest c later
 taken_out kind [] c later e = absurd (cc)
-taken_out kind (r ∷ rest) c later e = by (is_kind kind (kind_of r)) refl e (taken_out kind rest c later)
+taken_out kind (r ∷ rest) c later e = by (same_kind kind (kind_of r)) refl e (taken_out kind rest c later)
   where
-    by : (b : Bool) → is_kind kind (kind_of r) ≡ b → (if b then r ∷ of_kind kind rest else of_kind kind rest) ≡ c ∷ later →
+    by : (b : Bool) → same_kind kind (kind_of r) ≡ b → (if b then r ∷ of_kind kind rest else of_kind kind rest) ≡ c ∷ later →
         (of_kind kind rest ≡ c ∷ later → Taken kind rest c later) → Taken kind (r ∷ rest) c later
     by true is e further =
         let first : r ≡ c = cc in
@@ -100,8 +86,8 @@ taken_out kind (r ∷ rest) c later e = by (is_kind kind (kind_of r)) refl e (ta
           whole = ap (λ (d : ChipSpec). d ∷ rest) first;
           this = left;
           other = λ k differs.
-              let kinds : kind ≡ kind_of r = same_kind kind (kind_of r) is in
-              let none : is_kind k (kind_of r) ≡ false = subst (λ (d : ChipKind). is_kind k d ≡ false) kinds differs in
+              let kinds : kind ≡ kind_of r = sym (is_same kind (kind_of r) is) in
+              let none : same_kind k (kind_of r) ≡ false = subst (λ (d : ChipKind). same_kind k d ≡ false) kinds differs in
               rw none refl;
         }
     by false is e further =
@@ -117,74 +103,62 @@ taken_out kind (r ∷ rest) c later e = by (is_kind kind (kind_of r)) refl e (ta
 -- ---- all sockets
 
 abbrev sockets_in : ChipKind → List ChipKind → ℕ
-sockets_in kind kinds = length (filter (is_kind kind) kinds)
+sockets_in kind kinds = length (filter (same_kind kind) kinds)
 
 -- what is left of the chips, behind so many sockets of each kind, and that there are sockets for them
-pub record Left (chips rest : List ChipSpec) (psus smis : ℕ) (kinds : List ChipKind) : Type 0 where
-  pub same : (k : ChipKind) → drop (before_of k psus smis) (of_kind k chips) ≡ of_kind k rest
+pub record Left (chips rest : List ChipSpec) (before : ChipKind → ℕ) (kinds : List ChipKind) : Type 0 where
+  pub same : (k : ChipKind) → drop (before k) (of_kind k chips) ≡ of_kind k rest
   pub enough : (k : ChipKind) → length (of_kind k rest) ≤ sockets_in k kinds
 
 none_at_end : (rest : List ChipSpec) → ((k : ChipKind) → length (of_kind k rest) ≤ 0) → rest ≡ []
 none_at_end [] few = refl
-none_at_end (Blank PsuKind ∷ rest) few = let no = few PsuKind in absurd (omega (arith, no))
-none_at_end (Blank SmiKind ∷ rest) few = let no = few SmiKind in absurd (omega (arith, no))
-none_at_end (Psu base rom ports vector wired ∷ rest) few = let no = few PsuKind in absurd (omega (arith, no))
-none_at_end (Smi pages rom wired ∷ rest) few = let no = few SmiKind in absurd (omega (arith, no))
-
--- the sockets before, after one more
-before_this : (kind : ChipKind) (psus smis : ℕ) → before_of kind (psus_after kind psus) (smis_after kind smis) ≡ before_of kind psus smis + 1
-before_this PsuKind psus smis = refl
-before_this SmiKind psus smis = refl
-
-before_other : (k kind : ChipKind) (psus smis : ℕ) → is_kind k kind ≡ false →
-    before_of k (psus_after kind psus) (smis_after kind smis) ≡ before_of k psus smis
-before_other PsuKind PsuKind psus smis differs = absurd (cc)
-before_other PsuKind SmiKind psus smis differs = refl
-before_other SmiKind PsuKind psus smis differs = refl
-before_other SmiKind SmiKind psus smis differs = absurd (cc)
+none_at_end (r ∷ rest) few =
+    let own : of_kind (kind_of r) (r ∷ rest) ≡ r ∷ of_kind (kind_of r) rest = rw (itself (kind_of r)) refl in
+    let no = few (kind_of r) in
+    absurd (omega (arith, no, ap length own))
 
 sockets_this : (kind : ChipKind) (kinds : List ChipKind) → sockets_in kind (kind ∷ kinds) ≡ sockets_in kind kinds + 1
 sockets_this kind kinds = rw (itself kind) (omega arith)
 
-sockets_other : (k kind : ChipKind) (kinds : List ChipKind) → is_kind k kind ≡ false → sockets_in k (kind ∷ kinds) ≡ sockets_in k kinds
+sockets_other : (k kind : ChipKind) (kinds : List ChipKind) → same_kind k kind ≡ false → sockets_in k (kind ∷ kinds) ≡ sockets_in k kinds
 sockets_other k kind kinds differs = rw differs (omega arith)
 
--- what is left behind a socket of a kind, by what is left of that kind and of the other
-left_after : (kind : ChipKind) (chips rest more : List ChipSpec) (psus smis : ℕ) (kinds : List ChipKind) → Left chips rest psus smis (kind ∷ kinds) →
-    drop (before_of kind psus smis + 1) (of_kind kind chips) ≡ of_kind kind more → length (of_kind kind more) ≤ sockets_in kind kinds →
-    ((k : ChipKind) → is_kind k kind ≡ false → of_kind k more ≡ of_kind k rest) →
-    Left chips more (psus_after kind psus) (smis_after kind smis) kinds
-left_after kind chips rest more psus smis kinds left this few other = record {
-  same = λ k. same_by k (is_kind k kind) refl;
-  enough = λ k. enough_by k (is_kind k kind) refl;
+-- what is left behind a socket of a kind, by what is left of that kind and of the others
+left_after : (kind : ChipKind) (chips rest more : List ChipSpec) (before : ChipKind → ℕ) (kinds : List ChipKind) →
+    Left chips rest before (kind ∷ kinds) →
+    drop (before kind + 1) (of_kind kind chips) ≡ of_kind kind more → length (of_kind kind more) ≤ sockets_in kind kinds →
+    ((k : ChipKind) → same_kind k kind ≡ false → of_kind k more ≡ of_kind k rest) →
+    Left chips more (counted kind before) kinds
+left_after kind chips rest more before kinds left this few other = record {
+  same = λ k. same_by k (same_kind k kind) refl;
+  enough = λ k. enough_by k (same_kind k kind) refl;
 }
   where
-    same_by : (k : ChipKind) (b : Bool) → is_kind k kind ≡ b →
-        drop (before_of k (psus_after kind psus) (smis_after kind smis)) (of_kind k chips) ≡ of_kind k more
-    same_by k true is = subst (λ (d : ChipKind). drop (before_of d (psus_after kind psus) (smis_after kind smis)) (of_kind d chips) ≡ of_kind d more)
-        (sym (same_kind k kind is)) (rw (before_this kind psus smis) this)
-    same_by k false is = rw (before_other k kind psus smis is) (left.same k ∙ sym (other k is))
+    same_by : (k : ChipKind) (b : Bool) → same_kind k kind ≡ b → drop (counted kind before k) (of_kind k chips) ≡ of_kind k more
+    same_by k true is = subst (λ (d : ChipKind). drop (counted kind before d) (of_kind d chips) ≡ of_kind d more)
+        (is_same k kind is) (rw (count_own kind before) this)
+    same_by k false is = rw (count_other kind k before is) (left.same k ∙ sym (other k is))
 
-    enough_by : (k : ChipKind) (b : Bool) → is_kind k kind ≡ b → length (of_kind k more) ≤ sockets_in k kinds
-    enough_by k true is = subst (λ (d : ChipKind). length (of_kind d more) ≤ sockets_in d kinds) (sym (same_kind k kind is)) few
+    enough_by : (k : ChipKind) (b : Bool) → same_kind k kind ≡ b → length (of_kind k more) ≤ sockets_in k kinds
+    enough_by k true is = subst (λ (d : ChipKind). length (of_kind d more) ≤ sockets_in d kinds) (is_same k kind is) few
     enough_by k false is =
         subst (λ (n : ℕ). length (of_kind k more) ≤ n) (sockets_other k kind kinds is)
         (subst (λ (cs : List ChipSpec). length cs ≤ sockets_in k (kind ∷ kinds)) (sym (other k is)) (left.enough k))
 
 -- a socket of a kind, where all that may be left behind it sits in the others
-one_socket : (kind : ChipKind) (chips rest : List ChipSpec) (psus smis : ℕ) (kinds : List ChipKind) (sockets : List ChipSpec) →
-    Left chips rest psus smis (kind ∷ kinds) →
-    ((more : List ChipSpec) → Left chips more (psus_after kind psus) (smis_after kind smis) kinds → SitIn more sockets) →
-    SitIn rest (seat_at chips kind (before_of kind psus smis) ∷ sockets)
-one_socket kind chips rest psus smis kinds sockets left later = by (of_kind kind rest) refl
+one_socket : (kind : ChipKind) (chips rest : List ChipSpec) (before : ChipKind → ℕ) (kinds : List ChipKind) (sockets : List ChipSpec) →
+    Left chips rest before (kind ∷ kinds) →
+    ((more : List ChipSpec) → Left chips more (counted kind before) kinds → SitIn more sockets) →
+    SitIn rest (seat_at chips kind (before kind) ∷ sockets)
+one_socket kind chips rest before kinds sockets left later = by (of_kind kind rest) refl
   where
-    by : (cs : List ChipSpec) → of_kind kind rest ≡ cs → SitIn rest (seat_at chips kind (before_of kind psus smis) ∷ sockets)
+    by : (cs : List ChipSpec) → of_kind kind rest ≡ cs → SitIn rest (seat_at chips kind (before kind) ∷ sockets)
     by [] e =
-        let none = none_of (of_kind kind chips) (before_of kind psus smis) (left.same kind ∙ e) in
+        let none = none_of (of_kind kind chips) (before kind) (left.same kind ∙ e) in
         let few : length (of_kind kind rest) ≤ sockets_in kind kinds = rw e (omega arith) in
-        rw none.here (empty kind (later rest (left_after kind chips rest rest psus smis kinds left (none.left ∙ sym e) few (λ k differs. refl))))
+        rw none.here (empty kind (later rest (left_after kind chips rest rest before kinds left (none.left ∙ sym e) few (λ k differs. refl))))
     by (c ∷ cs) e =
-        let next = next_of (of_kind kind chips) (before_of kind psus smis) c cs (left.same kind ∙ e) in
+        let next = next_of (of_kind kind chips) (before kind) c cs (left.same kind ∙ e) in
         let t = taken_out kind rest c cs e in
         let more : List ChipSpec = t.before ++ t.after in
         let enough : length (c ∷ cs) ≤ sockets_in kind kinds + 1 =
@@ -192,48 +166,20 @@ one_socket kind chips rest psus smis kinds sockets left later = by (of_kind kind
         (subst (λ (ds : List ChipSpec). length ds ≤ sockets_in kind (kind ∷ kinds)) e (left.enough kind)) in
         let few : length (of_kind kind more) ≤ sockets_in kind kinds =
         subst (λ (ds : List ChipSpec). length ds ≤ sockets_in kind kinds) (sym t.this) (omega (arith, enough)) in
-        let after = later more (left_after kind chips rest more psus smis kinds left (next.left ∙ sym t.this) few t.other) in
+        let after = later more (left_after kind chips rest more before kinds left (next.left ∙ sym t.this) few t.other) in
         rw next.here (subst (λ (ds : List ChipSpec). SitIn ds (c ∷ sockets)) (sym t.whole) (taken t.before t.after c after))
 
-all_sockets : (kinds : List ChipKind) (chips rest : List ChipSpec) (psus smis : ℕ) → Left chips rest psus smis kinds →
-    SitIn rest (seated_from chips psus smis kinds)
-all_sockets [] chips rest psus smis left = subst (λ (cs : List ChipSpec). SitIn cs []) (sym (none_at_end rest left.enough)) none_left
-all_sockets (PsuKind ∷ kinds) chips rest psus smis left = one_socket PsuKind chips rest psus smis kinds _ left
-    (λ more further. all_sockets kinds chips more (psus + 1) smis further)
-all_sockets (SmiKind ∷ kinds) chips rest psus smis left = one_socket SmiKind chips rest psus smis kinds _ left
-    (λ more further. all_sockets kinds chips more psus (smis + 1) further)
+all_sockets : (kinds : List ChipKind) (chips rest : List ChipSpec) (before : ChipKind → ℕ) → Left chips rest before kinds →
+    SitIn rest (seated_from chips before kinds)
+all_sockets [] chips rest before left = subst (λ (cs : List ChipSpec). SitIn cs []) (sym (none_at_end rest left.enough)) none_left
+all_sockets (kind ∷ kinds) chips rest before left = one_socket kind chips rest before kinds _ left
+    (λ more further. all_sockets kinds chips more (counted kind before) further)
 
--- ---- no kind is short
-
-none_first : (o p : Option Shortage) → or_else o p ≡ None → o ≡ None
-none_first None p none = refl
-none_first (Some shortage) p none = none
-
-none_second : (o p : Option Shortage) → or_else o p ≡ None → p ≡ None
-none_second None p none = none
-none_second (Some shortage) p none = absurd (cc)
-
-enough_of : (kind : ChipKind) (need have : ℕ) → short_by kind need have ≡ None → need ≤ have
-enough_of kind need have none = by (nat_lt have need) refl none
-  where
-    by : (b : Bool) → nat_lt have need ≡ b →
-        cond {A = Option Shortage} b (Some (record { kind = kind; need = need; have = have })) None ≡ None → need ≤ have
-    by true short none = absurd (cc)
-    by false short none = ltb-false have need short
-
-all_enough : (chips : List ChipSpec) (kinds : List ChipKind) → shortage_of chips kinds ≡ None → (k : ChipKind) → needed_of k chips ≤ sockets_of k kinds
-all_enough chips kinds none PsuKind = enough_of PsuKind _ _ (none_first (shortage_in PsuKind chips kinds) (shortage_in SmiKind chips kinds) none)
-all_enough chips kinds none SmiKind = enough_of SmiKind _ _ (none_second (shortage_in PsuKind chips kinds) (shortage_in SmiKind chips kinds) none)
-
-pub chips_sit : (chips : List ChipSpec) (kinds : List ChipKind) → shortage_of chips kinds ≡ None → SitIn chips (seated_from chips 0 0 kinds)
-chips_sit chips kinds none = all_sockets kinds chips chips 0 0 (record {
-  same = λ k. start k;
-  enough = λ k. rw (length-filter (λ c. is_kind k (kind_of c)) chips, length-filter (is_kind k) kinds) (all_enough chips kinds none k);
+pub chips_sit : (chips : List ChipSpec) (kinds : List ChipKind) → shortage_of chips kinds ≡ None → SitIn chips (seated_from chips no_sockets kinds)
+chips_sit chips kinds none = all_sockets kinds chips chips no_sockets (record {
+  same = λ k. refl;
+  enough = λ k. rw (length-filter (λ c. same_kind k (kind_of c)) chips, length-filter (same_kind k) kinds) (enough_of chips kinds none k);
 })
-  where
-    start : (k : ChipKind) → drop (before_of k 0 0) (of_kind k chips) ≡ of_kind k chips
-    start PsuKind = refl
-    start SmiKind = refl
 
 -- ---- their seats
 
@@ -244,6 +190,7 @@ same_seat : (patch : Option (ℕ × ℕ)) (spec : ChipSpec) → seat_of (fitted 
 same_seat patch (Blank kind) = refl
 same_seat patch (Psu base rom ports vector wired) = refl
 same_seat patch (Smi pages rom wired) = refl
+same_seat patch (Pio ports vector wired) = refl
 
 seats_append : (before after : List ChipSpec) → seats_of (before ++ after) ≡ seats_of before ++ seats_of after
 seats_append [] after = refl
@@ -261,19 +208,15 @@ pub both_same : {A : Type 0} {x y : A} {xs ys : List A} → x ≡ y → xs ≡ y
 both_same here later = λ i. here i ∷ later i
 
 -- a patch makes no difference to the seats
-no_patch_seats : (states : List ChipState) (chips : List ChipSpec) (psus smis : ℕ) →
-    map seat_of (fitted_as states (seated_from chips psus smis (kinds_of states))) ≡ seats_of (seated_from chips psus smis (kinds_of states))
-no_patch_seats [] chips psus smis = refl
-no_patch_seats (s ∷ states) chips psus smis = by s.view.kind (λ p q. no_patch_seats states chips p q)
-  where
-    by : (kind : ChipKind) → ((p q : ℕ) →
-        map seat_of (fitted_as states (seated_from chips p q (kinds_of states))) ≡ seats_of (seated_from chips p q (kinds_of states))) →
-        map seat_of (fitted_as (s ∷ states) (seated_from chips psus smis (kind ∷ kinds_of states)))
-        ≡ seats_of (seated_from chips psus smis (kind ∷ kinds_of states))
-    by PsuKind later = both_same (same_seat s.patch (seat_at chips PsuKind psus)) (later (psus + 1) smis)
-    by SmiKind later = both_same (same_seat s.patch (seat_at chips SmiKind smis)) (later psus (smis + 1))
+no_patch_seats : (states : List ChipState) (chips : List ChipSpec) (before : ChipKind → ℕ) →
+    map seat_of (fitted_as states (seated_from chips before (kinds_of states))) ≡ seats_of (seated_from chips before (kinds_of states))
+no_patch_seats [] chips before = refl
+no_patch_seats (s ∷ states) chips before =
+    both_same (same_seat s.patch (seat_at chips s.view.kind (before s.view.kind)))
+    (no_patch_seats states chips (counted s.view.kind before))
 
 pub seated_law : (chips : List ChipSpec) (states : List ChipState) → shortage_of chips (kinds_of states) ≡ None →
     AreSeated (seats_of chips) (map seat_of (fitted_views chips states))
 seated_law chips states none =
-    subst (λ (ss : List Seat). AreSeated (seats_of chips) ss) (sym (no_patch_seats states chips 0 0)) (seats_sit (chips_sit chips (kinds_of states) none))
+    subst (λ (ss : List Seat). AreSeated (seats_of chips) ss) (sym (no_patch_seats states chips no_sockets))
+    (seats_sit (chips_sit chips (kinds_of states) none))

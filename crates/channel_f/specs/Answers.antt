@@ -153,7 +153,7 @@ verify_answer claim = found_answer claim.cart.split (length claim.notes) (examin
 
 -- the same chips on the flat instruction set alone
 abbrev pub ref_run : Game → Telling
-ref_run game = referred_by (views_of game.cart.chips) game.script
+ref_run game = referred_by (views_of game.cart.chips) [] game.script
 
 abbrev pub ref_answer : Game → Answer
 ref_answer game = record { status = status_of (ref_run game).ending.stop; lines = flat_telling_lines (ref_run game) }

@@ -27,7 +27,7 @@ detail_of (Summary seed) = Nothing
 
 -- a run of a script on chips that are fitted, with the chain of those described
 abbrev pub run_by : Manner → Script → List ℕ → List ChipView → Telling
-run_by manner script chain vs = played_by vs chain (is_traced (detail_of manner)) script
+run_by manner script chain vs = played_by vs chain [] (is_traced (detail_of manner)) script
 
 -- the same on the chips of a rack that is fitted
 abbrev pub run_fitted : Manner → Game → List ℕ → List ChipState → Telling

@@ -1,6 +1,6 @@
 -- What becomes of the rack in a call: fitting, and then power-on and the moments of the run, one after another, and nothing else. And how
 -- many questions have been put to its chips, before the call and after it, which is this project's own.
-use Rattle.std.specs.Prelude.{◌≡◌, ◌≢◌, ℕ, ◌⊎◌, List, ◌++◌, Option, Some, None, Result, Ok, Err}
+use Rattle.std.specs.Prelude.{◌≡◌, ◌≢◌, ℕ, ◌⊎◌, List, [], ◌++◌, Option, Some, None, Result, Ok, Err}
 use Rattle.f8_spec.specs.ChipState.{ChipState}
 use Rattle.console_spec.specs.RunText.{text_of}
 use Rattle.console_spec.specs.Telling.{Telling, told_in}
@@ -26,7 +26,7 @@ use Rattle.channel_f.specs.declared.manner.Manner.{Manner}
 -- and nothing else. They were asked no more than 512 questions each, and the allowances of the bus steps that were tried.
 pub record RanOn (power : ℕ) (chain : List ℕ) (run : Telling) (fitted news : List ChipState) (before after : ℕ) : Type 0 where
   pub powered : List ChipState
-  pub powers : RackPowers power fitted powered
+  pub powers : RackPowers power chain [] fitted powered
   pub lived : Lives chain run.moments powered news
   pub asks : AsksWithin (run_allowed fitted) before after (tried_codes run)
 
@@ -41,7 +41,7 @@ pub record FailedBefore (old new : Output) (manner : Manner) (word : VerdictWord
 pub record FailedDuring (old new : Output) (manner : Manner) (word : VerdictWord) (power : ℕ) (chain : List ℕ) (run : Telling)
     (fitted news : List ChipState) (before after : ℕ) : Type 0 where
   pub powered : List ChipState
-  pub powers : RackPowers power fitted powered
+  pub powers : RackPowers power chain [] fitted powered
   pub between : Output
   pub opening : Adds old between (text_of (opening_lines manner word))
   pub cut : CutShort (detail_of manner) chain run.moments powered news between new

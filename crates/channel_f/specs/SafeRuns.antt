@@ -1,6 +1,8 @@
 -- Runs of a script on a rack in which the chips of a description sit, where the checker's verdict on these chips is whole, or agreed.
 use Rattle.std.specs.Prelude.{◌≡◌, ℕ, ◌<◌, Bool, List, map, None}
 use Rattle.f8_spec.specs.ChipState.{ChipState}
+use Rattle.f8_spec.specs.Powers.{ArePowers}
+use Rattle.f8_spec.specs.declared.chips.PowerOn.{PowerOn}
 use Rattle.console_spec.specs.Run.{Done}
 use Rattle.console_spec.specs.Scripts.{Script}
 use Rattle.console_spec.specs.Telling.{played_by}
@@ -34,10 +36,12 @@ pub record IsAsDescribed (chips : List ChipSpec) (states : List ChipState) (scri
 
 pub record SafeRunLaw : Type 0 where
   -- where the chips have an invariant map that is closed, safe and free of faults, a run is done: nothing stops it
-  pub done : (chips : List ChipSpec) (tracked : List ℕ) (states : List ChipState) (chain : List ℕ) (traced : Bool) (script : Script) →
-      IsAsDescribed chips states script → SomeIsFaultFree (analysis (chips_view chips) tracked) →
-      (played_by (fitted_views chips states) chain traced script).ending.stop ≡ Done
+  pub done : (chips : List ChipSpec) (tracked : List ℕ) (states : List ChipState) (chain : List ℕ) (powers : List PowerOn) (traced : Bool)
+      (script : Script) →
+      IsAsDescribed chips states script → ArePowers powers → SomeIsFaultFree (analysis (chips_view chips) tracked) →
+      (played_by (fitted_views chips states) chain powers traced script).ending.stop ≡ Done
   -- where they have one that is closed and safe, nothing stops it but a read at D0 that no chip answers
-  pub undriven : (chips : List ChipSpec) (tracked : List ℕ) (states : List ChipState) (chain : List ℕ) (traced : Bool) (script : Script) →
-      IsAsDescribed chips states script → SomeIsSafe (analysis (chips_view chips) tracked) →
-      EndsBy (λ here fault. OnlyUndriven here.flat.state.flow.d0 fault) (played_by (fitted_views chips states) chain traced script).ending
+  pub undriven : (chips : List ChipSpec) (tracked : List ℕ) (states : List ChipState) (chain : List ℕ) (powers : List PowerOn) (traced : Bool)
+      (script : Script) →
+      IsAsDescribed chips states script → ArePowers powers → SomeIsSafe (analysis (chips_view chips) tracked) →
+      EndsBy (λ here fault. OnlyUndriven here.flat.state.flow.d0 fault) (played_by (fitted_views chips states) chain powers traced script).ending

@@ -9,8 +9,7 @@ use Rattle.f8_spec.specs.ChipState.{bytes_with_at, data_port, effect, has_fixed_
 use Rattle.f8_spec.specs.ChipState.{place_of, port_role, port_written, port_written_if, powered, pulsed, role_at, stored}
 use Rattle.f8_spec.specs.ChipState.{timer_passed}
 use Rattle.f8_spec.specs.declared.chips.ChipKind.{ChipKind}
-use Rattle.f8_spec.specs.declared.chips.ChipKind.TheVariants.{Psu, Smi}
-use Rattle.console_spec.specs.CounterCopies.{power_start}
+use Rattle.f8_spec.specs.declared.chips.ChipKind.TheVariants.{Psu, Smi, Pio}
 use Rattle.f8_machine.proofs.FirstViews.{length-filled_bytes, seat_of-powered}
 use Rattle.f8_machine.proofs.Slots.{length-bytes_with}
 use Rattle.f8_machine.specs.HeardSteps.{HaveBytes}
@@ -59,6 +58,12 @@ role_fits Smi offset = by (offset == 2) (offset == 3) (offset == 0)
     by false true high = tt
     by false false true = refl
     by false false false = refl
+role_fits Pio offset = by (offset == 2) (offset == 3)
+  where
+    by : (control timer : Bool) → FitsRole Pio (if control then ControlPort else if timer then TimerPort else DataPort offset)
+    by true timer = tt
+    by false true = tt
+    by false false = tt
 
 written_keeps : (role : PortRole) (byte : ℕ) (v : ChipView) → FitsRole v.kind role → Keeps v (port_written role byte v)
 written_keeps (DataPort place) byte v fits =
@@ -142,15 +147,15 @@ pub runs_keeps : (steps : List Heard) → HaveBytes steps → (socket : ℕ) (ol
 runs_keeps steps bytes socket old new ran =
     keeps_as old.view new.view (after_steps socket steps old.view) ran.view (steps_keep socket steps old.view bytes)
 
-pub powers_keeps : (fill : ℕ) → fill < 256 → (socket : ℕ) (old new : ChipState) → PowersInSocket fill socket old new →
-    Keeps old.view new.view
-powers_keeps fill small socket old new powers =
+pub powers_keeps : (fill start : ℕ → ℕ) → ((socket : ℕ) → fill socket < 256) → (socket : ℕ) (old new : ChipState) →
+    PowersInSocket fill start socket old new → Keeps old.view new.view
+powers_keeps fill start small socket old new powers =
     let v : ChipView = old.view in
-    keeps_as v new.view (powered fill (power_start fill socket) v) powers.view (record {
-      seat = seat_of-powered fill (power_start fill socket) v;
+    keeps_as v new.view (powered (fill socket) (start socket) v) powers.view (record {
+      seat = seat_of-powered (fill socket) (start socket) v;
       whole = λ whole. record {
-        filled = length-filled_bytes fill v.pages v.bytes whole.filled;
-        bytes = filled_are_bytes fill v.pages v.bytes small whole.bytes;
+        filled = length-filled_bytes (fill socket) v.pages v.bytes whole.filled;
+        bytes = filled_are_bytes (fill socket) v.pages v.bytes (small socket) whole.bytes;
       };
     })
 

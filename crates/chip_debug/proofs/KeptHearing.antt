@@ -35,11 +35,12 @@ pulses_heard chosen steps socket old new pulses had = by (chosen == socket) puls
 
 -- ---- a rack
 
-pub powers_heard : (fill n : ℕ) (olds news : List ChipState) → NumberedZip (PowersInSocket fill) n olds news → HaveHeard [] n news
-powers_heard fill n [] [] all = tt
-powers_heard fill n [] (y ∷ ys) all = absurd all
-powers_heard fill n (x ∷ xs) [] all = absurd all
-powers_heard fill n (x ∷ xs) (y ∷ ys) all = (all.0.heard, powers_heard fill (n + 1) xs ys all.1)
+pub powers_heard : (fill start : ℕ → ℕ) (n : ℕ) (olds news : List ChipState) → NumberedZip (PowersInSocket fill start) n olds news →
+    HaveHeard [] n news
+powers_heard fill start n [] [] all = tt
+powers_heard fill start n [] (y ∷ ys) all = absurd all
+powers_heard fill start n (x ∷ xs) [] all = absurd all
+powers_heard fill start n (x ∷ xs) (y ∷ ys) all = (all.0.heard, powers_heard fill start (n + 1) xs ys all.1)
 
 pub heard_stays : (R : ℕ → ChipState → ChipState → Type 0) (before after : List Heard) →
     ((k : ℕ) (a b : ChipState) → R k a b → HasHeard before k a → HasHeard after k b) → (n : ℕ)

@@ -3,16 +3,19 @@ use Rattle.std.proofs.Common.{◌≡◌, ℕ, ◌<◌, false, List, [], map, sym
 use Rattle.std.specs.Prelude.{Option, Some, None}
 use Rattle.f8_spec.specs.ChipState.{ChipView, ChipState, powered}
 use Rattle.f8_spec.specs.MicroSteps.{Opcode}
-use Rattle.f8_spec.specs.BusArbitration.{Verdict, Served, Conflict, Undriven, Astray}
+use Rattle.f8_spec.specs.Powers.{ArePowers}
+use Rattle.f8_spec.specs.BusArbitration.{Ruling, Served, Conflict, Undriven, Astray}
 use Rattle.console_spec.specs.AddressSpace.{byte_at}
 use Rattle.console_spec.specs.BusTrace.{course_by, course_of}
-use Rattle.console_spec.specs.CounterCopies.{Copy, power_start}
+use Rattle.console_spec.specs.CounterCopies.{Copy}
+use Rattle.console_spec.specs.Powering.{fill_in, start_in}
 use Rattle.console_spec.specs.Processor.{Flow}
 use Rattle.console_spec.specs.Run.{Position, Goes, goes_unless, position_after_reset}
 use Rattle.console_spec.specs.Run.{reset_access, reset_course, reset_fault, reset_gets}
-use Rattle.console_spec.specs.Services.{Fault, access_verdict}
+use Rattle.console_spec.specs.Services.{Fault, access_ruling}
 use Rattle.data_bus.specs.Racks.{views}
 use Rattle.data_bus.specs.declared.index.Index.{Index}
+use Rattle.f8_machine.proofs.Powers.{fill_small}
 use Rattle.f8_machine.specs.Advancing.{Follows}
 use Rattle.f8_machine.specs.HeardSteps.{HaveBytes}
 use Rattle.f8_machine.specs.MachineState.{MachineState, powered_machine, steps_in}
@@ -38,7 +41,7 @@ use Rattle.chip_debug.proofs.SceneLaws.{Shows, shows_heard, goes_at, stops_at}
 
 -- ---- the bytes of reset's steps
 
-fetched_bytes : (memory : List ℕ) (c : Flow) (copies : List Copy) (romc : ℕ) (v : Verdict) → byte_at memory 0 < 256 →
+fetched_bytes : (memory : List ℕ) (c : Flow) (copies : List Copy) (romc : ℕ) (v : Ruling) → byte_at memory 0 < 256 →
     HaveBytes (served_steps (course_by (reset_gets memory) (record { romc = romc; long = false; source = Opcode }) v
     (course_of (reset_gets memory) c copies [] [])))
 fetched_bytes memory c copies romc (Served socket) small = (small, tt)
@@ -52,23 +55,30 @@ reset_bytes x small = (
   (
     lit< tt,
     fetched_bytes x.flat.memory x.flat.state.flow x.copies 0x00
-        (access_verdict x.flat.state.flow x.copies reset_access) small,
+        (access_ruling x.flat.state.flow x.copies reset_access) small,
   ),
 )
 
 -- ---- power-on
 
+none_said : ArePowers []
+none_said place p e = cc
+
 -- the scene shows what power-on makes of the machine and of the chips
 pub powered_shows : (fill : ℕ) (chain : List ℕ) (index : Index) (breaks : Breaks) (m : MachineState)
     (olds news : List ChipState) →
-    fill < 256 → m ≡ powered_machine fill chain index → RackPowers fill olds news → IsReady olds →
+    fill < 256 → m ≡ powered_machine fill chain index → RackPowers fill chain [] olds news → IsReady olds →
     Shows m news (powered_scene fill chain breaks (views olds))
 powered_shows fill chain index breaks m olds news small is powers ready = record {
   chain = ap (λ (n : MachineState). n.chain) is;
   probe = ap (λ (n : MachineState). n.probe) is;
-  chips = views_by (PowersInSocket fill) (λ k v. powered fill (power_start fill k) v) (λ k a b is. is.view) 0 olds news powers;
-  heard = powers_heard fill 0 olds news powers;
-  ready = ready_stays (PowersInSocket fill) (powers_keeps fill small) olds news powers ready;
+  chips =
+      views_by (PowersInSocket (fill_in fill chain []) (start_in fill chain []))
+      (λ k v. powered (fill_in fill chain [] k) (start_in fill chain [] k) v) (λ k a b is. is.view) 0 olds news powers;
+  heard = powers_heard (fill_in fill chain []) (start_in fill chain []) 0 olds news powers;
+  ready =
+      ready_stays (PowersInSocket (fill_in fill chain []) (start_in fill chain []))
+      (powers_keeps (fill_in fill chain []) (start_in fill chain []) (fill_small fill chain [] small none_said)) olds news powers ready;
 }
 
 -- ---- reset

@@ -3,8 +3,9 @@ use Rattle.std.specs.Prelude.{ℕ, zero, suc, ◌+◌, ◌==◌, ◌&&◌, Bool,
 use Rattle.std.specs.Prelude.{Option, Some, None, is_some}
 use Rattle.std.specs.List.{enumerate_from}
 use Rattle.f8_spec.specs.ChipState.{ChipView, powered as powered_view, keyed, pulsed}
+use Rattle.f8_spec.specs.declared.chips.PowerOn.{PowerOn}
 use Rattle.console_spec.specs.BusTrace.{Course}
-use Rattle.console_spec.specs.CounterCopies.{power_start}
+use Rattle.console_spec.specs.Powering.{fill_in, start_in}
 use Rattle.console_spec.specs.Run.{Position, Turn, Goes, Stops, Stop, goes_unless, next, turn_course, power_position}
 use Rattle.console_spec.specs.Run.{position_after_reset, reset_course, reset_fault}
 use Rattle.console_spec.specs.Telling.{with_event}
@@ -51,14 +52,16 @@ led_by (Stops stop) s = record s { stop = Some stop }
 
 -- ---- power-on and reset
 
--- power-on of the chips, each in its socket
-abbrev pub chips_powered : ℕ → List ChipView → List ChipView
-chips_powered fill vs = map (λ x. powered_view fill (power_start fill x.0) x.1) (enumerate_from 0 vs)
+-- power-on of the chips, each in its socket, with the chain of those described and what is said of each
+abbrev pub chips_powered : ℕ → List ℕ → List PowerOn → List ChipView → List ChipView
+chips_powered fill chain powers vs =
+    map (λ x. powered_view (fill_in fill chain powers x.0) (start_in fill chain powers x.0) x.1) (enumerate_from 0 vs)
 
+-- where nothing is said of any chip's own
 abbrev pub powered_scene : ℕ → List ℕ → Breaks → List ChipView → Scene
 powered_scene fill chain breaks vs = record {
-  position = power_position vs chain fill;
-  chips = chips_powered fill vs;
+  position = power_position vs chain [] fill;
+  chips = chips_powered fill chain [] vs;
   probe = new_probe;
   heard = [];
   stop = None;

@@ -12,7 +12,7 @@ use chip_face::{Chip, MOST_CHIPS};
 use console_spec::Event;
 use f8_machine::{Chain, Machine, Outcome, Rack};
 use outside::{Sink, SinkFault};
-use rack_run::{Halt, chain_of};
+use rack_run::{Halt, chain_of, power_usual};
 use std::marker::Model;
 
 /// What came of an instruction.
@@ -128,7 +128,7 @@ impl Session {
         ensures count { result.count ≡ 0 }
         ensures chips { length rack.new.items ≡ length rack.old.items }
     {
-        let mut machine = Machine::power(fill, chain, rack);
+        let mut machine = power_usual(fill, chain, rack);
         let halt = halt_of(machine.reset(rack));
         Session {
             machine,

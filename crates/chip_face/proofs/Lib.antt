@@ -1,2 +1,3 @@
 pub mod RomPages
 mod WorkedValues
+pub mod MorePowers

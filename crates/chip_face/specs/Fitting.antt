@@ -1,16 +1,16 @@
--- What a specification says of a chip, and the chip that `fit` makes of it (Mostek 3851 and 3853 data sheets for the boundaries). The
+-- What a specification says of a chip, and the chip that `fit` makes of it (Mostek 3851, 3853 and 3861 data sheets for the boundaries). The
 -- pages of a 3853 and what a chip holds before power-on are this project's own.
 use Rattle.std.specs.Prelude.{ℕ, ◌+◌, ◌*◌, ◌/◌, ◌%◌, ◌≡◌, ◌≤◌, Bool, true, false, All, List, [], ◌∷◌, ◌++◌, length, map}
 use Rattle.std.specs.Prelude.{take, drop, replicate, count_by, Option, Some}
 use Rattle.std.specs.List.Sorted.{IsStrictlyIncreasing}
 use Rattle.f8_spec.specs.ChipState.{ChipView, ChipState, blank_view, is_rom, patched_bytes}
 use Rattle.f8_spec.specs.declared.chips.ChipKind.{ChipKind}
-use Rattle.f8_spec.specs.declared.chips.ChipKind.TheVariants.{Psu as PsuKind, Smi as SmiKind}
+use Rattle.f8_spec.specs.declared.chips.ChipKind.TheVariants.{Psu as PsuKind, Smi as SmiKind, Pio as PioKind}
 use Rattle.f8_spec.specs.declared.chips.PageSort.{PageSort}
 use Rattle.f8_spec.specs.declared.chips.PageSort.TheVariants.{Rom, Ram, Void}
 use Rattle.f8_spec.specs.declared.chips.Page.{Page}
 use Rattle.chip_face.specs.declared.specification.ChipSpec.{ChipSpec}
-use Rattle.chip_face.specs.declared.specification.ChipSpec.TheVariants.{Blank, Psu, Smi}
+use Rattle.chip_face.specs.declared.specification.ChipSpec.TheVariants.{Blank, Psu, Smi, Pio}
 use Rattle.chip_face.specs.declared.fault.FitFault.{FitFault}
 use Rattle.chip_face.specs.declared.fault.FitFault.TheVariants.{WrongKind, Memory}
 
@@ -18,16 +18,21 @@ abbrev pub kind_of : ChipSpec → ChipKind
 kind_of (Blank kind) = kind
 kind_of (Psu base rom ports vector wired) = PsuKind
 kind_of (Smi pages rom wired) = SmiKind
+kind_of (Pio ports vector wired) = PioKind
 
 -- ---- what a specification has to be
 
--- a 3851: 1,024 bytes on a boundary of 1,024, and four ports from 4 to 255 on a boundary of 4
+-- the first of four ports from 4 to 255, on a boundary of 4
+pub record AreFourPorts (ports : ℕ) : Type 0 where
+  pub above_cpu : 4 ≤ ports
+  pub below_end : ports ≤ 252
+  pub boundary : ports % 4 ≡ 0
+
+-- a 3851: 1,024 bytes on a boundary of 1,024, and four ports
 pub record IsPsuSpec (base : ℕ) (rom : List ℕ) (ports : ℕ) : Type 0 where
   pub bytes : length rom ≡ 1024
   pub boundary : base % 1024 ≡ 0
-  pub above_cpu : 4 ≤ ports
-  pub below_end : ports ≤ 252
-  pub ports_boundary : ports % 4 ≡ 0
+  pub four_ports : AreFourPorts ports
 
 -- a 3853: pages in ascending order, no two with one number, and 256 bytes for each ROM page
 pub record IsSmiSpec (pages : List Page) (rom : List ℕ) : Type 0 where
@@ -38,17 +43,20 @@ abbrev pub IsSpec : ChipSpec → Type 0
 IsSpec (Blank kind) = Unit {0}
 IsSpec (Psu base rom ports vector wired) = IsPsuSpec base rom ports
 IsSpec (Smi pages rom wired) = IsSmiSpec pages rom
+IsSpec (Pio ports vector wired) = AreFourPorts ports
 
 abbrev pub is_blank : ChipSpec → Bool
 is_blank (Blank kind) = true
 is_blank (Psu base rom ports vector wired) = false
 is_blank (Smi pages rom wired) = false
+is_blank (Pio ports vector wired) = false
 
 -- the ROM's bytes
 abbrev pub rom_of : ChipSpec → List ℕ
 rom_of (Blank kind) = []
 rom_of (Psu base rom ports vector wired) = rom
 rom_of (Smi pages rom wired) = rom
+rom_of (Pio ports vector wired) = []
 
 -- how many of them belong to a page of a 3853
 abbrev pub rom_size : PageSort → ℕ
@@ -103,6 +111,11 @@ fitted patch (Smi pages rom wired) = record (blank_view SmiKind) {
   pages = pages;
   bytes = patched_bytes patch pages (page_bytes pages rom);
   ports = Some 0x0C;
+  wired = wired;
+}
+fitted patch (Pio ports vector wired) = record (blank_view PioKind) {
+  vector = vector;
+  ports = Some ports;
   wired = wired;
 }
 

@@ -1,11 +1,11 @@
-// The trait of a storage chip: what the bus asks of it, and what it hears.
+// The trait of a chip: what the bus asks of it, and what it hears.
 use super::{ChipKind, ChipSpec, FitFault, Offer};
 use romc_table::{Counters, Romc};
 use std::alloc::Global;
 
-/// A storage chip on the bus (Mostek 3851 and 3853 data sheets). Each keeps a program counter, a stack register and data counters of
-/// its own, hears every bus step, and answers where its own copy lies in its own space. In a bus step every chip first offers, and
-/// then, if the step is served, every chip settles. Only `fit` takes memory.
+/// A chip on the bus (Mostek 3851, 3853 and 3861 data sheets). Each storage chip keeps a program counter, a stack register and data
+/// counters of its own, hears every bus step, and answers where its own copy lies in its own space; a 3861 has ports alone. In a bus
+/// step every chip first offers, and then, if the step is served, every chip settles. Only `fit` takes memory.
 ///
 /// `offer`, `counters`, `peek`, `takes` and `latch` are the *questions* that are put to a chip. They change nothing but their count.
 ///
@@ -39,7 +39,7 @@ pub trait Chip: Drop {
         ensures err { OnErr result (state self.new ≡ state self.old) }
         ensures asked { queries self.new ≡ queries self.old };
 
-    /// Power-on: every counter at `start`, every RAM byte `fill`.
+    /// Power-on: every counter at `start`, every RAM byte `fill`. A chip without counters tells 0 for each.
     fn power(&mut self, fill: u8, start: u16)
         ensures powers { PowersOn fill start (state self.old) (state self.new) }
         ensures asked { queries self.new ≡ queries self.old };
@@ -65,7 +65,7 @@ pub trait Chip: Drop {
     fn asks(&self) -> bool
         ensures { result ≡ is_asking (state self.now).view };
 
-    /// The chip's own counters. A 3851 has no second data counter.
+    /// The chip's own counters. A 3851 has no second data counter, and a 3861 none at all: it tells 0.
     fn counters(&mut self) -> Counters
         ensures answer { result ≡ told_counters (state self.old).view }
         ensures stays { state self.new ≡ state self.old }

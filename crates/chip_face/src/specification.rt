@@ -2,9 +2,9 @@
 use super::{Bytes, PageList, SMI_FIRST_PORT};
 use f8_spec::ChipKind;
 
-/// What a chip is fitted as (Mostek 3851 and 3853 data sheets; the pages of a 3853 are this project's own). A 3851 has 1,024 bytes
-/// from `base` on, which is on a boundary of 1,024, and its four ports begin at `ports`, 4 to 252 in steps of 4. The pages of a 3853
-/// ascend, and `rom` has 256 bytes for each ROM page in order. Contracts say so by `IsSpec`.
+/// What a chip is fitted as (Mostek 3851, 3853 and 3861 data sheets; the pages of a 3853 are this project's own). A 3851 has 1,024 bytes
+/// from `base` on, which is on a boundary of 1,024. The pages of a 3853 ascend, and `rom` has 256 bytes for each ROM page in order. The
+/// four ports of a 3851 and of a 3861 begin at `ports`, 4 to 252 in steps of 4. Contracts say so by `IsSpec`.
 #[derive(Debug, Drop)]
 pub enum ChipSpec {
     /// A chip of this kind that holds no address and has no port.
@@ -39,6 +39,18 @@ pub enum ChipSpec {
         /// The chip can ask for an interrupt.
         wired: bool,
     },
+
+    /// A 3861.
+    Pio {
+        /// The first of its four ports: two data ports, control, timer.
+        ports: u8,
+
+        /// The interrupt vector. In the one that the chip gives, bit 7 of the low byte is clear for the timer and set for a pulse.
+        vector: u16,
+
+        /// The chip can ask for an interrupt.
+        wired: bool,
+    },
 }
 
 impl ChipSpec {
@@ -53,6 +65,7 @@ impl ChipSpec {
             ChipSpec::Blank(kind) => *kind,
             ChipSpec::Psu { .. } => ChipKind::Psu,
             ChipSpec::Smi { .. } => ChipKind::Smi,
+            ChipSpec::Pio { .. } => ChipKind::Pio,
         }
     }
 
@@ -62,7 +75,7 @@ impl ChipSpec {
     {
         match self {
             ChipSpec::Blank(_) => None,
-            ChipSpec::Psu { ports, .. } => Some(*ports),
+            ChipSpec::Psu { ports, .. } | ChipSpec::Pio { ports, .. } => Some(*ports),
             ChipSpec::Smi { .. } => Some(SMI_FIRST_PORT),
         }
     }
@@ -73,7 +86,9 @@ impl ChipSpec {
     {
         match self {
             ChipSpec::Blank(_) => false,
-            ChipSpec::Psu { wired, .. } | ChipSpec::Smi { wired, .. } => *wired,
+            ChipSpec::Psu { wired, .. }
+            | ChipSpec::Smi { wired, .. }
+            | ChipSpec::Pio { wired, .. } => *wired,
         }
     }
 }

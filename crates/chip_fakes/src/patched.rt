@@ -96,7 +96,9 @@ impl Chip for Patched {
                     Err(Memory) => Err(FitFault::Memory),
                 }
             }
-            ChipSpec::Blank(_) | ChipSpec::Smi { .. } => self.psu.fit(alloc, spec),
+            ChipSpec::Blank(_) | ChipSpec::Smi { .. } | ChipSpec::Pio { .. } => {
+                self.psu.fit(alloc, spec)
+            }
         }
     }
 

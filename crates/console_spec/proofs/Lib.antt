@@ -9,5 +9,7 @@ mod WorkedScripts
 mod WorkedDraws
 mod WorkedMore
 mod WorkedRequests
-mod WorkedInterrupts
+pub mod WorkedInterrupts
+mod WorkedVectors
 mod WorkedEnds
+mod WorkedKinds

@@ -31,7 +31,7 @@ steps_alone fill n = record { power = fill; end = Steps n; events = []; shows = 
 
 -- all chips are described, in the order of their sockets
 abbrev pub played_in_order : List ChipView → Bool → Script → Telling
-played_in_order vs traced script = played_by vs (chain_in_order vs) traced script
+played_in_order vs traced script = played_by vs (chain_in_order vs) [] traced script
 
 abbrev pub played_alone : List ChipView → ℕ → ℕ → Telling
 played_alone vs fill n = played_in_order vs false (steps_alone fill n)
@@ -40,7 +40,7 @@ abbrev pub played : List ChipView → ℕ → ℕ → Ending
 played vs fill n = (played_alone vs fill n).ending
 
 abbrev pub referred : List ChipView → ℕ → ℕ → Ending
-referred vs fill n = (referred_by vs (steps_alone fill n)).ending
+referred vs fill n = (referred_by vs [] (steps_alone fill n)).ending
 
 abbrev pub played_record : List ChipView → ℕ → ℕ → List TracedStep
 played_record vs fill n = flat_map (λ m. m.heard) (played_alone vs fill n).moments

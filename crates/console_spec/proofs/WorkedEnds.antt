@@ -28,7 +28,7 @@ wired_psu vector bytes = record (psu 0 4 bytes) { wired = true; vector = vector 
 -- chips after 100 Φ with the interrupt control bit set, with these port writes and pulses, on a chain
 abbrev standing : List ChipView → List ℕ → List PortWrite → List Mark → Position
 standing vs chain writes pulses =
-    let x = power_position vs chain 0 in
+    let x = power_position vs chain [] 0 in
     record x {
       flat = record x.flat {
         state = record x.flat.state {

@@ -21,7 +21,7 @@ use Rattle.console_spec.proofs.WorkedMore.{no_scratch}
 use Rattle.console_spec.proofs.WorkedRacks.{psu}
 
 -- a 3851 that can interrupt, with its vector
-abbrev wired_psu : ℕ → ℕ → ℕ → List ℕ → ChipView
+abbrev pub wired_psu : ℕ → ℕ → ℕ → List ℕ → ChipView
 wired_psu base ports vector bytes = record (psu base ports bytes) { wired = true; vector = vector }
 
 -- Control 3, the timer loaded with 7F, interrupts let in, and NOPs. The timer expires at 87 Φ, and EI, which ends at 96, shields its end;
@@ -58,7 +58,7 @@ timer_text : text_of (telling_lines NoVerdict (played_in_order timer_cart false 
 unfolding running printing
 timer_text = refl
 
-flat_timer_text : text_of (flat_telling_lines (referred_by timer_cart (steps_alone 0 13))) ≡
+flat_timer_text : text_of (flat_telling_lines (referred_by timer_cart [] (steps_alone 0 13))) ≡
     codes "out 34 06 03\nout 60 07 7F\nstop done\nregs P=0100 P1=000E D0=0000 D1=0000 A=7F IS=00 W=00\n" ++ no_scratch
     ++ codes "total 13 instructions 122 phi\n"
 unfolding running printing
@@ -103,7 +103,7 @@ pulsed_chips wired =
 
 -- after four instructions, with a chain
 abbrev before_pulses : Bool → List ℕ → Position
-before_pulses wired chain = (played_by (pulsed_chips wired) chain false (steps_alone 0 4)).ending.position
+before_pulses wired chain = (played_by (pulsed_chips wired) chain [] false (steps_alone 0 4)).ending.position
 
 abbrev after_branch : Position → Position
 after_branch x = position_after (Bf 0) (with_pulse_at 0 (with_pulse_at 1 x))
@@ -155,7 +155,7 @@ two_pulses = record {
 -- Four instructions take 58 Φ, and the branch 14 each time: after 2,126 branches 29,822 Φ, and the next one comes to the frame, at 29,836.
 abbrev before_the_frame : Position
 before_the_frame =
-    let x = (played_by returning_chips (0 ∷ 1 ∷ []) false (record two_pulses { end = Steps 4; events = [] })).ending.position in
+    let x = (played_by returning_chips (0 ∷ 1 ∷ []) [] false (record two_pulses { end = Steps 4; events = [] })).ending.position in
     record x { flat = record x.flat { state = record x.flat.state { count = 2130; phi = x.flat.state.phi + 14 * 2126 } } }
 
 -- that branch, and the last four: the branch with the interrupt of the first chip, EI, POP, and the branch with that of the second
@@ -176,7 +176,7 @@ unfolding running
 two_pulses_end = refl
 
 -- and the whole run
-two_pulses_text : text_of (telling_lines NoVerdict (played_by returning_chips (0 ∷ 1 ∷ []) false two_pulses)) ≡
+two_pulses_text : text_of (telling_lines NoVerdict (played_by returning_chips (0 ∷ 1 ∷ []) [] false two_pulses)) ≡
     codes "verdict none\nout 34 06 01\nout 50 0A 01\nstop done\nregs P=0280 P1=0004 D0=0000 D1=0000 A=01 IS=00 W=00\n" ++ no_scratch
     ++ codes "total 2135 instructions 29924 phi\n"
 unfolding running printing

@@ -93,7 +93,7 @@ reserved_text : text_of (ending_lines (played (rom (0x2D ∷ [])) 0 5)) ≡
 unfolding running printing
 reserved_text = refl
 
-flat_reserved : text_of (flat_telling_lines (referred_by (rom (0x2D ∷ [])) (steps_alone 0 5))) ≡ text_of (ending_lines (played (rom (0x2D ∷ [])) 0 5))
+flat_reserved : text_of (flat_telling_lines (referred_by (rom (0x2D ∷ [])) [] (steps_alone 0 5))) ≡ text_of (ending_lines (played (rom (0x2D ∷ [])) 0 5))
 unfolding running printing
 flat_reserved = refl
 

@@ -37,7 +37,7 @@ abbrev pub psu_and_ram : List ℕ → List ChipView
 psu_and_ram bytes = psu 0 4 bytes ∷ replicate 11 (blank_view Psu) ++ ram_smi 0x28 ∷ []
 
 -- no chip at all: reset is not served
-no_chip : played [] 0 1 ≡ record { position = power_position [] [] 0; stop = Unserved (Undriven 0 0) }
+no_chip : played [] 0 1 ≡ record { position = power_position [] [] [] 0; stop = Unserved (Undriven 0 0) }
 unfolding running
 no_chip = refl
 
@@ -61,7 +61,7 @@ unfolding running
 pop_clocks = refl
 
 pop_astray : played pop_at_once 4 3 ≡ record {
-  position = position_after_reset (power_position pop_at_once (chain_in_order pop_at_once) 4);
+  position = position_after_reset (power_position pop_at_once (chain_in_order pop_at_once) [] 4);
   stop = Unserved (Astray 0 1 0x0405 0);
 }
 unfolding running
@@ -165,7 +165,7 @@ reserved = refl
 -- ---- traces
 
 -- the three bus steps of a branch that is taken
-branch_traced : instruction_course (Bf 0) (position_after_reset (power_position (psu 0 4 (0x90 ∷ 0xFE ∷ []) ∷ []) (0 ∷ []) 0)) ≡ record {
+branch_traced : instruction_course (Bf 0) (position_after_reset (power_position (psu 0 4 (0x90 ∷ 0xFE ∷ []) ∷ []) (0 ∷ []) [] 0)) ≡ record {
   steps =
       record { romc = 0x1C; long = false; byte = 0; who = Nobody; taker = None }
       ∷ record { romc = 0x01; long = true; byte = 0xFE; who = Socket 0; taker = None }
@@ -176,7 +176,7 @@ unfolding running
 branch_traced = refl
 
 -- the three bus steps of reset
-reset_traced : reset_course (power_position (psu 0 4 (0x71 ∷ []) ∷ []) (0 ∷ []) 0) ≡ record {
+reset_traced : reset_course (power_position (psu 0 4 (0x71 ∷ []) ∷ []) (0 ∷ []) [] 0) ≡ record {
   steps =
       record { romc = 0x1C; long = false; byte = 0; who = Nobody; taker = None }
       ∷ record { romc = 0x08; long = true; byte = 0; who = Cpu; taker = None }

@@ -72,7 +72,7 @@ drawn_outs = refl
 -- two bytes as a program, with so many clocks behind it
 abbrev shortly_before : ℕ → List ℕ → Position
 shortly_before phi rom =
-    let x = power_position (psu 0 4 rom ∷ []) (0 ∷ []) 0 in
+    let x = power_position (psu 0 4 rom ∷ []) (0 ∷ []) [] 0 in
     record x { flat = record x.flat { state = record x.flat.state { phi = phi } } }
 
 -- at 29,826 a NOP of 4 clocks comes to the frame, and at 29,825 the second one does

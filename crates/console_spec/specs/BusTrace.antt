@@ -3,7 +3,7 @@
 use Rattle.std.specs.Prelude.{ℕ, Bool, true, false, ◌==◌, if◌then◌else◌, List, [], ◌∷◌, ◌++◌, Option, Some, None}
 use Rattle.f8_spec.specs.BusCodes.{driver_of}
 use Rattle.f8_spec.specs.MicroSteps.{Source, PortNumber, Step, steps_before_fetch, last_fetch, interrupt_steps}
-use Rattle.f8_spec.specs.BusArbitration.{Verdict, Served, Conflict as ConflictVerdict, Undriven as UndrivenVerdict, Astray as AstrayVerdict, rule_of}
+use Rattle.f8_spec.specs.BusArbitration.{Ruling, Served, Conflict as ConflictRuling, Undriven as UndrivenRuling, Astray as AstrayRuling, rule_of}
 use Rattle.f8_spec.specs.declared.bus.Driver.{Driver}
 use Rattle.f8_spec.specs.declared.instructions.Row.{Row}
 use Rattle.f8_spec.specs.declared.bus.Driver.TheVariants.{Memory, CounterByte, Vector as VectorDriver, Port, Cpu as CpuDriver, Nobody as NobodyDriver}
@@ -12,7 +12,7 @@ use Rattle.f8_spec.specs.declared.bus.BusRule.TheVariants.{Read, Store, PortRead
 use Rattle.console_spec.specs.Processor.{Flow, Inputs, byte_of}
 use Rattle.console_spec.specs.CounterCopies.{Copy}
 use Rattle.console_spec.specs.BusAccesses.{Access}
-use Rattle.console_spec.specs.Services.{Fault, access_verdict}
+use Rattle.console_spec.specs.Services.{Fault, access_ruling}
 use Rattle.console_spec.specs.declared.Who.{Who}
 use Rattle.console_spec.specs.declared.Who.TheVariants.{Cpu, Socket, Nobody}
 
@@ -86,12 +86,12 @@ with_step step rest = record rest { steps = step ∷ rest.steps }
 abbrev pub stopped_by : Fault → Bool → Course
 stopped_by fault long = record { steps = []; fault = Some (fault, long) }
 
--- a step by the verdict on its access, with the steps behind it
-abbrev pub course_by : Inputs → Step → Verdict → Course → Course
+-- a step by the ruling on its access, with the steps behind it
+abbrev pub course_by : Inputs → Step → Ruling → Course → Course
 course_by i s (Served socket) rest = with_step (traced i s socket) rest
-course_by i s (ConflictVerdict parties) rest = stopped_by (Fault.Conflict s.romc parties) s.long
-course_by i s (UndrivenVerdict at) rest = stopped_by (Fault.Undriven s.romc at) s.long
-course_by i s (AstrayVerdict socket at reference) rest = stopped_by (Fault.Astray s.romc socket at reference) s.long
+course_by i s (ConflictRuling parties) rest = stopped_by (Fault.Conflict s.romc parties) s.long
+course_by i s (UndrivenRuling at) rest = stopped_by (Fault.Undriven s.romc at) s.long
+course_by i s (AstrayRuling socket at reference) rest = stopped_by (Fault.Astray s.romc socket at reference) s.long
 
 -- chips drive the byte or take it, so that the step is one of the accesses
 abbrev pub is_access : BusRule → Bool
@@ -120,5 +120,5 @@ course_of i c copies [] accesses = record { steps = []; fault = None }
 course_of i c copies (s ∷ later) [] = with_unaccessed i s (course_of i c copies later [])
 course_of i c copies (s ∷ later) (a ∷ accesses) =
     if is_access (rule_of s.romc)
-    then course_by i s (access_verdict c copies a) (course_of i c copies later accesses)
+    then course_by i s (access_ruling c copies a) (course_of i c copies later accesses)
     else with_unaccessed i s (course_of i c copies later (a ∷ accesses))

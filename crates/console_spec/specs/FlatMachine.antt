@@ -3,11 +3,13 @@ use Rattle.std.specs.Prelude.{ℕ, List}
 use Rattle.f8_spec.specs.Instructions.{row_of}
 use Rattle.f8_spec.specs.ChipState.{ChipView}
 use Rattle.f8_spec.specs.BusArbitration.{Seat}
+use Rattle.f8_spec.specs.declared.chips.PowerOn.{PowerOn}
 use Rattle.f8_spec.specs.declared.instructions.Op.{Op}
 use Rattle.f8_spec.specs.declared.instructions.Row.{Row}
 use Rattle.f8_spec.specs.declared.instructions.Row.TheVariants.{StoreData}
 use Rattle.console_spec.specs.AddressSpace.{byte_at}
 use Rattle.console_spec.specs.FlatMemory.{first_memory, stored_at}
+use Rattle.console_spec.specs.Powering.{fill_in}
 use Rattle.console_spec.specs.Processor.{Flow, Inputs, State, at_power}
 use Rattle.console_spec.specs.FlatStep.{inputs_of, after_instruction}
 
@@ -16,9 +18,9 @@ pub record FlatState : Type 0 where
   pub state : State
   pub memory : List ℕ
 
--- power-on, over the memory of some chips
-abbrev pub flat_at_power : List ChipView → ℕ → FlatState
-flat_at_power vs fill = record { state = at_power fill; memory = first_memory vs fill }
+-- power-on, over the memory of some chips, with what is said of those described
+abbrev pub flat_at_power : List ChipView → List ℕ → List PowerOn → ℕ → FlatState
+flat_at_power vs chain powers fill = record { state = at_power fill; memory = first_memory vs (fill_in fill chain powers) }
 
 -- `ST` alone stores
 abbrev pub memory_after : Row → List Seat → Inputs → Flow → List ℕ → List ℕ

@@ -55,12 +55,18 @@ first_byte_by Ram fill fixed = fill
 first_byte_by sort fill (Some byte) = byte
 first_byte_by sort fill None = 255
 
--- the byte at an address at power-on: in RAM it is the power byte
-abbrev pub first_byte : List ChipView → ℕ → ℕ → ℕ
-first_byte vs fill at = first_byte_by (sort_of (map seat_of vs) at) fill (fixed_byte vs at)
+-- the byte in the RAM of the chip in a place, and 0 where no chip holds the address alone
+abbrev pub fill_of_owner : (ℕ → ℕ) → Option ℕ → ℕ
+fill_of_owner fill (Some place) = fill place
+fill_of_owner fill None = 0
+
+-- the byte at an address at power-on: in RAM it is the one that fills the RAM of its chip, by the chip's place
+abbrev pub first_byte : List ChipView → (ℕ → ℕ) → ℕ → ℕ
+first_byte vs fill at =
+    first_byte_by (sort_of (map seat_of vs) at) (fill_of_owner fill (owner_of (map seat_of vs) at)) (fixed_byte vs at)
 
 -- the memory at power-on
-unfoldable pub first_memory : List ChipView → ℕ → List ℕ
+unfoldable pub first_memory : List ChipView → (ℕ → ℕ) → List ℕ
 first_memory vs fill = map (first_byte vs fill) (range_with_len 0 65536)
 
 -- ---- stores

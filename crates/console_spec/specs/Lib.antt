@@ -8,6 +8,7 @@ pub mod Processor
 pub mod BusAccesses
 pub mod FlatMemory
 pub mod CounterCopies
+pub mod Powering
 pub mod Services
 pub mod BusTrace
 pub mod FlatMachine

@@ -6,6 +6,7 @@ use Rattle.std.specs.Prelude.{Option, Some, None}
 use Rattle.f8_spec.specs.Words.{word, places_on, displaced, sum_value, decimal_value}
 use Rattle.f8_spec.specs.Flags.{Status, clear_status, status_byte, status_of, after_result, after_sum}
 use Rattle.f8_spec.specs.Instructions.{row_of, row_length}
+use Rattle.f8_spec.specs.RegisterNumbers.{register_j, register_hu, register_hl, register_ku, register_kl, register_qu, register_ql, pointed_field, up_field, down_field}
 use Rattle.f8_spec.specs.MicroSteps.{Source, Opcode, Operand, SecondOperand, KeptOperand, DataByte, DataHigh, DataLow}
 use Rattle.f8_spec.specs.MicroSteps.{StackHigh, StackLow, KHigh, KLow, QHigh, QLow, HHigh, HLow, Accumulator}
 use Rattle.f8_spec.specs.MicroSteps.{PortNumber, PortByte, VectorHigh, VectorLow, NoByte, clocks_along, reset_steps}
@@ -91,7 +92,7 @@ with_pair number high low m = with_scratch (number + 1) low (with_scratch number
 
 -- the register that a field names: from 12 on the one that ISAR points to
 abbrev pub register_of : ℕ → Registers → ℕ
-register_of field m = if nat_lt field 12 then field else m.isar
+register_of field m = if nat_lt field pointed_field then field else m.isar
 
 abbrev pub field_byte : ℕ → Registers → ℕ
 field_byte field m = scratch_byte (register_of field m) m
@@ -99,8 +100,8 @@ field_byte field m = scratch_byte (register_of field m) m
 -- The field 13 steps the low octal digit of ISAR up, and 14 down. The digit wraps, and the high one stays.
 abbrev pub stepped_isar : ℕ → ℕ → ℕ
 stepped_isar field isar =
-    if field == 13 then isar / 8 * 8 + (isar + 1) % 8 else
-    if field == 14 then isar / 8 * 8 + (isar + 7) % 8 else
+    if field == up_field then isar / 8 * 8 + (isar + 1) % 8 else
+    if field == down_field then isar / 8 * 8 + (isar + 7) % 8 else
     isar
 
 abbrev pub with_isar_stepped : ℕ → Registers → Registers
@@ -140,14 +141,14 @@ decremented field m = record (with_scratch (register_of field m) (sum_value (fie
 -- The registers after an instruction that uses one byte: the one behind its opcode, the one at the data counter, or that of its port.
 -- An instruction that is not named here leaves them, but for the pairs of registers below.
 unfoldable pub effect : Op → ℕ → Registers → Registers
-effect LrAKu byte m = record m { accumulator = scratch_byte 12 m }
-effect LrAKl byte m = record m { accumulator = scratch_byte 13 m }
-effect LrAQu byte m = record m { accumulator = scratch_byte 14 m }
-effect LrAQl byte m = record m { accumulator = scratch_byte 15 m }
-effect LrKuA byte m = with_scratch 12 m.accumulator m
-effect LrKlA byte m = with_scratch 13 m.accumulator m
-effect LrQuA byte m = with_scratch 14 m.accumulator m
-effect LrQlA byte m = with_scratch 15 m.accumulator m
+effect LrAKu byte m = record m { accumulator = scratch_byte register_ku m }
+effect LrAKl byte m = record m { accumulator = scratch_byte register_kl m }
+effect LrAQu byte m = record m { accumulator = scratch_byte register_qu m }
+effect LrAQl byte m = record m { accumulator = scratch_byte register_ql m }
+effect LrKuA byte m = with_scratch register_ku m.accumulator m
+effect LrKlA byte m = with_scratch register_kl m.accumulator m
+effect LrQuA byte m = with_scratch register_qu m.accumulator m
+effect LrQlA byte m = with_scratch register_ql m.accumulator m
 effect LrAIs byte m = record m { accumulator = m.isar }
 effect LrIsA byte m = record m { isar = m.accumulator % 64 }
 effect Sr1 byte m = with_result (m.accumulator / 2) m
@@ -159,8 +160,8 @@ effect Com byte m = with_result (255 - m.accumulator) m
 effect Lnk byte m = with_sum 0 m.status.carry m
 effect Di byte m = record m { status = record m.status { icb = false } }
 effect Ei byte m = record m { status = record m.status { icb = true } }
-effect LrWJ byte m = record m { status = status_of (scratch_byte 9 m) }
-effect LrJW byte m = with_scratch 9 (status_byte m.status) m
+effect LrWJ byte m = record m { status = status_of (scratch_byte register_j m) }
+effect LrJW byte m = with_scratch register_j (status_byte m.status) m
 effect Inc byte m = with_sum 1 false m
 effect Li byte m = record m { accumulator = byte }
 effect Ni byte m = with_result (bit_and m.accumulator byte) m
@@ -276,9 +277,9 @@ used_byte row i = 0
 
 -- the registers after an instruction
 abbrev pub result_of : Op → Inputs → Registers → Registers
-result_of LrKP i m = with_pair 12 i.stack_high i.stack_low m
-result_of LrQDc i m = with_pair 14 i.data_high i.data_low m
-result_of LrHDc i m = with_pair 10 i.data_high i.data_low m
+result_of LrKP i m = with_pair register_ku i.stack_high i.stack_low m
+result_of LrQDc i m = with_pair register_qu i.data_high i.data_low m
+result_of LrHDc i m = with_pair register_hu i.data_high i.data_low m
 result_of op i m = effect op (used_byte (row_of op) i) m
 
 -- The counters after an instruction. The flag says that the set has a second data counter. A branch that is taken counts from the
@@ -364,12 +365,12 @@ own_inputs op memory seats s = record {
   stack_high = s.flow.p1 / 256;
   stack_low = s.flow.p1 % 256;
   accumulator = s.registers.accumulator;
-  k_high = scratch_byte 12 s.registers;
-  k_low = scratch_byte 13 s.registers;
-  q_high = scratch_byte 14 s.registers;
-  q_low = scratch_byte 15 s.registers;
-  h_high = scratch_byte 10 s.registers;
-  h_low = scratch_byte 11 s.registers;
+  k_high = scratch_byte register_ku s.registers;
+  k_low = scratch_byte register_kl s.registers;
+  q_high = scratch_byte register_qu s.registers;
+  q_low = scratch_byte register_ql s.registers;
+  h_high = scratch_byte register_hu s.registers;
+  h_low = scratch_byte register_hl s.registers;
   port = port_field op;
   port_byte = read_port op (byte_at memory (places_on s.flow.p 1)) seats s;
   vector_high = 0;

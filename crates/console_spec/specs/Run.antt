@@ -6,11 +6,13 @@ use Rattle.f8_spec.specs.Instructions.{decoded, row_of}
 use Rattle.f8_spec.specs.MicroSteps.{reset_steps}
 use Rattle.f8_spec.specs.ChipState.{ChipView}
 use Rattle.f8_spec.specs.BusArbitration.{Seat, seat_of}
+use Rattle.f8_spec.specs.declared.chips.PowerOn.{PowerOn}
 use Rattle.f8_spec.specs.declared.instructions.Op.{Op}
 use Rattle.console_spec.specs.AddressSpace.{byte_at}
 use Rattle.console_spec.specs.Processor.{Inputs, after_reset, with_pulse}
 use Rattle.console_spec.specs.FlatMachine.{FlatState, flat_at_power, flat_after, gets, gets_all}
 use Rattle.console_spec.specs.CounterCopies.{Copy, copies_after, reset_copy}
+use Rattle.console_spec.specs.Powering.{start_in}
 use Rattle.console_spec.specs.BusAccesses.{Access, accesses_of}
 use Rattle.console_spec.specs.Services.{Fault, first_fault}
 use Rattle.console_spec.specs.BusTrace.{Course, course_of, steps_with}
@@ -62,13 +64,12 @@ instruction_course op x =
 
 -- ---- power-on and reset
 
--- Power-on, on a rack of chips that are fitted and a chain of those described. The copies are those that reset will
--- leave: the stack register and the data counters of a
--- chip stand where power-on left its counters.
-abbrev pub power_position : List ChipView → List ℕ → ℕ → Position
-power_position vs chain fill = record {
-  flat = flat_at_power vs fill;
-  copies = map (reset_copy fill) (enumerate_from 0 (map seat_of vs));
+-- Power-on, on a rack of chips that are fitted and a chain of those described, with what is said of each. The copies are those that reset
+-- will leave: the stack register and the data counters of a chip stand where power-on left its counters.
+abbrev pub power_position : List ChipView → List ℕ → List PowerOn → ℕ → Position
+power_position vs chain powers fill = record {
+  flat = flat_at_power vs chain powers fill;
+  copies = map (reset_copy (start_in fill chain powers)) (enumerate_from 0 (map seat_of vs));
   chain = chain;
 }
 

@@ -3,6 +3,7 @@
 use Rattle.std.specs.Prelude.{ℕ, zero, suc, false, ◌==◌, nat_le, Bool, if◌then◌else◌, List, [], ◌∷◌, ◌++◌, length, take, map, flat_map, Option, Some, None}
 use Rattle.std.specs.List.{list_any}
 use Rattle.f8_spec.specs.ChipState.{ChipView}
+use Rattle.f8_spec.specs.declared.chips.PowerOn.{PowerOn}
 use Rattle.console_spec.specs.declared.PortWrite.{PortWrite}
 use Rattle.console_spec.specs.Processor.{State, with_key}
 use Rattle.console_spec.specs.Services.{Fault, Conflict, Undriven, Astray}
@@ -143,8 +144,8 @@ on_flat = record { step = flat_next; course = λ x. record { steps = []; fault =
 abbrev pub power_moment : Script → Moment
 power_moment script = record { heard = []; told = []; events = events_at 0 script.events }
 
-abbrev pub begun : List ChipView → List ℕ → Script → Position
-begun vs chain script = with_events (events_at 0 script.events) (power_position vs chain script.power)
+abbrev pub begun : List ChipView → List ℕ → List PowerOn → Script → Position
+begun vs chain powers script = with_events (events_at 0 script.events) (power_position vs chain powers script.power)
 
 abbrev pub reset_moment : Bool → Position → Moment
 reset_moment traced x = record { heard = (reset_course x).steps; told = told_steps traced (reset_course x); events = [] }
@@ -154,13 +155,14 @@ abbrev pub telling_behind : Position → (Position → Telling) → Turn → Tel
 telling_behind x rest (Stops stop) = record { moments = []; ending = record { position = x; stop = stop } }
 telling_behind x rest (Goes y) = rest y
 
--- a whole run on a rack of chips that are fitted, with the chain of those described
-unfoldable pub played_by : List ChipView → List ℕ → Bool → Script → Telling
-played_by vs chain traced script =
-    let x = begun vs chain script in
+-- a whole run on a rack of chips that are fitted, with the chain of those described and what is said of their power-on
+unfoldable pub played_by : List ChipView → List ℕ → List PowerOn → Bool → Script → Telling
+played_by vs chain powers traced script =
+    let x = begun vs chain powers script in
     let later = telling_behind x (telling (on_rack traced) script (most_instructions script.end)) (goes_unless (reset_fault x) (position_after_reset x)) in
     record { moments = power_moment script ∷ reset_moment traced x ∷ later.moments; ending = later.ending }
 
 -- a whole run on the flat instruction set alone, of chips that are all described
-unfoldable pub referred_by : List ChipView → Script → Telling
-referred_by vs script = telling on_flat script (most_instructions script.end) (position_after_reset (begun vs (chain_in_order vs) script))
+unfoldable pub referred_by : List ChipView → List PowerOn → Script → Telling
+referred_by vs powers script =
+    telling on_flat script (most_instructions script.end) (position_after_reset (begun vs (chain_in_order vs) powers script))

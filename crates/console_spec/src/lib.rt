@@ -1,9 +1,12 @@
 //! What a program and its run are: the definitions that the contracts of the crates above cite, in `specs/`, and the plain types
-//! that those definitions name. There is no code here beyond the types.
+//! that those definitions name. There is no code here beyond the types and a size.
 #![tactic(auto)]
 
+/// How many bytes the scratchpad has, one a register (Fairchild F8 User's Guide).
+pub const SCRATCHPAD_SIZE: usize = 64;
+
 /// The registers as a run tells them: `p` is the address of the instruction that comes next, `p1` the stack register, `d0` and
-/// `d1` the data counters, `a` the accumulator, `isar` below 64, `w` the status word, and the 64 bytes of the scratchpad.
+/// `d1` the data counters, `a` the accumulator, `isar` below 64, `w` the status word, and the bytes of the scratchpad.
 #[derive(Clone, Copy, Debug)]
 pub struct Regs {
     pub p: u16,
@@ -13,7 +16,7 @@ pub struct Regs {
     pub a: u8,
     pub isar: u8,
     pub w: u8,
-    pub scratch: [u8; 64],
+    pub scratch: [u8; SCRATCHPAD_SIZE],
 }
 
 /// What an address is to the chips of a program. That an address which several chips hold is none's is this project's own.

@@ -3,6 +3,7 @@
 -- after the Fairchild F8 User's Guide.
 use Rattle.std.specs.Prelude.{◌≡◌, ◌<◌, ℕ, ◌+◌, ◌==◌, nat_lt, if◌then◌else◌, Bool, false, List, [], map, length, Option, Some, None}
 use Rattle.f8_spec.specs.Instructions.{decoded, row_of}
+use Rattle.f8_spec.specs.RegisterNumbers.{register_hu, register_hl, register_ku, register_kl, register_qu, register_ql}
 use Rattle.f8_spec.specs.MicroSteps.{Step as MicroStep, steps_before_fetch, steps_of}
 use Rattle.f8_spec.specs.declared.instructions.Op.{Op}
 use Rattle.f8_spec.specs.declared.instructions.Op.TheVariants.{LrQDc, LrHDc}
@@ -66,11 +67,11 @@ two first second index = if index == 0 then first else only 1 second index
 
 -- the byte of a step, by the row and the port of an instruction
 abbrev pub driven_in : Row → ℕ → ℕ → Registers → ℕ
-driven_in StackFromK port index m = two (scratch_byte 12 m) (scratch_byte 13 m) index
-driven_in CallK port index m = two (scratch_byte 13 m) (scratch_byte 12 m) index
-driven_in JumpQ port index m = two (scratch_byte 15 m) (scratch_byte 14 m) index
-driven_in DataFromQ port index m = two (scratch_byte 14 m) (scratch_byte 15 m) index
-driven_in DataFromH port index m = two (scratch_byte 10 m) (scratch_byte 11 m) index
+driven_in StackFromK port index m = two (scratch_byte register_ku m) (scratch_byte register_kl m) index
+driven_in CallK port index m = two (scratch_byte register_kl m) (scratch_byte register_ku m) index
+driven_in JumpQ port index m = two (scratch_byte register_ql m) (scratch_byte register_qu m) index
+driven_in DataFromQ port index m = two (scratch_byte register_qu m) (scratch_byte register_ql m) index
+driven_in DataFromH port index m = two (scratch_byte register_hu m) (scratch_byte register_hl m) index
 driven_in StoreData port index m = only 0 m.accumulator index
 driven_in PortOut port index m = only 1 m.accumulator index
 driven_in Call port index m = only 3 m.accumulator index

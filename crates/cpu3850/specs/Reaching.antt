@@ -9,6 +9,7 @@ use Rattle.f8_spec.specs.declared.instructions.Op.{Op}
 use Rattle.console_spec.specs.Processor.{Inputs, byte_of, scratch_byte, is_taken, port_field, result_of}
 use Rattle.cpu3850.specs.CpuPorts.{read_by, put_by}
 use Rattle.cpu3850.specs.CpuSteps.{CpuState, driven, taken}
+use Rattle.f8_spec.specs.RegisterNumbers.{register_hu, register_hl, register_ku, register_kl, register_qu, register_ql}
 
 -- the byte of a step is that of the CPU, or of nobody
 abbrev pub is_placed_by : Driver → Bool
@@ -26,12 +27,12 @@ abbrev pub from_cpu : Op → CpuState → Inputs → Inputs
 from_cpu op c i = record i {
   taken = is_taken op c.registers;
   accumulator = c.registers.accumulator;
-  k_high = scratch_byte 12 c.registers;
-  k_low = scratch_byte 13 c.registers;
-  q_high = scratch_byte 14 c.registers;
-  q_low = scratch_byte 15 c.registers;
-  h_high = scratch_byte 10 c.registers;
-  h_low = scratch_byte 11 c.registers;
+  k_high = scratch_byte register_ku c.registers;
+  k_low = scratch_byte register_kl c.registers;
+  q_high = scratch_byte register_qu c.registers;
+  q_low = scratch_byte register_ql c.registers;
+  h_high = scratch_byte register_hu c.registers;
+  h_low = scratch_byte register_hl c.registers;
   port = port_field op;
   port_byte = read_by op i.port_byte c.ports;
 }

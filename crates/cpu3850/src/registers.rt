@@ -1,13 +1,10 @@
 // Accumulator, ISAR, status word and scratchpad, and what a step makes of them.
 use super::kept::Kept;
-use console_spec::Regs;
-use f8_ops::registers::{H, J, K, Q};
+use console_spec::{Regs, SCRATCHPAD_SIZE};
+use f8_ops::registers::{H, J, K, POINTED, Q, STEPPED_DOWN, STEPPED_UP};
 use f8_ops::{Op, Row};
 use f8_words::{Flags, Sum, add9, bcd};
 use std::marker::Model;
-
-/// How many bytes the scratchpad has.
-const SCRATCHPAD_SIZE: usize = 64;
 
 /// What the 3850 keeps beside the opcode: accumulator, ISAR, status word and scratchpad. Contracts see the flat machine's registers.
 #[derive(Debug, Drop)]
@@ -69,7 +66,7 @@ impl RegisterFile {
         ensures value { result ≡ register_of field self.now }
         ensures below { result < 64 }
     {
-        if field < 12 { field } else { self.isar }
+        if field < POINTED { field } else { self.isar }
     }
 
     fn field(&self, field: u8) -> u8
@@ -83,8 +80,8 @@ impl RegisterFile {
     {
         let isar = self.isar;
         match field {
-            13 => self.isar = isar / 8 * 8 + (isar + 1) % 8,
-            14 => self.isar = isar / 8 * 8 + (isar + 7) % 8,
+            STEPPED_UP => self.isar = isar / 8 * 8 + (isar + 1) % 8,
+            STEPPED_DOWN => self.isar = isar / 8 * 8 + (isar + 7) % 8,
             _ => {}
         }
     }

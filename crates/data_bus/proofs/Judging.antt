@@ -6,7 +6,7 @@ use Rattle.f8_spec.specs.BusCodes.{driver_of}
 use Rattle.f8_spec.specs.ChipState.{ChipView, ChipState, offered}
 use Rattle.f8_spec.specs.BusArbitration.{is_first, party_if, party_of, bystander_of, parties, bystanders, lowest}
 use Rattle.f8_spec.specs.BusArbitration.{judged, rule_of, offer_of, offers, only_byte, byte_by, named_placed}
-use Rattle.f8_spec.specs.BusArbitration.{view_verdict, bus_byte}
+use Rattle.f8_spec.specs.BusArbitration.{view_ruling, bus_byte}
 use Rattle.f8_spec.specs.declared.bus.BusRule.{BusRule}
 use Rattle.f8_spec.specs.declared.bus.BusRule.TheVariants.{Read, Store, PortRead, PortWrite, Vector, NoChip}
 use Rattle.f8_spec.specs.declared.bus.Party.{Party}
@@ -148,7 +148,7 @@ module _ (rule : BusRule) (romc reference : ℕ) (first : Option ℕ) where
   of_mapped h f [] = refl
   of_mapped h f (x ∷ xs) = ap (cons_option (h (f x))) (of_mapped h f xs)
 
-  -- a verdict reads of the whole poll what it reads of the chips
+  -- a ruling reads of the whole poll what it reads of the chips
   judged-polled : ((x : ℕ × ChipView) → party_in x.0 (answer_at x) ≡ party_of rule (named_placed romc x)) →
       ((x : ℕ × ChipView) → bystander_in x.0 (answer_at x) ≡ bystander_of rule reference (named_placed romc x)) → (vs : List ChipView) →
       judged rule first reference (polled rule romc reference first 0 vs no_poll).parties (polled rule romc reference first 0 vs no_poll).bystander
@@ -187,41 +187,41 @@ offers-said Vector romc reference true v facts = offer_in-answer_by (offered rom
 offers-said Vector romc reference false v facts = sym (facts false)
 offers-said NoChip romc reference mark v facts = sym (facts mark)
 
--- the verdict on the poll
-verdict-polled : (rule : BusRule) (romc reference : ℕ) (first : Option ℕ) → ((m : Bool) (v : ChipView) → FactsBy rule romc m v) → (vs : List ChipView) →
+-- the ruling on the poll
+ruling-polled : (rule : BusRule) (romc reference : ℕ) (first : Option ℕ) → ((m : Bool) (v : ChipView) → FactsBy rule romc m v) → (vs : List ChipView) →
     judged rule first reference (polled rule romc reference first 0 vs no_poll).parties (polled rule romc reference first 0 vs no_poll).bystander
     ≡ judged rule first reference (parties rule (map (named_placed romc) (enumerate_from 0 vs)))
     (lowest (bystanders rule reference (map (named_placed romc) (enumerate_from 0 vs))))
-verdict-polled Read romc reference first facts vs = judged-polled Read romc reference first
+ruling-polled Read romc reference first facts vs = judged-polled Read romc reference first
     (λ x. party_in-answer_by x.0 _ _ (offered romc (is_first first x.0) x.1) _ _ (facts (is_first first x.0) x.1).offers)
     (λ x. bystander_in-answer_by x.0 _ _ (offered romc (is_first first x.0) x.1) _ _
     (facts (is_first first x.0) x.1).offers (facts (is_first first x.0) x.1).tells) vs
-verdict-polled Store romc reference first facts vs = judged-polled Store romc reference first
+ruling-polled Store romc reference first facts vs = judged-polled Store romc reference first
     (λ x. party_in-answer_by x.0 _ _ (offered romc (is_first first x.0) x.1) _ _ (facts (is_first first x.0) x.1).offers)
     (λ x. bystander_in-answer_by x.0 _ _ (offered romc (is_first first x.0) x.1) _ _
     (facts (is_first first x.0) x.1).offers (facts (is_first first x.0) x.1).tells) vs
-verdict-polled PortRead romc reference first facts vs = judged-polled PortRead romc reference first
+ruling-polled PortRead romc reference first facts vs = judged-polled PortRead romc reference first
     (λ x. party_in-answer_by x.0 _ _ (offered romc (is_first first x.0) x.1) _ _ (facts (is_first first x.0) x.1))
     (λ x. bystander_in-none x.0 _ _ (offered romc (is_first first x.0) x.1) _) vs
-verdict-polled PortWrite romc reference first facts vs = judged-polled PortWrite romc reference first
+ruling-polled PortWrite romc reference first facts vs = judged-polled PortWrite romc reference first
     (λ x. party_in-answer_by x.0 _ _ (offered romc (is_first first x.0) x.1) _ _ (facts (is_first first x.0) x.1))
     (λ x. bystander_in-none x.0 _ _ (offered romc (is_first first x.0) x.1) _) vs
-verdict-polled Vector romc reference first facts vs = refl
-verdict-polled NoChip romc reference first facts vs = refl
+ruling-polled Vector romc reference first facts vs = refl
+ruling-polled NoChip romc reference first facts vs = refl
 
 -- a step answers by the poll what the bus rule says of the rack
 pub poll_answer-polled : (cycle : Cycle) (reference : ℕ) (states : List ChipState) → cycle.romc < 32 →
     poll_answer (rule_of cycle.romc) cycle reference (polled (rule_of cycle.romc) cycle.romc reference cycle.first 0 (views states) no_poll)
-    ≡ answered cycle.romc (bus_byte cycle.romc cycle.first cycle.byte (named_views states)) (view_verdict cycle.romc cycle.first reference (named_views states))
+    ≡ answered cycle.romc (bus_byte cycle.romc cycle.first cycle.byte (named_views states)) (view_ruling cycle.romc cycle.first reference (named_views states))
 poll_answer-polled cycle reference states below =
     let facts : CodeFacts cycle.romc = code_facts cycle.romc below in
     let byte = byte-polled (rule_of cycle.romc) cycle.romc reference cycle.first
     (λ x. offers-said (rule_of cycle.romc) cycle.romc reference (is_first cycle.first x.0) x.1 (λ m. facts m x.1)) (views states) in
-    let verdict = verdict-polled (rule_of cycle.romc) cycle.romc reference cycle.first facts (views states) in
+    let ruling = ruling-polled (rule_of cycle.romc) cycle.romc reference cycle.first facts (views states) in
     let whole : Poll = polled (rule_of cycle.romc) cycle.romc reference cycle.first 0 (views states) no_poll in
     ap (λ (b : ℕ). answered cycle.romc (byte_by (driver_of cycle.romc) cycle.byte b)
     (judged (rule_of cycle.romc) cycle.first reference whole.parties whole.bystander)) byte
-    ∙ ap (answered cycle.romc (bus_byte cycle.romc cycle.first cycle.byte (named_views states))) verdict
+    ∙ ap (answered cycle.romc (bus_byte cycle.romc cycle.first cycle.byte (named_views states))) ruling
 
 -- where no chip is asked, the poll is empty
 pub polled_unasked : (romc reference : ℕ) (first : Option ℕ) (n : ℕ) (vs : List ChipView) → polled NoChip romc reference first n vs no_poll ≡ no_poll

@@ -58,7 +58,7 @@ all-at : (romc : ℕ) (marks : Marks) (reference : Count) (heard : ℕ) (vs : Li
 all-at romc marks reference heard [] known agree are = tt
 all-at romc marks reference heard (v ∷ vs) known agree are = (
   record {
-    address = small-place (counter_of romc) marks v.counters v.last known are.0;
+    address = small-place (counter_of romc) marks v.counters v.last known are.0.addresses;
     same = λ held. known-place (counter_of romc) marks reference v.counters v.last heard (has_second_counter v.kind) known (agree.0 held);
   },
   all-at romc marks reference heard vs known agree.1 are.1,

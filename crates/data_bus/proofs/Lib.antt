@@ -20,3 +20,4 @@ pub mod Standing
 pub mod MarksTable
 pub mod WorkedAllowances
 pub mod ServedSteps
+mod WorkedIndex

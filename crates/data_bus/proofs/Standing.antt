@@ -50,7 +50,7 @@ stands-after romc long first byte before after probe heard olds mids news small 
     let at : StandsFor (followed romc before) (probe_after romc byte probe) news = record {
       lists = subst (λ these. IsIndexOf (followed romc before) these) (sym stay) (lists-followed romc before (seats olds) stands.lists);
       marks = agreement_kept before.is_parted romc long first byte before.marks probe olds news
-          (λ some. stands.lists.parted ∙ some) ran stands.marks;
+          (λ some. stands.lists.parted ∙ some) ran stands.addresses stands.marks;
       addresses = addresses_kept romc long first byte olds news small ran stands.addresses;
     } in
     subst (λ (index : Index). StandsFor index heard news) (sym follows)

@@ -8,7 +8,7 @@ use Rattle.f8_spec.specs.ChipState.{has_ram_at, port_written, port_written_if, t
 use Rattle.f8_spec.specs.BusArbitration.{Seat, seat_of, is_first}
 use Rattle.f8_spec.specs.Instructions.{step_clocks}
 use Rattle.f8_spec.specs.declared.chips.ChipKind.{ChipKind}
-use Rattle.f8_spec.specs.declared.chips.ChipKind.TheVariants.{Psu, Smi}
+use Rattle.f8_spec.specs.declared.chips.ChipKind.TheVariants.{Psu, Smi, Pio}
 use Rattle.data_bus.specs.Racks.{SettlesStep}
 
 -- ---- what a code does to a chip apart from its counters
@@ -31,6 +31,7 @@ no_vector : (kind : ChipKind) (vector written : ℕ) → kind ≡ Smi →
     (if has_fixed_vector kind then written else 0) ≡ (if has_fixed_vector kind then vector else 0)
 no_vector Psu vector written is = absurd (cc)
 no_vector Smi vector written is = refl
+no_vector Pio vector written is = absurd (cc)
 
 -- a port that is written
 module _ (byte : ℕ) (v : ChipView) where
@@ -70,6 +71,8 @@ module _ (byte : ℕ) (v : ChipView) where
   role_written Smi offset is =
       harmless_if (offset == 2) _ _ control_written
       (harmless_if (offset == 3) _ _ timer_written (harmless_if (offset == 0) _ _ (high_written is) (low_written is)))
+  role_written Pio offset is =
+      harmless_if (offset == 2) _ _ control_written (harmless_if (offset == 3) _ _ timer_written (data_written offset))
 
   written_at : (offset : Option ℕ) → IsUndisturbed v (port_written_if (option_map (role_at v.kind) offset) byte v)
   unfolding IsHarmless
@@ -85,23 +88,20 @@ effect_kept romc byte first v =
 
 -- ---- the whole step
 
--- a chip over a step with a code and a byte: its seat stays, and its counters move
+-- the counters of a chip of a kind after a code with its byte
+abbrev pub own_moved : ℕ → ℕ → ChipKind → Count → Count
+own_moved romc byte kind own = if has_counters kind then moved_by romc byte (has_second_counter kind) own else own
+
+-- a chip over a step with a code and a byte: its seat stays, and its counters move where it has any
 pub record StepsAlong (romc byte : ℕ) (old new : ChipView) : Type 0 where
   pub seat : seat_of new ≡ seat_of old
-  pub counters : new.counters ≡ moved_by romc byte (has_second_counter old.kind) old.counters
-
--- each kind of chip has counters
-all_count : (romc byte : ℕ) (kind : ChipKind) (own : Count) →
-    (if has_counters kind then moved_by romc byte (has_second_counter kind) own else own) ≡ moved_by romc byte (has_second_counter kind) own
-all_count romc byte Psu own = refl
-all_count romc byte Smi own = refl
+  pub counters : new.counters ≡ own_moved romc byte old.kind old.counters
 
 counters_along : (romc byte : ℕ) (old new : ChipView) → IsUndisturbed old new →
-    counters_moved romc byte new ≡ moved_by romc byte (has_second_counter old.kind) old.counters
+    counters_moved romc byte new ≡ own_moved romc byte old.kind old.counters
 counters_along romc byte old new kept =
     let kind : new.kind ≡ old.kind = ap (λ (s : Seat). s.kind) kept.seat in
-    all_count romc byte new.kind new.counters ∙ ap (λ k. moved_by romc byte (has_second_counter k) new.counters) kind
-    ∙ ap (λ own. moved_by romc byte (has_second_counter old.kind) own) kept.counters
+    ap (λ k. own_moved romc byte k new.counters) kind ∙ ap (λ own. own_moved romc byte old.kind own) kept.counters
 
 after_step_along : (step : HeardStep) (v : ChipView) → StepsAlong step.romc step.byte v (after_step step v)
 after_step_along step v =

@@ -3,7 +3,7 @@
 use Rattle.std.specs.Prelude.{ℕ, ◌/◌, ◌%◌, ◌≡◌, ◌<◌, ◌==◌, nat_lt, Bool, true, false, not, ◌&&◌, ◌||◌, if◌then◌else◌, List}
 use Rattle.std.specs.List.{AllByRecursion, list_any}
 use Rattle.f8_spec.specs.BusCodes.{Count}
-use Rattle.f8_spec.specs.ChipState.{ChipView, has_second_counter}
+use Rattle.f8_spec.specs.ChipState.{ChipView, IsOfItsKind, has_second_counter}
 use Rattle.f8_spec.specs.BusArbitration.{Seat}
 use Rattle.f8_spec.specs.declared.bus.Counter.{Counter}
 use Rattle.f8_spec.specs.declared.bus.Counter.TheVariants.{Pc0, Pc1, Dc0, NoCounter}
@@ -104,6 +104,11 @@ pub record AreAddresses (count : Count) : Type 0 where
   pub dc0 : count.dc0 < 65536
   pub dc1 : count.dc1 < 65536
 
--- so do those of every chip
+-- so do those of a chip, which holds no page where it has no counters
+pub record IsCounted (v : ChipView) : Type 0 where
+  pub addresses : AreAddresses v.counters
+  pub of_its_kind : IsOfItsKind v
+
+-- and so it is with every chip
 abbrev pub AllAddresses : List ChipView → Type 0
-AllAddresses views = AllByRecursion (λ v. AreAddresses v.counters) views
+AllAddresses views = AllByRecursion IsCounted views

@@ -2,13 +2,13 @@
 use Rattle.std.specs.Prelude.{ℕ, List, Option, Some, None, Result, Ok, Err}
 use Rattle.f8_spec.specs.BusCodes.{driver_of}
 use Rattle.f8_spec.specs.ChipState.{ChipState}
-use Rattle.f8_spec.specs.BusArbitration.{Verdict, Served as ServedBy, Conflict, Undriven, Astray, place_in, judged, byte_by, bus_byte, view_verdict}
+use Rattle.f8_spec.specs.BusArbitration.{Ruling, Served as ServedBy, Conflict, Undriven, Astray, place_in, judged, byte_by, bus_byte, view_ruling}
 use Rattle.f8_spec.specs.declared.bus.BusRule.{BusRule}
 use Rattle.f8_spec.specs.declared.bus.Party.{Party}
 use Rattle.probe.specs.ProbeState.{ProbeState}
 use Rattle.data_bus.specs.declared.cycle.Cycle.{Cycle}
 use Rattle.data_bus.specs.declared.cycle.Served.{Served}
-use Rattle.data_bus.specs.declared.decide.Ruling.{Ruling}
+use Rattle.data_bus.specs.declared.decide.Ruling.{Ruling as Decided}
 use Rattle.data_bus.specs.declared.decide.Ruling.TheVariants.{Served as ServedRuling, Conflict as ConflictRuling}
 use Rattle.data_bus.specs.declared.decide.Ruling.TheVariants.{Undriven as UndrivenRuling, Astray as AstrayRuling}
 use Rattle.data_bus.specs.declared.fault.BusFault.{BusFault}
@@ -16,15 +16,15 @@ use Rattle.data_bus.specs.declared.fault.BusFault.TheVariants.{Conflict as Confl
 use Rattle.data_bus.specs.declared.poll.Poll.{Poll}
 use Rattle.data_bus.specs.Racks.{named_views}
 
--- a verdict on a step with a code, and its byte where it is served
-abbrev pub answered : ℕ → ℕ → Verdict → Result Served BusFault
+-- a ruling on a step with a code, and its byte where it is served
+abbrev pub answered : ℕ → ℕ → Ruling → Result Served BusFault
 answered romc byte (ServedBy socket) = Ok (record { byte = byte; socket = socket })
 answered romc byte (Conflict parties) = Err (ConflictFault romc parties)
 answered romc byte (Undriven at) = Err (UndrivenFault romc at)
 answered romc byte (Astray socket at reference) = Err (AstrayFault romc socket at reference)
 
--- what the rule says, as a verdict: of which chips, and at which place of the probe
-abbrev pub ruled : ℕ → List Party → Ruling → Verdict
+-- what the rule says, as a ruling: of which chips, and at which place of the probe
+abbrev pub ruled : ℕ → List Party → Decided → Ruling
 ruled reference parties (ServedRuling socket) = ServedBy socket
 ruled reference parties ConflictRuling = Conflict parties
 ruled reference parties UndrivenRuling = Undriven reference
@@ -43,7 +43,7 @@ probe_place romc p = place_in romc p.count p.last
 abbrev pub step_answer : Cycle → ProbeState → List ChipState → Result Served BusFault
 step_answer cycle probe states =
     answered cycle.romc (bus_byte cycle.romc cycle.first cycle.byte (named_views states))
-    (view_verdict cycle.romc cycle.first (probe_place cycle.romc probe) (named_views states))
+    (view_ruling cycle.romc cycle.first (probe_place cycle.romc probe) (named_views states))
 
 -- what it answers by what one pass over the chips gathered
 abbrev pub poll_answer : BusRule → Cycle → ℕ → Poll → Result Served BusFault

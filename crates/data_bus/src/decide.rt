@@ -1,7 +1,7 @@
 // The bus rule: whether a step is served, by what the chips answered.
 ghost use Rattle.std.specs.Prelude.{◌≡◌, ◌≤◌, ℕ, List, length};
 ghost use Rattle.f8_spec.specs.BusCodes.{driver_of as driver_by_table};
-ghost use Rattle.f8_spec.specs.BusArbitration.{byte_by, judged, one_party, port_read_verdict, port_write_verdict, read_verdict, store_verdict, unless_bystander};
+ghost use Rattle.f8_spec.specs.BusArbitration.{byte_by, judged, one_party, port_read_ruling, port_write_ruling, read_ruling, store_ruling, unless_bystander};
 ghost use Rattle.data_bus.specs.Steps.{poll_answer, ruled, served_of};
 
 use super::{BusFault, Cycle, Parties, Served};
@@ -53,7 +53,7 @@ fn one_party(reference: u16, party: Party, bystander: Option<Party>) -> Ruling
 /// A chip has to drive the byte.
 #[inline(always)]
 fn read(reference: u16, parties: &[Party], bystander: Option<Party>) -> Ruling
-    ensures { ruled reference parties.now result ≡ read_verdict reference parties.now bystander }
+    ensures { ruled reference parties.now result ≡ read_ruling reference parties.now bystander }
 {
     match parties {
         [] => Ruling::Undriven,
@@ -65,7 +65,7 @@ fn read(reference: u16, parties: &[Party], bystander: Option<Party>) -> Ruling
 /// A chip may take the byte. One that none takes is lost.
 #[inline(always)]
 fn store(reference: u16, parties: &[Party], bystander: Option<Party>) -> Ruling
-    ensures { ruled reference parties.now result ≡ store_verdict reference parties.now bystander }
+    ensures { ruled reference parties.now result ≡ store_ruling reference parties.now bystander }
 {
     match parties {
         [] => unless_bystander(None, bystander),
@@ -78,7 +78,7 @@ fn store(reference: u16, parties: &[Party], bystander: Option<Party>) -> Ruling
 #[inline(always)]
 fn port_read(parties: &[Party]) -> Ruling
     ensures { (reference : ℕ) →
-        ruled reference parties.now result ≡ port_read_verdict reference parties.now }
+        ruled reference parties.now result ≡ port_read_ruling reference parties.now }
 {
     match parties {
         [] => Ruling::Undriven,
@@ -90,7 +90,7 @@ fn port_read(parties: &[Party]) -> Ruling
 /// A chip that has the port may take the byte.
 #[inline(always)]
 fn port_write(parties: &[Party]) -> Ruling
-    ensures { (reference : ℕ) → ruled reference parties.now result ≡ port_write_verdict parties.now }
+    ensures { (reference : ℕ) → ruled reference parties.now result ≡ port_write_ruling parties.now }
 {
     match parties {
         [] => Ruling::Served(None),

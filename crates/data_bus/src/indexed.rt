@@ -176,10 +176,12 @@ pub fn step_known(
     }
 }
 
-/// The step in all other cases, as [`step_by`] makes it: where it isn't served, and where every chip is asked.
+/// One bus step as [`step_by`] makes it, without a try by the index alone: for a caller that has had `None` of [`step_known`] for it.
+///
+/// It puts no more questions than the step's allowance.
 #[tactic(auto, using(crate::proofs::Racks::stays_all, crate::proofs::Questions::asked_then))]
 #[inline(never)]
-fn step_asking(
+pub fn step_asking(
     rack: &mut Rack,
     probe: &mut Probe,
     index: &mut Index,
@@ -213,7 +215,8 @@ fn step_asking(
 /// probe before and after. Where the step is served the index goes on by the table of marks, and else it stays.
 ///
 /// No more questions are put than the step's allowance: none where no chip takes part, and one where a chip is named, or where both
-/// halves of the step's counter are known; at the codes 1A and 1B one to each chip, and else three to each at most.
+/// halves of the step's counter are known; at the codes 1A and 1B one to each chip, and else four times as many as there are chips, of which
+/// no chip is put more than three.
 #[tactic(auto, using(crate::proofs::Questions::asked_since))]
 #[inline(always)]
 pub fn step_by(

@@ -24,7 +24,7 @@ pub use cycle::{Cycle, Served};
 pub use f8_spec::Party;
 pub use fault::BusFault;
 pub use index::Index;
-pub use indexed::{step_by, step_known};
+pub use indexed::{step_asking, step_by, step_known};
 pub use marks::{Halves, Marks};
 pub use order::{order_law, sockets_law};
 pub use parties::Parties;

@@ -46,7 +46,7 @@ fn has_second_counter(kind: ChipKind) -> bool
     ensures { result ≡ has_second kind }
 {
     match kind {
-        ChipKind::Psu => false,
+        ChipKind::Psu | ChipKind::Pio => false,
         ChipKind::Smi => true,
     }
 }

@@ -3,7 +3,6 @@ use Rattle.std.proofs.Common.{◌≡◌, ℕ, List, [], ◌∷◌, ◌++◌, Res
 use Rattle.std.specs.Prelude.{codes}
 use Rattle.asm_text.specs.Bytes.{value, narrow}
 use Rattle.asm_text.specs.Lexemes.{name_of, name_lexeme, number_of, number_lexeme, quoted_lexeme, lexeme}
-use Rattle.f8_spec.specs.Spelling.{hex2, hex4}
 use Rattle.asm_text.specs.Tokens.{tokens_at, tokens_of}
 use Rattle.f8_spec.specs.Instructions.{decoded, mnemonic_of}
 use Rattle.f8_asm.specs.declared.answers.AsmCause.TheVariants.{Unknown, Undefined, Range, BranchRange}

@@ -1,10 +1,9 @@
 -- Faults of a text, of one of its lines, and by number.
-use Rattle.std.specs.Prelude.{◌≡◌, ℕ, List, Vec, Option, Result, Ok, Err}
+use Rattle.std.specs.Prelude.{ℕ, List, Vec, Option, Result, Ok, Err}
 use Rattle.std.specs.Borrow.{Bor}
 use Rattle.std.specs.Global.{Global}
 use Rattle.f8_asm.specs.declared.answers.AsmCause.{AsmCause}
 use Rattle.f8_asm.specs.declared.answers.AsmCause.TheVariants.{Utf8, Token, Unknown, Twice, Undefined, Range, BranchRange, Outside, Overlap, Form}
-use Rattle.f8_asm.specs.declared.answers.AsmFault.{AsmFault}
 use Rattle.text_lines.specs.declared.read_error.ReadError.{ReadError}
 use Rattle.f8_asm.specs.declared.faults.LineFault.{LineFault}
 use Rattle.text_lines.specs.ReadErrors.{SaysSeen}

@@ -1,6 +1,7 @@
 -- The one text of bytes: a statement a line, with no alias.
 use Rattle.std.specs.Borrow.{Bor}
 use Rattle.std.specs.Prelude.{ℕ, zero, suc, ◌+◌, ◌-◌, ◌*◌, ◌<◌, ◌==◌, nat_lt, nat_le, List, [], ◌∷◌, ◌++◌, codes, unwrap_or, Option, Some, None, if◌then◌else◌}
+use Rattle.f8_spec.specs.RegisterNumbers.{pointed_field, up_field, down_field}
 use Rattle.f8_spec.specs.Spelling.{hex2, hex4}
 use Rattle.f8_spec.specs.Instructions.{decoded, row_of, mnemonic_of}
 use Rattle.f8_spec.specs.declared.instructions.Op.{Op}
@@ -24,9 +25,9 @@ small_decimal n = if nat_lt n 10 then (48 + n) ∷ [] else 49 ∷ (38 + n) ∷ [
 -- a register: 12 to 14 have words
 abbrev pub register_text : ℕ → List ℕ
 register_text r =
-    if r == 12 then codes "S" else
-    if r == 13 then codes "I" else
-    if r == 14 then codes "D" else
+    if r == pointed_field then codes "S" else
+    if r == up_field then codes "I" else
+    if r == down_field then codes "D" else
     small_decimal r
 
 -- the operands of an LR between two registers that words alone name

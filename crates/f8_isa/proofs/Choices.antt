@@ -1,5 +1,5 @@
 -- The chip that is chosen is the flat machine's, and so is its vector.
-use Rattle.std.proofs.Common.{◌≡◌, ◌≢◌, ℕ, suc, ◌+◌, ◌-◌, ◌<◌, ◌≤◌, Bool, true, false, inl, inr, List, [], ◌∷◌, length, map, refl, ap, ◌∙◌, arith}
+use Rattle.std.proofs.Common.{◌≡◌, ℕ, suc, ◌+◌, ◌-◌, ◌<◌, ◌≤◌, Bool, true, false, inl, inr, List, [], ◌∷◌, length, map, refl, ap, ◌∙◌, arith}
 use Rattle.std.specs.Prelude.{not, ◌||◌, if◌then◌else◌, nat_lt, nat_le, ◌⊎◌, position, slice_get, slice_index, Option, Some, None, option_map, is_some, cond}
 use Rattle.std.specs.List.{position_or_len}
 use Rattle.std.proofs.lemmas.Bool.Decides.{nat_tests}
@@ -8,9 +8,9 @@ use Rattle.f8_spec.specs.BusArbitration.{Seat}
 use Rattle.f8_spec.specs.ChipState.{has_fixed_vector, vector_under}
 use Rattle.f8_spec.specs.Instructions.{InRange, row_of, row_clocks, clocks_of, clocks_before_fetch, has_long_fetch, is_shielding}
 use Rattle.f8_spec.specs.declared.instructions.Op.{Op}
-use Rattle.f8_spec.specs.declared.instructions.Op.TheVariants.{Out, Pi, Ins, Outs}
+use Rattle.f8_spec.specs.declared.instructions.Op.TheVariants.{Out, Outs}
 use Rattle.f8_spec.specs.declared.instructions.Row.{Row}
-use Rattle.f8_spec.specs.declared.instructions.Row.TheVariants.{Call, Branch, BranchIsar, Idle, ShortIn, ShortOut}
+use Rattle.f8_spec.specs.declared.instructions.Row.TheVariants.{Branch, BranchIsar}
 use Rattle.console_spec.specs.Writes.{latch_of}
 use Rattle.console_spec.specs.FlatStep.{chosen_at}
 use Rattle.console_spec.specs.InterruptRequests.{History, IsPast, control_port, timer_port}

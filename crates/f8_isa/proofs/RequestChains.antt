@@ -15,7 +15,7 @@ use Rattle.f8_isa.specs.Requests.{KnowsRequests, FitsSeat, KnowsEach, KnowsChain
 use Rattle.f8_isa.specs.Requests.{ended_from, ended_at, acknowledged_at_place}
 use Rattle.chip_face.specs.Fitting.{IsChipList, is_blank, fitted}
 use Rattle.chip_face.specs.declared.specification.ChipSpec.{ChipSpec}
-use Rattle.chip_face.specs.declared.specification.ChipSpec.TheVariants.{Blank, Psu, Smi}
+use Rattle.chip_face.specs.declared.specification.ChipSpec.TheVariants.{Blank, Psu, Smi, Pio}
 use Rattle.memory_map.specs.MapOf.{views_of}
 use Rattle.console_spec.specs.Run.{chain_in_order}
 use Rattle.f8_isa.specs.Requests.{with_pulse, after_control, after_load, first_requests}
@@ -303,6 +303,7 @@ fits_first : (chip : ChipSpec) → is_blank chip ≡ false →
 fits_first (Blank kind) kept = cc
 fits_first (Psu base rom ports vector wired) kept = record { ports = refl; wiring = refl; vector = (refl, refl) }
 fits_first (Smi pages rom wired) kept = record { ports = refl; wiring = refl; vector = (refl, refl) }
+fits_first (Pio ports vector wired) kept = record { ports = refl; wiring = refl; vector = (refl, refl) }
 
 first_each : (seats : List Seat) (first : ℕ) (chips : List ChipSpec) →
     ((place : ℕ) (s : Seat) → slice_get (map seat_of (map (fitted None) chips)) place ≡ Some s → slice_get seats (first + place) ≡ Some s) →

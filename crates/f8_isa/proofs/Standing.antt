@@ -1,13 +1,19 @@
 -- The instruction set beside the flat machine.
 use Rattle.std.proofs.Common.{◌≡◌, ◌≢◌, ℕ, ◌+◌, ◌-◌, ◌/◌, ◌%◌, ◌<◌, ◌≤◌, List, [], ◌∷◌, length, map, refl, sym, ap, subst, ◌∙◌, get_or}
 use Rattle.std.proofs.Common.{arith, inl, inr, get_or-set_other, get_or-set_same, eq-eqb}
-use Rattle.std.specs.Prelude.{Bool, true, false, Option, Some, None, ◌⊎◌, ◌==◌, if◌then◌else◌, is_some, slice_index, slice_set}
-use Rattle.std.specs.List.{enumerate_from}
-use Rattle.std.proofs.lemmas.List.{get_or-replicate, length-replicate, length-set}
+use Rattle.std.specs.Prelude.{Bool, true, false, Option, Some, None, ◌⊎◌, ◌==◌, if◌then◌else◌, is_some, slice_get, slice_index, slice_set, unwrap_or}
+use Rattle.std.specs.List.{enumerate_from, position_or_len, range_with_len}
+use Rattle.std.proofs.lemmas.List.FromFn.{get_or-range_with_len, length-range_with_len}
+use Rattle.std.proofs.lemmas.List.Sums.{position_or_len_is}
+use Rattle.std.proofs.lemmas.Option.{slice_get_past}
+use Rattle.std.proofs.lemmas.List.{get_or-replicate, length-map, length-replicate, length-set}
 use Rattle.std.proofs.lemmas.List.FromFn.{fill_by_all}
-use Rattle.std.proofs.lemmas.Bool.{cases_eq, ne_eqb}
+use Rattle.std.proofs.lemmas.Bool.{cases_eq, cases_lt, le-ltb, lt-ltb, ne_eqb}
 use Rattle.f8_spec.specs.Instructions.{InRange, decoded, row_of, row_clocks, clocks_before_fetch, is_shielding}
 use Rattle.f8_spec.specs.Words.{places_on, word}
+use Rattle.f8_spec.specs.Powers.{usual_power}
+use Rattle.f8_spec.specs.declared.chips.PowerOn.{PowerOn}
+use Rattle.console_spec.specs.Powering.{fill_in, power_in, start_in}
 use Rattle.f8_spec.specs.ChipState.{ChipView}
 use Rattle.f8_spec.specs.BusArbitration.{Seat}
 use Rattle.f8_spec.specs.declared.instructions.Op.{Op}
@@ -24,7 +30,7 @@ use Rattle.console_spec.specs.Processor.{counters_after, registers_after}
 use Rattle.console_spec.specs.FlatStep.{after_instruction, chosen_at, chosen_in, clocks_by, inputs_of, with_acknowledged, with_chosen}
 use Rattle.console_spec.specs.InterruptChoice.{vector_of}
 use Rattle.console_spec.proofs.InputLaws.{flow_after-with_interrupt, result_of-with_interrupt}
-use Rattle.console_spec.specs.FlatMemory.{first_byte, first_memory, is_ram_sort}
+use Rattle.console_spec.specs.FlatMemory.{fill_of_owner, first_byte, first_memory, is_ram_sort, owner_of}
 use Rattle.console_spec.specs.FlatMachine.{FlatState, memory_after}
 use Rattle.console_spec.specs.CounterCopies.{Copy, copies_after, reset_copy}
 use Rattle.console_spec.specs.Run.{Position, gets_at, seats_of, position_after, position_after_reset, power_position, chain_in_order}
@@ -36,12 +42,12 @@ use Rattle.f8_isa.specs.IsaState.{IsaState, KnowsRam, StandsAt, LeadsTo, GoesTo,
 use Rattle.f8_isa.specs.IsaState.{phi_after, isa_after}
 use Rattle.f8_isa.specs.IsaState.{sample_time, chosen_place, with_interrupt, finished, VectorFits, TellsInterrupt}
 use Rattle.f8_isa.specs.Requests.{KnowsChain, first_requests, asking_place, place_vector}
-use Rattle.chip_face.specs.Fitting.{IsChipList}
+use Rattle.chip_face.specs.Fitting.{IsChipList, fitted}
 use Rattle.f8_isa.proofs.RequestChains.{chain-written, chain-acknowledged, chain-first}
 use Rattle.f8_isa.proofs.Choices.{IsChosen, AreChosen, some_alike, first_alike, chosen_alike, open_end, vector_alike, requests_left, latch_left}
 use Rattle.f8_isa.proofs.Choices.{sample_alike}
 use Rattle.f8_ops.proofs.ClockBounds.{most_before_fetch}
-use Rattle.f8_isa.specs.KeptMemory.{KeptMemory, IsFirstMemory}
+use Rattle.f8_isa.specs.KeptMemory.{KeptMemory, IsFirstMemory, placed_fill}
 use Rattle.f8_isa.specs.KeptPorts.{AreFirstPorts}
 
 -- ---- seats
@@ -50,28 +56,55 @@ seats_of-copies_after : (row : Row) (i : Inputs) (copies : List Copy) → seats_
 seats_of-copies_after row i [] = refl
 seats_of-copies_after row i (c ∷ cs) = ap (λ l. c.seat ∷ l) (seats_of-copies_after row i cs)
 
-seats_of-reset_copy : (fill place : ℕ) (seats : List Seat) → seats_of (map (reset_copy fill) (enumerate_from place seats)) ≡ seats
-seats_of-reset_copy fill place [] = refl
-seats_of-reset_copy fill place (s ∷ ss) = ap (λ l. s ∷ l) (seats_of-reset_copy fill (place + 1) ss)
+seats_of-reset_copy : (start : ℕ → ℕ) (place : ℕ) (seats : List Seat) → seats_of (map (reset_copy start) (enumerate_from place seats)) ≡ seats
+seats_of-reset_copy start place [] = refl
+seats_of-reset_copy start place (s ∷ ss) = ap (λ l. s ∷ l) (seats_of-reset_copy start (place + 1) ss)
 
 -- ---- power-on
 
 -- a list of 65,536 bytes, each of which is the first one, is the memory at power-on
-first_memory-from_bytes : (views : List ChipView) (fill : ℕ) (bytes : List ℕ) → length bytes ≡ 65536 →
+first_memory-from_bytes : (views : List ChipView) (fill : ℕ → ℕ) (bytes : List ℕ) → length bytes ≡ 65536 →
     ((at : ℕ) → at < 65536 → get_or bytes at 0 ≡ first_byte views fill at) → bytes ≡ first_memory views fill
 unfolding first_memory
 first_memory-from_bytes views fill bytes size each = fill_by_all (first_byte views fill) bytes 65536 0 size each
 
-first_memory-mapped : (table : MapTable) (chips : List ChipSpec) (fill : ℕ) (memory : KeptMemory) → IsMapOf table chips → IsFirstMemory table fill memory →
-    memory.bytes ≡ first_memory (views_of chips) fill
-first_memory-mapped table chips fill memory mapped first =
-    first_memory-from_bytes (views_of chips) fill memory.bytes first.bytes.size
+-- two fills that are alike in each place
+fill_of_owner-alike : (fill other : ℕ → ℕ) (owner : Option ℕ) → ((place : ℕ) → fill place ≡ other place) → fill_of_owner fill owner ≡ fill_of_owner other owner
+fill_of_owner-alike fill other None alike = refl
+fill_of_owner-alike fill other (Some place) alike = alike place
+
+first_memory-mapped : (table : MapTable) (chips : List ChipSpec) (fill other : ℕ → ℕ) (memory : KeptMemory) → IsMapOf table chips →
+    IsFirstMemory table fill memory → ((place : ℕ) → fill place ≡ other place) → memory.bytes ≡ first_memory (views_of chips) other
+first_memory-mapped table chips fill other memory mapped first alike =
+    first_memory-from_bytes (views_of chips) other memory.bytes first.bytes.size
     (λ at below.
     let tells = mapped.tells at below in
-    rw (tells.sort, tells.byte) at (first.bytes.byte at below))
+    rw (tells.sort, tells.owner, tells.byte, fill_of_owner-alike fill other (owner_of (seats_of_chips chips) at) alike) at (first.bytes.byte at below))
 
-pub StandsAt-at_power : (table : MapTable) (chips : List ChipSpec) (fill : ℕ) (memory : KeptMemory) (ports : PortState) → IsMapOf table chips →
-    IsFirstMemory table fill memory → AreFirstPorts table ports → IsChipList chips →
+-- In a chain of the places in order, what is said of the chip in a socket stands in that place, where as much is said as there are chips.
+power_in-order : (powers : List PowerOn) (count socket : ℕ) → length powers ≡ count →
+    power_in (range_with_len 0 count) powers socket ≡ unwrap_or (slice_get powers socket) usual_power
+power_in-order powers count socket many = elim (cases_lt socket count) [
+  | inl within ↦
+      let found : position_or_len (λ s. s == socket) (range_with_len 0 count) ≡ socket =
+      position_or_len_is (λ s. s == socket) (range_with_len 0 count) socket 0 (omega (arith, length-range_with_len 0 count))
+      (λ k before. rw (place k (omega arith)) (ne_eqb k socket (λ same. omega (arith, same))))
+      (λ below. rw (place socket within) (eq-eqb socket socket refl)) in
+      rw (found, length-range_with_len 0 count, lt-ltb socket count within) refl
+  | inr past ↦
+      let none : position_or_len (λ s. s == socket) (range_with_len 0 count) ≡ count =
+      position_or_len_is (λ s. s == socket) (range_with_len 0 count) count 0 (omega (arith, length-range_with_len 0 count))
+      (λ k before. rw (place k before) (ne_eqb k socket (λ same. omega (arith, same))))
+      (λ below. absurd (omega (arith, length-range_with_len 0 count, below))) in
+      rw (none, length-range_with_len 0 count, le-ltb count count (omega arith), slice_get_past powers socket (omega arith)) refl
+]
+  where
+    place : (k : ℕ) → k < count → slice_index (range_with_len 0 count) k ≡ k
+    place k within = omega (arith, get_or-range_with_len 0 count k 0 within)
+
+pub StandsAt-at_power : (table : MapTable) (chips : List ChipSpec) (powers : List PowerOn) (fill : ℕ) (memory : KeptMemory) (ports : PortState) →
+    IsMapOf table chips → length powers ≡ length chips → IsFirstMemory table (placed_fill fill powers) memory → AreFirstPorts table ports →
+    IsChipList chips →
     StandsAt
     (record {
       flow = record { p = 0; p1 = 0; d0 = 0; d1 = 0 };
@@ -82,25 +115,36 @@ pub StandsAt-at_power : (table : MapTable) (chips : List ChipSpec) (fill : ℕ) 
       ports = ports;
       requests = map first_requests chips;
     })
-    0 (position_after_reset (power_position (views_of chips) (chain_in_order (views_of chips)) fill))
-StandsAt-at_power table chips fill memory ports mapped first ports_first limits = record {
-  flat = rw (first_memory-mapped table chips fill memory mapped first, ports_first.keys) refl;
+    0 (position_after_reset (power_position (views_of chips) (chain_in_order (views_of chips)) powers fill))
+StandsAt-at_power table chips powers fill memory ports mapped many first ports_first limits = record {
+  flat = rw (first_memory-mapped table chips (placed_fill fill powers) filled memory mapped first alike, ports_first.keys) refl;
   ram = record {
     page = λ at below.
         let tells = mapped.tells at below in
-        rw (seats_of-reset_copy fill 0 (seats_of_chips chips)) (first.ram.page at below ∙ ap is_ram_sort tells.sort);
+        rw (seats_of-reset_copy starts 0 (seats_of_chips chips)) (first.ram.page at below ∙ ap is_ram_sort tells.sort);
   };
   ports = record {
     readable = λ port below.
-        rw (seats_of-reset_copy fill 0 (seats_of_chips chips))
+        rw (seats_of-reset_copy starts 0 (seats_of_chips chips))
         (ports_first.readable.port port below ∙ ap (λ (n : ℕ). n == 1) (mapped.ports port below).readers);
     writable = λ port below.
-        rw (seats_of-reset_copy fill 0 (seats_of_chips chips))
+        rw (seats_of-reset_copy starts 0 (seats_of_chips chips))
         (ports_first.writable.port port below ∙ ap (λ (n : ℕ). n == 1) (mapped.ports port below).takers);
   };
   latches = rw ports_first.latches (record { size = length-replicate {A = ℕ} 256 0; latch = λ port below. get_or-replicate 256 port 0 0 below });
-  requests = rw (seats_of-reset_copy fill 0 (seats_of_chips chips)) (chain-first chips limits);
+  requests = rw (seats_of-reset_copy starts 0 (seats_of_chips chips)) (chain-first chips limits);
 }
+  where
+    filled : ℕ → ℕ
+    filled = fill_in fill (chain_in_order (views_of chips)) powers
+
+    starts : ℕ → ℕ
+    starts = start_in fill (chain_in_order (views_of chips)) powers
+
+    alike : (place : ℕ) → placed_fill fill powers place ≡ filled place
+    alike place =
+        let count : length powers ≡ length (views_of chips) = many ∙ sym (length-map chips (fitted None)) in
+        ap (λ (p : PowerOn). unwrap_or p.fill fill) (sym (power_in-order powers (length (views_of chips)) place count))
 
 -- ---- ports
 

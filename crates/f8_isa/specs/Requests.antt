@@ -12,7 +12,7 @@ use Rattle.console_spec.specs.InterruptRequests.{control_port, timer_port, since
 use Rattle.console_spec.specs.declared.PortWrite.{PortWrite}
 use Rattle.chip_face.specs.Fitting.{fitted}
 use Rattle.chip_face.specs.declared.specification.ChipSpec.{ChipSpec}
-use Rattle.chip_face.specs.declared.specification.ChipSpec.TheVariants.{Blank, Psu, Smi}
+use Rattle.chip_face.specs.declared.specification.ChipSpec.TheVariants.{Blank, Psu, Smi, Pio}
 use Rattle.f8_isa.specs.declared.requests.ChipRequests.{ChipRequests}
 
 -- ---- power-on
@@ -22,6 +22,7 @@ abbrev pub fixed_vector_of : ChipSpec → Option ℕ
 fixed_vector_of (Blank kind) = None
 fixed_vector_of (Psu base rom ports vector wired) = Some vector
 fixed_vector_of (Smi pages rom wired) = None
+fixed_vector_of (Pio ports vector wired) = Some vector
 
 abbrev pub first_requests : ChipSpec → ChipRequests
 first_requests chip = record {

@@ -1,9 +1,10 @@
 // The flat memory of a description's chips.
 ghost use Rattle.std.specs.Prelude.{◌≡◌, ℕ, ◌/◌, IfOk};
-ghost use Rattle.console_spec.specs.FlatMemory.{is_ram_sort};
+ghost use Rattle.console_spec.specs.FlatMemory.{fill_of_owner, is_ram_sort};
 ghost use Rattle.memory_map.specs.MapOf.{mapped_sort};
-ghost use Rattle.f8_isa.specs.KeptMemory.{AreFirstBytes, AreRamPages, IsFirstMemory, mapped_first};
+ghost use Rattle.f8_isa.specs.KeptMemory.{AreFirstBytes, AreRamPages, IsFirstMemory, mapped_first, placed_fill};
 
+use chip_face::{Powers, USUAL_POWER};
 use f8_spec::Memory;
 use memory_map::{Map, Sort};
 use std::alloc::{AllocError, Global};
@@ -35,12 +36,12 @@ impl FlatMemory {
     ghost use Rattle.console_spec.specs.AddressSpace.{byte_at};
     ghost use Rattle.f8_isa.specs.IsaState.{stored_in};
 
-    /// The memory at power-on, with `fill` in RAM, or want of memory.
-    pub fn new(alloc: Global, map: &Map, fill: u8) -> Result<FlatMemory, Memory>
-        ensures { IfOk result (IsFirstMemory map.now fill) }
+    /// The memory at power-on, or want of memory: in the RAM of each chip `fill`, where nothing else is said of it.
+    pub fn new(alloc: Global, map: &Map, powers: &Powers, fill: u8) -> Result<FlatMemory, Memory>
+        ensures { IfOk result (IsFirstMemory map.now (placed_fill fill powers.now)) }
     {
         let ram_pages = ram_pages(map);
-        match first_bytes(alloc, map, fill) {
+        match first_bytes(alloc, map, powers, fill) {
             Ok(bytes) => Ok(FlatMemory { bytes, ram_pages }),
             Err(_) => Err(Memory),
         }
@@ -68,23 +69,41 @@ impl FlatMemory {
     }
 }
 
+/// The byte in all RAM of the chip in a place of the description.
+fn placed_fill(powers: &Powers, fill: u8, place: u8) -> u8
+    ensures { result ≡ placed_fill fill powers.now place }
+{
+    let power = powers.get(usize::from(place)).unwrap_or(USUAL_POWER);
+    power.fill.unwrap_or(fill)
+}
+
+/// The byte in all RAM of the one chip that holds an address, and 0 where there is none.
+fn owned_fill(powers: &Powers, fill: u8, owner: Option<u8>) -> u8
+    ensures { result ≡ fill_of_owner (placed_fill fill powers.now) owner }
+{
+    match owner {
+        Some(place) => placed_fill(powers, fill, place),
+        None => 0,
+    }
+}
+
 /// The byte that is read at an address at power-on.
-fn first_byte(map: &Map, fill: u8, at: u16) -> u8
-    ensures { result ≡ mapped_first map.now fill at }
+fn first_byte(map: &Map, powers: &Powers, fill: u8, at: u16) -> u8
+    ensures { result ≡ mapped_first map.now (placed_fill fill powers.now) at }
 {
     match map.sort(at) {
-        Sort::Ram => fill,
+        Sort::Ram => owned_fill(powers, fill, map.owner(at)),
         Sort::Rom | Sort::Void | Sort::Nothing | Sort::Shared => map.byte(at).unwrap_or(NO_BYTE),
     }
 }
 
 /// The byte that is read at each address at power-on, or want of memory.
-fn first_bytes(alloc: Global, map: &Map, fill: u8) -> Result<Vec<u8>, AllocError>
-    ensures { IfOk result (λ bytes. AreFirstBytes map.now fill bytes.items 65536) }
+fn first_bytes(alloc: Global, map: &Map, powers: &Powers, fill: u8) -> Result<Vec<u8>, AllocError>
+    ensures { IfOk result (λ bytes. AreFirstBytes map.now (placed_fill fill powers.now) bytes.items 65536) }
 {
     let mut bytes = Vec::with_capacity(alloc, 65_536)?;
     for at in 0..65_536_u32 {
-        bytes.push(first_byte(map, fill, at as u16))?;
+        bytes.push(first_byte(map, powers, fill, at as u16))?;
     }
     Ok(bytes)
 }

@@ -5,7 +5,7 @@ use super::instruction_table::{Instruction, InstructionTable};
 use super::ports::{PortByte, Ports, clocked};
 use super::register_file::RegisterFile;
 use super::requests::Requests;
-use chip_face::ChipList;
+use chip_face::{ChipList, Powers};
 use console_board::PortWrite;
 use console_spec::Regs;
 use f8_ops::registers::{H, K, Q};
@@ -51,7 +51,7 @@ impl Model for Isa {
 }
 
 impl Isa {
-    ghost use Rattle.std.specs.Prelude.{◌≡◌, ◌+◌, ◌^◌, ◌<◌, ◌≤◌, ℕ, true, None, Some, IfOk, IfErr, OnErr, is_some};
+    ghost use Rattle.std.specs.Prelude.{◌≡◌, ◌+◌, ◌^◌, ◌<◌, ◌≤◌, ℕ, true, None, Some, IfOk, IfErr, OnErr, is_some, length};
     ghost use Rattle.f8_spec.specs.Instructions.{InRange, row_of};
     ghost use Rattle.f8_spec.specs.Words.{word, places_on, displaced};
     ghost use Rattle.f8_spec.specs.declared.instructions.Op.{Op};
@@ -69,13 +69,20 @@ impl Isa {
     ghost use Rattle.f8_isa.specs.IsaState.{GoesTo, TellsInterrupt, StopsBy, StandsAt, InReach, TakesKey, TakesPulse, TakesEarlyPulse};
 
     /// A program on some chips, after power-on with a byte and reset, or want of memory. The map is that of the chips; what it tells is
-    /// copied.
-    pub fn new(alloc: Global, map: &Map, chips: &ChipList, fill: u8) -> Result<Isa, Memory>
-        requires { IsMapOf map.now chips.now }
+    /// copied. How each chip is powered on is said in the order of the chips.
+    pub fn new(
+        alloc: Global,
+        map: &Map,
+        chips: &ChipList,
+        powers: &Powers,
+        fill: u8,
+    ) -> Result<Isa, Memory>
+        requires map { IsMapOf map.now chips.now }
+        requires powers { length powers.now ≡ length chips.now }
         ensures { let vs = views_of chips.now in IfOk result (λ isa. StandsAt isa 0
-            (position_after_reset (power_position vs (chain_in_order vs) fill))) }
+            (position_after_reset (power_position vs (chain_in_order vs) powers.now fill))) }
     {
-        let memory = FlatMemory::new(alloc, map, fill)?;
+        let memory = FlatMemory::new(alloc, map, powers, fill)?;
         let ports = Ports::new(map);
         let Ok(requests) = Requests::new(alloc, chips) else {
             return Err(Memory);

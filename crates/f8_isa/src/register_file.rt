@@ -1,15 +1,9 @@
 // Accumulator, ISAR, status word and scratchpad.
+use console_spec::SCRATCHPAD_SIZE;
 use f8_ops::Op;
-use f8_ops::registers::{J, K, Q};
+use f8_ops::registers::{J, K, POINTED, Q, STEPPED_DOWN, STEPPED_UP};
 use f8_words::{Flags, Sum, add9, bcd};
 use std::marker::Model;
-
-/// The field from which on a field names the register that ISAR points to, and the fields that also step ISAR up and down.
-const POINTED: u8 = 12;
-
-const STEPPED_UP: u8 = 13;
-
-const STEPPED_DOWN: u8 = 14;
 
 /// What the processor itself keeps (Fairchild F8 User's Guide, 3850).
 #[derive(Drop)]
@@ -17,7 +11,7 @@ pub struct RegisterFile {
     accumulator: u8,
     isar: u8,
     status: Flags,
-    scratchpad: [u8; 64],
+    scratchpad: [u8; SCRATCHPAD_SIZE],
 }
 
 impl Model for RegisterFile {
@@ -48,7 +42,7 @@ impl RegisterFile {
             accumulator: fill,
             isar: fill % 64,
             status: Flags::default(),
-            scratchpad: [fill; 64],
+            scratchpad: [fill; SCRATCHPAD_SIZE],
         }
     }
 
@@ -87,7 +81,7 @@ impl RegisterFile {
         self.status.icb = false;
     }
 
-    pub fn scratchpad(&self) -> &[u8; 64]
+    pub fn scratchpad(&self) -> &[u8; SCRATCHPAD_SIZE]
         ensures { result.now ≡ self.now.scratchpad }
     {
         &self.scratchpad

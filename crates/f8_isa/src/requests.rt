@@ -166,8 +166,8 @@ fn fixed_vector(chip: &ChipSpec) -> Option<u16>
     ensures { result ≡ fixed_vector_of chip.now }
 {
     match chip {
-        ChipSpec::Psu { vector, .. } => Some(*vector),
-        _ => None,
+        ChipSpec::Psu { vector, .. } | ChipSpec::Pio { vector, .. } => Some(*vector),
+        ChipSpec::Blank(_) | ChipSpec::Smi { .. } => None,
     }
 }
 

@@ -29,7 +29,7 @@ use Rattle.f8_machine.proofs.Remains.{OnBus, on_bus_by, on_bus_more}
 use Rattle.f8_machine.proofs.RequestAnswers.{asking_stays, given_seated}
 use Rattle.f8_machine.proofs.PortValues.{writes_stay}
 use Rattle.f8_machine.proofs.StepTests.{both_true, is_portless, put_clocks}
-use Rattle.f8_machine.proofs.Turns.{ChipsAfter, along_by, behind_by, chips_after_step, idle_verdict, plain_chips, plain_held}
+use Rattle.f8_machine.proofs.Turns.{ChipsAfter, along_by, behind_by, chips_after_step, idle_ruling, plain_chips, plain_held}
 use Rattle.f8_machine.proofs.Turns.{step_small}
 use Rattle.f8_machine.proofs.Turns.{spent_later}
 use Rattle.f8_machine.proofs.VectorSteps.{IsAskingView, asking_view, high_byte, low_byte}
@@ -98,7 +98,7 @@ module _ (i : Inputs) (x : Position) (aim : Aim) (socket : ℕ) (chosen : i.chos
       served.driven ∙ low_byte socket vs at.chip at.lies 0
       ∙ ap (λ (n : ℕ). n % 256) (vector_given i x aim socket left.along at
       ∙ ap (vector_of (Some socket) (seats_of x.copies)) (writes_are i x aim (s ∷ rest) probe vs left.so_far left.along portless)) ∙ sym low in
-      let named : Some socket ≡ served.socket = (let is = served.verdict in cc) in
+      let named : Some socket ≡ served.socket = (let is = served.ruling in cc) in
       let now_views : views states_now ≡ chips_after_step s i.vector_low 6 vs =
       views_unmarked 0x0F true (Some socket) byte states states_now refl served.settled
       ∙ ap (λ (b : ℕ). chips_after_step s b 6 vs) same in
@@ -108,7 +108,7 @@ module _ (i : Inputs) (x : Position) (aim : Aim) (socket : ℕ) (chosen : i.chos
       (views states_now)
       (subst (λ (ws : List ChipView). ChipsAfter i x aim s rest probe vs left.so_far left.along ws) (sym now_views)
       (plain_chips i x aim s rest probe vs left.so_far left.along refl None
-      (idle_verdict i x aim s rest probe vs left.so_far refl))))
+      (idle_ruling i x aim s rest probe vs left.so_far refl))))
 
   -- the high byte, with which the request ends
   pub high_given : (left : OnBus i x aim (long_step 0x13 VectorHigh ∷ rest) probe states steps) →
@@ -127,11 +127,11 @@ module _ (i : Inputs) (x : Position) (aim : Aim) (socket : ℕ) (chosen : i.chos
       ∙ ap (λ (n : ℕ). n / 256) (vector_given i x aim socket left.along at
       ∙ ap (vector_of (Some socket) (seats_of x.copies)) (writes_are i x aim (s ∷ rest) probe vs left.so_far left.along portless)) in
       let same : byte ≡ i.vector_high = sym (high ∙ ap (λ (n : ℕ). n % 256) (sym given) ∙ below byte small) in
-      let named : Some socket ≡ served.socket = (let is = served.verdict in cc) in
+      let named : Some socket ≡ served.socket = (let is = served.ruling in cc) in
       let alike : map unasked (views states_now) ≡ map unasked (chips_after_step s i.vector_high 6 vs) =
       views_acknowledged true (Some socket) byte states states_now served.settled
       ∙ ap (λ (b : ℕ). map unasked (chips_after_step s b 6 vs)) same in
-      let idle = idle_verdict i x aim s rest probe vs left.so_far refl in
+      let idle = idle_ruling i x aim s rest probe vs left.so_far refl in
       let plain = plain_held i x aim s rest probe vs left.so_far left.along None idle in
       on_bus_by i x aim s rest probe states steps left (Some socket) 0 byte probe_now states_now steps_now same served
       (along_by i x aim s rest probe vs left.so_far left.along served.socket

@@ -7,8 +7,8 @@ use Rattle.std.specs.List.{enumerate_from}
 use Rattle.std.proofs.lemmas.List.{append_assoc}
 use Rattle.f8_spec.specs.BusCodes.{Count, driver_of, moved_by}
 use Rattle.f8_spec.specs.ChipState.{ChipView, after_step}
-use Rattle.f8_spec.specs.BusArbitration.{Verdict, Served, Conflict, Undriven, Astray, Seat, PlacedSeat, place_in}
-use Rattle.f8_spec.specs.BusArbitration.{parties, bystanders, lowest, judged, rule_by, rule_of, view_verdict, bus_byte}
+use Rattle.f8_spec.specs.BusArbitration.{Ruling, Served, Conflict, Undriven, Astray, Seat, PlacedSeat, place_in}
+use Rattle.f8_spec.specs.BusArbitration.{parties, bystanders, lowest, judged, rule_by, rule_of, view_ruling, bus_byte}
 use Rattle.f8_spec.specs.MicroSteps.{Step, clocks_along}
 use Rattle.f8_spec.specs.declared.bus.Driver.{Driver}
 use Rattle.f8_spec.specs.declared.bus.Driver.TheVariants.{Memory, CounterByte, Vector as VectorDriver, Port, Cpu}
@@ -25,7 +25,7 @@ use Rattle.f8_machine.specs.RequestsHeld.{IsInTime}
 use Rattle.f8_machine.proofs.StepTests.{puts_last, no_vector}
 use Rattle.console_spec.specs.CounterCopies.{Copy}
 use Rattle.console_spec.specs.BusAccesses.{Access}
-use Rattle.console_spec.specs.Services.{Fault, fault_by, access_verdict, first_fault}
+use Rattle.console_spec.specs.Services.{Fault, fault_by, access_ruling, first_fault}
 use Rattle.console_spec.specs.BusTrace.{TracedStep, Course, with_step, stopped_by, course_by, course_of}
 use Rattle.console_spec.specs.BusTrace.{is_access, with_unaccessed, unaccessed}
 use Rattle.console_spec.specs.Run.{Position, seats_of}
@@ -140,7 +140,7 @@ at_access i s later now last c (a ∷ behind) places = record {
 
 -- ---- one step of what is left
 
-pub fault_stops : (i : Inputs) (s : Step) (v : Verdict) (rest : Course) (fault : Fault) →
+pub fault_stops : (i : Inputs) (s : Step) (v : Ruling) (rest : Course) (fault : Fault) →
     fault_by s.romc v ≡ Some fault → course_by i s v rest ≡ stopped_by fault s.long
 fault_stops i s (Served socket) rest fault e = cc
 fault_stops i s (Conflict parties) rest fault e = let same : Fault.Conflict s.romc parties ≡ fault = cc in
@@ -150,7 +150,7 @@ fault_stops i s (Undriven at) rest fault e = let same : Fault.Undriven s.romc at
 fault_stops i s (Astray socket at reference) rest fault e =
     let same : Fault.Astray s.romc socket at reference ≡ fault = cc in ap (λ (f : Fault). stopped_by f s.long) same
 
-pub no_fault : (romc : ℕ) (v : Verdict) (socket : Option ℕ) → v ≡ Served socket → fault_by romc v ≡ None
+pub no_fault : (romc : ℕ) (v : Ruling) (socket : Option ℕ) → v ≡ Served socket → fault_by romc v ≡ None
 no_fault romc v socket e = ap (fault_by romc) e
 
 -- a step that is no access is served
@@ -184,7 +184,7 @@ course_idle i c copies s later (a ∷ behind) e = rw e refl
 pub course_access : (i : Inputs) (c : Flow) (copies : List Copy) (s : Step) (later : List Step) (a : Access)
     (behind : List Access) → is_access (rule_of s.romc) ≡ true →
     course_of i c copies (s ∷ later) (a ∷ behind)
-    ≡ course_by i s (access_verdict c copies a) (course_of i c copies later behind)
+    ≡ course_by i s (access_ruling c copies a) (course_of i c copies later behind)
 course_access i c copies s later a behind e = rw e refl
 
 pub with_steps-step : (so_far : List TracedStep) (t : TracedStep) (rest : Course) →
@@ -202,7 +202,7 @@ with_steps-stop so_far fault long = ap (λ steps. record { steps = steps; fault 
 pub flat_more : (b : Bool) (i : Inputs) (s : Step) (clocks : ℕ) (socket : Option ℕ) (now : Bool → Flow → Count)
     (probe : ProbeState) (cs : List Copy) (vs : List ChipView) (memory : List ℕ) →
     (s.romc == 0x05) ≡ b → AreCopies now probe.last cs vs → length memory ≡ 65536 → HoldsFlat memory vs →
-    view_verdict s.romc None (place_in s.romc probe.count probe.last) (enumerate_from 0 vs) ≡ Served socket →
+    view_ruling s.romc None (place_in s.romc probe.count probe.last) (enumerate_from 0 vs) ≡ Served socket →
     HoldsFlat (if b then stored_at (seats_of cs) (place_in s.romc probe.count probe.last)
     (byte_of i s.source) memory else memory)
     (map (after_step (plain_step s.romc (byte_of i s.source) clocks)) vs)
@@ -241,7 +241,7 @@ pub byte_is : (d : Driver) (romc placed value reference : ℕ) (socket : Option 
     HoldsFlat memory vs →
     (rule_of romc ≡ Read → reference < 65536) →
     (driver_of romc ≡ Port → bus_byte romc None placed (enumerate_from 0 vs) ≡ value) →
-    view_verdict romc None reference (enumerate_from 0 vs) ≡ Served socket →
+    view_ruling romc None reference (enumerate_from 0 vs) ≡ Served socket →
     bus_byte romc None placed (enumerate_from 0 vs) ≡ value
 byte_is Memory romc placed value reference socket vs memory plain driver places is flat small port served =
     let rule : rule_of romc ≡ Read = read_rule (romc == 0x05) (romc == 0x1A) romc Memory refl refl driver refl in

@@ -2,7 +2,7 @@
 use Rattle.std.proofs.Common.{◌≡◌, ℕ, true, false, List, [], ◌∷◌, ◌++◌, refl, ap, ◌∙◌, sym}
 use Rattle.std.specs.Prelude.{Option, Some, None, Ok, Err}
 use Rattle.f8_spec.specs.ChipState.{ChipState}
-use Rattle.f8_spec.specs.BusArbitration.{Verdict, Served as ServedBy, Conflict, Undriven, Astray, rule_by}
+use Rattle.f8_spec.specs.BusArbitration.{Ruling, Served as ServedBy, Conflict, Undriven, Astray, rule_by}
 use Rattle.f8_spec.specs.declared.bus.Driver.{Driver}
 use Rattle.f8_spec.specs.declared.bus.Driver.TheVariants.{Memory, CounterByte, Vector, Port, Cpu, Nobody}
 use Rattle.console_spec.specs.BusTrace.{taker_by}
@@ -17,7 +17,7 @@ use Rattle.f8_machine.specs.BusSteps.{IsPlain, IsServedBy, IsRefusedBy, heard_se
 use Rattle.f8_machine.specs.Faults.{fault_of}
 use Rattle.f8_machine.specs.declared.heard.Heard.{Heard}
 
-pub answered_served : (romc byte : ℕ) (v : Verdict) (served : Served) → Ok served ≡ answered romc byte v →
+pub answered_served : (romc byte : ℕ) (v : Ruling) (served : Served) → Ok served ≡ answered romc byte v →
     v ≡ ServedBy served.socket
 answered_served romc byte (ServedBy socket) served e = let same : served ≡ record { byte = byte; socket = socket } =
     cc in ap (λ (s : Served). ServedBy s.socket) (sym same)
@@ -25,7 +25,7 @@ answered_served romc byte (Conflict parties) served e = cc
 answered_served romc byte (Undriven at) served e = cc
 answered_served romc byte (Astray socket at reference) served e = cc
 
-pub answered_byte : (romc byte : ℕ) (v : Verdict) (served : Served) → Ok served ≡ answered romc byte v →
+pub answered_byte : (romc byte : ℕ) (v : Ruling) (served : Served) → Ok served ≡ answered romc byte v →
     served.byte ≡ byte
 answered_byte romc byte (ServedBy socket) served e = let same : served ≡ record { byte = byte; socket = socket } = cc in
     ap (λ (s : Served). s.byte) same
@@ -33,7 +33,7 @@ answered_byte romc byte (Conflict parties) served e = cc
 answered_byte romc byte (Undriven at) served e = cc
 answered_byte romc byte (Astray socket at reference) served e = cc
 
-pub answered_fault : (romc byte : ℕ) (v : Verdict) (fault : BusFault) → Err fault ≡ answered romc byte v →
+pub answered_fault : (romc byte : ℕ) (v : Ruling) (fault : BusFault) → Err fault ≡ answered romc byte v →
     fault_by romc v ≡ Some (fault_of fault)
 answered_fault romc byte (ServedBy socket) fault e = cc
 answered_fault romc byte (Conflict parties) fault e = let same : fault ≡ BusFault.Conflict romc parties = cc in
@@ -53,7 +53,7 @@ pub served_by : (first : Option ℕ) (step : Step) (placed : ℕ) (before after 
     IsServedBy first step placed before after olds news earlier now served.byte
 served_by first step placed before after olds news earlier now served answer settled heard recorded = record {
   socket = served.socket;
-  verdict = answered_served _ _ _ served answer;
+  ruling = answered_served _ _ _ served answer;
   driven = answered_byte _ _ _ served answer;
   settled = settled;
   heard = heard;
@@ -67,7 +67,7 @@ pub refused_by : (first : Option ℕ) (step : Step) (placed : ℕ) (before after
     RackStays olds news → after ≡ before → now ≡ earlier →
     IsRefusedBy first step fault before after olds news earlier now
 refused_by first step placed before after olds news earlier now fault answer stays unheard recorded = record {
-  verdict = answered_fault _ _ _ fault answer;
+  ruling = answered_fault _ _ _ fault answer;
   stays = stays;
   unheard = unheard;
   recorded = recorded;

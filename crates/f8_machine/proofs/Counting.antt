@@ -3,7 +3,7 @@ use Rattle.std.proofs.Common.{◌≡◌, ℕ, ◌+◌, ◌≤◌, List, [], ◌�
 use Rattle.std.proofs.lemmas.List.{map-append}
 use Rattle.std.specs.Prelude.{Result, Ok, Err, IfOk, IfErr}
 use Rattle.f8_spec.specs.ChipState.{ChipState}
-use Rattle.f8_spec.specs.BusArbitration.{Verdict, Served as ServedBy, Conflict, Undriven, Astray}
+use Rattle.f8_spec.specs.BusArbitration.{Ruling, Served as ServedBy, Conflict, Undriven, Astray}
 use Rattle.probe.specs.ProbeState.{ProbeState}
 use Rattle.data_bus.specs.Steps.{answered, step_answer}
 use Rattle.data_bus.specs.declared.cycle.Cycle.{Cycle}
@@ -55,7 +55,7 @@ counts_by size h known after asked more earlier now follows few told = record {
 }
 
 -- the code of a fault is that of its step
-answered_code : (romc byte : ℕ) (v : Verdict) (fault : BusFault) → Err fault ≡ answered romc byte v → code_of fault ≡ romc
+answered_code : (romc byte : ℕ) (v : Ruling) (fault : BusFault) → Err fault ≡ answered romc byte v → code_of fault ≡ romc
 answered_code romc byte (ServedBy socket) fault e = cc
 answered_code romc byte (Conflict parties) fault e = let same : fault ≡ BusFault.Conflict romc parties = cc in ap code_of same
 answered_code romc byte (Undriven at) fault e = let same : fault ≡ BusFault.Undriven romc at = cc in ap code_of same

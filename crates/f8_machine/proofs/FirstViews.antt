@@ -12,7 +12,7 @@ use Rattle.std.proofs.lemmas.List.FromFn.{length-map-range_with_len, get_or-map-
 use Rattle.std.proofs.lemmas.Option.{slice_get-map}
 use Rattle.f8_spec.specs.ChipState.{ChipView, ChipState, byte_in, held_byte, holds, place_of, filled_bytes, is_ram}
 use Rattle.f8_spec.specs.ChipState.{powered, has_fixed_vector}
-use Rattle.f8_spec.specs.BusArbitration.{seat_of}
+use Rattle.f8_spec.specs.BusArbitration.{Seat, seat_of}
 use Rattle.f8_spec.specs.declared.chips.Page.{Page}
 use Rattle.f8_spec.specs.declared.chips.PageSort.{PageSort}
 use Rattle.f8_spec.specs.declared.chips.PageSort.TheVariants.{Rom, Ram, Void}
@@ -21,9 +21,8 @@ use Rattle.console_spec.specs.declared.Sort.{Sort}
 use Rattle.console_spec.specs.declared.Sort.TheVariants.{Rom as RomSort, Ram as RamSort, Void as VoidSort, Nothing}
 use Rattle.console_spec.specs.declared.Sort.TheVariants.{Shared}
 use Rattle.console_spec.specs.AddressSpace.{byte_at}
-use Rattle.console_spec.specs.CounterCopies.{power_start}
-use Rattle.console_spec.specs.FlatMemory.{sort_among, sort_of, only_of, fixed_byte_by, first_byte_by, first_byte}
-use Rattle.console_spec.specs.FlatMemory.{first_memory}
+use Rattle.console_spec.specs.FlatMemory.{sort_among, sort_of, only_of, holding, owner_of, fixed_byte_by, fixed_byte}
+use Rattle.console_spec.specs.FlatMemory.{first_byte_by, fill_of_owner, first_byte, first_memory}
 use Rattle.f8_spec.specs.ChipState.{IsFilled}
 use Rattle.f8_machine.specs.Rounds.{PowersInSocket}
 use Rattle.f8_machine.specs.RackViews.{HeldOnce, HoldsFlat}
@@ -109,12 +108,12 @@ powered_byte fill v at filled held b before =
 -- ---- the first memory
 
 -- it has 65,536 bytes
-pub length-first_memory : (vs : List ChipView) (fill : ℕ) → length (first_memory vs fill) ≡ 65536
+pub length-first_memory : (vs : List ChipView) (fill : ℕ → ℕ) → length (first_memory vs fill) ≡ 65536
 unfolding first_memory
 length-first_memory vs fill = length-map-range_with_len (first_byte vs fill) 0 65536
 
 -- each by its address
-pub byte_at-first_memory : (vs : List ChipView) (fill at : ℕ) → at < 65536 →
+pub byte_at-first_memory : (vs : List ChipView) (fill : ℕ → ℕ) (at : ℕ) → at < 65536 →
     byte_at (first_memory vs fill) at ≡ first_byte vs fill at
 unfolding first_memory
 byte_at-first_memory vs fill at small = get_or-map-range_with_len (first_byte vs fill) 0 65536 at at 255 small
@@ -129,25 +128,49 @@ unheld_byteless v at unheld = step (place_of v.pages (at / 256)) unheld
     step None unheld = refl
     step (Some place) unheld = cc
 
--- at an address that one chip holds alone it is the power byte in RAM, and elsewhere the chip's
-first_byte-once : (vs : List ChipView) (fill at place : ℕ) (v : ChipView) → slice_get vs place ≡ Some v →
-    HeldOnce vs at place → (held : Held v.pages at) (b : ℕ) →
-    held_byte v at ≡ Some b → first_byte vs fill at ≡ (if is_ram held.page.sort then fill else b)
-first_byte-once vs fill at place v lies once held b before =
+-- where one chip alone holds an address, its place is the owner's
+owner_of-once : (vs : List ChipView) (at place : ℕ) (v : ChipView) → slice_get vs place ≡ Some v → HeldOnce vs at place →
+    holds v at ≡ true → owner_of (map seat_of vs) at ≡ Some place
+owner_of-once vs at place v lies once held =
+    ap only_of (keeps_one (holding at) (enumerate_from 0 (map seat_of vs)) place (place, seat_of v) place
+    (numbered place ∙ ap (option_map (λ (s : Seat). (place, s))) (ap (option_map seat_of) lies)) (rw held refl) others)
+  where
+    numbered : (j : ℕ) → slice_get (enumerate_from 0 (map seat_of vs)) j
+        ≡ option_map (λ (s : Seat). (j, s)) (option_map seat_of (slice_get vs j))
+    numbered j = slice_get-enumerate_from (map seat_of vs) j
+        ∙ ap (option_map (λ (s : Seat). (j, s))) (slice_get-map seat_of vs j)
+
+    others : (j : ℕ) (x : ℕ × Seat) → slice_get (enumerate_from 0 (map seat_of vs)) j ≡ Some x → (j ≡ place → ⊥) → holding at x ≡ None
+    others j x there apart = by (slice_get vs j) refl (sym (numbered j) ∙ there)
+      where
+        by : (o : Option ChipView) → slice_get vs j ≡ o → option_map (λ (s : Seat). (j, s)) (option_map seat_of o) ≡ Some x →
+            holding at x ≡ None
+        by None lies_other e = cc
+        by (Some w) lies_other e =
+            let same : (j, seat_of w) ≡ x = cc in
+            subst (λ (y : ℕ × Seat). holding at y ≡ None) same (rw (not_held vs at place once j w lies_other apart) refl)
+
+-- at an address that one chip holds alone it is the byte that fills the chip's RAM, and elsewhere the chip's
+first_byte-once : (vs : List ChipView) (fill : ℕ → ℕ) (at place : ℕ) (v : ChipView) → slice_get vs place ≡ Some v →
+    HeldOnce vs at place → holds v at ≡ true → (held : Held v.pages at) (b : ℕ) →
+    held_byte v at ≡ Some b → first_byte vs fill at ≡ (if is_ram held.page.sort then fill place else b)
+first_byte-once vs fill at place v lies once holding_it held b before =
     let sort : sort_of (map seat_of vs) at ≡ sort_among (held.page.sort ∷ []) =
     sort_of-once vs at place v lies once held.page.sort held.sorted in
     let bytes : filter_map (λ w. held_byte w at) vs ≡ b ∷ [] = keeps_one (λ w. held_byte w at) vs place v b lies before
     (λ j w lies_other other. unheld_byteless w at (not_held vs at place once j w lies_other other)) in
-    ap₂ (λ s o. first_byte_by s fill (fixed_byte_by s o)) sort (ap only_of bytes) ∙ by held.page.sort
+    ap (λ o. first_byte_by (sort_of (map seat_of vs) at) (fill_of_owner fill o) (fixed_byte vs at))
+    (owner_of-once vs at place v lies once holding_it)
+    ∙ ap₂ (λ s o. first_byte_by s (fill place) (fixed_byte_by s o)) sort (ap only_of bytes) ∙ by held.page.sort
   where
-    by : (sort : PageSort) → first_byte_by (sort_among (sort ∷ [])) fill
-        (fixed_byte_by (sort_among (sort ∷ [])) (Some b)) ≡ (if is_ram sort then fill else b)
+    by : (sort : PageSort) → first_byte_by (sort_among (sort ∷ [])) (fill place)
+        (fixed_byte_by (sort_among (sort ∷ [])) (Some b)) ≡ (if is_ram sort then fill place else b)
     by Rom = refl
     by Ram = refl
     by Void = refl
 
--- its bytes are below 256, where the power byte and those of the chips are
-pub first_bytes : (vs : List ChipView) (fill : ℕ) → fill < 256 →
+-- its bytes are below 256, where those that fill RAM and those of the chips are
+pub first_bytes : (vs : List ChipView) (fill : ℕ → ℕ) → ((socket : ℕ) → fill socket < 256) →
     ((k : ℕ) (v : ChipView) → slice_get vs k ≡ Some v → (i : ℕ) → slice_index v.bytes i < 256) →
     (at : ℕ) → byte_at (first_memory vs fill) at < 256
 first_bytes vs fill small bytes at = ⊎_elim within past (cases_lt at 65536)
@@ -169,9 +192,13 @@ first_bytes vs fill small bytes at = ⊎_elim within past (cases_lt at 65536)
         (place_of one.element.pages (at / 256)) x one.kept)
     only_below (x ∷ (y ∷ xs)) b is e = cc
 
+    owned : (owner : Option ℕ) → fill_of_owner fill owner < 256
+    owned None = omega arith
+    owned (Some place) = small place
+
     by : (sort : Sort) (only : Option ℕ) → ((b : ℕ) → only ≡ Some b → b < 256) →
-        first_byte_by sort fill (fixed_byte_by sort only) < 256
-    by RamSort only below = small
+        first_byte_by sort (fill_of_owner fill (owner_of (map seat_of vs) at)) (fixed_byte_by sort only) < 256
+    by RamSort only below = owned (owner_of (map seat_of vs) at)
     by RomSort None below = omega arith
     by RomSort (Some b) below = below b refl
     by VoidSort None below = omega arith
@@ -192,28 +219,28 @@ first_bytes vs fill small bytes at = ⊎_elim within past (cases_lt at 65536)
 
 -- ---- the rack
 
--- the chips of a rack at power-on: each stands at an address by its socket
-abbrev pub powered_views : ℕ → List ChipView → List ChipView
-powered_views fill vs = map (λ x. powered fill (power_start fill x.0) x.1) (enumerate_from 0 vs)
+-- the chips of a rack at power-on: the RAM of each is filled, and its counters stand at an address, by its socket
+abbrev pub powered_views : (ℕ → ℕ) → (ℕ → ℕ) → List ChipView → List ChipView
+powered_views fill start vs = map (λ x. powered (fill x.0) (start x.0) x.1) (enumerate_from 0 vs)
 
 -- a chip by its place
-pub slice_get-powered_views : (fill : ℕ) (vs : List ChipView) (k : ℕ) →
-    slice_get (powered_views fill vs) k ≡ option_map (powered fill (power_start fill k)) (slice_get vs k)
-slice_get-powered_views fill vs k =
-    let power : ℕ × ChipView → ChipView = λ x. powered fill (power_start fill x.0) x.1 in
+pub slice_get-powered_views : (fill start : ℕ → ℕ) (vs : List ChipView) (k : ℕ) →
+    slice_get (powered_views fill start vs) k ≡ option_map (powered (fill k) (start k)) (slice_get vs k)
+slice_get-powered_views fill start vs k =
+    let power : ℕ × ChipView → ChipView = λ x. powered (fill x.0) (start x.0) x.1 in
     slice_get-map power (enumerate_from 0 vs) k ∙ ap (option_map power) (slice_get-enumerate_from vs k)
     ∙ numbered (slice_get vs k)
   where
-    numbered : (o : Option ChipView) → option_map (λ (x : ℕ × ChipView). powered fill (power_start fill x.0) x.1)
-        (option_map (λ v. (k, v)) o) ≡ option_map (powered fill (power_start fill k)) o
+    numbered : (o : Option ChipView) → option_map (λ (x : ℕ × ChipView). powered (fill x.0) (start x.0) x.1)
+        (option_map (λ v. (k, v)) o) ≡ option_map (powered (fill k) (start k)) o
     numbered None = refl
     numbered (Some v) = refl
 
 -- a chip of them comes of the chip at its place
-powered_comes : (fill : ℕ) (vs : List ChipView) (k : ℕ) (w : ChipView) → slice_get (powered_views fill vs) k ≡ Some w →
-    Comes (powered fill (power_start fill k)) (slice_get vs k) w
-powered_comes fill vs k w lies = comes (powered fill (power_start fill k)) (slice_get vs k) w
-    (sym (slice_get-powered_views fill vs k) ∙ lies)
+pub powered_comes : (fill start : ℕ → ℕ) (vs : List ChipView) (k : ℕ) (w : ChipView) →
+    slice_get (powered_views fill start vs) k ≡ Some w → Comes (powered (fill k) (start k)) (slice_get vs k) w
+powered_comes fill start vs k w lies =
+    comes (powered (fill k) (start k)) (slice_get vs k) w (sym (slice_get-powered_views fill start vs k) ∙ lies)
 
 -- power-on leaves the seat of a chip
 fixed_twice : (is_fixed : Bool) (vector : ℕ) →
@@ -226,49 +253,49 @@ seat_of-powered fill start v =
     ap (λ (n : ℕ). record (seat_of v) { vector = n }) (fixed_twice (has_fixed_vector v.kind) v.vector)
 
 -- their seats, from a socket on
-seats_from : (fill n : ℕ) (vs : List ChipView) →
-    map seat_of (map (λ x. powered fill (power_start fill x.0) x.1) (enumerate_from n vs)) ≡ map seat_of vs
-seats_from fill n [] = refl
-seats_from fill n (v ∷ vs) =
-    ap₂ (λ s ss. s ∷ ss) (seat_of-powered fill (power_start fill n) v) (seats_from fill (n + 1) vs)
+seats_from : (fill start : ℕ → ℕ) (n : ℕ) (vs : List ChipView) →
+    map seat_of (map (λ x. powered (fill x.0) (start x.0) x.1) (enumerate_from n vs)) ≡ map seat_of vs
+seats_from fill start n [] = refl
+seats_from fill start n (v ∷ vs) =
+    ap₂ (λ s ss. s ∷ ss) (seat_of-powered (fill n) (start n) v) (seats_from fill start (n + 1) vs)
 
 -- their seats are the same
-pub seats-powered_views : (fill : ℕ) (vs : List ChipView) → map seat_of (powered_views fill vs) ≡ map seat_of vs
-seats-powered_views fill vs = seats_from fill 0 vs
+pub seats-powered_views : (fill start : ℕ → ℕ) (vs : List ChipView) → map seat_of (powered_views fill start vs) ≡ map seat_of vs
+seats-powered_views fill start vs = seats_from fill start 0 vs
 
 -- they hold the first memory
-pub first_flat : (fill : ℕ) (vs : List ChipView) → ((k : ℕ) (v : ChipView) → slice_get vs k ≡ Some v → IsFilled v) →
-    HoldsFlat (first_memory vs fill) (powered_views fill vs)
-first_flat fill vs filled = holds_flat_by vs (powered_views fill vs) (seats-powered_views fill vs)
+pub first_flat : (fill start : ℕ → ℕ) (vs : List ChipView) → ((k : ℕ) (v : ChipView) → slice_get vs k ≡ Some v → IsFilled v) →
+    HoldsFlat (first_memory vs fill) (powered_views fill start vs)
+first_flat fill start vs filled = holds_flat_by vs (powered_views fill start vs) (seats-powered_views fill start vs)
     (first_memory vs fill) at_chip
   where
     at_chip : (place : ℕ) (v w : ChipView) (at : ℕ) → at < 65536 → slice_get vs place ≡ Some v →
-        slice_get (powered_views fill vs) place ≡ Some w →
+        slice_get (powered_views fill start vs) place ≡ Some w →
         holds v at ≡ true → HeldOnce vs at place → byte_in v.pages w.bytes at ≡ Some (byte_at (first_memory vs fill) at)
     at_chip place v w at small lies lies_after held once =
-        let chip : Comes (powered fill (power_start fill place)) (slice_get vs place) w =
-        powered_comes fill vs place w lies_after in
+        let chip : Comes (powered (fill place) (start place)) (slice_get vs place) w =
+        powered_comes fill start vs place w lies_after in
         let both : Some chip.from ≡ Some v = sym chip.is ∙ lies in
         let same : chip.from ≡ v = cc in
         let here : Held v.pages at = held_in v.pages at held in
         let byte : held_byte v at ≡ Some (slice_index v.bytes (here.place * 256 + at % 256)) = rw here.placed refl in
         ap (λ (u : ChipView). byte_in v.pages u.bytes at) chip.gives
-        ∙ ap (λ (u : ChipView). byte_in v.pages (filled_bytes fill u.pages u.bytes) at) same
-        ∙ powered_byte fill v at (filled place v lies) here (slice_index v.bytes (here.place * 256 + at % 256)) byte
+        ∙ ap (λ (u : ChipView). byte_in v.pages (filled_bytes (fill place) u.pages u.bytes) at) same
+        ∙ powered_byte (fill place) v at (filled place v lies) here (slice_index v.bytes (here.place * 256 + at % 256)) byte
         ∙ ap Some (sym (byte_at-first_memory vs fill at small
-        ∙ first_byte-once vs fill at place v lies once here
+        ∙ first_byte-once vs fill at place v lies once held here
         (slice_index v.bytes (here.place * 256 + at % 256)) byte))
 
 -- the views from a socket on
-powered_from : (fill n : ℕ) (olds news : List ChipState) → NumberedZip (PowersInSocket fill) n olds news →
-    views news ≡ map (λ x. powered fill (power_start fill x.0) x.1) (enumerate_from n (views olds))
-powered_from fill n [] [] all = refl
-powered_from fill n [] (new ∷ news) all = absurd all
-powered_from fill n (old ∷ olds) [] all = absurd all
-powered_from fill n (old ∷ olds) (new ∷ news) all =
-    ap₂ (λ v vs. v ∷ vs) all.0.view (powered_from fill (n + 1) olds news all.1)
+powered_from : (fill start : ℕ → ℕ) (n : ℕ) (olds news : List ChipState) → NumberedZip (PowersInSocket fill start) n olds news →
+    views news ≡ map (λ x. powered (fill x.0) (start x.0) x.1) (enumerate_from n (views olds))
+powered_from fill start n [] [] all = refl
+powered_from fill start n [] (new ∷ news) all = absurd all
+powered_from fill start n (old ∷ olds) [] all = absurd all
+powered_from fill start n (old ∷ olds) (new ∷ news) all =
+    ap₂ (λ v vs. v ∷ vs) all.0.view (powered_from fill start (n + 1) olds news all.1)
 
 -- the views of a rack whose chips were powered
-pub views_powered : (fill : ℕ) (olds news : List ChipState) → NumberedZip (PowersInSocket fill) 0 olds news →
-    map (λ s. s.view) news ≡ powered_views fill (map (λ s. s.view) olds)
-views_powered fill olds news all = powered_from fill 0 olds news all
+pub views_powered : (fill start : ℕ → ℕ) (olds news : List ChipState) → NumberedZip (PowersInSocket fill start) 0 olds news →
+    map (λ s. s.view) news ≡ powered_views fill start (map (λ s. s.view) olds)
+views_powered fill start olds news all = powered_from fill start 0 olds news all

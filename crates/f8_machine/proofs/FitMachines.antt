@@ -1,16 +1,16 @@
 -- A machine and its rack go on fitting each other, and the questions that are put are within the allowances of the steps.
-use Rattle.std.proofs.Common.{◌≡◌, ℕ, ◌+◌, ◌≤◌, Bool, true, false, List, [], ◌∷◌, refl, sym, ap, subst, ◌∙◌, arith}
+use Rattle.std.proofs.Common.{◌≡◌, ℕ, ◌+◌, ◌<◌, ◌≤◌, Bool, true, false, List, [], ◌∷◌, refl, sym, ap, subst, ◌∙◌, arith}
 use Rattle.std.specs.Prelude.{◌==◌, if◌then◌else◌, Option, Some, None}
 use Rattle.std.specs.List.{list_any}
 use Rattle.f8_spec.specs.BusCodes.{Count, count_at}
 use Rattle.f8_spec.specs.ChipState.{ChipView, ChipState, TakesKeys, data_port, has_counters, has_second_counter, keyed_at}
 use Rattle.f8_spec.specs.ChipState.{admits_pulses}
+use Rattle.f8_spec.specs.Powers.{ArePowers}
 use Rattle.f8_spec.specs.BusArbitration.{Seat, seat_of}
-use Rattle.f8_spec.specs.declared.chips.ChipKind.{ChipKind}
-use Rattle.f8_spec.specs.declared.chips.ChipKind.TheVariants.{Psu, Smi}
-use Rattle.console_spec.specs.CounterCopies.{power_start}
+use Rattle.f8_spec.specs.declared.chips.PowerOn.{PowerOn}
+use Rattle.console_spec.specs.Powering.{fill_in, start_in}
 use Rattle.probe.specs.ProbeState.{ProbeState}
-use Rattle.data_bus.specs.KnownAgreement.{AllAddresses, AllAgree, AreAddresses, CountAgrees, has_page, no_marks, parts}
+use Rattle.data_bus.specs.KnownAgreement.{AllAddresses, AllAgree, AreAddresses, CountAgrees, IsCounted, has_page, parts}
 use Rattle.data_bus.specs.PageIndex.{IsIndexOf, StandsFor, seats}
 use Rattle.data_bus.specs.Racks.{NumberedZip, views}
 use Rattle.data_bus.specs.declared.fault.BusFault.{BusFault}
@@ -29,36 +29,48 @@ use Rattle.f8_machine.specs.declared.outcome.Outcome.{Outcome}
 use Rattle.f8_machine.specs.declared.outcome.StoppedBy.{StoppedBy}
 use Rattle.f8_machine.proofs.Counting.{counted_none}
 use Rattle.f8_machine.proofs.FirstViews.{seat_of-powered}
+use Rattle.f8_machine.proofs.Powers.{start_small}
 
 -- ---- power-on
 
-start_addresses : (kind : ChipKind) (fill socket : ℕ) (own : Count) →
-    AreAddresses (if has_counters kind then count_at (power_start fill socket) else own)
-start_addresses Psu fill socket own = record { pc0 = omega arith; pc1 = omega arith; dc0 = omega arith; dc1 = omega arith }
-start_addresses Smi fill socket own = record { pc0 = omega arith; pc1 = omega arith; dc0 = omega arith; dc1 = omega arith }
+start_addresses : (has : Bool) (start : ℕ) → start < 65536 → AreAddresses (if has then count_at start else count_at 0)
+start_addresses true start small = record { pc0 = small; pc1 = small; dc0 = small; dc1 = small }
+start_addresses false start small = record { pc0 = omega arith; pc1 = omega arith; dc0 = omega arith; dc1 = omega arith }
 
-pub powered_addresses : (fill n : ℕ) (olds news : List ChipState) → NumberedZip (PowersInSocket fill) n olds news → AllAddresses (views news)
-powered_addresses fill n [] [] powers = tt
-powered_addresses fill n [] (new ∷ news) powers = absurd powers
-powered_addresses fill n (old ∷ olds) [] powers = absurd powers
-powered_addresses fill n (old ∷ olds) (new ∷ news) powers = (
-  subst (λ (v : ChipView). AreAddresses v.counters) (sym powers.0.view) (start_addresses old.view.kind fill n old.view.counters),
-  powered_addresses fill (n + 1) olds news powers.1,
+counted_powered : (fill start : ℕ → ℕ) (n : ℕ) (olds news : List ChipState) → ((socket : ℕ) → start socket < 65536) →
+    NumberedZip (PowersInSocket fill start) n olds news → AllAddresses (views news)
+counted_powered fill start n [] [] small on = tt
+counted_powered fill start n [] (new ∷ news) small on = absurd on
+counted_powered fill start n (old ∷ olds) [] small on = absurd on
+counted_powered fill start n (old ∷ olds) (new ∷ news) small on = (
+  record {
+    addresses = subst (λ (v : ChipView). AreAddresses v.counters) (sym on.0.view)
+        (start_addresses (has_counters old.view.kind) (start n) (small n));
+    of_its_kind = on.0.of_its_kind;
+  },
+  counted_powered fill start (n + 1) olds news small on.1,
 )
 
-powered_seats : (fill n : ℕ) (olds news : List ChipState) → NumberedZip (PowersInSocket fill) n olds news → seats news ≡ seats olds
-powered_seats fill n [] [] powers = refl
-powered_seats fill n [] (new ∷ news) powers = absurd powers
-powered_seats fill n (old ∷ olds) [] powers = absurd powers
-powered_seats fill n (old ∷ olds) (new ∷ news) powers =
-    ap (λ (s : Seat). s ∷ seats news) (ap seat_of powers.0.view ∙ seat_of-powered fill (power_start fill n) old.view)
-    ∙ ap (λ (l : List Seat). seat_of old.view ∷ l) (powered_seats fill (n + 1) olds news powers.1)
+pub powered_addresses : (fill : ℕ) (chain : List ℕ) (powers : List PowerOn) (olds news : List ChipState) → ArePowers powers →
+    RackPowers fill chain powers olds news → AllAddresses (views news)
+powered_addresses fill chain powers olds news are on =
+    counted_powered (fill_in fill chain powers) (start_in fill chain powers) 0 olds news (start_small fill chain powers are) on
+
+powered_seats : (fill start : ℕ → ℕ) (n : ℕ) (olds news : List ChipState) → NumberedZip (PowersInSocket fill start) n olds news →
+    seats news ≡ seats olds
+powered_seats fill start n [] [] on = refl
+powered_seats fill start n [] (new ∷ news) on = absurd on
+powered_seats fill start n (old ∷ olds) [] on = absurd on
+powered_seats fill start n (old ∷ olds) (new ∷ news) on =
+    ap (λ (s : Seat). s ∷ seats news) (ap seat_of on.0.view ∙ seat_of-powered (fill n) (start n) old.view)
+    ∙ ap (λ (l : List Seat). seat_of old.view ∷ l) (powered_seats fill start (n + 1) olds news on.1)
 
 -- whether a chip parts from the probe at an exchange, as before power-on
-pub power_parted : (fill : ℕ) (index : Index) (olds mids : List ChipState) → IsIndexOf index (seats mids) → RackPowers fill olds mids →
-    index.is_parted ≡ list_any parts (seats olds)
-power_parted fill index olds mids lists powers =
-    lists.parted ∙ ap (λ (l : List Seat). list_any parts l) (powered_seats fill 0 olds mids powers)
+pub power_parted : (fill : ℕ) (chain : List ℕ) (powers : List PowerOn) (index : Index) (olds mids : List ChipState) →
+    IsIndexOf index (seats mids) → RackPowers fill chain powers olds mids → index.is_parted ≡ list_any parts (seats olds)
+power_parted fill chain powers index olds mids lists on =
+    lists.parted ∙ ap (λ (l : List Seat). list_any parts l)
+    (powered_seats (fill_in fill chain powers) (start_in fill chain powers) 0 olds mids on)
 
 -- ---- what changes neither a chip's seat nor its counters
 
@@ -89,13 +101,23 @@ alike_agree marks reference n (old ∷ olds) (new ∷ news) alike agree =
     (subst (λ (c : Count). AgreesBy marks reference (seat_of old.view) c) (sym alike.0.counters) before) in
     (after, alike_agree marks reference (n + 1) olds news alike.1 agree.1)
 
+alike_counted : (old new : ChipState) → IsAlike old new → IsCounted old.view → IsCounted new.view
+alike_counted old new alike is =
+    let kind : new.view.kind ≡ old.view.kind = ap (λ (s : Seat). s.kind) alike.seat in
+    record {
+      addresses = subst AreAddresses (sym alike.counters) is.addresses;
+      of_its_kind = record {
+        pages = λ none. ap (λ (s : Seat). s.pages) alike.seat ∙ is.of_its_kind.pages (sym (ap has_counters kind) ∙ none);
+      };
+    }
+
 alike_addresses : (n : ℕ) (olds news : List ChipState) → NumberedZip (λ k. IsAlike) n olds news → AllAddresses (views olds) →
     AllAddresses (views news)
 alike_addresses n [] [] alike are = tt
 alike_addresses n [] (new ∷ news) alike are = absurd alike
 alike_addresses n (old ∷ olds) [] alike are = absurd alike
 alike_addresses n (old ∷ olds) (new ∷ news) alike are =
-    (subst AreAddresses (sym alike.0.counters) are.0, alike_addresses (n + 1) olds news alike.1 are.1)
+    (alike_counted old new alike.0 are.0, alike_addresses (n + 1) olds news alike.1 are.1)
 
 stands_alike : (index : Index) (probe : ProbeState) (olds news : List ChipState) → NumberedZip (λ k. IsAlike) 0 olds news →
     StandsFor index probe olds → StandsFor index probe news

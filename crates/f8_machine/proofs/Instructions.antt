@@ -1,14 +1,14 @@
 -- An instruction of a machine, from the position that it stands for to the next one.
 use Rattle.std.proofs.Common.{◌≡◌, ℕ, ◌+◌, ◌-◌, ◌%◌, ◌<◌, ◌≤◌, Bool, true, false, List, [], ◌∷◌, map, length, Option, Some, None}
 use Rattle.std.proofs.Common.{refl, sym, ap, ◌∙◌, subst, arith}
-use Rattle.std.specs.Prelude.{IfSome, IsSome, nat_lt, sum_by, if◌then◌else◌, slice_index, slice_set}
+use Rattle.std.specs.Prelude.{IfSome, IsSome, sum_by, if◌then◌else◌, slice_index, slice_set}
 use Rattle.f8_spec.specs.BusArbitration.{Seat}
 use Rattle.f8_spec.specs.ChipState.{ChipState}
-use Rattle.f8_spec.specs.Instructions.{decoded, row_of, row_clocks, has_long_fetch, is_shielding, interrupt_clocks, step_clocks}
+use Rattle.f8_spec.specs.Instructions.{decoded, row_of, is_shielding, interrupt_clocks, step_clocks}
 use Rattle.f8_spec.specs.declared.instructions.Op.{Op}
-use Rattle.f8_spec.specs.declared.instructions.Op.TheVariants.{Bf, Br7, Bt, Ins, Outs, Pi}
+use Rattle.f8_spec.specs.declared.instructions.Op.TheVariants.{Outs}
 use Rattle.f8_spec.specs.declared.instructions.Row.{Row}
-use Rattle.f8_spec.specs.declared.instructions.Row.TheVariants.{Branch, BranchIsar, Idle, ShortIn, ShortOut, StoreData}
+use Rattle.f8_spec.specs.declared.instructions.Row.TheVariants.{StoreData}
 use Rattle.console_spec.specs.Processor.{Flow, Registers, Inputs, is_taken, result_of, own_inputs, with_write, write_of}
 use Rattle.console_spec.specs.Processor.{vectored_by, written_port, write_at, history_of}
 use Rattle.console_spec.specs.FlatStep.{clocks_by, with_acknowledged}
@@ -41,15 +41,16 @@ use Rattle.f8_machine.specs.RequestsHeld.{IsSettledBy}
 use Rattle.f8_machine.specs.Vectoring.{clocks_of_plan}
 use Rattle.f8_machine.specs.Faults.{fault_of}
 use Rattle.f8_machine.specs.MachineState.{MachineState, flow_before_fetch, outcome_again, steps_in}
-use Rattle.f8_machine.specs.Refinement.{AreAddresses, IsMemory, IsSettled, Represents, IsDone, IsFaulted}
+use Rattle.f8_machine.specs.Refinement.{AreAddresses, IsMemory, IsSettled, Represents, RunsTo, IsDone, IsFaulted}
 use Rattle.f8_machine.specs.Rounds.{heard_of}
 use Rattle.f8_machine.specs.declared.heard.Heard.{Heard}
-use Rattle.f8_machine.specs.declared.outcome.Mode.TheVariants.{Stopped}
+use Rattle.f8_machine.specs.declared.outcome.Mode.TheVariants.{Running, Stopped}
 use Rattle.f8_machine.specs.declared.outcome.StoppedBy.{StoppedBy}
 use Rattle.f8_machine.specs.declared.outcome.StoppedBy.TheVariants.{Fault as ByFault, Reserved as ByOpcode}
 use Rattle.f8_machine.proofs.Bounds.{GetsBytes, gets_bytes}
 use Rattle.f8_machine.proofs.Rows.{clocks_before_are, clocks_listed, counters_small}
 use Rattle.f8_machine.proofs.Carried.{before_planned, taken-gets}
+use Rattle.f8_machine.proofs.Running.{runs_with}
 use Rattle.f8_machine.proofs.Settling.{settled_acknowledged, settled_later, settled_written}
 use Rattle.f8_machine.proofs.Stores.{stored_long, stored_bytes}
 
@@ -60,7 +61,7 @@ some_of None some = cc
 some_of (Some op) some = (op, refl)
 
 -- the next turn by the opcode at the next address
-turn_with : (x : Position) (code : ℕ) (found : Option Op) → code ≡ opcode_at x → decoded code ≡ found →
+pub turn_with : (x : Position) (code : ℕ) (found : Option Op) → code ≡ opcode_at x → decoded code ≡ found →
     next x ≡ decided (λ op. goes_unless (instruction_fault op x) (position_after op x)) x.flat.state.flow.p code found
 turn_with x code found opcode held =
     ap (λ (k : ℕ). decided (λ op. goes_unless (instruction_fault op x) (position_after op x)) x.flat.state.flow.p k
@@ -232,6 +233,7 @@ module _ (m : MachineState) (states news : List ChipState) (op : Op) (x : Positi
       ∙ ap (λ (o : Option ℕ). clocks_by o op (is_taken op m.cpu.registers)) carried.chosen_is
       ∙ ap (λ (regs : Registers). clocks_by i.chosen op (is_taken op regs)) there.registers
       ∙ ap (clocks_by i.chosen op) (sym (taken-gets op x))) in
+      let running : m.mode ≡ Running = runs_with x m.mode op (ap decoded (sym r.opcode) ∙ held) r.mode in
       let trace = course_with x m.cpu.opcode (Some op) r.opcode held ∙ carried.trace in
       record {
         after = y;
@@ -255,8 +257,9 @@ module _ (m : MachineState) (states news : List ChipState) (op : Op) (x : Positi
           };
           settled = settled_done op x r.settled;
           opcode = ap (λ (k : CpuState). k.opcode) carried.processor;
-          running = r.running;
+          mode = subst (RunsTo y) (sym running) tt;
         };
+        running = running;
         written = written_done op x m.cpu cpu steps chosen wrote (m.phi + clocks) same_clocks there.own carried told;
         trace = trace ∙ ap (λ (c : Course). record { steps = c.steps; fault = None }) (sym trace);
         recorded = carried.recorded ∙ ap (λ (c : Course). map heard_of c.steps) (sym trace);
@@ -297,7 +300,7 @@ done_from m k same states news op x held r cpu probe known flow clocks wrote ste
     (carried (holds_of k states op x held small range there)) moved spent told
 
 -- what was kept is put back
-restored_same : (start cpu now : CpuState) (kept : KeptRegisters) → kept ≡ kept_of start → now ≡ restored kept cpu →
+pub restored_same : (start cpu now : CpuState) (kept : KeptRegisters) → kept ≡ kept_of start → now ≡ restored kept cpu →
     IsRestorable start cpu → now ≡ start
 restored_same start cpu now kept kept_is now_is restorable =
     now_is ∙ ap (λ (k : KeptRegisters). restored k cpu) kept_is ∙ restorable

@@ -27,12 +27,13 @@ use Rattle.f8_machine.specs.RackViews.{AreCopies, HeldOnce, HoldsFlat, ReadOnce,
 use Rattle.f8_machine.specs.Keying.{is_own, KeysInSocket, RackTakesKeys, RackKeyedBy, RackKeyed, keyed_machine}
 use Rattle.f8_machine.specs.MachineState.{MachineState}
 use Rattle.f8_machine.specs.RequestsHeld.{IsInTime}
-use Rattle.f8_machine.specs.Refinement.{Stands, Represents, IsPowered}
+use Rattle.f8_machine.specs.Refinement.{Stands, Represents, IsPowered, RunsTo}
 use Rattle.f8_machine.proofs.Copies.{seats_same}
 use Rattle.f8_machine.proofs.Holding.{holds_flat_by}
 use Rattle.f8_machine.proofs.Kept.{Comes, comes}
 use Rattle.f8_machine.proofs.PortEnds.{free_of}
 use Rattle.f8_machine.proofs.PortSteps.{behind, apart_by, counts_one, has_port}
+use Rattle.f8_machine.proofs.Running.{runs_alike}
 use Rattle.f8_machine.proofs.RequestEvents.{in_time_keyed}
 
 -- ---- what a key byte leaves of a chip
@@ -291,7 +292,9 @@ represents_keyed m after olds news x port byte small is all r =
       stands = stands_keyed _ m olds news x port byte small r.stands all;
       settled = record { begun = r.settled.begun; back = r.settled.back };
       opcode = opcode_keyed (is_own port) (with_own_key port byte m.cpu.ports) m ∙ r.opcode;
-      running = mode_keyed (is_own port) (with_own_key port byte m.cpu.ports) m ∙ r.running;
+      mode = subst (RunsTo (with_event (Keys port byte) x))
+          (sym (mode_keyed (is_own port) (with_own_key port byte m.cpu.ports) m))
+          (runs_alike x (with_event (Keys port byte) x) refl refl m.mode r.mode);
     })
 
 pub powered_keyed : (m after : MachineState) (olds news : List ChipState) (x : Position) (port byte : ℕ) → port < 256 →

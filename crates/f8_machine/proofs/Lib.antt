@@ -1,5 +1,6 @@
 pub mod Chains
 pub mod Counting
+pub mod Powers
 pub mod FitMachines
 pub mod Places
 pub mod StepTests
@@ -39,6 +40,7 @@ pub mod Acknowledged
 pub mod Choices
 pub mod Asked
 pub mod Carried
+pub mod Running
 pub mod Instructions
 pub mod Resets
 pub mod ResetPositions

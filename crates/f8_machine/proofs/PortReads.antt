@@ -7,8 +7,8 @@ use Rattle.std.proofs.lemmas.Bool.{cases_eq}
 use Rattle.f8_spec.specs.BusCodes.{driver_of}
 use Rattle.f8_spec.specs.ChipState.{ChipView, byte_offer, data_port, read_port}
 use Rattle.f8_spec.specs.BusArbitration.{Seat, Served, seat_of, seat_has_data_port, placed, answers, party_if, parties}
-use Rattle.f8_spec.specs.BusArbitration.{port_read_verdict, named_placed, offer_of, offers, bus_byte, only_byte}
-use Rattle.f8_spec.specs.BusArbitration.{view_verdict}
+use Rattle.f8_spec.specs.BusArbitration.{port_read_ruling, named_placed, offer_of, offers, bus_byte, only_byte}
+use Rattle.f8_spec.specs.BusArbitration.{view_ruling}
 use Rattle.f8_spec.specs.declared.bus.BusRule.{BusRule}
 use Rattle.f8_spec.specs.declared.bus.BusRule.TheVariants.{PortRead}
 use Rattle.f8_spec.specs.declared.bus.Driver.TheVariants.{Memory, CounterByte, Vector, Port, Cpu, Nobody}
@@ -54,7 +54,7 @@ port_code : (romc : ℕ) → driver_of romc ≡ Port → romc ≡ 0x1B
 port_code romc e = eqb-true romc 0x1B (other_driver _ _ _ (romc == 0x1B) _ e)
 
 -- a served read has one party
-one_reader : (port : ℕ) (ps : List Party) (socket : Option ℕ) → port_read_verdict port ps ≡ Served socket →
+one_reader : (port : ℕ) (ps : List Party) (socket : Option ℕ) → port_read_ruling port ps ≡ Served socket →
     (p : Party) × (ps ≡ p ∷ [])
 one_reader port [] socket e = cc
 one_reader port (p ∷ []) socket e = (p, refl)
@@ -121,12 +121,12 @@ module _ (last : ℕ) (vs : List ChipView) (heard : (k : ℕ) (v : ChipView) →
 
   pub served_port : (romc placed_byte reference : ℕ) (socket : Option ℕ) (keys : List ℕ) (writes : List PortWrite) →
       driver_of romc ≡ Port → HoldsPorts keys writes vs →
-      view_verdict romc None reference (enumerate_from 0 vs) ≡ Served socket →
+      view_ruling romc None reference (enumerate_from 0 vs) ≡ Served socket →
       bus_byte romc None placed_byte (enumerate_from 0 vs) ≡ chip_port_byte last (map seat_of vs) keys writes
   served_port romc placed_byte reference socket keys writes driver holds served =
       let code : romc ≡ 0x1B = port_code romc driver in
-      let there : view_verdict 0x1B None reference (enumerate_from 0 vs) ≡ Served socket =
-      subst (λ (k : ℕ). view_verdict k None reference (enumerate_from 0 vs) ≡ Served socket) code served in
+      let there : view_ruling 0x1B None reference (enumerate_from 0 vs) ≡ Served socket =
+      subst (λ (k : ℕ). view_ruling k None reference (enumerate_from 0 vs) ≡ Served socket) code served in
       let one = one_reader reference (parties PortRead (named_seats 0x1B vs)) socket there in
       ap (λ (k : ℕ). bus_byte k None placed_byte (enumerate_from 0 vs)) code
       ∙ read_by_one placed_byte keys writes socket one.0 one.1 holds

@@ -13,11 +13,11 @@ use Rattle.f8_spec.specs.ChipState.{ChipView, PortRole, DataPort, VectorHigh, Ve
 use Rattle.f8_spec.specs.ChipState.{has_ram_at, bytes_with, stored, has_data_ports, clear_data_ports, data_port}
 use Rattle.f8_spec.specs.ChipState.{port_role, role_at, offset_from, latch_place, port_written_if, effect, after_step, timer_passed}
 use Rattle.f8_spec.specs.BusArbitration.{Seat, Served, seat_of, seat_has_port, seat_has_data_port, parties}
-use Rattle.f8_spec.specs.BusArbitration.{port_write_verdict, view_verdict}
+use Rattle.f8_spec.specs.BusArbitration.{port_write_ruling, view_ruling}
 use Rattle.f8_spec.specs.declared.bus.BusRule.TheVariants.{PortWrite as WriteRule}
 use Rattle.f8_spec.specs.declared.bus.Party.{Party}
 use Rattle.f8_spec.specs.declared.chips.ChipKind.{ChipKind}
-use Rattle.f8_spec.specs.declared.chips.ChipKind.TheVariants.{Psu, Smi}
+use Rattle.f8_spec.specs.declared.chips.ChipKind.TheVariants.{Psu, Smi, Pio}
 use Rattle.console_spec.specs.Processor.{Flow, if_taken, write_at, with_write}
 use Rattle.console_spec.specs.CounterCopies.{Copy}
 use Rattle.console_spec.specs.Writes.{latch_of, takers}
@@ -130,46 +130,54 @@ behind v (Some first) port latch e = by (nat_le first port) (nat_lt port (first 
         record { first = first; is = refl; place = omega arith }
 
 -- a data port's latch is one of the chip's
-psu_latch : (third fourth : Bool) (offset latch : ℕ) → (offset == 2) ≡ third → (offset == 3) ≡ fourth → offset < 4 →
+data_latch : (third fourth : Bool) (offset latch : ℕ) → (offset == 2) ≡ third → (offset == 3) ≡ fourth → offset < 4 →
     latch_place (if third then ControlPort else if fourth then TimerPort else DataPort offset) ≡ Some latch → latch < 2
-psu_latch true fourth offset latch two three four e = cc
-psu_latch false true offset latch two three four e = cc
-psu_latch false false offset latch two three four e =
+data_latch true fourth offset latch two three four e = cc
+data_latch false true offset latch two three four e = cc
+data_latch false false offset latch two three four e =
     let same : offset ≡ latch = cc in
     let no_two : offset ≢ 2 = λ here. (let yes : (offset == 2) ≡ true = eq-eqb offset 2 here in cc) in
     let no_three : offset ≢ 3 = λ here. (let yes : (offset == 3) ≡ true = eq-eqb offset 3 here in cc) in
     omega arith
 
-smi_latch : (third fourth first : Bool) (latch : ℕ) →
+vector_latch : (third fourth first : Bool) (latch : ℕ) →
     latch_place (if third then ControlPort else if fourth then TimerPort else if first then VectorHigh else VectorLow)
     ≡ Some latch → ⊥
-smi_latch true fourth first latch e = cc
-smi_latch false true first latch e = cc
-smi_latch false false true latch e = cc
-smi_latch false false false latch e = cc
+vector_latch true fourth first latch e = cc
+vector_latch false true first latch e = cc
+vector_latch false false true latch e = cc
+vector_latch false false false latch e = cc
 
-latch_in : (kind : ChipKind) (ports : Option ℕ) (port latch : ℕ) →
-    option_and_then latch_place (option_map (role_at kind) (option_and_then (offset_from port) ports)) ≡ Some latch →
-    latch < length (clear_data_ports kind)
-latch_in kind None port latch e = cc
-latch_in Psu (Some first) port latch e = by (nat_le first port) (nat_lt port (first + 4)) refl refl e
+-- of a chip with data ports
+latch_with_data : (first port latch : ℕ) → option_and_then latch_place (option_map (λ offset.
+    if offset == 2 then ControlPort else if offset == 3 then TimerPort else DataPort offset) (offset_from port first)) ≡ Some latch →
+    latch < 2
+latch_with_data first port latch e = by (nat_le first port) (nat_lt port (first + 4)) refl refl e
   where
     by : (above below : Bool) → nat_le first port ≡ above → nat_lt port (first + 4) ≡ below →
-        option_and_then latch_place (option_map (role_at Psu) (if above && below then Some (port - first) else None))
-        ≡ Some latch → latch < 2
+        option_and_then latch_place (option_map (λ offset.
+        if offset == 2 then ControlPort else if offset == 3 then TimerPort else DataPort offset)
+        (if above && below then Some (port - first) else None)) ≡ Some latch → latch < 2
     by false below is under e = cc
     by true false is under e = cc
     by true true is under e =
         let least : first ≤ port = leb-true first port is in
         let most : port < first + 4 = ltb-true port (first + 4) under in
-        psu_latch (port - first == 2) (port - first == 3) (port - first) latch refl refl (omega arith) e
+        data_latch (port - first == 2) (port - first == 3) (port - first) latch refl refl (omega arith) e
+
+latch_in : (kind : ChipKind) (ports : Option ℕ) (port latch : ℕ) →
+    option_and_then latch_place (option_map (role_at kind) (option_and_then (offset_from port) ports)) ≡ Some latch →
+    latch < length (clear_data_ports kind)
+latch_in kind None port latch e = cc
+latch_in Psu (Some first) port latch e = latch_with_data first port latch e
+latch_in Pio (Some first) port latch e = latch_with_data first port latch e
 latch_in Smi (Some first) port latch e = by (nat_le first port) (nat_lt port (first + 4)) e
   where
     by : (above below : Bool) → option_and_then latch_place
         (option_map (role_at Smi) (if above && below then Some (port - first) else None)) ≡ Some latch → latch < 0
     by false below e = cc
     by true false e = cc
-    by true true e = absurd (smi_latch (port - first == 2) (port - first == 3) (port - first == 0) latch e)
+    by true true e = absurd (vector_latch (port - first == 2) (port - first == 3) (port - first == 0) latch e)
 
 pub latch_small : (v : ChipView) (port latch : ℕ) → data_port v port ≡ Some latch →
     latch < length (clear_data_ports v.kind)
@@ -232,7 +240,7 @@ counts_one has (w ∷ vs) (suc k) v lies is = by (has (seat_of w)) (counts_one h
     by false more = more
 
 -- a served write has at most one party
-served_few : (ps : List Party) (socket : Option ℕ) → port_write_verdict ps ≡ Served socket → length ps ≤ 1
+served_few : (ps : List Party) (socket : Option ℕ) → port_write_ruling ps ≡ Served socket → length ps ≤ 1
 served_few [] socket e = omega arith
 served_few (p ∷ []) socket e = omega arith
 served_few (p ∷ (q ∷ ps)) socket e = cc
@@ -245,7 +253,7 @@ has_port (Some role) latch e = refl
 
 module _ (byte clocks phi last : ℕ) (vs : List ChipView) (heard : (k : ℕ) (v : ChipView) → slice_get vs k ≡ Some v →
     v.last ≡ last) (socket : Option ℕ) (reference : ℕ)
-    (served : view_verdict 0x1A None reference (enumerate_from 0 vs) ≡ Served socket) where
+    (served : view_ruling 0x1A None reference (enumerate_from 0 vs) ≡ Served socket) where
   -- a port that a chip has, one has
   pub one_takes : (k : ℕ) (v : ChipView) → slice_get vs k ≡ Some v → seat_has_port (seat_of v) last ≡ true →
       (takers last (map seat_of vs) == 1) ≡ true
@@ -344,7 +352,7 @@ module _ (byte clocks phi last : ℕ) (vs : List ChipView) (heard : (k : ℕ) (v
 pub ports_more : (romc byte clocks phi reference : ℕ) (now : Bool → Flow → Count) (last : ℕ) (socket : Option ℕ)
     (cs : List Copy) (vs : List ChipView) (keys : List ℕ) (writes : List PortWrite) →
     AreCopies now last cs vs → HoldsPorts keys writes vs →
-    view_verdict romc None reference (enumerate_from 0 vs) ≡ Served socket →
+    view_ruling romc None reference (enumerate_from 0 vs) ≡ Served socket →
     HoldsPorts keys (writes_by romc (seats_of cs) phi last byte writes)
     (map (after_step (plain_step romc byte clocks)) vs)
 ports_more romc byte clocks phi reference now last socket cs vs keys writes copies holds served = by (romc == 0x1A) refl
@@ -354,8 +362,8 @@ ports_more romc byte clocks phi reference now last socket cs vs keys writes copi
         (map (after_step (plain_step romc byte clocks)) vs)
     by true is =
         let code : romc ≡ 0x1A = eqb-true romc 0x1A is in
-        let there : view_verdict 0x1A None reference (enumerate_from 0 vs) ≡ Served socket =
-        subst (λ (k : ℕ). view_verdict k None reference (enumerate_from 0 vs) ≡ Served socket) code served in
+        let there : view_ruling 0x1A None reference (enumerate_from 0 vs) ≡ Served socket =
+        subst (λ (k : ℕ). view_ruling k None reference (enumerate_from 0 vs) ≡ Served socket) code served in
         let done = ports_written byte clocks phi last vs
         (all_heard now last cs vs copies) socket reference there keys writes holds in
         let seated = subst (λ (ss : List Seat). HoldsPorts keys

@@ -1,5 +1,5 @@
 -- An external pulse keeps what a machine and its rack stand for.
-use Rattle.std.proofs.Common.{◌≡◌, ℕ, ◌-◌, ◌<◌, true, List, [], sym, ap, subst, ◌∙◌, arith}
+use Rattle.std.proofs.Common.{◌≡◌, ℕ, ◌-◌, ◌<◌, true, List, [], refl, sym, ap, subst, ◌∙◌, arith}
 use Rattle.std.specs.Prelude.{◌%◌, ◌==◌, Option, Some, None, slice_get}
 use Rattle.f8_spec.specs.BusCodes.{Count}
 use Rattle.f8_spec.specs.ChipState.{ChipView, ChipState, admits_pulses}
@@ -15,6 +15,7 @@ use Rattle.f8_machine.specs.MachineState.{MachineState}
 use Rattle.f8_machine.specs.Refinement.{Stands, IsSettled, Represents, IsPowered}
 use Rattle.f8_machine.specs.RequestsHeld.{HasRequests, IsInTime, RackPulses, RackPulsed}
 use Rattle.f8_machine.proofs.Acknowledging.{copies_unasked, flat_unasked, ports_unasked}
+use Rattle.f8_machine.proofs.Running.{runs_alike}
 use Rattle.f8_machine.proofs.RequestEvents.{views_pulsed, in_time_pulsed}
 use Rattle.f8_machine.proofs.Settling.{settled_pulsed, since_before}
 
@@ -67,7 +68,7 @@ represents_in (Some socket) m olds news x all r = record {
     back = settled_pulsed socket x.flat.state.phi (x.flat.state.phi - 4) (history_of x.flat.state) r.settled.back;
   };
   opcode = r.opcode;
-  running = r.running;
+  mode = runs_alike x (pulse_in (Some socket) x) refl refl m.mode r.mode;
 }
 
 pub represents_pulsed : (m : MachineState) (olds news : List ChipState) (x : Position) (chip : ℕ) →

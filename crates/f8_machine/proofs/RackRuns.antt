@@ -74,9 +74,9 @@ module _ (start : ProbeState) (olds : List ChipState) where
       is.freed.steps is.idled.steps refl freed is.second in
       let lowered = ran_by (Some socket) _ 0 is.low is.idled.probe is.lowered.probe is.idled.states is.lowered.states
       is.idled.steps is.lowered.steps idled is.third
-      (marks_low socket is.low is.third.socket (let named = is.third.verdict in cc)) in
+      (marks_low socket is.low is.third.socket (let named = is.third.ruling in cc)) in
       ran_by (Some socket) _ 0 is.high is.lowered.probe after is.lowered.states news is.lowered.steps now lowered
-      is.fourth (marks_high socket is.high is.fourth.socket (let named = is.fourth.verdict in cc))
+      is.fourth (marks_high socket is.high is.fourth.socket (let named = is.fourth.ruling in cc))
 
   pub ran_chosen : (chosen : Option ℕ) (before after : ProbeState) (mids news : List ChipState)
       (earlier now : List Heard) → Ran before mids earlier →

@@ -62,7 +62,7 @@ module _ (i : Inputs) (x : Position) (aim : Aim) (s : MicroStep) (rest : List Mi
       IsServed (bus_step s) placed probe probe_now states states_now steps steps_now byte → byte ≡ byte_of i s.source
   bus_byte_is left plain placed byte probe_now states_now steps_now places served =
       served.driven ∙ along-byte i x aim s rest probe
-      (views states) left.so_far left.along plain placed served.socket places served.verdict
+      (views states) left.so_far left.along plain placed served.socket places served.ruling
 
   -- the step joins those told
   pub on_bus_by : (left : OnBus i x aim (s ∷ rest) probe states steps) → (first : Option ℕ) (placed byte : ℕ)
@@ -90,7 +90,7 @@ module _ (i : Inputs) (x : Position) (aim : Aim) (s : MicroStep) (rest : List Mi
       OnBus i x aim rest probe_now states_now steps_now
   more_by left plain placed byte probe_now states_now steps_now same served =
       let vs = views states in
-      let moved = along-more i x aim s rest probe vs left.so_far left.along plain served.socket served.verdict in
+      let moved = along-more i x aim s rest probe vs left.so_far left.along plain served.socket served.ruling in
       let now_views : views states_now ≡ chips_after_step s (byte_of i s.source) (step_clocks s.long) vs =
       views_settled s.romc s.long byte states states_now served.settled
       ∙ ap (λ (b : ℕ). chips_after_step s b (step_clocks s.long) vs) same in
@@ -120,7 +120,7 @@ module _ (i : Inputs) (x : Position) (aim : Aim) (s : MicroStep) (rest : List Mi
       IsRefused (bus_step s) fault probe probe_now states states_now steps steps_now → Refused fault steps_now
   on_bus_stops left fault probe_now states_now steps_now refused =
       let stops = along-stops i x aim s rest probe (views states) left.so_far left.along
-      (fault_of fault) refused.verdict in
+      (fault_of fault) refused.ruling in
       record {
         so_far = left.so_far;
         recorded = refused.recorded ∙ left.recorded;

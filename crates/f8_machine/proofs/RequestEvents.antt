@@ -8,8 +8,7 @@ use Rattle.f8_spec.specs.BusArbitration.{seat_of, seat_has_port}
 use Rattle.f8_spec.specs.ChipState.{ChipView, ChipState, data_port, has_fixed_vector, keyed_at, keyed, powered, pulsed, admits_pulses}
 use Rattle.f8_spec.specs.ChipState.{offset_from, role_at}
 use Rattle.f8_spec.specs.declared.chips.ChipKind.{ChipKind}
-use Rattle.f8_spec.specs.declared.chips.ChipKind.TheVariants.{Psu, Smi}
-use Rattle.console_spec.specs.CounterCopies.{power_start}
+use Rattle.f8_spec.specs.declared.chips.ChipKind.TheVariants.{Psu, Smi, Pio}
 use Rattle.console_spec.specs.InterruptRequests.{History, no_history, time_of, since_of, control_port}
 use Rattle.console_spec.specs.InterruptRequests.{timer_port, request_by, has_expiry, has_mark}
 use Rattle.console_spec.specs.Writes.{latch_of, takers}
@@ -21,7 +20,7 @@ use Rattle.f8_machine.specs.RequestsHeld.{IsIdle, HasVector, HasRequests, HoldRe
 use Rattle.f8_machine.specs.RequestsHeld.{PulsesIf, PulsesInSocket, RackPulses}
 use Rattle.f8_machine.proofs.Acknowledging.{Paired, paired, unasked}
 use Rattle.f8_machine.proofs.DeviceLaws.{device_of-pulsed, device_idle, device_pulse, device_unpulsed}
-use Rattle.f8_machine.proofs.FirstViews.{powered_views, slice_get-powered_views}
+use Rattle.f8_machine.proofs.FirstViews.{powered_views, powered_comes}
 use Rattle.f8_machine.proofs.Kept.{Comes, comes}
 use Rattle.f8_machine.proofs.PortSteps.{counts_one}
 use Rattle.f8_machine.proofs.RequestSteps.{vector_same, requesting_same, idle_same, requests_by, written_apart}
@@ -33,6 +32,7 @@ powered_vector : (kind : ChipKind) (first : ℕ) (v : ChipView) → v.kind ≡ k
     HasVector (has_fixed_vector kind) first [] (record v { vector = if has_fixed_vector kind then v.vector else 0 })
 powered_vector Psu first v same = tt
 powered_vector Smi first v same = record { halves = refl; low = omega arith }
+powered_vector Pio first v same = tt
 
 powered_requests : (ports : Option ℕ) (fill start socket : ℕ) (v : ChipView) → HasRequests ports socket no_history 0 (powered fill start v)
 powered_requests None fill start socket v = record { control_byte = refl; silent = refl }
@@ -42,15 +42,14 @@ powered_requests (Some first) fill start socket v = record {
       (powered fill start v) refl (powered_vector v.kind first v refl);
 }
 
-pub in_time_powered : (fill : ℕ) (vs : List ChipView) → IsInTime 0 no_history (powered_views fill vs)
-in_time_powered fill vs = record { past = record { writes = tt; acknowledged = tt; pulses = tt }; requests = at }
+pub in_time_powered : (fill start : ℕ → ℕ) (vs : List ChipView) → IsInTime 0 no_history (powered_views fill start vs)
+in_time_powered fill start vs = record { past = record { writes = tt; acknowledged = tt; pulses = tt }; requests = at }
   where
-    at : HoldRequests 0 no_history (powered_views fill vs)
+    at : HoldRequests 0 no_history (powered_views fill start vs)
     at socket w lies =
-        let old : Comes (powered fill (power_start fill socket)) (slice_get vs socket) w =
-        comes (powered fill (power_start fill socket)) (slice_get vs socket) w (sym (slice_get-powered_views fill vs socket) ∙ lies) in
+        let old : Comes (powered (fill socket) (start socket)) (slice_get vs socket) w = powered_comes fill start vs socket w lies in
         subst (λ (u : ChipView). HasRequests u.ports socket no_history 0 u) (sym old.gives)
-        (powered_requests old.from.ports fill (power_start fill socket) socket old.from)
+        (powered_requests old.from.ports (fill socket) (start socket) socket old.from)
 
 -- ---- a key byte
 

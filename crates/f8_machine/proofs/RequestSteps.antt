@@ -11,9 +11,9 @@ use Rattle.f8_spec.specs.ShiftTimer.{step_period}
 use Rattle.f8_spec.specs.ChipState.{ChipView, PortRole, DataPort, VectorHigh, VectorLow, ControlPort, TimerPort}
 use Rattle.f8_spec.specs.ChipState.{has_ram_at, bytes_with, stored, has_data_ports, has_fixed_vector}
 use Rattle.f8_spec.specs.ChipState.{port_role, role_at, offset_from, port_written, port_written_if, effect, after_step, timer_passed}
-use Rattle.f8_spec.specs.BusArbitration.{Seat, Served, seat_of, seat_has_port, view_verdict}
+use Rattle.f8_spec.specs.BusArbitration.{Seat, Served, seat_of, seat_has_port, view_ruling}
 use Rattle.f8_spec.specs.declared.chips.ChipKind.{ChipKind}
-use Rattle.f8_spec.specs.declared.chips.ChipKind.TheVariants.{Psu, Smi}
+use Rattle.f8_spec.specs.declared.chips.ChipKind.TheVariants.{Psu, Smi, Pio}
 use Rattle.console_spec.specs.Processor.{Flow, if_taken, write_at, with_write}
 use Rattle.console_spec.specs.CounterCopies.{Copy}
 use Rattle.console_spec.specs.InterruptRequests.{History, IsPast, time_of, control_port, timer_port}
@@ -45,6 +45,7 @@ IsRole kind first port VectorLow = port ≡ first + 1
 data_fixed : (kind : ChipKind) → has_data_ports kind ≡ true → has_fixed_vector kind ≡ true
 data_fixed Psu e = refl
 data_fixed Smi e = cc
+data_fixed Pio e = refl
 
 role_stands : (kind : ChipKind) (first port : ℕ) (role : PortRole) →
     option_map (role_at kind) (offset_from port first) ≡ Some role → IsRole kind first port role
@@ -248,7 +249,7 @@ past_written false phi last byte time h ends past = past
 
 module _ (byte clocks phi last : ℕ) (vs : List ChipView) (heard : (k : ℕ) (v : ChipView) → slice_get vs k ≡ Some v →
     v.last ≡ last) (socket : Option ℕ) (reference : ℕ)
-    (served : view_verdict 0x1A None reference (enumerate_from 0 vs) ≡ Served socket) (time : ℕ) (h : History)
+    (served : view_ruling 0x1A None reference (enumerate_from 0 vs) ≡ Served socket) (time : ℕ) (h : History)
     (few : clocks < step_period) (small : byte < 256) (ends : phi ≡ time + clocks + 4) (past : IsPast time h) where
   -- the chip after the step, by the role of the port at it
   put : (k first : ℕ) (v : ChipView) (role : Option PortRole) (taken : Bool) → slice_get vs k ≡ Some v → v.ports ≡ Some first →
@@ -307,7 +308,7 @@ requests_by f vs time later h k ports goes holds socket w lies =
 -- A served step, of which no interrupt is acknowledged. The write of a port stands 4 Φ behind its step.
 pub in_time_more : (romc byte clocks time phi reference : ℕ) (now : Bool → Flow → Count) (last : ℕ) (socket : Option ℕ)
     (cs : List Copy) (vs : List ChipView) (h : History) → clocks < step_period → (romc ≡ 0x1A → byte < 256) → (romc ≡ 0x1A → phi ≡ time + clocks + 4) →
-    AreCopies now last cs vs → view_verdict romc None reference (enumerate_from 0 vs) ≡ Served socket →
+    AreCopies now last cs vs → view_ruling romc None reference (enumerate_from 0 vs) ≡ Served socket →
     IsInTime time h vs →
     IsInTime (time + clocks) (record h { writes = writes_by romc (seats_of cs) phi last byte h.writes })
     (map (after_step (plain_step romc byte clocks)) vs)
@@ -319,8 +320,8 @@ in_time_more romc byte clocks time phi reference now last socket cs vs h few sma
     }) (map (after_step (plain_step romc byte clocks)) vs)
     by true code =
         let same : romc ≡ 0x1A = eqb-true romc 0x1A code in
-        let there : view_verdict 0x1A None reference (enumerate_from 0 vs) ≡ Served socket =
-        subst (λ (k : ℕ). view_verdict k None reference (enumerate_from 0 vs) ≡ Served socket) same served in
+        let there : view_ruling 0x1A None reference (enumerate_from 0 vs) ≡ Served socket =
+        subst (λ (k : ℕ). view_ruling k None reference (enumerate_from 0 vs) ≡ Served socket) same served in
         let heard = all_heard now last cs vs copies in
         let done : HoldRequests (time + clocks) (written (takers last (map seat_of vs) == 1) phi last byte h)
         (map (after_step (plain_step 0x1A byte clocks)) vs) =

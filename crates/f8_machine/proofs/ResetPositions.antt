@@ -7,7 +7,7 @@ use Rattle.console_spec.specs.AddressSpace.{byte_at}
 use Rattle.console_spec.specs.InterruptRequests.{Mark, ArePastWrites, ArePastMarks}
 use Rattle.console_spec.specs.declared.PortWrite.{PortWrite}
 use Rattle.console_spec.specs.Processor.{Flow, State, after_reset}
-use Rattle.console_spec.specs.CounterCopies.{Copy, fetched}
+use Rattle.console_spec.specs.CounterCopies.{Copy, fetched, own_counts}
 use Rattle.console_spec.specs.Services.{Fault}
 use Rattle.console_spec.specs.BusTrace.{Course}
 use Rattle.console_spec.specs.Run.{Position, goes_unless, reset_fault, reset_course, position_after_reset}
@@ -44,7 +44,7 @@ copies_at_zero last (c ∷ cs) [] zero are = absurd are
 copies_at_zero last (c ∷ cs) (v ∷ vs) zero are = (
   record {
     seat = are.0.seat;
-    counters = are.0.counters ∙ ap fetched (at_zero c.flow zero.0);
+    counters = are.0.counters ∙ ap (λ (f : Flow). own_counts c.seat.kind (fetched f)) (at_zero c.flow zero.0);
     heard = are.0.heard;
     filled = are.0.filled;
   },
@@ -99,8 +99,9 @@ reset_done_of m states news x opcode probe known cpu flow steps p is holds moved
         };
         settled = settled_reset x.flat.state p.unwritten p.unacknowledged;
         opcode = ap (λ (k : CpuState). k.opcode) holds ∙ is.opcode_is ∙ ap (byte_at x.flat.memory) (sym p.at_zero);
-        running = refl;
+        mode = tt;
       };
+      running = refl;
       written = refl;
       trace = is.trace ∙ ap (λ (k : Course). record { steps = k.steps; fault = None }) (sym is.trace);
       recorded = is.recorded ∙ ap (λ (k : Course). map heard_of k.steps) (sym is.trace);

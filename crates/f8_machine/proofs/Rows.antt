@@ -22,7 +22,7 @@ use Rattle.console_spec.specs.CounterCopies.{Copy, fetched}
 use Rattle.console_spec.specs.FlatMachine.{memory_after}
 use Rattle.console_spec.specs.Processor.{Flow, Inputs, flow_after, with_write, write_at, interrupted, interrupted_by, counters_after}
 use Rattle.console_spec.specs.Run.{seats_of}
-use Rattle.console_spec.specs.Services.{access_verdict}
+use Rattle.console_spec.specs.Services.{access_ruling}
 use Rattle.console_spec.specs.declared.PortWrite.{PortWrite}
 use Rattle.console_spec.proofs.Walks.{HasBytes, rests, places_on-places_on}
 use Rattle.cpu3850.specs.declared.steps.Step.{Step}
@@ -206,9 +206,9 @@ out_wrote : (i : Inputs) (c : Flow) (copies : List Copy) (phi : ℕ) (so_far : L
 out_wrote i c copies phi so_far e =
     let rest : Course = course_of i c copies (ending_steps PortOut i.chosen) (last_access PortOut i ∷ []) in
     let put : Course = course_by i (long_step 0x1A Accumulator)
-    (access_verdict c copies (at_port 0x1A i.operand)) rest in
-    let first : FirstBy i (long_step 0x03 Operand) (access_verdict c copies (ahead 0x03 1)) put so_far =
-    first_by i (long_step 0x03 Operand) (access_verdict c copies (ahead 0x03 1)) put so_far e in
+    (access_ruling c copies (at_port 0x1A i.operand)) rest in
+    let first : FirstBy i (long_step 0x03 Operand) (access_ruling c copies (ahead 0x03 1)) put so_far =
+    first_by i (long_step 0x03 Operand) (access_ruling c copies (ahead 0x03 1)) put so_far e in
     written_by phi i (long_step 0x03 Operand) i.operand c copies first.socket rest so_far first.are first.rest_ends refl
 
 short_out_wrote : (i : Inputs) (c : Flow) (copies : List Copy) (phi : ℕ) (so_far : List TracedStep) →
@@ -217,7 +217,7 @@ short_out_wrote : (i : Inputs) (c : Flow) (copies : List Copy) (phi : ℕ) (so_f
     chip_write phi (map heard_of so_far) ≡ write_at phi i.accumulator (bus_port ShortOut i (seats_of copies))
 short_out_wrote i c copies phi so_far e =
     let rest : Course = course_of i c copies (ending_steps ShortOut i.chosen) (last_access ShortOut i ∷ []) in
-    let put : Course = course_by i (long_step 0x1A Accumulator) (access_verdict c copies (at_port 0x1A i.port)) rest in
+    let put : Course = course_by i (long_step 0x1A Accumulator) (access_ruling c copies (at_port 0x1A i.port)) rest in
     let first : FirstServed i (long_step 0x1C PortNumber) put so_far =
     first_idle i (long_step 0x1C PortNumber) None put so_far e in
     written_by phi i (long_step 0x1C PortNumber) i.port c copies first.socket rest so_far first.are first.rest_ends refl

@@ -6,8 +6,8 @@ use Rattle.std.specs.List.{enumerate_from}
 use Rattle.std.proofs.lemmas.Bool.{cases_eq, or_cases}
 use Rattle.f8_spec.specs.BusCodes.{driver_of}
 use Rattle.f8_spec.specs.ChipState.{ChipView, byte_offer, counter_byte, held_byte, holds, offered, offered_at, place_of}
-use Rattle.f8_spec.specs.BusArbitration.{Served, place_in, parties, bystanders, lowest, read_verdict, judged, rule_by}
-use Rattle.f8_spec.specs.BusArbitration.{rule_of, offer_of, offers, bus_byte, view_verdict}
+use Rattle.f8_spec.specs.BusArbitration.{Served, place_in, parties, bystanders, lowest, read_ruling, judged, rule_by}
+use Rattle.f8_spec.specs.BusArbitration.{rule_of, offer_of, offers, bus_byte, view_ruling}
 use Rattle.f8_spec.specs.declared.bus.BusRule.TheVariants.{Read, Store, PortWrite}
 use Rattle.f8_spec.specs.declared.bus.Driver.{Driver}
 use Rattle.f8_spec.specs.declared.bus.Driver.TheVariants.{Memory, CounterByte, Vector, Port, Cpu, Nobody}
@@ -169,9 +169,9 @@ driven_by romc reference vs agrees one =
 
 -- and so in a served read
 pub driven_read : (romc reference : ℕ) (socket : Option ℕ) (vs : List ChipView) → rule_of romc ≡ Read →
-    view_verdict romc None reference (enumerate_from 0 vs) ≡ Served socket → Driven romc reference vs
+    view_ruling romc None reference (enumerate_from 0 vs) ≡ Served socket → Driven romc reference vs
 driven_read romc reference socket vs reads served =
-    let by_rule : read_verdict reference (parties Read (named_seats romc vs))
+    let by_rule : read_ruling reference (parties Read (named_seats romc vs))
     (lowest (bystanders Read reference (named_seats romc vs))) ≡ Served socket =
     subst (λ r. judged r None reference (parties r (named_seats romc vs))
     (lowest (bystanders r reference (named_seats romc vs))) ≡ Served socket) reads served in
@@ -204,7 +204,7 @@ module _ (romc reference : ℕ) (vs : List ChipView) (driven : Driven romc refer
 -- the byte of a served read is the flat machine's
 pub served_read : (romc byte reference : ℕ) (socket : Option ℕ) (vs : List ChipView) (memory : List ℕ) →
     rule_of romc ≡ Read → reference < 65536 →
-    HoldsFlat memory vs → view_verdict romc None reference (enumerate_from 0 vs) ≡ Served socket →
+    HoldsFlat memory vs → view_ruling romc None reference (enumerate_from 0 vs) ≡ Served socket →
     bus_byte romc None byte (enumerate_from 0 vs) ≡ read_value (driver_of romc) romc memory reference
 served_read romc byte reference socket vs memory reads small flat served = step (read_by romc reads)
   where

@@ -6,12 +6,12 @@ use Rattle.std.proofs.lemmas.Option.{slice_get-map}
 use Rattle.f8_spec.specs.ChipState.{ChipView}
 use Rattle.f8_spec.specs.BusArbitration.{PlacedSeat, Served, Astray, place_in, placed, seat_of, answers, would_answer}
 use Rattle.f8_spec.specs.BusArbitration.{party_if, party_of, bystander_of, parties, bystanders, lowest}
-use Rattle.f8_spec.specs.BusArbitration.{unless_bystander, one_party, read_verdict, store_verdict, named_placed}
+use Rattle.f8_spec.specs.BusArbitration.{unless_bystander, one_party, read_ruling, store_ruling, named_placed}
 use Rattle.f8_spec.specs.declared.bus.BusRule.{BusRule}
 use Rattle.f8_spec.specs.declared.bus.Party.{Party}
 use Rattle.f8_machine.proofs.Kept.{OneKept, none_kept, one_kept, kept_is, slice_get-enumerate_from, Comes, comes}
 
--- ---- verdicts
+-- ---- rulings
 
 -- one chip drives or takes, at the probe's place, and none stands by
 pub record OneParty (reference : ℕ) (ps : List Party) (bystander : Option Party) : Type 0 where
@@ -44,7 +44,7 @@ one_served reference socket p bystander e = step (p.at == reference) refl e
 
 -- a served read has one party
 pub read_served : (reference : ℕ) (socket : Option ℕ) (ps : List Party) (bystander : Option Party) →
-    read_verdict reference ps bystander ≡ Served socket →
+    read_ruling reference ps bystander ≡ Served socket →
     OneParty reference ps bystander
 read_served reference socket [] bystander e = cc
 read_served reference socket (p ∷ []) bystander e = one_served reference socket p bystander e
@@ -56,7 +56,7 @@ pub data StoreParties (reference : ℕ) (ps : List Party) (bystander : Option Pa
   Lost : ps ≡ [] → bystander ≡ None → StoreParties reference ps bystander
 
 pub store_served : (reference : ℕ) (socket : Option ℕ) (ps : List Party) (bystander : Option Party) →
-    store_verdict reference ps bystander ≡ Served socket →
+    store_ruling reference ps bystander ≡ Served socket →
     StoreParties reference ps bystander
 store_served reference socket [] bystander e = Lost refl (none_stands reference None socket bystander e)
 store_served reference socket (p ∷ []) bystander e = Taken (one_served reference socket p bystander e)

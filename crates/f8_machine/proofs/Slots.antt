@@ -11,7 +11,7 @@ use Rattle.f8_spec.specs.ChipState.{after_step, timer_passed, has_fixed_vector, 
 use Rattle.f8_spec.specs.BusArbitration.{Seat, seat_of}
 use Rattle.f8_spec.specs.Instructions.{step_clocks}
 use Rattle.f8_spec.specs.declared.chips.ChipKind.{ChipKind}
-use Rattle.f8_spec.specs.declared.chips.ChipKind.TheVariants.{Psu, Smi}
+use Rattle.f8_spec.specs.declared.chips.ChipKind.TheVariants.{Psu, Smi, Pio}
 use Rattle.f8_spec.specs.declared.chips.Page.{Page}
 use Rattle.data_bus.specs.Racks.{NumberedZip, SettlesStep, Stays, RackSettles, RackStays, views}
 use Rattle.f8_spec.specs.ChipState.{IsFilled}
@@ -43,13 +43,16 @@ FitsRole kind VectorLow = has_fixed_vector kind ≡ false
 FitsRole kind ControlPort = Unit {0}
 FitsRole kind TimerPort = Unit {0}
 
+-- a port of a chip with data ports
+data_fits : (kind : ChipKind) (offset : ℕ) (control timer : Bool) →
+    FitsRole kind (if control then ControlPort else if timer then TimerPort else DataPort offset)
+data_fits kind offset true timer = tt
+data_fits kind offset false true = tt
+data_fits kind offset false false = tt
+
 role_fits : (kind : ChipKind) (offset : ℕ) → FitsRole kind (role_at kind offset)
-role_fits Psu offset = by (offset == 2) (offset == 3)
-  where
-    by : (control timer : Bool) → FitsRole Psu (if control then ControlPort else if timer then TimerPort else DataPort offset)
-    by true timer = tt
-    by false true = tt
-    by false false = tt
+role_fits Psu offset = data_fits Psu offset (offset == 2) (offset == 3)
+role_fits Pio offset = data_fits Pio offset (offset == 2) (offset == 3)
 role_fits Smi offset = by (offset == 2) (offset == 3) (offset == 0)
   where
     by : (control timer high : Bool) → FitsRole Smi (if control then ControlPort else if timer then TimerPort else
@@ -110,13 +113,6 @@ effect_bytes romc byte v other = rw other (step (romc == 0x13) (romc == 0x1A)).b
 
 -- ---- the step on one chip
 
--- every kind of chip has counters
-counters_move : (kind : ChipKind) (romc byte : ℕ) (c : Count) →
-    (if has_counters kind then moved_by romc byte (has_second_counter kind) c else c)
-    ≡ moved_by romc byte (has_second_counter kind) c
-counters_move Psu romc byte c = refl
-counters_move Smi romc byte c = refl
-
 -- the seat stays: the kind, the pages and the first port
 pub seat_of-after : (romc byte clocks : ℕ) (v : ChipView) →
     seat_of (after_step (plain_step romc byte clocks) v) ≡ seat_of v
@@ -126,14 +122,14 @@ seat_of-after romc byte clocks v = (effect_leaves romc byte (timer_passed clocks
 pub pages-after : (romc byte clocks : ℕ) (v : ChipView) → (after_step (plain_step romc byte clocks) v).pages ≡ v.pages
 pages-after romc byte clocks v = ap (λ (s : Seat). s.pages) (seat_of-after romc byte clocks v)
 
--- the counters move by the code
-pub counters-after : (romc byte clocks : ℕ) (v : ChipView) →
-    (after_step (plain_step romc byte clocks) v).counters ≡ moved_by romc byte (has_second_counter v.kind) v.counters
+-- the counters move by the code, where the chip has any
+pub counters-after : (romc byte clocks : ℕ) (v : ChipView) → (after_step (plain_step romc byte clocks) v).counters
+    ≡ (if has_counters v.kind then moved_by romc byte (has_second_counter v.kind) v.counters else v.counters)
 counters-after romc byte clocks v =
     let timed : ChipView = timer_passed clocks v in
     let left : Leaves timed (effect romc byte false timed) = effect_leaves romc byte timed in
-    counters_move (effect romc byte false timed).kind romc byte (effect romc byte false timed).counters
-    ∙ ap₂ (λ (s : Seat) (c : Count). moved_by romc byte (has_second_counter s.kind) c) left.seat left.counters
+    ap₂ (λ (s : Seat) (c : Count). if has_counters s.kind then moved_by romc byte (has_second_counter s.kind) c else c)
+    left.seat left.counters
 
 -- only a store changes bytes
 pub bytes-after : (romc byte clocks : ℕ) (v : ChipView) → (romc == 0x05) ≡ false →

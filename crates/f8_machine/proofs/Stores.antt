@@ -7,7 +7,7 @@ use Rattle.std.proofs.lemmas.Bool.{both_ways, cases_eq, cases_lt}
 use Rattle.std.proofs.lemmas.List.{get_or-set_same, get_or-set_other, set_past}
 use Rattle.f8_spec.specs.ChipState.{ChipView, after_step, byte_in, bytes_with, has_ram_at, held_byte, holds, is_ram}
 use Rattle.f8_spec.specs.ChipState.{sort_at}
-use Rattle.f8_spec.specs.BusArbitration.{Seat, Served, seat_of, parties, bystanders, lowest, view_verdict}
+use Rattle.f8_spec.specs.BusArbitration.{Seat, Served, seat_of, parties, bystanders, lowest, view_ruling}
 use Rattle.f8_spec.specs.declared.bus.BusRule.TheVariants.{Store}
 use Rattle.f8_spec.specs.declared.chips.PageSort.{PageSort}
 use Rattle.f8_spec.specs.declared.chips.PageSort.TheVariants.{Rom, Ram, Void}
@@ -77,7 +77,7 @@ keeps_flat romc byte clocks vs memory other flat =
 
 -- a served store: each chip that takes is at the probe's place, and each with RAM there takes
 store_agrees : (reference : ℕ) (socket : Option ℕ) (vs : List ChipView) →
-    view_verdict 0x05 None reference (enumerate_from 0 vs) ≡ Served socket → Agrees Store 0x05 reference vs
+    view_ruling 0x05 None reference (enumerate_from 0 vs) ≡ Served socket → Agrees Store 0x05 reference vs
 store_agrees reference socket vs served =
     by (store_served reference socket (parties Store (named_seats 0x05 vs))
     (lowest (bystanders Store reference (named_seats 0x05 vs))) served)
@@ -184,7 +184,7 @@ module _ (byte clocks reference : ℕ) (vs : List ChipView) (memory : List ℕ) 
 pub store_keeps_flat : (byte clocks reference : ℕ) (socket : Option ℕ) (vs : List ChipView) (memory : List ℕ) →
     length memory ≡ 65536 →
     ((k : ℕ) (v : ChipView) → slice_get vs k ≡ Some v → IsFilled v) → HoldsFlat memory vs →
-    view_verdict 0x05 None reference (enumerate_from 0 vs) ≡ Served socket →
+    view_ruling 0x05 None reference (enumerate_from 0 vs) ≡ Served socket →
     HoldsFlat (stored_at (map seat_of vs) reference byte memory) (map (after_step (plain_step 0x05 byte clocks)) vs)
 store_keeps_flat byte clocks reference socket vs memory long filled flat served =
     holds_flat_by vs (map (after_step (plain_step 0x05 byte clocks)) vs) (seats-after 0x05 byte clocks vs)

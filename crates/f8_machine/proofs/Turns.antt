@@ -6,14 +6,14 @@ use Rattle.std.specs.List.{enumerate_from}
 use Rattle.std.proofs.lemmas.List.Sums.{sum_by-cons}
 use Rattle.f8_spec.specs.BusCodes.{Count, driver_of, moved_by}
 use Rattle.f8_spec.specs.ChipState.{ChipView, after_step}
-use Rattle.f8_spec.specs.BusArbitration.{Verdict, Served, place_in, rule_of, view_verdict, bus_byte}
+use Rattle.f8_spec.specs.BusArbitration.{Ruling, Served, place_in, rule_of, view_ruling, bus_byte}
 use Rattle.f8_spec.specs.Instructions.{step_clocks}
 use Rattle.f8_spec.specs.MicroSteps.{Step, clocks_along}
 use Rattle.f8_spec.specs.ShiftTimer.{step_period}
 use Rattle.console_spec.specs.Processor.{Flow, Inputs, byte_of}
 use Rattle.console_spec.specs.FlatMemory.{stored_at}
 use Rattle.console_spec.specs.BusAccesses.{Access}
-use Rattle.console_spec.specs.Services.{Fault, fault_by, access_verdict, or_later, first_fault}
+use Rattle.console_spec.specs.Services.{Fault, fault_by, access_ruling, or_later, first_fault}
 use Rattle.console_spec.specs.BusTrace.{TracedStep, traced, with_step, course_by, course_of, is_access}
 use Rattle.console_spec.specs.BusTrace.{unaccessed}
 use Rattle.console_spec.specs.InterruptRequests.{Mark}
@@ -30,7 +30,7 @@ use Rattle.probe.specs.ProbeState.{ProbeState, probe_after}
 use Rattle.f8_machine.proofs.Places.{places_along, with_place, named_place}
 use Rattle.f8_machine.proofs.Bounds.{AreAt}
 use Rattle.f8_machine.proofs.Slots.{plain_step}
-use Rattle.f8_machine.proofs.Copies.{verdict_same, copies_more, seats_same, all_heard}
+use Rattle.f8_machine.proofs.Copies.{ruling_same, copies_more, seats_same, all_heard}
 use Rattle.f8_machine.proofs.PortValues.{PortIs, writes_by}
 use Rattle.f8_machine.proofs.PortReads.{served_port}
 use Rattle.f8_machine.proofs.PortSteps.{ports_more}
@@ -42,8 +42,8 @@ use Rattle.f8_machine.proofs.Along.{fault_stops, no_fault, no_access, course_idl
 use Rattle.f8_machine.proofs.Along.{byte_is, history_with, acknowledged_by, unaccessed_none}
 
 -- the bus rule on a step
-abbrev pub step_verdict : Step → ProbeState → List ChipView → Verdict
-step_verdict s probe vs = view_verdict s.romc None (place_in s.romc probe.count probe.last) (enumerate_from 0 vs)
+abbrev pub step_ruling : Step → ProbeState → List ChipView → Ruling
+step_ruling s probe vs = view_ruling s.romc None (place_in s.romc probe.count probe.last) (enumerate_from 0 vs)
 
 -- the chips after a step with its byte
 abbrev pub chips_after_step : Step → ℕ → ℕ → List ChipView → List ChipView
@@ -78,36 +78,36 @@ module _ (i : Inputs) (x : Position) (aim : Aim) (s : Step) (later : List Step) 
   same_place left e = ap (λ (c : Count). place_in s.romc c probe.last) left.reference
       ∙ (accessed left e).place true x.flat.state.flow
 
-  same_verdict : (left : Along i x aim (s ∷ later) probe vs so_far) (e : is_access (rule_of s.romc) ≡ true) →
-      step_verdict s probe vs ≡ access_verdict x.flat.state.flow x.copies (accessed left e).a
-  same_verdict left e =
+  same_ruling : (left : Along i x aim (s ∷ later) probe vs so_far) (e : is_access (rule_of s.romc) ≡ true) →
+      step_ruling s probe vs ≡ access_ruling x.flat.state.flow x.copies (accessed left e).a
+  same_ruling left e =
       let at = accessed left e in
-      verdict_same left.now probe.last s.romc (place_in s.romc probe.count probe.last) at.a x.flat.state.flow x.copies
+      ruling_same left.now probe.last s.romc (place_in s.romc probe.count probe.last) at.a x.flat.state.flow x.copies
       vs at.code at.place (same_place left e) left.copies
 
-  pub idle_verdict : is_access (rule_of s.romc) ≡ false → step_verdict s probe vs ≡ Served None
-  idle_verdict e = no_access (rule_of s.romc) s.romc (place_in s.romc probe.count probe.last) _ e
+  pub idle_ruling : is_access (rule_of s.romc) ≡ false → step_ruling s probe vs ≡ Served None
+  idle_ruling e = no_access (rule_of s.romc) s.romc (place_in s.romc probe.count probe.last) _ e
 
   -- the faults that are left, by those of the step
   access_faults : (left : Along i x aim (s ∷ later) probe vs so_far) (e : is_access (rule_of s.romc) ≡ true) →
-      or_later (fault_by s.romc (step_verdict s probe vs))
+      or_later (fault_by s.romc (step_ruling s probe vs))
       (first_fault x.flat.state.flow x.copies (accessed left e).behind) ≡ aim.fault
   access_faults left e =
       let at = accessed left e in
-      ap (λ (v : Verdict). or_later (fault_by s.romc v) (first_fault x.flat.state.flow x.copies at.behind))
-      (same_verdict left e)
-      ∙ ap (λ (romc : ℕ). or_later (fault_by romc (access_verdict x.flat.state.flow x.copies at.a))
+      ap (λ (v : Ruling). or_later (fault_by s.romc v) (first_fault x.flat.state.flow x.copies at.behind))
+      (same_ruling left e)
+      ∙ ap (λ (romc : ℕ). or_later (fault_by romc (access_ruling x.flat.state.flow x.copies at.a))
       (first_fault x.flat.state.flow x.copies at.behind)) (sym at.code)
       ∙ ap (λ (l : List Access). first_fault x.flat.state.flow x.copies l) (sym at.are)
       ∙ left.fault
 
   access_course : (left : Along i x aim (s ∷ later) probe vs so_far) (e : is_access (rule_of s.romc) ≡ true) →
-      with_steps so_far (course_by i s (step_verdict s probe vs)
+      with_steps so_far (course_by i s (step_ruling s probe vs)
       (course_of i x.flat.state.flow x.copies later (accessed left e).behind)) ≡ aim.course
   access_course left e =
       let at = accessed left e in
-      ap (λ (v : Verdict). with_steps so_far (course_by i s v (course_of i x.flat.state.flow x.copies later at.behind)))
-      (same_verdict left e)
+      ap (λ (v : Ruling). with_steps so_far (course_by i s v (course_of i x.flat.state.flow x.copies later at.behind)))
+      (same_ruling left e)
       ∙ ap (with_steps so_far) (sym (course_access i x.flat.state.flow x.copies s later at.a at.behind e))
       ∙ ap (λ (l : List Access). with_steps so_far (course_of i x.flat.state.flow x.copies (s ∷ later) l)) (sym at.are)
       ∙ left.course
@@ -119,21 +119,21 @@ module _ (i : Inputs) (x : Position) (aim : Aim) (s : Step) (later : List Step) 
     pub course_is : aim.course ≡ record { steps = so_far; fault = Some (fault, s.long) }
 
   stops_by : (b : Bool) → is_access (rule_of s.romc) ≡ b → Along i x aim (s ∷ later) probe vs so_far → (fault : Fault) →
-      fault_by s.romc (step_verdict s probe vs) ≡ Some fault → Stopped fault
+      fault_by s.romc (step_ruling s probe vs) ≡ Some fault → Stopped fault
   stops_by true e left fault f = record {
     fault_is = sym (access_faults left e) ∙ ap (λ (o : Option Fault). or_later o
         (first_fault x.flat.state.flow x.copies (accessed left e).behind)) f;
     course_is = sym (access_course left e)
-        ∙ ap (with_steps so_far) (fault_stops i s (step_verdict s probe vs)
+        ∙ ap (with_steps so_far) (fault_stops i s (step_ruling s probe vs)
         (course_of i x.flat.state.flow x.copies later (accessed left e).behind) fault f)
         ∙ with_steps-stop so_far fault s.long;
   }
   stops_by false e left fault f =
-      let none : fault_by s.romc (step_verdict s probe vs) ≡ None =
-      no_fault s.romc (step_verdict s probe vs) None (idle_verdict e) in cc
+      let none : fault_by s.romc (step_ruling s probe vs) ≡ None =
+      no_fault s.romc (step_ruling s probe vs) None (idle_ruling e) in cc
 
   pub along-stops : Along i x aim (s ∷ later) probe vs so_far → (fault : Fault) →
-      fault_by s.romc (step_verdict s probe vs) ≡ Some fault → Stopped fault
+      fault_by s.romc (step_ruling s probe vs) ≡ Some fault → Stopped fault
   along-stops left fault f = stops_by (is_access (rule_of s.romc)) refl left fault f
 
   -- ---- a step that is served
@@ -141,7 +141,7 @@ module _ (i : Inputs) (x : Position) (aim : Aim) (s : Step) (later : List Step) 
   -- the byte of a port
   port_byte : (left : Along i x aim (s ∷ later) probe vs so_far) → (placed : ℕ) (socket : Option ℕ) →
       driver_of s.romc ≡ Port →
-      step_verdict s probe vs ≡ Served socket → bus_byte s.romc None placed (enumerate_from 0 vs) ≡ byte_of i s.source
+      step_ruling s probe vs ≡ Served socket → bus_byte s.romc None placed (enumerate_from 0 vs) ≡ byte_of i s.source
   port_byte left placed socket by_port served =
       let is : PortIs Port (seats_of x.copies) x.flat.state.keys left.writes probe.last (byte_of i s.source) =
       subst (λ (d : Driver). PortIs d (seats_of x.copies) x.flat.state.keys left.writes probe.last (byte_of i s.source))
@@ -154,7 +154,7 @@ module _ (i : Inputs) (x : Position) (aim : Aim) (s : Step) (later : List Step) 
 
   pub along-byte : Along i x aim (s ∷ later) probe vs so_far → IsPlain s.romc → (placed : ℕ) (socket : Option ℕ) →
       Places (is_placed_by (driver_of s.romc)) placed (byte_of i s.source) →
-      step_verdict s probe vs ≡ Served socket → bus_byte s.romc None placed (enumerate_from 0 vs) ≡ byte_of i s.source
+      step_ruling s probe vs ≡ Served socket → bus_byte s.romc None placed (enumerate_from 0 vs) ≡ byte_of i s.source
   along-byte left plain placed socket places served =
       byte_is (driver_of s.romc) s.romc placed (byte_of i s.source)
       (place_in s.romc probe.count probe.last) socket vs left.memory plain refl places left.values.0 left.flat
@@ -167,15 +167,15 @@ module _ (i : Inputs) (x : Position) (aim : Aim) (s : Step) (later : List Step) 
 
   -- the socket that is told of a step: that of the chip which answers the access, or which gives its vector
   abbrev pub IsSocketBy : Bool → Option ℕ → Type 0
-  IsSocketBy true socket = step_verdict s probe vs ≡ Served socket
+  IsSocketBy true socket = step_ruling s probe vs ≡ Served socket
   IsSocketBy false socket = unaccessed (rule_of s.romc) i ≡ socket
 
   -- a served step of no acknowledgement
-  plain_socket : IsPlain s.romc → (socket : Option ℕ) → step_verdict s probe vs ≡ Served socket →
+  plain_socket : IsPlain s.romc → (socket : Option ℕ) → step_ruling s probe vs ≡ Served socket →
       (b : Bool) → is_access (rule_of s.romc) ≡ b → IsSocketBy b socket
   plain_socket plain socket served true e = served
   plain_socket plain socket served false e =
-      let none : Served None ≡ Served socket = sym (idle_verdict e) ∙ served in
+      let none : Served None ≡ Served socket = sym (idle_ruling e) ∙ served in
       let same : None ≡ socket = cc in
       unaccessed_none (rule_of s.romc) i e (no_vector_rule s.romc plain) ∙ same
 
@@ -202,10 +202,10 @@ module _ (i : Inputs) (x : Position) (aim : Aim) (s : Step) (later : List Step) 
         places = at.places;
         small = small.1;
         fault = ap (λ (o : Option Fault). or_later o (first_fault x.flat.state.flow x.copies at.behind))
-            (sym (no_fault s.romc (step_verdict s probe vs) socket served)) ∙ access_faults left e;
+            (sym (no_fault s.romc (step_ruling s probe vs) socket served)) ∙ access_faults left e;
         course = sym (with_steps-step so_far (traced i s socket)
             (course_of i x.flat.state.flow x.copies later at.behind))
-            ∙ ap (λ (v : Verdict). with_steps so_far
+            ∙ ap (λ (v : Ruling). with_steps so_far
             (course_by i s v (course_of i x.flat.state.flow x.copies later at.behind))) (sym served)
             ∙ access_course left e;
       }
@@ -311,7 +311,7 @@ module _ (i : Inputs) (x : Position) (aim : Aim) (s : Step) (later : List Step) 
 
   -- what the chips hold where they heard the step as one that acknowledges nothing
   pub plain_held : (left : Along i x aim (s ∷ later) probe vs so_far) → (socket : Option ℕ) →
-      step_verdict s probe vs ≡ Served socket →
+      step_ruling s probe vs ≡ Served socket →
       ChipsHold left (chips_after_step s (byte_of i s.source) (step_clocks s.long) vs)
   plain_held left socket served = record {
     copies = copies_more left.now probe.last s.romc (byte_of i s.source) (step_clocks s.long) x.copies vs left.copies;
@@ -323,7 +323,7 @@ module _ (i : Inputs) (x : Position) (aim : Aim) (s : Step) (later : List Step) 
   }
 
   pub plain_chips : (left : Along i x aim (s ∷ later) probe vs so_far) → (s.romc == 0x13) ≡ false → (socket : Option ℕ) →
-      step_verdict s probe vs ≡ Served socket →
+      step_ruling s probe vs ≡ Served socket →
       ChipsAfter left (chips_after_step s (byte_of i s.source) (step_clocks s.long) vs)
   plain_chips left other socket served = record {
     held = plain_held left socket served;
@@ -337,7 +337,7 @@ module _ (i : Inputs) (x : Position) (aim : Aim) (s : Step) (later : List Step) 
   }
 
   pub along-more : Along i x aim (s ∷ later) probe vs so_far → IsPlain s.romc → (socket : Option ℕ) →
-      step_verdict s probe vs ≡ Served socket →
+      step_ruling s probe vs ≡ Served socket →
       Along i x aim later (probe_after s.romc (byte_of i s.source) probe)
       (chips_after_step s (byte_of i s.source) (step_clocks s.long) vs) (so_far ++ traced i s socket ∷ [])
   along-more left plain socket served =

@@ -6,7 +6,7 @@ use Rattle.std.specs.List.{enumerate_from}
 use Rattle.std.proofs.lemmas.Option.{slice_get-map}
 use Rattle.f8_spec.specs.ChipState.{ChipView, ChipState, given_vector, is_asking}
 use Rattle.f8_spec.specs.ChipState.{byte_offer}
-use Rattle.f8_spec.specs.BusArbitration.{Served, judged, is_first, offer_of, view_verdict, bus_byte, rule_of}
+use Rattle.f8_spec.specs.BusArbitration.{Served, judged, is_first, offer_of, view_ruling, bus_byte, rule_of}
 use Rattle.f8_spec.specs.declared.bus.BusRule.{BusRule}
 use Rattle.f8_spec.specs.declared.bus.BusRule.TheVariants.{Read, Store, PortRead, PortWrite as WriteRule, Vector}
 use Rattle.f8_spec.specs.declared.bus.BusRule.TheVariants.{NoChip}
@@ -24,23 +24,23 @@ use Rattle.f8_machine.proofs.Kept.{keeps_one, slice_get-enumerate_from}
 
 -- ---- a step that is served whatever the chips are
 
-pub sure_verdict : (rule : BusRule) (first : Option ℕ) (reference : ℕ) (ps : List Party) (bystander : Option Party) →
+pub sure_ruling : (rule : BusRule) (first : Option ℕ) (reference : ℕ) (ps : List Party) (bystander : Option Party) →
     is_access rule ≡ false → (socket : Option ℕ) × (judged rule first reference ps bystander ≡ Served socket)
-sure_verdict Read first reference ps bystander idle = cc
-sure_verdict Store first reference ps bystander idle = cc
-sure_verdict PortRead first reference ps bystander idle = cc
-sure_verdict WriteRule first reference ps bystander idle = cc
-sure_verdict Vector first reference ps bystander idle = (first, refl)
-sure_verdict NoChip first reference ps bystander idle = (None, refl)
+sure_ruling Read first reference ps bystander idle = cc
+sure_ruling Store first reference ps bystander idle = cc
+sure_ruling PortRead first reference ps bystander idle = cc
+sure_ruling WriteRule first reference ps bystander idle = cc
+sure_ruling Vector first reference ps bystander idle = (first, refl)
+sure_ruling NoChip first reference ps bystander idle = (None, refl)
 
 pub sure_served : (first : Option ℕ) (step : Step) (fault : BusFault) (before after : ProbeState)
     (olds news : List ChipState) (earlier now : List Heard) → is_access (rule_of step.romc) ≡ false →
     IsRefusedBy first step fault before after olds news earlier now → ⊥
 sure_served first step fault before after olds news earlier now idle refused =
-    let sure = sure_verdict (rule_of step.romc) first (probe_place step.romc before) _ _ idle in
-    let none : fault_by step.romc (view_verdict step.romc first (probe_place step.romc before) (named_views olds))
+    let sure = sure_ruling (rule_of step.romc) first (probe_place step.romc before) _ _ idle in
+    let none : fault_by step.romc (view_ruling step.romc first (probe_place step.romc before) (named_views olds))
     ≡ None = ap (fault_by step.romc) sure.1 in
-    let some = refused.verdict in
+    let some = refused.ruling in
     cc
 
 -- ---- the bytes of the vector

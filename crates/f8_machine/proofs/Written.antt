@@ -3,8 +3,9 @@ use Rattle.std.proofs.Common.{◌≡◌, ℕ, ◌+◌, Bool, true, false, List, 
 use Rattle.std.proofs.Common.{refl, sym, ap, ◌∙◌, subst}
 use Rattle.std.specs.Prelude.{◌==◌, if◌then◌else◌, option_map}
 use Rattle.std.specs.List.{enumerate_from, list_all}
-use Rattle.f8_spec.specs.BusArbitration.{Seat, Verdict, Served, Conflict, Undriven, Astray, seat_has_port, parties}
-use Rattle.f8_spec.specs.BusArbitration.{port_write_verdict, rule_of}
+use Rattle.f8_spec.specs.BusArbitration.{Seat, Ruling, Served, Conflict, Undriven, Astray, seat_has_port, parties}
+use Rattle.f8_spec.specs.BusArbitration.{port_write_ruling, rule_of}
+use Rattle.f8_spec.specs.ChipState.{has_counters}
 use Rattle.f8_spec.specs.declared.bus.BusRule.TheVariants.{PortWrite as WriteRule}
 use Rattle.f8_spec.specs.declared.bus.Party.{Party}
 use Rattle.f8_spec.specs.MicroSteps.{Accumulator, Step, long_step}
@@ -12,7 +13,7 @@ use Rattle.f8_spec.specs.declared.instructions.Row.{Row}
 use Rattle.console_spec.specs.Processor.{Flow, Inputs, byte_of, if_taken, write_at}
 use Rattle.console_spec.specs.CounterCopies.{Copy}
 use Rattle.console_spec.specs.BusAccesses.{Access, at_port, accesses_before_fetch, last_access}
-use Rattle.console_spec.specs.Services.{placed_copy, access_verdict}
+use Rattle.console_spec.specs.Services.{placed_copy, access_ruling}
 use Rattle.console_spec.specs.BusTrace.{TracedStep, Course, traced, with_step, course_by, course_of, is_access}
 use Rattle.console_spec.specs.BusTrace.{unaccessed, with_unaccessed, steps_with}
 use Rattle.console_spec.specs.Run.{seats_of}
@@ -41,14 +42,14 @@ first_idle i s socket rest so_far e = record {
   rest_ends = ap (λ f. record rest { fault = f }) (ap (λ (c : Course). c.fault) e);
 }
 
--- a step by its verdict, which is served
-pub record FirstBy (i : Inputs) (s : Step) (v : Verdict) (rest : Course) (so_far : List TracedStep) : Type 0 where
+-- a step by its ruling, which is served
+pub record FirstBy (i : Inputs) (s : Step) (v : Ruling) (rest : Course) (so_far : List TracedStep) : Type 0 where
   pub socket : Option ℕ
   pub served : v ≡ Served socket
   pub are : so_far ≡ traced i s socket ∷ rest.steps
   pub rest_ends : rest ≡ ends rest.steps
 
-pub first_by : (i : Inputs) (s : Step) (v : Verdict) (rest : Course) (so_far : List TracedStep) →
+pub first_by : (i : Inputs) (s : Step) (v : Ruling) (rest : Course) (so_far : List TracedStep) →
     course_by i s v rest ≡ ends so_far → FirstBy i s v rest so_far
 first_by i s (Served socket) rest so_far e =
     let first = first_idle i s socket rest so_far e in
@@ -85,14 +86,14 @@ course_traced i c copies (s ∷ later) (a ∷ accesses) so_far e = by (is_access
     (λ ts there. course_traced i c copies later accesses ts there)
     (λ ts there. course_traced i c copies later (a ∷ accesses) ts there)
   where
-    by : (b : Bool) → (if b then course_by i s (access_verdict c copies a)
+    by : (b : Bool) → (if b then course_by i s (access_ruling c copies a)
         (course_of i c copies later accesses) else with_unaccessed i s
         (course_of i c copies later (a ∷ accesses))) ≡ ends so_far →
         ((ts : List TracedStep) → course_of i c copies later accesses ≡ ends ts → AreTraced i later ts) →
         ((ts : List TracedStep) → course_of i c copies later (a ∷ accesses) ≡ ends ts → AreTraced i later ts) →
         AreTraced i (s ∷ later) so_far
     by true e access idle =
-        let first = first_by i s (access_verdict c copies a) (course_of i c copies later accesses) so_far e in
+        let first = first_by i s (access_ruling c copies a) (course_of i c copies later accesses) so_far e in
         traced_more i s later first.socket _ so_far first.are (access _ first.rest_ends)
     by false e access idle =
         let first = first_idle i s (unaccessed (rule_of s.romc) i) (course_of i c copies later (a ∷ accesses)) so_far e
@@ -126,15 +127,22 @@ puts_nothing (s ∷ (t ∷ later)) all =
 
 -- ---- a port write
 
+-- with counters or without, a chip goes by the port
+same_port : (has : Bool) (port : ℕ) → (if has then port else port) ≡ port
+same_port true port = refl
+same_port false port = refl
+
 -- as many copies take the byte as have the port
 copies_count : (port n : ℕ) (cs : List Copy) →
     length (parties WriteRule (enumerate_from n (map (placed_copy (at_port 0x1A port)) cs))) ≡ takers port (seats_of cs)
 copies_count port n [] = refl
-copies_count port n (c ∷ cs) = count_more (seat_has_port c.seat port) (seat_has_port c.seat port) refl n port _ c.seat _
-    (copies_count port (n + 1) cs)
+copies_count port n (c ∷ cs) =
+    count_more (seat_has_port c.seat (if has_counters c.seat.kind then port else port)) (seat_has_port c.seat port)
+    (ap (seat_has_port c.seat) (same_port (has_counters c.seat.kind) port)) n
+    (if has_counters c.seat.kind then port else port) _ c.seat _ (copies_count port (n + 1) cs)
 
 taken_by_one : (phi port byte : ℕ) (ps : List Party) (socket : Option ℕ) (seats : List Seat) →
-    port_write_verdict ps ≡ Served socket → length ps ≡ takers port seats →
+    port_write_ruling ps ≡ Served socket → length ps ≡ takers port seats →
     option_map (λ k. record { phi = phi; port = port; byte = byte }) socket ≡ write_at phi byte (if_taken port seats)
 taken_by_one phi port byte [] socket seats served count =
     let none : None ≡ socket = cc in
@@ -150,16 +158,16 @@ taken_by_one phi port byte (p ∷ (q ∷ ps)) socket seats served count = cc
 pub written_by : (phi : ℕ) (i : Inputs) (names : Step) (port : ℕ) (c : Flow) (copies : List Copy) (socket : Option ℕ)
     (rest : Course) (so_far : List TracedStep) →
     so_far ≡ traced i names socket ∷ (course_by i (long_step 0x1A Accumulator)
-    (access_verdict c copies (at_port 0x1A port)) rest).steps →
-    course_by i (long_step 0x1A Accumulator) (access_verdict c copies (at_port 0x1A port)) rest
-    ≡ ends (course_by i (long_step 0x1A Accumulator) (access_verdict c copies (at_port 0x1A port)) rest).steps →
+    (access_ruling c copies (at_port 0x1A port)) rest).steps →
+    course_by i (long_step 0x1A Accumulator) (access_ruling c copies (at_port 0x1A port)) rest
+    ≡ ends (course_by i (long_step 0x1A Accumulator) (access_ruling c copies (at_port 0x1A port)) rest).steps →
     byte_of i names.source ≡ port → chip_write phi (map heard_of so_far)
     ≡ write_at phi i.accumulator (if_taken port (seats_of copies))
 written_by phi i names port c copies socket rest so_far are put named =
-    let second : FirstBy i (long_step 0x1A Accumulator) (access_verdict c copies (at_port 0x1A port)) rest
-    (course_by i (long_step 0x1A Accumulator) (access_verdict c copies (at_port 0x1A port)) rest).steps =
-    first_by i (long_step 0x1A Accumulator) (access_verdict c copies (at_port 0x1A port)) rest
-    (course_by i (long_step 0x1A Accumulator) (access_verdict c copies (at_port 0x1A port)) rest).steps put in
+    let second : FirstBy i (long_step 0x1A Accumulator) (access_ruling c copies (at_port 0x1A port)) rest
+    (course_by i (long_step 0x1A Accumulator) (access_ruling c copies (at_port 0x1A port)) rest).steps =
+    first_by i (long_step 0x1A Accumulator) (access_ruling c copies (at_port 0x1A port)) rest
+    (course_by i (long_step 0x1A Accumulator) (access_ruling c copies (at_port 0x1A port)) rest).steps put in
     ap (λ (l : List TracedStep). chip_write phi (map heard_of l))
     (are ∙ ap (λ (l : List TracedStep). traced i names socket ∷ l) second.are)
     ∙ ap (λ (n : ℕ). option_map (λ (k : ℕ). record { phi = phi; port = n; byte = i.accumulator }) second.socket) named

@@ -3,12 +3,15 @@ use Rattle.std.specs.Prelude.{◌≡◌, ◌+◌, ◌≤◌, List}
 use Rattle.f8_spec.specs.ChipState.{ChipState}
 use Rattle.f8_ops.specs.declared.table.TheConstants.{MOST_INTERRUPTED_PHI}
 use Rattle.console_spec.specs.Run.{Position}
-use Rattle.f8_machine.specs.MachineState.{MachineState, IsReset, outcome_again, probe_after_steps, steps_in}
+use Rattle.f8_machine.specs.MachineState.{MachineState, IsReset, halted, outcome_again, probe_after_steps, steps_in}
 use Rattle.f8_machine.specs.Questions.{codes_of, followed_all}
 use Rattle.f8_machine.specs.Refinement.{Represents, Refines}
 use Rattle.f8_machine.specs.Rounds.{RackRuns}
+use Rattle.f8_machine.specs.declared.outcome.Mode.TheVariants.{Running}
 use Rattle.f8_machine.specs.declared.outcome.Outcome.{Outcome}
+use Rattle.f8_machine.specs.declared.outcome.Outcome.TheVariants.{Done, Fault, Reserved}
 use Rattle.f8_machine.specs.declared.outcome.StoppedBy.{StoppedBy}
+use Rattle.f8_machine.specs.declared.outcome.StoppedBy.TheVariants.{Fault as ByFault, Reserved as ByOpcode}
 
 -- The chips and the probe have heard the steps told and nothing else, and the index has followed them; reset has been, and the sockets
 -- of the chips described stay.
@@ -25,6 +28,13 @@ pub record Advances (result : Outcome) (old new : MachineState) (olds news : Lis
   pub refines : (x : Position) → Represents old olds x → Refines result old new news x
   pub clocks : new.phi ≤ old.phi + MOST_INTERRUPTED_PHI
   pub onward : old.phi ≤ new.phi
+
+-- What is done leaves the machine running. What isn't stops it with what it tells, and leaves it the registers, the counters and the
+-- clocks.
+abbrev pub Halts : Outcome → MachineState → MachineState → Type 0
+Halts (Done wrote steps) old new = new.mode ≡ Running
+Halts (Fault fault long steps) old new = new ≡ halted (ByFault fault long) new.probe new.index old
+Halts (Reserved at code) old new = new ≡ halted (ByOpcode at code) old.probe old.index old
 
 -- A machine that was stopped answers the same again, and nothing changes: neither the machine nor what its chips are and have heard.
 pub record StaysStopped (why : StoppedBy) (result : Outcome) (old new : MachineState)

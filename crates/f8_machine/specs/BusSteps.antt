@@ -1,7 +1,7 @@
 -- One bus step of a machine: what it leaves where it is served, and where it is not.
 use Rattle.std.specs.Prelude.{◌≡◌, ℕ, false, ◌==◌, ◌||◌, List, [], ◌∷◌, ◌++◌, Option, Some, None}
 use Rattle.f8_spec.specs.ChipState.{ChipState}
-use Rattle.f8_spec.specs.BusArbitration.{Served, rule_of, view_verdict, bus_byte}
+use Rattle.f8_spec.specs.BusArbitration.{Served, rule_of, view_ruling, bus_byte}
 use Rattle.console_spec.specs.BusTrace.{taker_by, who_by}
 use Rattle.console_spec.specs.Services.{fault_by}
 use Rattle.probe.specs.ProbeState.{ProbeState, probe_after}
@@ -31,7 +31,7 @@ heard_served step byte socket = record {
 pub record IsServedBy (first : Option ℕ) (step : Step) (placed : ℕ) (before after : ProbeState) (olds news : List ChipState)
     (earlier now : List Heard) (byte : ℕ) : Type 0 where
   pub socket : Option ℕ
-  pub verdict : view_verdict step.romc first (probe_place step.romc before) (named_views olds) ≡ Served socket
+  pub ruling : view_ruling step.romc first (probe_place step.romc before) (named_views olds) ≡ Served socket
   pub driven : byte ≡ bus_byte step.romc first placed (named_views olds)
   pub settled : RackSettles step.romc step.long first byte olds news
   pub heard : after ≡ probe_after step.romc byte before
@@ -40,7 +40,7 @@ pub record IsServedBy (first : Option ℕ) (step : Step) (placed : ℕ) (before 
 -- not served: the fault is the bus rule's, and nothing changes
 pub record IsRefusedBy (first : Option ℕ) (step : Step) (fault : BusFault) (before after : ProbeState) (olds news : List ChipState)
     (earlier now : List Heard) : Type 0 where
-  pub verdict : fault_by step.romc (view_verdict step.romc first (probe_place step.romc before) (named_views olds))
+  pub ruling : fault_by step.romc (view_ruling step.romc first (probe_place step.romc before) (named_views olds))
       ≡ Some (fault_of fault)
   pub stays : RackStays olds news
   pub unheard : after ≡ before

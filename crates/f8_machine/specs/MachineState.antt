@@ -43,6 +43,10 @@ steps_in (Done wrote steps) = steps
 steps_in (Fault fault long steps) = steps
 steps_in (Reserved at code) = []
 
+-- a machine that is stopped, with what the steps tried for it have made of the probe and the index
+abbrev pub halted : StoppedBy → ProbeState → Index → MachineState → MachineState
+halted why probe index m = record m { probe = probe; index = index; mode = Stopped why }
+
 -- reset has been
 abbrev pub IsReset : Mode → Type 0
 IsReset Powered = ⊥

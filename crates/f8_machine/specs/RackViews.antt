@@ -4,18 +4,18 @@ use Rattle.f8_spec.specs.BusCodes.{Count}
 use Rattle.f8_spec.specs.ChipState.{ChipView, IsFilled, has_second_counter, holds, held_byte, data_port}
 use Rattle.f8_spec.specs.BusArbitration.{seat_of}
 use Rattle.console_spec.specs.Processor.{Flow}
-use Rattle.console_spec.specs.CounterCopies.{Copy}
+use Rattle.console_spec.specs.CounterCopies.{Copy, own_counts}
 use Rattle.console_spec.specs.AddressSpace.{byte_at}
 use Rattle.console_spec.specs.Writes.{latch_of}
 use Rattle.console_spec.specs.declared.PortWrite.{PortWrite}
 
 -- ---- the copies
 
--- a chip with its copy: its counters are those of the copy, as a function of a set of counters with or without a second data counter;
--- and the byte that it heard last
+-- A chip with its copy: its counters are those of the copy, as a function of a set of counters with or without a second data counter, and
+-- 0 where it has none; and the byte that it heard last.
 pub record IsCopy (now : Bool → Flow → Count) (last : ℕ) (c : Copy) (v : ChipView) : Type 0 where
   pub seat : seat_of v ≡ c.seat
-  pub counters : v.counters ≡ now (has_second_counter c.seat.kind) c.flow
+  pub counters : v.counters ≡ own_counts c.seat.kind (now (has_second_counter c.seat.kind) c.flow)
   pub heard : v.last ≡ last
   pub filled : IsFilled v
 

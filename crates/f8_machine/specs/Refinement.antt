@@ -2,6 +2,7 @@
 use Rattle.std.specs.Prelude.{◌≡◌, ℕ, ◌-◌, ◌<◌, ◌≤◌, Bool, List, [], ◌∷◌, length, map, slice_get, Option, Some, None}
 use Rattle.f8_spec.specs.BusCodes.{Count}
 use Rattle.f8_spec.specs.ChipState.{ChipState, IsWhole}
+use Rattle.f8_spec.specs.Instructions.{decoded}
 use Rattle.console_spec.specs.AddressSpace.{byte_at}
 use Rattle.console_spec.specs.Processor.{Flow, State, with_write, history_of}
 use Rattle.console_spec.specs.declared.PortWrite.{PortWrite}
@@ -19,8 +20,9 @@ use Rattle.f8_machine.specs.RackViews.{HoldsFlat, HoldsPorts, AreCopies}
 use Rattle.f8_machine.specs.RequestsHeld.{IsInTime, IsSettledBy}
 use Rattle.f8_machine.specs.Faults.{fault_of}
 use Rattle.f8_machine.specs.Rounds.{heard_of}
-use Rattle.f8_machine.specs.MachineState.{MachineState}
+use Rattle.f8_machine.specs.MachineState.{MachineState, halted}
 use Rattle.f8_machine.specs.declared.heard.Heard.{Heard}
+use Rattle.f8_machine.specs.declared.outcome.Mode.{Mode}
 use Rattle.f8_machine.specs.declared.outcome.Mode.TheVariants.{Powered, Running, Stopped}
 use Rattle.f8_machine.specs.declared.outcome.StoppedBy.TheVariants.{Fault as ByFault, Reserved as ByOpcode}
 use Rattle.f8_machine.specs.declared.outcome.Outcome.{Outcome}
@@ -70,12 +72,25 @@ pub record IsSettled (s : State) : Type 0 where
   pub begun : 4 ≤ s.phi
   pub back : IsSettledBy (s.phi - 4) (history_of s)
 
--- after reset, as long as nothing stops the machine
+-- the opcode of a position, with its address, is one that no instruction has
+pub record IsReservedAt (x : Position) (at code : ℕ) : Type 0 where
+  pub reserved : decoded (opcode_at x) ≡ None
+  pub address : at ≡ x.flat.state.flow.p
+  pub opcode : code ≡ opcode_at x
+
+-- a machine that was reset runs, or has stopped at the reserved opcode of its position; no fault has stopped it
+abbrev pub RunsTo : Position → Mode → Type 0
+RunsTo x Powered = ⊥
+RunsTo x Running = Unit {0}
+RunsTo x (Stopped (ByFault fault long)) = ⊥
+RunsTo x (Stopped (ByOpcode at code)) = IsReservedAt x at code
+
+-- after reset, as long as no fault stops the machine
 pub record Represents (m : MachineState) (states : List ChipState) (x : Position) : Type 0 where
   pub stands : Stands fetched m states x
   pub settled : IsSettled x.flat.state
   pub opcode : m.cpu.opcode ≡ opcode_at x
-  pub running : m.mode ≡ Running
+  pub mode : RunsTo x m.mode
 
 -- every copy will be at 0 after reset
 abbrev pub AreAtZero : List Copy → Type 0
@@ -93,13 +108,14 @@ pub record IsPowered (m : MachineState) (states : List ChipState) (x : Position)
 
 -- ---- an instruction
 
--- done: the machine stands for the next position, the write told is the one that the flat machine has more, with the clocks at the end,
--- and the steps are those of the definitions
+-- done: the machine runs and stands for the next position, the write told is the one that the flat machine has more, with the clocks at
+-- the end, and the steps are those of the definitions
 pub record IsDone (m : MachineState) (states : List ChipState) (turn : Turn) (course : Course) (writes : List PortWrite)
     (wrote : Option PortWrite) (steps : List Heard) : Type 0 where
   pub after : Position
   pub turns : turn ≡ Goes after
   pub represents : Represents m states after
+  pub running : m.mode ≡ Running
   pub written : after.flat.state.writes ≡ with_write wrote writes
   pub trace : course ≡ record { steps = course.steps; fault = None }
   pub recorded : steps ≡ map heard_of course.steps
@@ -110,12 +126,13 @@ pub record IsFaulted (before after : MachineState) (turn : Turn) (course : Cours
   pub turns : turn ≡ Stops (UnservedStop (fault_of fault))
   pub trace : course ≡ record { steps = course.steps; fault = Some (fault_of fault, long) }
   pub recorded : steps ≡ map heard_of course.steps
-  pub kept : after ≡ record before { probe = after.probe; index = after.index; mode = Stopped (ByFault fault long) }
+  pub kept : after ≡ halted (ByFault fault long) after.probe after.index before
 
--- an opcode that stops the run: nothing is done
-pub record StopsAtReserved (before after : MachineState) (turn : Turn) (at code : ℕ) : Type 0 where
-  pub turns : turn ≡ Stops (ReservedStop at code)
-  pub kept : after ≡ record before { mode = Stopped (ByOpcode at code) }
+-- an opcode that stops the run: nothing is done, and the machine goes on standing for the position
+pub record StopsAtReserved (before after : MachineState) (states : List ChipState) (x : Position) (at code : ℕ) : Type 0 where
+  pub turns : next x ≡ Stops (ReservedStop at code)
+  pub kept : after ≡ halted (ByOpcode at code) before.probe before.index before
+  pub represents : Represents after states x
 
 -- what an instruction answers, where the machine and its rack stand for a position
 abbrev pub Refines : Outcome → MachineState → MachineState → List ChipState → Position → Type 0
@@ -123,7 +140,7 @@ Refines (Done wrote steps) before after states x =
     IsDone after states (next x) (turn_course x) x.flat.state.writes wrote steps
 Refines (FaultOutcome fault long steps) before after states x =
     IsFaulted before after (next x) (turn_course x) fault long steps
-Refines (Reserved at code) before after states x = StopsAtReserved before after (next x) at code
+Refines (Reserved at code) before after states x = StopsAtReserved before after states x at code
 
 -- what reset answers, on a machine that is powered
 abbrev pub ResetRefines : Outcome → MachineState → MachineState → List ChipState → Position → Type 0

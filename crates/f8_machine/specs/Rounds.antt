@@ -3,7 +3,8 @@ use Rattle.std.specs.Prelude.{◌≡◌, ℕ, Bool, false, ◌==◌, ◌&&◌, �
 use Rattle.f8_spec.specs.ChipState.{ChipView, ChipState, HeardStep, PowersOn, after_step, told_step}
 use Rattle.f8_spec.specs.Instructions.{step_clocks}
 use Rattle.data_bus.specs.Racks.{NumberedZip}
-use Rattle.console_spec.specs.CounterCopies.{power_start}
+use Rattle.f8_spec.specs.declared.chips.PowerOn.{PowerOn}
+use Rattle.console_spec.specs.Powering.{fill_in, start_in}
 use Rattle.console_spec.specs.BusTrace.{TracedStep}
 use Rattle.console_spec.specs.declared.Who.{Who}
 use Rattle.console_spec.specs.declared.Who.TheVariants.{Cpu, Socket, Nobody}
@@ -46,9 +47,11 @@ pub record Runs (steps : List Heard) (socket : ℕ) (old new : ChipState) : Type
 abbrev pub RackRuns : List Heard → List ChipState → List ChipState → Type 0
 RackRuns steps olds news = NumberedZip (Runs steps) 0 olds news
 
--- power-on of the chip in a socket, and of a rack
-abbrev pub PowersInSocket : ℕ → ℕ → ChipState → ChipState → Type 0
-PowersInSocket fill socket old new = PowersOn fill (power_start fill socket) old new
+-- power-on of the chip in a socket, by the byte that fills its RAM and the address at which its counters stand
+abbrev pub PowersInSocket : (ℕ → ℕ) → (ℕ → ℕ) → ℕ → ChipState → ChipState → Type 0
+PowersInSocket fill start socket old new = PowersOn (fill socket) (start socket) old new
 
-abbrev pub RackPowers : ℕ → List ChipState → List ChipState → Type 0
-RackPowers fill olds news = NumberedZip (PowersInSocket fill) 0 olds news
+-- power-on of a rack, with the chain of the chips described and what is said of each
+abbrev pub RackPowers : ℕ → List ℕ → List PowerOn → List ChipState → List ChipState → Type 0
+RackPowers fill chain powers olds news =
+    NumberedZip (PowersInSocket (fill_in fill chain powers) (start_in fill chain powers)) 0 olds news

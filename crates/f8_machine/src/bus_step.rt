@@ -10,7 +10,7 @@ use super::heard::{Heard, taker, who_drove};
 use super::record::{MOST_HEARD, Record};
 use chip_face::{Chip, MOST_CHIPS};
 use cpu3850::Step;
-use data_bus::{BusFault, Cycle, Index, Rack, Served, step_by as bus, step_known};
+use data_bus::{BusFault, Cycle, Index, Rack, Served, step_asking, step_by as bus, step_known};
 use probe::Probe;
 
 /// A served step, as a trace tells it.
@@ -75,8 +75,8 @@ fn known_step(
 #[derive(Clone, Copy, Debug, PartialEq, Eq)]
 pub(crate) struct NotServed;
 
-/// One bus step as [`bus_step`] does it, whatever the index tells.
-#[tactic(auto, using(crate::proofs::BusAnswers::none_chosen))]
+/// One bus step as [`bus_step`] does it, where the index didn't tell that it is served.
+#[tactic(auto, using(crate::proofs::BusAnswers::none_chosen, crate::proofs::BusAnswers::served_by, crate::proofs::BusAnswers::refused_by, crate::proofs::Counting::counts_by, crate::proofs::Counting::tried_by))]
 #[inline(never)]
 fn whole_step(
     rack: &mut Rack,
@@ -105,8 +105,17 @@ fn whole_step(
         (record { index = known.new; questions = sum_by queries rack.new.items; steps = steps.new })) }
     ensures chips { length rack.new.items ≡ length rack.old.items }
 {
-    match bus_step_by(rack, probe, known, *step, placed, None, steps) {
-        Ok(byte) => Ok(byte),
+    let cycle = Cycle {
+        romc: step.romc,
+        long: step.long,
+        byte: placed,
+        first: None,
+    };
+    match step_asking(rack, probe, known, &cycle) {
+        Ok(served) => {
+            steps.push(heard(step, served));
+            Ok(served.byte)
+        }
         Err(fault) => {
             *unserved = Unserved {
                 fault,

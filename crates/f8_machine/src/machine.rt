@@ -10,7 +10,7 @@ use super::pulse::pulse_at;
 use super::record::Record;
 use super::reset::fetch_first;
 use super::wrote::done_write;
-use chip_face::{Chip, Counters, MOST_CHIPS};
+use chip_face::{Chip, Counters, MOST_CHIPS, Powers};
 use console_spec::Regs;
 use cpu3850::{Cpu, Steps};
 use data_bus::{Index, Rack};
@@ -42,7 +42,9 @@ pub struct Machine {
 }
 
 impl Model for Machine {
+    ghost use Rattle.std.specs.Prelude.{◌≡◌};
     ghost use Rattle.f8_machine.specs.MachineState.{MachineState, flow_of};
+    ghost use Rattle.f8_machine.specs.declared.outcome.Mode.TheVariants.{Powered};
 
     ghost Value = { MachineState };
 
@@ -55,6 +57,9 @@ impl Model for Machine {
       mode = m.mode;
       index = m.index;
     } };
+
+    // Before reset no clock has passed.
+    ghost invariant = { λ m. m.mode ≡ Powered → m.phi ≡ 0 };
 }
 
 impl Machine {
@@ -71,9 +76,10 @@ impl Machine {
     ghost use Rattle.data_bus.specs.Racks.{NumberedZip, views};
     ghost use Rattle.f8_machine.specs.Fitting.{Fits, tried};
     ghost use Rattle.f8_machine.specs.Questions.{allowances};
-    ghost use Rattle.f8_machine.specs.MachineState.{IsReset, powered_machine};
+    ghost use Rattle.f8_machine.specs.HeardSteps.{HaveBytes};
+    ghost use Rattle.f8_machine.specs.MachineState.{IsReset, powered_machine, steps_in};
     ghost use Rattle.f8_machine.specs.Refinement.{AreWhole, Represents, IsPowered, ResetRefines};
-    ghost use Rattle.f8_machine.specs.Advancing.{Follows, Advances, StaysStopped};
+    ghost use Rattle.f8_machine.specs.Advancing.{Follows, Advances, Halts, StaysStopped};
     ghost use Rattle.f8_machine.specs.Rounds.{RackPowers};
     ghost use Rattle.f8_machine.specs.Keying.{RackKeyed, keyed_machine};
     ghost use Rattle.console_spec.specs.declared.Event.TheVariants.{Keys, Pulse};
@@ -82,17 +88,19 @@ impl Machine {
 
     /// Power-on of the machine and of every chip of the rack, of which there are at most 16. The power byte is in the accumulator, in
     /// ISAR modulo 64, in the scratchpad and in all RAM, and the counters of the chip in a socket stand at the power byte in both
-    /// halves, and the socket added; the probe's stand at 0. `chain` has the sockets of the chips described. Power-on contents are this
-    /// project's own. Each chip is put at most 512 questions, by which the index of the rack is made; of the chips' counters the index
-    /// knows nothing then.
-    pub fn power(fill: u8, chain: Chain, rack: &mut Rack) -> Machine
+    /// halves, and the socket added; the probe's stand at 0. `chain` has the sockets of the chips described, and `powers` what is said
+    /// of the power-on of each, in the same order: a chip of which another byte or another address is said has that one in its RAM or
+    /// its counters. The counters of a chip that has none are 0. Power-on contents are this project's own. Each chip is put at most 512
+    /// questions, by which the index of the rack is made; of the chips' counters the index knows nothing then.
+    pub fn power(fill: u8, chain: Chain, powers: &Powers, rack: &mut Rack) -> Machine
         requires few { length rack.old.items ≤ MOST_CHIPS }
         ensures machine { result ≡ powered_machine fill chain result.index }
-        ensures powered { RackPowers fill (map state rack.old.items) (map state rack.new.items) }
+        ensures powered { RackPowers fill chain powers.now
+            (map state rack.old.items) (map state rack.new.items) }
         ensures pair { AreWhole (map state rack.old.items) →
             LeaveOwnPorts (map seat_of (views (map state rack.old.items))) →
             IsPowered result (map state rack.new.items)
-            (power_position (views (map state rack.old.items)) chain fill) }
+            (power_position (views (map state rack.old.items)) chain powers.now fill) }
         ensures fits { Fits result (map state rack.new.items) }
         ensures marks { result.index.marks ≡ no_marks }
         ensures parted { result.index.is_parted
@@ -101,7 +109,7 @@ impl Machine {
             (map queries rack.new.items) }
         ensures chips { length rack.new.items ≡ length rack.old.items }
     {
-        power_all(rack, fill);
+        power_all(rack, fill, chain.as_slice(), powers.as_slice());
         let index = Index::of(rack);
         Machine {
             probe: Probe::new(),
@@ -119,11 +127,12 @@ impl Machine {
         requires few { length rack.old.items ≤ MOST_CHIPS }
         requires mode { self.old.mode ≡ Mode.Powered }
         requires fits { Fits self.old (map state rack.old.items) }
-        requires phi { self.old.phi < 2 ^ 62 }
         ensures refines { (x : Position) → IsPowered self.old (map state rack.old.items) x →
             ResetRefines result self.old self.new (map state rack.new.items) x }
         ensures follows { Follows result self.old self.new
             (map state rack.old.items) (map state rack.new.items) }
+        ensures halts { Halts result self.old self.new }
+        ensures bytes { HaveBytes (steps_in result) }
         ensures clocks { self.new.phi ≤ self.old.phi + RESET_PHI }
         ensures fits { Fits self.new (map state rack.new.items) }
         ensures asked { sum_by queries rack.new.items ≤ sum_by queries rack.old.items
@@ -131,7 +140,9 @@ impl Machine {
         ensures chips { length rack.new.items ≡ length rack.old.items }
     {
         let mut steps = Record::new();
-        match fetch_first(rack, &mut self.probe, &mut self.index, &mut steps) {
+        let fetched = fetch_first(rack, &mut self.probe, &mut self.index, &mut steps);
+        steps.bytes_law();
+        match fetched {
             Ok(opcode) => {
                 self.cpu.fetch(opcode);
                 self.flow = Flow::of(self.probe.counters());
@@ -139,9 +150,9 @@ impl Machine {
                 self.mode = Mode::Running;
                 Outcome::Done { wrote: None, steps }
             }
-            Err(unserved) => {
-                self.mode = Mode::Stopped(unserved.to_stopped_by());
-                let Unserved { fault, long } = unserved;
+            Err(cut) => {
+                self.mode = Mode::Stopped(cut.to_stopped_by());
+                let Unserved { fault, long } = cut;
                 Outcome::Fault { fault, long, steps }
             }
         }
@@ -161,6 +172,8 @@ impl Machine {
             (map state rack.old.items) (map state rack.new.items) }
         ensures follows { Follows result self.old self.new
             (map state rack.old.items) (map state rack.new.items) }
+        ensures halts { Halts result self.old self.new }
+        ensures bytes { HaveBytes (steps_in result) }
         ensures fits { Fits self.new (map state rack.new.items) }
         ensures asked { sum_by queries rack.new.items ≤ sum_by queries rack.old.items
             + allowances (length rack.old.items) self.old.index (tried self.old.mode result) }
@@ -202,6 +215,7 @@ impl Machine {
                 Outcome::Done { wrote, steps }
             }
             Err(NotServed) => {
+                steps.bytes_law();
                 self.cpu.restore(kept);
                 self.mode = Mode::Stopped(unserved.to_stopped_by());
                 let Unserved { fault, long } = unserved;

@@ -69,6 +69,13 @@ impl Record {
         &self.items[..len]
     }
 
+    /// Their bytes are bytes, which holds of each record. This call does nothing; its contract is the law.
+    pub(crate) fn bytes_law(&self)
+        ensures { HaveBytes self.now }
+    {
+        let _len = self.len;
+    }
+
     /// How many there are.
     pub fn len(&self) -> usize
         ensures value { result ≡ length self.now }

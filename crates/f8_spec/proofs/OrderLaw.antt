@@ -4,9 +4,9 @@ use Rattle.std.specs.Prelude.{if◌then◌else◌, Option, Some, None, option_ma
 use Rattle.std.proofs.lemmas.List.Sorted.{IsPermutation-map, length_permutation}
 use Rattle.f8_spec.specs.BusCodes.{driver_of}
 use Rattle.f8_spec.specs.ChipState.{ChipView, offered}
-use Rattle.f8_spec.specs.BusArbitration.{PlacedSeat, Verdict, Conflict, Astray, rule_of, answers, would_answer}
+use Rattle.f8_spec.specs.BusArbitration.{PlacedSeat, Ruling, Conflict, Astray, rule_of, answers, would_answer}
 use Rattle.f8_spec.specs.BusArbitration.{party_if, party_of, bystander_of, lowest, unless_bystander, one_party}
-use Rattle.f8_spec.specs.BusArbitration.{read_verdict, store_verdict, port_read_verdict, port_write_verdict, judged}
+use Rattle.f8_spec.specs.BusArbitration.{read_ruling, store_ruling, port_read_ruling, port_write_ruling, judged}
 use Rattle.f8_spec.specs.BusArbitration.{is_first, offer_of, offers, only_byte, byte_by, named_placed}
 use Rattle.f8_spec.specs.OrderLaw.{renamed, renamed_party, Agree, OrderLaw}
 use Rattle.f8_spec.specs.declared.bus.BusRule.{BusRule}
@@ -53,31 +53,31 @@ module _ (name : ℕ → ℕ) where
       by_test false = (refl, inl (refl, refl))
 
   -- several chips that drive or take
-  conflict-renamed : (judge : List Party → Verdict) → ((c d : Party) (rest : List Party) → judge (c ∷ (d ∷ rest)) ≡ Conflict (c ∷ (d ∷ rest))) →
+  conflict-renamed : (judge : List Party → Ruling) → ((c d : Party) (rest : List Party) → judge (c ∷ (d ∷ rest)) ≡ Conflict (c ∷ (d ∷ rest))) →
       (x y : Party) (ps qs bs cs : List Party) → IsPermutation (map (renamed_party name) (x ∷ (y ∷ ps))) qs →
       Agree name bs cs (Conflict (x ∷ (y ∷ ps))) (judge qs)
   conflict-renamed judge is x y ps [] bs cs p = absurd (let e = length_permutation _ _ p in omega arith)
   conflict-renamed judge is x y ps (c ∷ []) bs cs p = absurd (let e = length_permutation _ _ p in omega arith)
   conflict-renamed judge is x y ps (c ∷ (d ∷ qs)) bs cs p = rw (is c d qs) p
 
-  -- the verdict by those that take part and those that stand by
+  -- the ruling by those that take part and those that stand by
   judged-renamed : (rule : BusRule) (first : Option ℕ) (reference : ℕ) (ps qs bs cs : List Party) →
       IsPermutation (map (renamed_party name) ps) qs → IsPermutation (map (renamed_party name) bs) cs →
       Agree name bs cs (judged rule first reference ps (lowest bs)) (judged rule (option_map name first) reference qs (lowest cs))
   judged-renamed Read first reference [] qs bs cs p b = rw (none_left qs p) refl
   judged-renamed Read first reference (x ∷ []) qs bs cs p b = rw (one_left (renamed_party name x) qs p) (one-renamed reference x bs cs b)
   judged-renamed Read first reference (x ∷ (y ∷ ps)) qs bs cs p b =
-      conflict-renamed (λ l. read_verdict reference l (lowest cs)) (λ c d rest. refl) x y ps qs bs cs p
+      conflict-renamed (λ l. read_ruling reference l (lowest cs)) (λ c d rest. refl) x y ps qs bs cs p
   judged-renamed Store first reference [] qs bs cs p b = rw (none_left qs p) (unless-renamed reference None bs cs b)
   judged-renamed Store first reference (x ∷ []) qs bs cs p b = rw (one_left (renamed_party name x) qs p) (one-renamed reference x bs cs b)
   judged-renamed Store first reference (x ∷ (y ∷ ps)) qs bs cs p b =
-      conflict-renamed (λ l. store_verdict reference l (lowest cs)) (λ c d rest. refl) x y ps qs bs cs p
+      conflict-renamed (λ l. store_ruling reference l (lowest cs)) (λ c d rest. refl) x y ps qs bs cs p
   judged-renamed PortRead first reference [] qs bs cs p b = rw (none_left qs p) refl
   judged-renamed PortRead first reference (x ∷ []) qs bs cs p b = rw (one_left (renamed_party name x) qs p) refl
-  judged-renamed PortRead first reference (x ∷ (y ∷ ps)) qs bs cs p b = conflict-renamed (port_read_verdict reference) (λ c d rest. refl) x y ps qs bs cs p
+  judged-renamed PortRead first reference (x ∷ (y ∷ ps)) qs bs cs p b = conflict-renamed (port_read_ruling reference) (λ c d rest. refl) x y ps qs bs cs p
   judged-renamed PortWrite first reference [] qs bs cs p b = rw (none_left qs p) refl
   judged-renamed PortWrite first reference (x ∷ []) qs bs cs p b = rw (one_left (renamed_party name x) qs p) refl
-  judged-renamed PortWrite first reference (x ∷ (y ∷ ps)) qs bs cs p b = conflict-renamed port_write_verdict (λ c d rest. refl) x y ps qs bs cs p
+  judged-renamed PortWrite first reference (x ∷ (y ∷ ps)) qs bs cs p b = conflict-renamed port_write_ruling (λ c d rest. refl) x y ps qs bs cs p
   judged-renamed Vector first reference ps qs bs cs p b = refl
   judged-renamed NoChip first reference ps qs bs cs p b = refl
 
@@ -118,7 +118,7 @@ order_law name distinct xs ys p romc first reference byte =
     let rule : BusRule = rule_of romc in
     record {
       bytes = ap (byte_by (driver_of romc) byte) (only_byte-permuted _ _ (offers-permuted name distinct romc first xs ys p));
-      verdicts = judged-renamed name rule first reference _ _ _ _
+      rulings = judged-renamed name rule first reference _ _ _ _
           (given name (party_of rule) (renamed_party name) romc
           (λ x. party_if-renamed name (answers rule (named_placed romc x).1) x.0 (named_placed romc x).1.at) xs ys
           p)

@@ -127,11 +127,11 @@ bystanders rule reference xs = filter_map (bystander_of rule reference) xs
 
 -- A step is served, with the socket of the chip that drives the byte or takes it. Else several chips do, each with its own place; or
 -- none does that has to, with the probe's place or the port; or a chip is away from the probe: its socket, its own place, the probe's.
-pub data Verdict : Type 0 where
-  Served : Option ℕ → Verdict
-  Conflict : List Party → Verdict
-  Undriven : ℕ → Verdict
-  Astray : ℕ → ℕ → ℕ → Verdict
+pub data Ruling : Type 0 where
+  Served : Option ℕ → Ruling
+  Conflict : List Party → Ruling
+  Undriven : ℕ → Ruling
+  Astray : ℕ → ℕ → ℕ → Ruling
 
 -- The first of the chips that stand by. In a rack, whose chips stand in the order of their sockets, it is the one in the lowest socket.
 abbrev pub lowest : List Party → Option Party
@@ -139,48 +139,48 @@ lowest [] = None
 lowest (q ∷ qs) = Some q
 
 -- served, unless a chip stands by at the probe's place
-abbrev pub unless_bystander : ℕ → Option ℕ → Option Party → Verdict
+abbrev pub unless_bystander : ℕ → Option ℕ → Option Party → Ruling
 unless_bystander reference socket None = Served socket
 unless_bystander reference socket (Some q) = Astray q.socket q.at reference
 
 -- one chip drives or takes: it has to be at the probe's place, and the only one there
-abbrev pub one_party : ℕ → Party → Option Party → Verdict
+abbrev pub one_party : ℕ → Party → Option Party → Ruling
 one_party reference p bystander =
     if p.at == reference then unless_bystander reference (Some p.socket) bystander else Astray p.socket p.at reference
 
-abbrev pub read_verdict : ℕ → List Party → Option Party → Verdict
-read_verdict reference [] bystander = Undriven reference
-read_verdict reference (p ∷ []) bystander = one_party reference p bystander
-read_verdict reference (p ∷ (q ∷ ps)) bystander = Conflict (p ∷ (q ∷ ps))
+abbrev pub read_ruling : ℕ → List Party → Option Party → Ruling
+read_ruling reference [] bystander = Undriven reference
+read_ruling reference (p ∷ []) bystander = one_party reference p bystander
+read_ruling reference (p ∷ (q ∷ ps)) bystander = Conflict (p ∷ (q ∷ ps))
 
 -- a byte that no chip takes is lost
-abbrev pub store_verdict : ℕ → List Party → Option Party → Verdict
-store_verdict reference [] bystander = unless_bystander reference None bystander
-store_verdict reference (p ∷ []) bystander = one_party reference p bystander
-store_verdict reference (p ∷ (q ∷ ps)) bystander = Conflict (p ∷ (q ∷ ps))
+abbrev pub store_ruling : ℕ → List Party → Option Party → Ruling
+store_ruling reference [] bystander = unless_bystander reference None bystander
+store_ruling reference (p ∷ []) bystander = one_party reference p bystander
+store_ruling reference (p ∷ (q ∷ ps)) bystander = Conflict (p ∷ (q ∷ ps))
 
-abbrev pub port_read_verdict : ℕ → List Party → Verdict
-port_read_verdict port [] = Undriven port
-port_read_verdict port (p ∷ []) = Served (Some p.socket)
-port_read_verdict port (p ∷ (q ∷ ps)) = Conflict (p ∷ (q ∷ ps))
+abbrev pub port_read_ruling : ℕ → List Party → Ruling
+port_read_ruling port [] = Undriven port
+port_read_ruling port (p ∷ []) = Served (Some p.socket)
+port_read_ruling port (p ∷ (q ∷ ps)) = Conflict (p ∷ (q ∷ ps))
 
-abbrev pub port_write_verdict : List Party → Verdict
-port_write_verdict [] = Served None
-port_write_verdict (p ∷ []) = Served (Some p.socket)
-port_write_verdict (p ∷ (q ∷ ps)) = Conflict (p ∷ (q ∷ ps))
+abbrev pub port_write_ruling : List Party → Ruling
+port_write_ruling [] = Served None
+port_write_ruling (p ∷ []) = Served (Some p.socket)
+port_write_ruling (p ∷ (q ∷ ps)) = Conflict (p ∷ (q ∷ ps))
 
 -- by the socket of the chip whose interrupt is acknowledged, the chips that take part, and the lowest that stands by
-abbrev pub judged : BusRule → Option ℕ → ℕ → List Party → Option Party → Verdict
-judged Read first reference taking_part bystander = read_verdict reference taking_part bystander
-judged Store first reference taking_part bystander = store_verdict reference taking_part bystander
-judged PortRead first reference taking_part bystander = port_read_verdict reference taking_part
-judged PortWrite first reference taking_part bystander = port_write_verdict taking_part
+abbrev pub judged : BusRule → Option ℕ → ℕ → List Party → Option Party → Ruling
+judged Read first reference taking_part bystander = read_ruling reference taking_part bystander
+judged Store first reference taking_part bystander = store_ruling reference taking_part bystander
+judged PortRead first reference taking_part bystander = port_read_ruling reference taking_part
+judged PortWrite first reference taking_part bystander = port_write_ruling taking_part
 judged Vector first reference taking_part bystander = Served first
 judged NoChip first reference taking_part bystander = Served None
 
--- the verdict on a step with a code, where the probe's place is the reference
-abbrev pub verdict : ℕ → Option ℕ → ℕ → List (ℕ × PlacedSeat) → Verdict
-verdict romc first reference xs =
+-- the ruling on a step with a code, where the probe's place is the reference
+abbrev pub ruling : ℕ → Option ℕ → ℕ → List (ℕ × PlacedSeat) → Ruling
+ruling romc first reference xs =
     judged (rule_of romc) first reference (parties (rule_of romc) xs) (lowest (bystanders (rule_of romc) reference xs))
 
 -- ---- the byte
@@ -221,5 +221,5 @@ bus_byte romc first byte xs = byte_by (driver_of romc) byte (only_byte (offers r
 abbrev pub named_placed : ℕ → ℕ × ChipView → ℕ × PlacedSeat
 named_placed romc x = (x.0, placed romc x.1)
 
-abbrev pub view_verdict : ℕ → Option ℕ → ℕ → List (ℕ × ChipView) → Verdict
-view_verdict romc first reference xs = verdict romc first reference (map (named_placed romc) xs)
+abbrev pub view_ruling : ℕ → Option ℕ → ℕ → List (ℕ × ChipView) → Ruling
+view_ruling romc first reference xs = ruling romc first reference (map (named_placed romc) xs)

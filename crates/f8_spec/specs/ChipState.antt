@@ -1,6 +1,6 @@
--- A storage chip as contracts see it, and what each call does to it (Mostek 3851 and 3853 data sheets for the roles). That a 3851
+-- A chip on the bus as contracts see it, and what each call does to it (Mostek 3851, 3853 and 3861 data sheets for the roles). That a 3851
 -- has no second data counter, the rules of requests, and what power-on leaves are this project's own.
-use Rattle.std.specs.Prelude.{ℕ, zero, suc, ◌+◌, ◌-◌, ◌*◌, ◌/◌, ◌%◌, ◌≡◌, ◌<◌, Bool, true, false, ◌&&◌, ◌||◌, nat_lt}
+use Rattle.std.specs.Prelude.{ℕ, ◌+◌, ◌-◌, ◌*◌, ◌/◌, ◌%◌, ◌≡◌, ◌<◌, Bool, true, false, ◌&&◌, ◌||◌, nat_lt}
 use Rattle.std.specs.Prelude.{nat_le, not, ◌==◌, if◌then◌else◌, List, [], ◌∷◌, ◌++◌, length, take, drop, replicate}
 use Rattle.std.specs.Prelude.{slice_get, slice_set, slice_index, bit_or, Option, Some, None, option_map}
 use Rattle.std.specs.Prelude.{option_and_then, is_some}
@@ -11,11 +11,25 @@ use Rattle.f8_spec.specs.declared.bus.Counters.{Counters}
 use Rattle.f8_spec.specs.declared.bus.Driver.{Driver}
 use Rattle.f8_spec.specs.declared.bus.Driver.TheVariants.{Memory, CounterByte, Vector, Port, Cpu, Nobody}
 use Rattle.f8_spec.specs.declared.chips.ChipKind.{ChipKind}
-use Rattle.f8_spec.specs.declared.chips.ChipKind.TheVariants.{Psu, Smi}
+use Rattle.f8_spec.specs.declared.chips.ChipKind.TheVariants.{Psu, Smi, Pio}
 use Rattle.f8_spec.specs.declared.chips.PageSort.{PageSort}
 use Rattle.f8_spec.specs.declared.chips.PageSort.TheVariants.{Rom, Ram, Void}
 use Rattle.f8_spec.specs.declared.chips.Page.{Page}
 use Rattle.f8_spec.specs.declared.chips.Offer.{Offer}
+
+-- ---- kinds
+
+-- a chip of the second kind is one of the first
+abbrev pub same_kind : ChipKind → ChipKind → Bool
+same_kind Psu Psu = true
+same_kind Psu Smi = false
+same_kind Psu Pio = false
+same_kind Smi Psu = false
+same_kind Smi Smi = true
+same_kind Smi Pio = false
+same_kind Pio Psu = false
+same_kind Pio Smi = false
+same_kind Pio Pio = true
 
 -- ---- what kinds of chip have. That a chip has memory is told by its pages.
 
@@ -23,20 +37,24 @@ use Rattle.f8_spec.specs.declared.chips.Offer.{Offer}
 abbrev pub has_counters : ChipKind → Bool
 has_counters Psu = true
 has_counters Smi = true
+has_counters Pio = false
 
 abbrev pub has_second_counter : ChipKind → Bool
 has_second_counter Psu = false
 has_second_counter Smi = true
+has_second_counter Pio = false
 
 -- the first two of a chip's four ports are data ports, and else the halves of a vector that can be written
 abbrev pub has_data_ports : ChipKind → Bool
 has_data_ports Psu = true
 has_data_ports Smi = false
+has_data_ports Pio = true
 
 -- the vector is a part of the chip, and no port writes it
 abbrev pub has_fixed_vector : ChipKind → Bool
 has_fixed_vector Psu = true
 has_fixed_vector Smi = false
+has_fixed_vector Pio = true
 
 -- ---- what contracts see of a chip
 
@@ -348,12 +366,12 @@ pub record Settles (step : HeardStep) (old new : ChipState) : Type 0 where
 
 -- ---- power, keys and pulses
 
--- Power-on: every counter at one address, every RAM byte set, latches, keys and control 0, the timer at 255, no request; a vector
--- that can be written is 0, and that of a 3851 stays.
+-- Power-on: every counter at one address, and those of a chip without counters at 0; every RAM byte set, latches, keys and control 0, the
+-- timer at 255, no request; a vector that can be written is 0, and one that is fixed stays.
 abbrev pub powered : ℕ → ℕ → ChipView → ChipView
 powered fill start v = record v {
   bytes = filled_bytes fill v.pages v.bytes;
-  counters = if has_counters v.kind then count_at start else v.counters;
+  counters = if has_counters v.kind then count_at start else count_at 0;
   latches = clear_data_ports v.kind;
   key_bytes = clear_data_ports v.kind;
   control = 0;
@@ -364,12 +382,18 @@ powered fill start v = record v {
   last = 0;
 }
 
--- where the steps heard are told after power-on, there are none; they are not told where they were not before
+-- a chip without counters holds no page
+pub record IsOfItsKind (v : ChipView) : Type 0 where
+  pub pages : has_counters v.kind ≡ false → v.pages ≡ []
+
+-- Where the steps heard are told after power-on, there are none; they are not told where they were not before. And the chip is one of its
+-- kind.
 pub record PowersOn (fill start : ℕ) (old new : ChipState) : Type 0 where
   pub view : new.view ≡ powered fill start old.view
   pub heard : (now : List HeardStep) → new.heard_steps ≡ Some now → now ≡ []
   pub untold : old.heard_steps ≡ None → new.heard_steps ≡ None
   pub patch : new.patch ≡ old.patch
+  pub of_its_kind : IsOfItsKind new.view
 
 abbrev pub keyed_at : Option ℕ → ℕ → ChipView → ChipView
 keyed_at None byte v = v

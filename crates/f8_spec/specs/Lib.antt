@@ -1,10 +1,12 @@
 pub mod Words
 pub mod Flags
 pub mod Instructions
+pub mod RegisterNumbers
 pub mod BusCodes
 pub mod MicroSteps
 pub mod ShiftTimer
 pub mod ChipState
+pub mod Powers
 pub mod BusArbitration
 pub mod OrderLaw
 pub mod Spelling

@@ -2,7 +2,7 @@
 -- of this project's own rule.
 use Rattle.std.specs.Prelude.{ℕ, ◌≡◌, ◌⊎◌, List, ◌∷◌, map, Option, option_map, IsPermutation}
 use Rattle.f8_spec.specs.ChipState.{ChipView}
-use Rattle.f8_spec.specs.BusArbitration.{Verdict, Served, Conflict, Undriven, Astray, rule_of, bystanders, named_placed, view_verdict, bus_byte}
+use Rattle.f8_spec.specs.BusArbitration.{Ruling, Served, Conflict, Undriven, Astray, rule_of, bystanders, named_placed, view_ruling, bus_byte}
 use Rattle.f8_spec.specs.declared.bus.Party.{Party}
 
 -- a named chip whose socket has another name
@@ -18,9 +18,9 @@ pub record AreFirst (name : ℕ → ℕ) (ps qs : List Party) (p q : Party) : Ty
   pub other : (rest : List Party) × (qs ≡ q ∷ rest)
   pub same : IsPermutation (map (renamed_party name) ps) qs
 
--- Two verdicts are one but for the names of the sockets, where ps and qs stand by. Either two chips are away from the probe and are the
+-- Two rulings are one but for the names of the sockets, where ps and qs stand by. Either two chips are away from the probe and are the
 -- same chip, or each is the first of those that stand by.
-abbrev pub Agree : (ℕ → ℕ) → List Party → List Party → Verdict → Verdict → Type 0
+abbrev pub Agree : (ℕ → ℕ) → List Party → List Party → Ruling → Ruling → Type 0
 Agree name ps qs (Served socket) (Served other) = other ≡ option_map name socket
 Agree name ps qs (Conflict taking_part) (Conflict others) = IsPermutation (map (renamed_party name) taking_part) others
 Agree name ps qs (Undriven place) (Undriven other) = other ≡ place
@@ -28,7 +28,7 @@ Agree name ps qs (Astray socket at reference) (Astray other_socket other_at othe
     (other_reference ≡ reference) ×
     (((other_socket ≡ name socket) × (other_at ≡ at)) ⊎
     AreFirst name ps qs (record { socket = socket; at = at }) (record { socket = other_socket; at = other_at }))
-Agree name ps qs verdict other = ⊥
+Agree name ps qs ruling other = ⊥
 
 -- what stands by in a step, of named chips as contracts see them
 abbrev pub standing_by : ℕ → ℕ → List (ℕ × ChipView) → List Party
@@ -38,8 +38,8 @@ standing_by romc reference xs = bystanders (rule_of romc) reference (map (named_
 -- the served socket, renamed, or the kind of fault with its parties.
 pub record KeepsOrder (name : ℕ → ℕ) (romc : ℕ) (first : Option ℕ) (reference byte : ℕ) (xs ys : List (ℕ × ChipView)) : Type 0 where
   pub bytes : bus_byte romc (option_map name first) byte ys ≡ bus_byte romc first byte xs
-  pub verdicts : Agree name (standing_by romc reference xs) (standing_by romc reference ys)
-      (view_verdict romc first reference xs) (view_verdict romc (option_map name first) reference ys)
+  pub rulings : Agree name (standing_by romc reference xs) (standing_by romc reference ys)
+      (view_ruling romc first reference xs) (view_ruling romc (option_map name first) reference ys)
 
 abbrev pub OrderLaw : Type 0
 OrderLaw =

@@ -7,7 +7,7 @@ mod chips;
 mod instructions;
 
 pub use bus::{BusRule, Counter, Counters, Driver, LONG_STEP_PHI, Party, SHORT_STEP_PHI};
-pub use chips::{ChipKind, Offer, Page, PageSort};
+pub use chips::{ChipKind, Offer, Page, PageSort, PowerOn};
 pub use instructions::{Op, Row};
 use thiserror::Error;
 

@@ -134,7 +134,7 @@ fn put(alloc: Global, plan: &mut Plan, chip: u8, text: &str) -> Result<(), Fail>
 /// A byte of a chip's ROM.
 fn byte_at(cart: &Cart, chip: usize, place: usize) -> Option<u8> {
     match cart.chips.as_slice().get(chip)? {
-        ChipSpec::Blank(_) => None,
+        ChipSpec::Blank(_) | ChipSpec::Pio { .. } => None,
         ChipSpec::Psu { rom, .. } => rom.get(place),
         ChipSpec::Smi { rom, .. } => rom.get(place),
     }

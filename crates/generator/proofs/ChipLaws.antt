@@ -23,9 +23,7 @@ chip_at-is_spec bytes number whole within =
     record {
       bytes = length-take-le 1024 (drop (1024 * number) bytes) (omega arith);
       boundary = omega arith;
-      above_cpu = omega arith;
-      below_end = omega arith;
-      ports_boundary = omega arith;
+      four_ports = record { above_cpu = omega arith; below_end = omega arith; boundary = omega arith };
     }
 
 pub chips-are_listed : (bytes : List ℕ) → length bytes ≡ 12288 → IsChipList (map (chip_at bytes) (range_with_len 0 12))

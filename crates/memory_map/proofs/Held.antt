@@ -9,7 +9,7 @@ use Rattle.f8_spec.specs.declared.chips.PageSort.{PageSort}
 use Rattle.f8_spec.specs.declared.chips.PageSort.TheVariants.{Rom, Ram, Void}
 use Rattle.chip_face.specs.Fitting.{IsSpec, fitted, page_bytes, page_content, psu_pages, rom_after, rom_size}
 use Rattle.chip_face.specs.declared.specification.ChipSpec.{ChipSpec}
-use Rattle.chip_face.specs.declared.specification.ChipSpec.TheVariants.{Blank, Psu, Smi}
+use Rattle.chip_face.specs.declared.specification.ChipSpec.TheVariants.{Blank, Psu, Smi, Pio}
 use Rattle.chip_face.proofs.RomPages.{rom_count, size_counted, length-page_content}
 use Rattle.memory_map.specs.ChipPages.{PageView, page_among, chip_page}
 
@@ -154,6 +154,7 @@ pub record PageTells (chip : ChipSpec) (at : ℕ) : Type 0 where
 pub PageTells-from_IsSpec : (chip : ChipSpec) (at : ℕ) → IsSpec chip → PageTells chip at
 unfolding chip_page
 PageTells-from_IsSpec (Blank kind) at spec = record { sort = refl; held = refl; byte = refl }
+PageTells-from_IsSpec (Pio ports vector wired) at spec = record { sort = refl; held = refl; byte = refl }
 PageTells-from_IsSpec (Psu base rom ports vector wired) at spec = record {
   sort = sort_at-page_among (psu_pages base) rom at;
   held = is_held-page_among (psu_pages base) rom (at / 256);
@@ -170,6 +171,7 @@ PageTells-from_IsSpec (Smi pages rom wired) at spec = record {
 pub whole-chip_page : (chip : ChipSpec) (number : ℕ) (q : PageView) → IsSpec chip → chip_page number chip ≡ Some q → length q.rom ≡ rom_size q.sort
 unfolding chip_page
 whole-chip_page (Blank kind) number q spec found = cc
+whole-chip_page (Pio ports vector wired) number q spec found = cc
 whole-chip_page (Psu base rom ports vector wired) number q spec found = whole-page_among (psu_pages base) rom number q spec.bytes found
 whole-chip_page (Smi pages rom wired) number q spec found = whole-page_among pages rom number q spec.bytes found
 
@@ -177,5 +179,6 @@ whole-chip_page (Smi pages rom wired) number q spec found = whole-page_among pag
 pub holds_page : (chip : ChipSpec) (number : ℕ) → is_some (place_of (fitted None chip).pages number) ≡ is_some (chip_page number chip)
 unfolding chip_page
 holds_page (Blank kind) number = refl
+holds_page (Pio ports vector wired) number = refl
 holds_page (Psu base rom ports vector wired) number = is_held-page_among (psu_pages base) rom number
 holds_page (Smi pages rom wired) number = is_held-page_among pages rom number

@@ -7,7 +7,7 @@ use Rattle.std.proofs.lemmas.List.{get_or-replicate, length-replicate, get_or_ap
 use Rattle.std.proofs.lemmas.Bool.{cases_lt, cases_eq}
 use Rattle.f8_spec.specs.ChipState.{sort_at, held_byte}
 use Rattle.f8_spec.specs.declared.chips.ChipKind.{ChipKind}
-use Rattle.f8_spec.specs.declared.chips.ChipKind.TheVariants.{Psu, Smi}
+use Rattle.f8_spec.specs.declared.chips.ChipKind.TheVariants.{Psu, Smi, Pio}
 use Rattle.f8_spec.specs.declared.chips.PageSort.{PageSort}
 use Rattle.f8_spec.specs.declared.chips.PageSort.TheVariants.{Rom, Ram, Void}
 use Rattle.console_spec.specs.FlatMemory.{sort_among, only_of, holding, fixed_byte_by}
@@ -16,17 +16,17 @@ use Rattle.chip_face.specs.Fitting.{IsSpec, fitted, rom_size}
 use Rattle.chip_face.specs.declared.specification.ChipSpec.{ChipSpec}
 use Rattle.memory_map.specs.ChipPages.{PageView, chip_page}
 use Rattle.memory_map.specs.Holders.{OwnedPage, Empty, followed_by, holders_from, holder_of, owned_page}
-use Rattle.memory_map.specs.MapEntries.{entry_of, bytes_by, page_bytes, is_held, is_shared}
-use Rattle.memory_map.specs.MapKinds.{kind_holds, kind_has_pages, IsCovered, Overlap}
+use Rattle.memory_map.specs.MapEntries.{entry_of, bytes_by, page_bytes, is_held_once, is_shared}
+use Rattle.memory_map.specs.MapKinds.{kind_holds, kind_has_pages, IsCovered, Overlap, is_written, told_vector}
 use Rattle.memory_map.specs.KindTables.{AreKindPages}
 use Rattle.memory_map.specs.MapOf.{MapTable, Tells, IsMapOf, mapped_sort, mapped_owner, mapped_byte, mapped_readers}
-use Rattle.memory_map.specs.MapOf.{kind_pages, mapped_held, mapped_any, mapped_covered, mapped_overlaps, mapped_wired}
+use Rattle.memory_map.specs.MapOf.{kind_pages, mapped_held, mapped_any, mapped_covered, mapped_overlaps, mapped_wired, mapped_vectors, mapped_written}
 use Rattle.memory_map.specs.MapOf.{mapped_takers, page_sort, sort_by, owner_by, seats_of, views_of}
 use Rattle.memory_map.specs.MapPorts.{AreReaders, AreTakers}
 use Rattle.memory_map.specs.declared.entry.Entry.{Entry}
 use Rattle.memory_map.specs.declared.entry.Entry.TheVariants.{Nothing}
 use Rattle.memory_map.proofs.Held.{PageTells-from_IsSpec, fitted_byte, whole-chip_page}
-use Rattle.memory_map.proofs.Summary.{SortsBy, covered_by, overlap_by, any-views}
+use Rattle.memory_map.proofs.Summary.{SortsBy, covered_by, overlap_by, any-views, told-views}
 
 -- ---- all holders of a page
 
@@ -204,13 +204,17 @@ pub record Summed (m : MapTable) (chips : List ChipSpec) : Type 0 where
   pub takers : AreTakers chips m.takers
   pub psu : AreKindPages Psu chips m.psu
   pub smi : AreKindPages Smi chips m.smi
-  pub covered : m.covered ≡ list_all is_held m.pages
+  pub pio : AreKindPages Pio chips m.pio
+  pub covered : m.covered ≡ list_all is_held_once m.pages
   pub overlaps : m.overlaps ≡ list_any is_shared m.pages
   pub wired : m.wired ≡ list_any (λ chip. (fitted None chip).wired) chips
+  pub vectors : m.vectors ≡ filter_map (λ chip. told_vector (fitted None chip)) chips
+  pub written : m.written ≡ list_any (λ chip. is_written (fitted None chip)) chips
 
 -- all pages are mapped
 pub IsMapOf-all : (chips : List ChipSpec) (m : MapTable) → All IsSpec chips → Mapped chips m.pages m.bytes 256 → Summed m chips → IsMapOf m chips
 unfolding mapped_sort mapped_owner mapped_byte mapped_readers mapped_takers mapped_held mapped_any mapped_covered mapped_overlaps mapped_wired
+    mapped_vectors mapped_written
 IsMapOf-all chips m specs all summed = record {
   tells = tells;
   ports = λ port below. record { readers = summed.readers.count port below; takers = summed.takers.count port below };
@@ -219,16 +223,20 @@ IsMapOf-all chips m specs all summed = record {
     covered = subst (λ (b : Bool). IsTrue b ↔ IsCovered (seats_of chips)) (sym summed.covered) (covered_by (seats_of chips) m.pages sorted);
     overlaps = subst (λ (b : Bool). IsTrue b ↔ Overlap (seats_of chips)) (sym summed.overlaps) (overlap_by (seats_of chips) m.pages sorted);
     wired = summed.wired ∙ any-views (λ v. v.wired) chips;
+    vectors = summed.vectors ∙ told-views told_vector chips;
+    written = summed.written ∙ any-views is_written chips;
   };
 }
   where
     of_kind : (kind : ChipKind) (at : ℕ) → at < 65536 → slice_index_or (kind_pages kind m).held (at / 256) false ≡ kind_holds kind (seats_of chips) at
     of_kind Psu at below = summed.psu.held (at / 256) (omega arith)
     of_kind Smi at below = summed.smi.held (at / 256) (omega arith)
+    of_kind Pio at below = summed.pio.held (at / 256) (omega arith)
 
     any : (kind : ChipKind) → (kind_pages kind m).any ≡ kind_has_pages kind (seats_of chips)
     any Psu = summed.psu.any
     any Smi = summed.smi.any
+    any Pio = summed.pio.any
 
     tells : (at : ℕ) → at < 65536 → Tells m chips at
     tells at below =

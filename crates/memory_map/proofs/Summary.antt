@@ -1,7 +1,7 @@
 -- What holds of all addresses together, by the pages of the map; and of some chip, by the chips that are fitted.
 use Rattle.std.proofs.Common.{◌≡◌, ℕ, suc, ◌+◌, ◌*◌, ◌/◌, ◌<◌, Bool, true, false, List, [], ◌∷◌, length, get_or, refl, ap, sym, ◌∙◌, ap₂, arith}
-use Rattle.std.specs.Prelude.{◌&&◌, ◌||◌, ◌↔◌, IsTrue, slice_index_or, None}
-use Rattle.std.specs.List.{list_any, list_all, range_with_len}
+use Rattle.std.specs.Prelude.{◌&&◌, ◌||◌, ◌↔◌, IsTrue, filter_map, slice_index_or, Option, None}
+use Rattle.std.specs.List.{cons_option, list_any, list_all, range_with_len}
 use Rattle.std.proofs.lemmas.List.Folds.{list_any_at, list_all_at}
 use Rattle.f8_spec.specs.ChipState.{ChipView}
 use Rattle.f8_spec.specs.BusArbitration.{Seat, seat_of}
@@ -10,8 +10,8 @@ use Rattle.console_spec.specs.FlatMemory.{sort_of}
 use Rattle.console_spec.specs.declared.Sort.TheVariants.{Shared as ManyChips}
 use Rattle.chip_face.specs.Fitting.{fitted}
 use Rattle.chip_face.specs.declared.specification.ChipSpec.{ChipSpec}
-use Rattle.memory_map.specs.MapEntries.{is_held, is_shared, is_taken}
-use Rattle.memory_map.specs.MapKinds.{is_held as is_held_by_some, is_held_once, IsCovered, Overlap}
+use Rattle.memory_map.specs.MapEntries.{is_held, is_held_once, is_shared}
+use Rattle.memory_map.specs.MapKinds.{is_held as is_sort_held, is_held_once as is_sort_held_once, IsCovered, Overlap}
 use Rattle.memory_map.specs.MapOf.{MapTable, entry_at, mapped_held_everywhere, mapped_sort, sort_by, seats_of, views_of}
 use Rattle.memory_map.specs.declared.entry.Entry.{Entry}
 use Rattle.memory_map.specs.declared.entry.Entry.TheVariants.{Nothing, Held, Shared}
@@ -27,6 +27,11 @@ pub any-views : (test : ChipView → Bool) (chips : List ChipSpec) →
     list_any (λ chip. test (fitted None chip)) chips ≡ list_any test (views_of chips)
 any-views test [] = refl
 any-views test (chip ∷ chips) = ap (λ later. test (fitted None chip) || later) (any-views test chips)
+
+pub told-views : (told : ChipView → Option ℕ) (chips : List ChipSpec) →
+    filter_map (λ chip. told (fitted None chip)) chips ≡ filter_map told (views_of chips)
+told-views told [] = refl
+told-views told (chip ∷ chips) = ap (λ later. cons_option (told (fitted None chip)) later) (told-views told chips)
 
 -- ---- lists and tests
 
@@ -56,7 +61,7 @@ module _ {A : Type 0} (test : A → Bool) where
 
 -- ---- the pages of the map
 
-held_once-sort_by : (entry : Entry) → is_held_once (sort_by entry) ≡ is_held entry
+held_once-sort_by : (entry : Entry) → is_sort_held_once (sort_by entry) ≡ is_held_once entry
 held_once-sort_by Nothing = refl
 held_once-sort_by (Held Rom owner) = refl
 held_once-sort_by (Held Ram owner) = refl
@@ -75,7 +80,7 @@ sort-from_shared Nothing same = absurd (cc)
 sort-from_shared (Held sort owner) same = absurd (cc)
 sort-from_shared Shared same = refl
 
-held-sort_by : (entry : Entry) → is_held_by_some (sort_by entry) ≡ is_taken entry
+held-sort_by : (entry : Entry) → is_sort_held (sort_by entry) ≡ is_held entry
 held-sort_by Nothing = refl
 held-sort_by (Held Rom owner) = refl
 held-sort_by (Held Ram owner) = refl
@@ -94,15 +99,15 @@ sort_of_page seats pages number sorts within =
     let page : number * 256 / 256 ≡ number = omega arith in
     sorts.sort (number * 256) (omega arith) ∙ ap (λ n. sort_by (slice_index_or pages n Nothing)) page
 
-pub covered_by : (seats : List Seat) (pages : List Entry) → SortsBy seats pages → IsTrue (list_all is_held pages) ↔ IsCovered seats
+pub covered_by : (seats : List Seat) (pages : List Entry) → SortsBy seats pages → IsTrue (list_all is_held_once pages) ↔ IsCovered seats
 covered_by seats pages sorts = (
   λ all at within.
       let in_table : at / 256 < length pages = let size = sorts.size in omega arith in
-      ap is_held_once (sorts.sort at within) ∙ held_once-sort_by (slice_index_or pages (at / 256) Nothing)
-      ∙ each_of is_held pages (at / 256) Nothing all in_table,
-  λ covered. all_from is_held pages Nothing (λ number in_table.
+      ap is_sort_held_once (sorts.sort at within) ∙ held_once-sort_by (slice_index_or pages (at / 256) Nothing)
+      ∙ each_of is_held_once pages (at / 256) Nothing all in_table,
+  λ covered. all_from is_held_once pages Nothing (λ number in_table.
       let within : number < 256 = let size = sorts.size in omega arith in
-      sym (held_once-sort_by (slice_index_or pages number Nothing)) ∙ ap is_held_once (sym (sort_of_page seats pages number sorts within))
+      sym (held_once-sort_by (slice_index_or pages number Nothing)) ∙ ap is_sort_held_once (sym (sort_of_page seats pages number sorts within))
       ∙ covered (number * 256) (omega arith)),
 )
 
@@ -136,11 +141,11 @@ each_place test d by start (x ∷ xs) same =
     (each_place test d by (start + 1) xs
     (λ k within. let on : start + 1 + k ≡ start + suc k = omega arith in rw on (same (suc k) (omega arith))))
 
-pub everywhere_by : (m : MapTable) → length m.pages ≡ 256 → mapped_held_everywhere m ≡ list_all is_taken m.pages
+pub everywhere_by : (m : MapTable) → length m.pages ≡ 256 → mapped_held_everywhere m ≡ list_all is_held m.pages
 unfolding mapped_held_everywhere mapped_sort
 everywhere_by m size =
-    ap (λ n. list_all (λ number. is_held_by_some (mapped_sort m (number * 256))) (range_with_len 0 n)) (sym size)
-    ∙ each_place is_taken Nothing (λ number. is_held_by_some (mapped_sort m (number * 256))) 0 m.pages
+    ap (λ n. list_all (λ number. is_sort_held (mapped_sort m (number * 256))) (range_with_len 0 n)) (sym size)
+    ∙ each_place is_held Nothing (λ number. is_sort_held (mapped_sort m (number * 256))) 0 m.pages
     (λ k within.
     let page : (0 + k) * 256 / 256 ≡ k = omega arith in
-    held-sort_by (entry_at m ((0 + k) * 256)) ∙ ap (λ n. is_taken (slice_index_or m.pages n Nothing)) page)
+    held-sort_by (entry_at m ((0 + k) * 256)) ∙ ap (λ n. is_held (slice_index_or m.pages n Nothing)) page)

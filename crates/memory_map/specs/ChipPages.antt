@@ -4,7 +4,7 @@ use Rattle.f8_spec.specs.declared.chips.Page.{Page}
 use Rattle.f8_spec.specs.declared.chips.PageSort.{PageSort}
 use Rattle.chip_face.specs.Fitting.{psu_pages, rom_after, rom_of, rom_size}
 use Rattle.chip_face.specs.declared.specification.ChipSpec.{ChipSpec}
-use Rattle.chip_face.specs.declared.specification.ChipSpec.TheVariants.{Blank, Psu, Smi}
+use Rattle.chip_face.specs.declared.specification.ChipSpec.TheVariants.{Blank, Psu, Smi, Pio}
 
 -- what the page is, and the specification's bytes that stand in it
 pub record PageView : Type 0 where
@@ -21,6 +21,7 @@ abbrev pub pages_of : ChipSpec → List Page
 pages_of (Blank kind) = []
 pages_of (Psu base rom ports vector wired) = psu_pages base
 pages_of (Smi pages rom wired) = pages
+pages_of (Pio ports vector wired) = []
 
 -- the page of a number in a chip, and none where the chip does not hold it
 unfoldable pub chip_page : ℕ → ChipSpec → Option PageView

@@ -25,15 +25,15 @@ page_bytes Several = replicate 256 255
 
 -- ---- what an entry says of the holders
 
-abbrev pub is_taken : Entry → Bool
-is_taken Nothing = false
-is_taken (Held sort owner) = true
-is_taken Shared = true
-
 abbrev pub is_held : Entry → Bool
 is_held Nothing = false
 is_held (Held sort owner) = true
-is_held Shared = false
+is_held Shared = true
+
+abbrev pub is_held_once : Entry → Bool
+is_held_once Nothing = false
+is_held_once (Held sort owner) = true
+is_held_once Shared = false
 
 abbrev pub is_shared : Entry → Bool
 is_shared Nothing = false
@@ -46,4 +46,4 @@ is_shared Shared = true
 pub record KeepsPages (pages : List Entry) (bytes : List ℕ) (everywhere : Bool) : Type 0 where
   pub each_page : length pages ≡ 256
   pub each_byte : length bytes ≡ 65536
-  pub each_taken : everywhere ≡ list_all is_taken pages
+  pub each_held : everywhere ≡ list_all is_held pages

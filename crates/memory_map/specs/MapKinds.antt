@@ -1,22 +1,16 @@
 -- What holds of the chips of one kind, of all addresses together, and of all chips.
-use Rattle.std.specs.Prelude.{ℕ, ◌/◌, ◌<◌, ◌≡◌, Bool, true, false, ◌&&◌, List, [], ◌∷◌, is_some}
+use Rattle.std.specs.Prelude.{ℕ, ◌/◌, ◌<◌, ◌≡◌, Bool, true, false, ◌&&◌, not, if◌then◌else◌, List, [], ◌∷◌, filter_map, is_some}
+use Rattle.std.specs.Prelude.{Option, Some, None}
 use Rattle.std.specs.List.{list_any}
-use Rattle.f8_spec.specs.ChipState.{ChipView, place_of}
+use Rattle.f8_spec.specs.ChipState.{ChipView, has_fixed_vector, place_of, same_kind}
 use Rattle.f8_spec.specs.BusArbitration.{Seat}
 use Rattle.f8_spec.specs.declared.chips.ChipKind.{ChipKind}
-use Rattle.f8_spec.specs.declared.chips.ChipKind.TheVariants.{Psu, Smi}
 use Rattle.f8_spec.specs.declared.chips.Page.{Page}
 use Rattle.console_spec.specs.FlatMemory.{sort_of}
 use Rattle.console_spec.specs.declared.Sort.{Sort}
 use Rattle.console_spec.specs.declared.Sort.TheVariants.{Rom, Ram, Void, Nothing, Shared}
 
 -- ---- kinds
-
-abbrev pub same_kind : ChipKind → ChipKind → Bool
-same_kind Psu Psu = true
-same_kind Psu Smi = false
-same_kind Smi Psu = false
-same_kind Smi Smi = true
 
 -- a chip is of a kind, and holds the page of a number
 abbrev pub has_kind_and_page : ChipKind → ℕ → Seat → Bool
@@ -67,3 +61,18 @@ Overlap seats = (at : ℕ) × (at < 65536) × (sort_of seats at ≡ Shared)
 -- some chip can interrupt
 abbrev pub some_wired : List ChipView → Bool
 some_wired vs = list_any (λ v. v.wired) vs
+
+-- the vector of a chip that can interrupt, where no port writes it
+abbrev pub told_vector : ChipView → Option ℕ
+told_vector v = if v.wired && has_fixed_vector v.kind then Some v.vector else None
+
+-- those of all such chips, in the order of the chips
+abbrev pub told_vectors : List ChipView → List ℕ
+told_vectors vs = filter_map told_vector vs
+
+-- a chip can interrupt, and its vector is written by ports
+abbrev pub is_written : ChipView → Bool
+is_written v = v.wired && not (has_fixed_vector v.kind)
+
+abbrev pub some_written : List ChipView → Bool
+some_written vs = list_any is_written vs

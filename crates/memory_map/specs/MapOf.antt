@@ -4,7 +4,7 @@ use Rattle.std.specs.List.{list_all, range_with_len}
 use Rattle.f8_spec.specs.ChipState.{ChipView}
 use Rattle.f8_spec.specs.BusArbitration.{Seat, seat_of}
 use Rattle.f8_spec.specs.declared.chips.ChipKind.{ChipKind}
-use Rattle.f8_spec.specs.declared.chips.ChipKind.TheVariants.{Psu, Smi}
+use Rattle.f8_spec.specs.declared.chips.ChipKind.TheVariants.{Psu, Smi, Pio}
 use Rattle.f8_spec.specs.declared.chips.PageSort.{PageSort}
 use Rattle.f8_spec.specs.declared.chips.PageSort.TheVariants.{Rom as RomPage, Ram as RamPage, Void as VoidPage}
 use Rattle.console_spec.specs.FreeRuns.{AreBytes}
@@ -14,14 +14,15 @@ use Rattle.console_spec.specs.declared.Sort.{Sort}
 use Rattle.console_spec.specs.declared.Sort.TheVariants.{Rom, Ram, Void, Nothing as NoChip, Shared as ManyChips}
 use Rattle.chip_face.specs.Fitting.{fitted}
 use Rattle.chip_face.specs.declared.specification.ChipSpec.{ChipSpec}
-use Rattle.memory_map.specs.MapKinds.{kind_holds, kind_has_pages, is_held, IsCovered, Overlap, some_wired}
+use Rattle.memory_map.specs.MapKinds.{kind_holds, kind_has_pages, is_held, IsCovered, Overlap, some_wired, some_written, told_vectors}
 use Rattle.memory_map.specs.declared.entry.Entry.{Entry}
 use Rattle.memory_map.specs.declared.entry.Entry.TheVariants.{Nothing, Held, Shared}
 use Rattle.memory_map.specs.declared.kinds.KindPages.{KindPages}
 
 -- what each of the 256 pages of addresses is; the byte that stays at each of the 65,536 addresses, and 255 where none does; and how many
 -- chips have each of the 256 ports as a data port, and how many have it at all. Then which pages the chips of each kind hold, and whether
--- each page has one holder alone, some page has several, and some chip can interrupt.
+-- each page has one holder alone, some page has several, and some chip can interrupt. Of the chips that can interrupt, the vectors that no
+-- port writes, and whether some has one that ports write.
 pub record MapTable : Type 0 where
   pub pages : List Entry
   pub bytes : List ℕ
@@ -29,9 +30,12 @@ pub record MapTable : Type 0 where
   pub takers : List ℕ
   pub psu : KindPages
   pub smi : KindPages
+  pub pio : KindPages
   pub covered : Bool
   pub overlaps : Bool
   pub wired : Bool
+  pub vectors : List ℕ
+  pub written : Bool
 
 abbrev pub page_sort : PageSort → Sort
 page_sort RomPage = Rom
@@ -75,6 +79,7 @@ mapped_takers m port = slice_index m.takers port
 abbrev pub kind_pages : ChipKind → MapTable → KindPages
 kind_pages Psu m = m.psu
 kind_pages Smi m = m.smi
+kind_pages Pio m = m.pio
 
 unfoldable pub mapped_held : MapTable → ℕ → ChipKind → Bool
 mapped_held m at kind = slice_index_or (kind_pages kind m).held (at / 256) false
@@ -96,6 +101,13 @@ mapped_overlaps m = m.overlaps
 
 unfoldable pub mapped_wired : MapTable → Bool
 mapped_wired m = m.wired
+
+-- the vectors, in the order of the chips
+unfoldable pub mapped_vectors : MapTable → List ℕ
+mapped_vectors m = m.vectors
+
+unfoldable pub mapped_written : MapTable → Bool
+mapped_written m = m.written
 
 -- ---- the map of some chips
 
@@ -124,6 +136,8 @@ pub record TellsAll (m : MapTable) (chips : List ChipSpec) : Type 0 where
   pub covered : IsTrue (mapped_covered m) ↔ IsCovered (seats_of chips)
   pub overlaps : IsTrue (mapped_overlaps m) ↔ Overlap (seats_of chips)
   pub wired : mapped_wired m ≡ some_wired (views_of chips)
+  pub vectors : mapped_vectors m ≡ told_vectors (views_of chips)
+  pub written : mapped_written m ≡ some_written (views_of chips)
 
 pub record IsMapOf (m : MapTable) (chips : List ChipSpec) : Type 0 where
   pub tells : (at : ℕ) → at < 65536 → Tells m chips at
@@ -138,4 +152,5 @@ pub record IsWholeMap (m : MapTable) : Type 0 where
   pub takers : length m.takers ≡ 256
   pub psu : length m.psu.held ≡ 256
   pub smi : length m.smi.held ≡ 256
+  pub pio : length m.pio.held ≡ 256
   pub are_bytes : AreBytes m.bytes

@@ -1,7 +1,7 @@
 // What the map keeps of a page.
 ghost use Rattle.std.specs.Prelude.{◌≡◌};
 ghost use Rattle.std.specs.List.{list_all, list_any};
-ghost use Rattle.memory_map.specs.MapEntries.{is_held, is_shared, is_taken};
+ghost use Rattle.memory_map.specs.MapEntries.{is_held, is_held_once, is_shared};
 
 use chip_face::PageSort;
 
@@ -17,15 +17,15 @@ pub enum Entry {
 }
 
 /// Whether each page has one holder or more.
-pub fn all_taken(pages: &[Entry]) -> bool
-    ensures { result ≡ list_all is_taken pages.now }
+pub fn all_held(pages: &[Entry]) -> bool
+    ensures { result ≡ list_all is_held pages.now }
 {
     pages.iter().all(|page| !matches!(page, Entry::Nothing))
 }
 
 /// Whether each page has one holder alone.
-pub fn all_held(pages: &[Entry]) -> bool
-    ensures { result ≡ list_all is_held pages.now }
+pub fn all_held_once(pages: &[Entry]) -> bool
+    ensures { result ≡ list_all is_held_once pages.now }
 {
     pages.iter().all(|page| matches!(page, Entry::Held { .. }))
 }

@@ -61,7 +61,7 @@ pub fn chip_page(chip: &ChipSpec, number: u8) -> Option<HeldPage<'_>>
         ≡ Some (record { sort = page.sort; rom = page.rom.now })) }
 {
     match chip {
-        ChipSpec::Blank(_) => None,
+        ChipSpec::Blank(_) | ChipSpec::Pio { .. } => None,
         ChipSpec::Psu { base, rom, .. } => page_among(number, &psu_pages(*base), rom.as_slice()),
         ChipSpec::Smi { pages, rom, .. } => page_among(number, pages.as_slice(), rom.as_slice()),
     }

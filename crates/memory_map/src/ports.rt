@@ -8,13 +8,15 @@ ghost use Rattle.memory_map.specs.MapPorts.{AreReaders, AreTakers};
 
 use chip_face::{ChipSpec, MOST_CHIPS};
 
-/// A chip has a port as a data port. Of a 3851's four ports those are the first two; a 3853 has none.
+/// A chip has a port as a data port. Of the four ports of a 3851 and of a 3861 those are the first two; a 3853 has none.
 fn has_data_port(chip: &ChipSpec, port: u8) -> bool
     requires { IsSpec chip.now }
     ensures { result ≡ seat_has_data_port (seat_of (fitted None chip.now)) port }
 {
     match chip {
-        ChipSpec::Psu { ports, .. } => port >= *ports && port - *ports < 2,
+        ChipSpec::Psu { ports, .. } | ChipSpec::Pio { ports, .. } => {
+            port >= *ports && port - *ports < 2
+        },
         ChipSpec::Blank(_) | ChipSpec::Smi { .. } => false,
     }
 }

@@ -1,8 +1,8 @@
 // The map: what each address is to the chips of a description.
 ghost use Rattle.console_spec.specs.FreeRuns.{AreBytes};
 
-use super::chips::some_wired;
-use super::entry::{Entry, all_held, all_taken, any_shared};
+use super::chips::{some_wired, some_written, told_vectors};
+use super::entry::{Entry, all_held, all_held_once, any_shared};
 use super::holders::Holder;
 use super::kinds::KindPages;
 use super::ports::{all_readers, all_takers};
@@ -29,15 +29,22 @@ pub struct Map {
     /// What the chips of each kind hold.
     psu: KindPages,
     smi: KindPages,
+    pio: KindPages,
 
     /// Each address has a holder; each has one alone; some address has several; some chip can interrupt.
     held_everywhere: bool,
     covered: bool,
     overlaps: bool,
     wired: bool,
+
+    /// Of the chips that can interrupt, the vectors that no port writes, and whether some has one that ports write.
+    vectors: Vec<u16>,
+    written: bool,
 }
 
 impl Model for Map {
+    ghost use Rattle.std.specs.Prelude.{◌≤◌, length};
+    ghost use Rattle.chip_face.specs.declared.sizes.TheConstants.{MOST_CHIPS};
     ghost use Rattle.memory_map.specs.MapEntries.{KeepsPages};
     ghost use Rattle.memory_map.specs.MapOf.{MapTable};
 
@@ -50,19 +57,24 @@ impl Model for Map {
       takers = m.takers;
       psu = m.psu;
       smi = m.smi;
+      pio = m.pio;
       covered = m.covered;
       overlaps = m.overlaps;
       wired = m.wired;
+      vectors = m.vectors.items;
+      written = m.written;
     } };
 
-    ghost invariant = { λ m. KeepsPages m.pages m.bytes.items m.held_everywhere };
+    ghost invariant = { λ m.
+        KeepsPages m.pages m.bytes.items m.held_everywhere × (length m.vectors.items ≤ MOST_CHIPS) };
 }
 
 impl Map {
-    ghost use Rattle.std.specs.Prelude.{◌≡◌, ◌≤◌, ◌/◌, ℕ, All, IfOk, length};
+    ghost use Rattle.std.specs.Prelude.{◌≡◌, ◌≤◌, ◌/◌, ℕ, All, IfOk, length, slice_get};
     ghost use Rattle.chip_face.specs.Fitting.{IsSpec};
     ghost use Rattle.memory_map.specs.MapOf.{IsMapOf, IsWholeMap, entry_at, mapped_sort, mapped_owner, mapped_byte, mapped_readers, mapped_takers};
     ghost use Rattle.memory_map.specs.MapOf.{kind_pages, mapped_held, mapped_any, mapped_held_everywhere, mapped_covered, mapped_overlaps, mapped_wired};
+    ghost use Rattle.memory_map.specs.MapOf.{mapped_vectors, mapped_written};
 
     /// The map of some chips, or want of memory. What it tells is copied.
     pub fn of(alloc: Global, chips: &ChipList) -> Result<Map, Memory>
@@ -90,9 +102,10 @@ impl Map {
             holder.add_bytes(&mut bytes)?;
             pages[number] = holder.entry();
         }
+        let vectors = told_vectors(alloc, chips)?;
         Ok(Map {
-            held_everywhere: all_taken(&pages),
-            covered: all_held(&pages),
+            held_everywhere: all_held(&pages),
+            covered: all_held_once(&pages),
             overlaps: any_shared(&pages),
             pages,
             bytes,
@@ -100,7 +113,10 @@ impl Map {
             takers: all_takers(chips),
             psu: KindPages::of(chips, ChipKind::Psu),
             smi: KindPages::of(chips, ChipKind::Smi),
+            pio: KindPages::of(chips, ChipKind::Pio),
             wired: some_wired(chips),
+            vectors,
+            written: some_written(chips),
         })
     }
 
@@ -156,7 +172,7 @@ impl Map {
         }
     }
 
-    /// How many chips have a port as a data port: of a 3851's four ports those are the first two, and a 3853 has none.
+    /// How many chips have a port as a data port: of the four ports of a 3851 and of a 3861 those are the first two, and a 3853 has none.
     #[tactic(auto, unfolding(crate::specs::MapOf::mapped_readers))]
     #[inline]
     pub fn reads(&self, port: u8) -> u8
@@ -182,6 +198,7 @@ impl Map {
         match kind {
             ChipKind::Psu => &self.psu,
             ChipKind::Smi => &self.smi,
+            ChipKind::Pio => &self.pio,
         }
     }
 
@@ -236,6 +253,26 @@ impl Map {
         ensures { result ≡ mapped_wired self.now }
     {
         self.wired
+    }
+
+    /// The vector of a chip that can interrupt and whose vector no port writes: of all such chips, in their order, the one in a place.
+    /// `None` past the last.
+    #[tactic(auto, unfolding(crate::specs::MapOf::mapped_vectors))]
+    #[inline]
+    pub fn vector(&self, place: u8) -> Option<u16>
+        ensures vector { result ≡ slice_get (mapped_vectors self.now) place }
+        ensures few { length (mapped_vectors self.now) ≤ MOST_CHIPS }
+    {
+        self.vectors.get(usize::from(place)).copied()
+    }
+
+    /// Some chip can interrupt whose vector is written by ports, as a 3853's is.
+    #[tactic(auto, unfolding(crate::specs::MapOf::mapped_written))]
+    #[inline]
+    pub fn wired_smi(&self) -> bool
+        ensures { result ≡ mapped_written self.now }
+    {
+        self.written
     }
 }
 

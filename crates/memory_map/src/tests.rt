@@ -1,6 +1,6 @@
 // Maps of worked descriptions.
 ghost use Rattle.std.specs.Prelude.{◌≡◌, IfOk, false};
-ghost use Rattle.chip_face.specs.Fitting.{IsSpec, is_blank};
+ghost use Rattle.chip_face.specs.Fitting.{AreFourPorts, IsSpec, is_blank};
 
 use super::*;
 use chip_face::{Bytes, ChipKind, ChipList, ChipSpec, Page, PageList, PageSort};
@@ -45,6 +45,18 @@ fn smi(alloc: Global) -> Result<ChipSpec, Fail>
         rom: Bytes::of(alloc, &[0x1C; 256])?,
         wired: false,
     })
+}
+
+fn pio(ports: u8, vector: u16, wired: bool) -> ChipSpec
+    requires { AreFourPorts ports }
+    ensures spec { IsSpec result }
+    ensures kept { is_blank result ≡ false }
+{
+    ChipSpec::Pio {
+        ports,
+        vector,
+        wired,
+    }
 }
 
 fn listed(alloc: Global, first: ChipSpec, second: ChipSpec) -> Result<ChipList, Fail>
@@ -136,5 +148,27 @@ fn ports_of_two_chips(rt: HostRuntime) -> Result<(), Fail> {
     assert_eq!(rt; map.reads(0x06), 0);
     assert_eq!(rt; map.writes(0x06), 2);
     assert!(rt; !map.any(ChipKind::Smi));
+    Ok(())
+}
+
+// a 3861 has its ports, and holds no address; the vectors that no port writes are told in the order of the chips that can interrupt, and a
+// 3853's is written
+#[test]
+fn vectors(rt: HostRuntime) -> Result<(), Fail> {
+    let alloc = rt.alloc();
+    let mut chips = Vec::with_capacity(alloc, 4)?;
+    chips.push(pio(0x08, 0x0300, true))?;
+    chips.push(pio(0x10, 0x0400, false))?;
+    chips.push(psu(alloc)?)?;
+    chips.push(pio(0x14, 0x0200, true))?;
+    let map = Map::of(alloc, &ChipList::from_vec(chips))?;
+    assert_eq!(rt; map.vector(0), Some(0x0300));
+    assert_eq!(rt; map.vector(1), Some(0x0200));
+    assert_eq!(rt; map.vector(2), None);
+    assert!(rt; map.wired() && !map.wired_smi());
+    assert!(rt; !map.any(ChipKind::Pio) && !map.held(0x0000, ChipKind::Pio));
+    assert_eq!(rt; map.reads(0x09), 1);
+    assert_eq!(rt; map.reads(0x0A), 0);
+    assert_eq!(rt; map.writes(0x0B), 1);
     Ok(())
 }

@@ -2,3 +2,4 @@ pub mod FileNames
 pub mod Reading
 pub mod SinkLaws
 pub mod Writing
+mod WorkedSinks

@@ -29,6 +29,21 @@ pub record ReadWithoutRoom (old new : Option (List ℕ)) : Type 0 where
   pub consumed : Consumes old new bytes
   pub some : 0 < length bytes
 
+-- these are all the bytes that a reader gave, of those that it had
+pub record GaveAll (had : Option (List ℕ)) (bytes : List ℕ) : Type 0 where
+  pub left : Option (List ℕ)
+  pub read : AllRead had left bytes
+
+-- it had more bytes than the limit
+pub record GaveMore (had : Option (List ℕ)) (limit : ℕ) : Type 0 where
+  pub left : Option (List ℕ)
+  pub read : ReadPast had left limit
+
+-- it gave bytes, at least one, that found no room
+pub record GaveWithoutRoom (had : Option (List ℕ)) : Type 0 where
+  pub left : Option (List ℕ)
+  pub read : ReadWithoutRoom had left
+
 -- what is said of a call that answers `Memory`
 abbrev pub WhereWanting : {T : Type 0} → Result T FetchFault → Type 0 → Type 0
 WhereWanting (Ok x) Said = ⊤

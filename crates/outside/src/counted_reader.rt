@@ -8,7 +8,7 @@ use std::io;
 use std::io::Read;
 
 /// What the system gave. Any error of it is a failed fetch, and none is want of memory.
-pub fn or_failed<T>(outcome: io::Result<T>) -> Result<T, FetchFault>
+fn or_failed<T>(outcome: io::Result<T>) -> Result<T, FetchFault>
     ensures { MatchResult outcome (λ given. result ≡ Ok given)
         (λ _. result ≡ Err FetchFault.Failed) }
 {

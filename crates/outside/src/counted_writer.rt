@@ -1,10 +1,23 @@
 // A writer that counts its failures.
-ghost use Rattle.std.specs.Prelude.{◌≡◌, ◌≤◌, ◌<◌, length, IfOk, MatchResult};
+ghost use Rattle.std.specs.Prelude.{◌≡◌, ◌≤◌, ◌<◌, true, length, is_err, IfOk, MatchResult};
 ghost use Rattle.std.specs.Io.KnownBytes.{WriteAppends};
 ghost use Rattle.outside.specs.Counts.{Rose};
 
 use super::sink::SinkFault;
+use std::io;
 use std::io::Write;
+
+/// How many bytes of a piece a writer took. It failed exactly where it answered an error, or took none.
+fn taken_of(outcome: io::Result<usize>) -> Result<usize, SinkFault>
+    ensures { MatchResult outcome
+        (λ taken. MatchResult result (λ told. (told ≡ taken) × (0 < taken)) (λ _. taken ≡ 0))
+        (λ _. is_err result ≡ true) }
+{
+    match outcome {
+        Ok(0) | Err(_) => Err(SinkFault),
+        Ok(taken) => Ok(taken),
+    }
+}
 
 /// A writer that counts its failures: errors, and writes that take nothing. Nothing else raises the count.
 #[derive(Drop)]
@@ -33,12 +46,10 @@ impl<W: Write + Drop> CountedWriter<W> {
             (λ _. Rose self.old.failures self.new.failures) }
         ensures later { self.old.failures ≤ self.new.failures }
     {
-        match self.writer.write(piece) {
-            Ok(0) | Err(_) => {
-                self.failures = self.failures.saturating_add(1);
-                Err(SinkFault)
-            }
-            Ok(taken) => Ok(taken),
+        let outcome = taken_of(self.writer.write(piece));
+        if outcome.is_err() {
+            self.failures = self.failures.saturating_add(1);
         }
+        outcome
     }
 }

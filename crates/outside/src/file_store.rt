@@ -1,14 +1,14 @@
 // The store over the system's files.
-ghost use Rattle.std.specs.Prelude.{◌≡◌, ◌≤◌, ◌<◌, length, IfOk};
-ghost use Rattle.outside.specs.Reading.{PieceRead, AllRead, ReadPast, ReadWithoutRoom, WhereWanting};
+ghost use Rattle.std.specs.Prelude.{◌≡◌, ◌≤◌, ◌<◌, length, Err, IfOk, MatchResult};
+ghost use Rattle.outside.specs.Reading.{PieceRead, AllRead, ReadPast, ReadWithoutRoom, WhereWanting, GaveAll, GaveMore, GaveWithoutRoom};
 ghost use Rattle.outside.specs.StoreRules.{CountsFault, WhereLong};
 
-use super::counted_reader::{CountedReader, or_failed};
+use super::counted_reader::CountedReader;
 use super::store::{FetchFault, Store};
 use std::alloc::Global;
-use std::fs;
 use std::io::Read;
 use std::rt::Files;
+use std::{fs, io};
 
 /// How many bytes are read at once.
 const PIECE: usize = 4096;
@@ -70,6 +70,30 @@ fn read_whole<F: Read + Drop>(
     Err(FetchFault::TooLong)
 }
 
+/// The bytes of a file that the system opened, up to its end, where they are at most `limit`. `Failed` comes where it couldn't be opened or
+/// read, `TooLong` only where it had more than `limit` bytes, and `Memory` only where it gave bytes for which there is no room.
+fn read_opened<F: Read + Drop>(
+    alloc: Global,
+    opened: io::Result<F>,
+    limit: u32,
+) -> Result<Vec<u8>, FetchFault>
+    ensures within { IfOk result (λ bytes. length bytes.items ≤ limit) }
+    ensures all { MatchResult opened
+        (λ file. IfOk result (λ bytes. GaveAll (F.remaining file) bytes.items))
+        (λ _. result ≡ Err FetchFault.Failed) }
+    ensures long { MatchResult opened
+        (λ file. WhereLong result (GaveMore (F.remaining file) limit))
+        (λ _. result ≡ Err FetchFault.Failed) }
+    ensures wanting { MatchResult opened
+        (λ file. WhereWanting result (GaveWithoutRoom (F.remaining file)))
+        (λ _. result ≡ Err FetchFault.Failed) }
+{
+    match opened {
+        Ok(file) => read_whole(alloc, &mut CountedReader::new(file), limit),
+        Err(_) => Err(FetchFault::Failed),
+    }
+}
+
 /// A store over the system's files, whose names are paths. It tells nothing of what they hold.
 #[derive(Drop)]
 pub struct FileStore<R: Files + Drop> {
@@ -93,8 +117,7 @@ impl<R: Files + Drop> FileStore<R> {
     fn read(&self, alloc: Global, name: &str, limit: u32) -> Result<Vec<u8>, FetchFault>
         ensures within { IfOk result (λ bytes. length bytes.items ≤ limit) }
     {
-        let file = or_failed(fs::open(&self.system, name))?;
-        read_whole(alloc, &mut CountedReader::new(file), limit)
+        read_opened(alloc, fs::open(&self.system, name), limit)
     }
 }
 

@@ -2,7 +2,7 @@
 ghost use Rattle.std.specs.Prelude.{◌≡◌, ◌%◌, ◌≤◌, IfOk, false, length};
 ghost use Rattle.chip_face.specs.Fitting.{IsSpec, is_blank};
 
-use chip_face::{Bytes, ChipList, ChipSpec, Page, PageList, PageSort};
+use chip_face::{Bytes, ChipList, ChipSpec, Page, PageList, PageSort, Powers};
 use f8_isa::{Done, Isa, PortWrite, Regs, Reserved};
 use memory_map::Map;
 use std::alloc::Global;
@@ -79,7 +79,8 @@ fn listed(alloc: Global, first: ChipSpec, second: ChipSpec) -> Result<ChipList, 
 
 fn isa_of(alloc: Global, chips: &ChipList, fill: u8) -> Result<Isa, Fail> {
     let map = Map::of(alloc, chips)?;
-    Ok(Isa::new(alloc, &map, chips, fill)?)
+    let powers = Powers::usual(chips.as_slice().len());
+    Ok(Isa::new(alloc, &map, chips, &powers, fill)?)
 }
 
 // these bytes in a 3851 at 0000, beside a 3853

@@ -1,5 +1,5 @@
 // How many questions a machine puts to its chips, bus step by bus step.
-use chip_face::{Bytes, Chip, ChipSpec};
+use chip_face::{Bytes, Chip, ChipSpec, Powers};
 use f8_machine::{Chain, Machine, Rack};
 use psu3851::Psu;
 use std::alloc::{AllocError, Global};
@@ -43,7 +43,7 @@ fn asks_one_chip_a_step(rt: HostRuntime) -> Result<(), Fail> {
     rack[0].fit(rt.alloc(), &spec)?;
     let mut chain = Chain::new();
     chain.push(0);
-    let mut machine = Machine::power(0, chain, &mut rack);
+    let mut machine = Machine::power(0, chain, &Powers::new(), &mut rack);
     let powered = asked_of(&rack);
     let _reset = machine.reset(&mut rack);
     let _load = machine.instr(&mut rack);

@@ -1,6 +1,5 @@
 // As many chips as there may be, each with a source, in several mixes of the kinds.
 use super::calls::{answered, list_of};
-use chip_face::ChipKind;
 use f8_machine::Rack;
 use outside::{FileList, NamedFile};
 use psu3851::Psu;
@@ -9,12 +8,19 @@ use std::alloc::Global;
 use std::fmt::Write;
 use std::test::Fail;
 
-const P: ChipKind = ChipKind::Psu;
+/// The kinds of chip that a description names.
+#[derive(Clone, Copy)]
+enum Kind {
+    Psu,
+    Smi,
+}
 
-const S: ChipKind = ChipKind::Smi;
+const P: Kind = Kind::Psu;
+
+const S: Kind = Kind::Smi;
 
 /// The kinds of the chips, in the order of the description.
-const MIXES: [[ChipKind; 16]; 4] = [
+const MIXES: [[Kind; 16]; 4] = [
     [P, P, P, P, P, P, P, P, P, P, P, P, S, S, S, S],
     [P; 16],
     [S; 16],
@@ -31,10 +37,10 @@ const PLAY: &str = "verdict whole\n\
      total 16 instructions 366 phi\n";
 
 /// Adds a chip to a description. Its ROM begins at 1,024 times its number.
-fn describe(cart: &mut String, kind: ChipKind, chip: u8) -> Result<(), Fail> {
+fn describe(cart: &mut String, kind: Kind, chip: u8) -> Result<(), Fail> {
     let number = u32::from(chip);
     match kind {
-        ChipKind::Psu => {
+        Kind::Psu => {
             let base = number * 1024;
             let ports = number * 4 + 4;
             write!(
@@ -42,7 +48,7 @@ fn describe(cart: &mut String, kind: ChipKind, chip: u8) -> Result<(), Fail> {
                 "[[chip]]\nkind = '3851'\nbase = {base}\nports = {ports}\n"
             )?;
         }
-        ChipKind::Smi => {
+        Kind::Smi => {
             let page = number * 4;
             write!(
                 cart,
@@ -68,7 +74,7 @@ fn named(alloc: Global, name: String, text: &str) -> Result<NamedFile, Fail> {
 }
 
 /// The description, a source for each chip, and a script for one round.
-fn files_of(alloc: Global, kinds: &[ChipKind; 16]) -> Result<FileList, Fail> {
+fn files_of(alloc: Global, kinds: &[Kind; 16]) -> Result<FileList, Fail> {
     let mut cart = "format = 1\n".to_string(alloc)?;
     let mut files = Vec::new(alloc);
     for chip in 0..16u8 {
@@ -87,8 +93,8 @@ fn plays_sixteen_chips(rt: HostRuntime) -> Result<(), Fail> {
         let mut rack: Rack = Vec::new(rt.alloc());
         for kind in kinds {
             match kind {
-                ChipKind::Psu => rack.push(Box::new(rt.alloc(), Psu::blank())?)?,
-                ChipKind::Smi => rack.push(Box::new(rt.alloc(), Smi::blank())?)?,
+                Kind::Psu => rack.push(Box::new(rt.alloc(), Psu::blank())?)?,
+                Kind::Smi => rack.push(Box::new(rt.alloc(), Smi::blank())?)?,
             }
         }
         let files = files_of(rt.alloc(), &kinds)?;

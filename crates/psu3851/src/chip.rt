@@ -244,7 +244,9 @@ impl Chip for Psu {
                 self.interrupts = Interrupts::new(*wired);
                 Ok(())
             }
-            ChipSpec::Blank(ChipKind::Smi) | ChipSpec::Smi { .. } => Err(FitFault::WrongKind),
+            ChipSpec::Blank(ChipKind::Smi | ChipKind::Pio)
+            | ChipSpec::Smi { .. }
+            | ChipSpec::Pio { .. } => Err(FitFault::WrongKind),
         }
     }
 

@@ -1,45 +1,41 @@
 -- The chain of a description names the sockets in which its chips sit.
 use Rattle.std.proofs.Common.{◌≡◌, ◌≢◌, ℕ, suc, ◌+◌, ◌-◌, ◌<◌, ◌≤◌, ◌⊎◌, inl, inr, Bool, true, false, List, [], ◌∷◌, ◌++◌, length}
 use Rattle.std.proofs.Common.{arith, refl, sym, ap, ◌∙◌, subst, nat_lt}
-use Rattle.std.specs.Prelude.{Option, Some, None, slice_get, ◌==◌, ◌||◌, not, ◌&&◌, if◌then◌else◌}
-use Rattle.std.specs.List.{AllZip, list_any, filter}
+use Rattle.std.specs.Prelude.{Option, Some, None, count_by, slice_get, ◌==◌, ◌||◌, not, ◌&&◌, if◌then◌else◌}
+use Rattle.std.specs.List.{AllZip, list_any}
 use Rattle.std.proofs.lemmas.Bool.Decides.{nat_tests}
-use Rattle.std.proofs.lemmas.List.{append-nil, append_assoc, length-append}
+use Rattle.std.proofs.lemmas.List.{append-nil, append_assoc}
 use Rattle.std.proofs.lemmas.List.Elements.{filter-append}
 use Rattle.std.proofs.lemmas.List.Folds.{list_any-append}
-use Rattle.std.proofs.lemmas.List.Sums.{length-filter}
+use Rattle.std.proofs.lemmas.List.Sums.{length-filter, sum_by-append, sum_by-cons}
+use Rattle.f8_spec.specs.ChipState.{same_kind}
 use Rattle.f8_spec.specs.declared.chips.ChipKind.{ChipKind}
-use Rattle.f8_spec.specs.declared.chips.ChipKind.TheVariants.{Psu, Smi}
+use Rattle.f8_spec.specs.declared.chips.ChipKind.TheVariants.{Psu, Smi, Pio}
 use Rattle.chip_face.specs.Fitting.{kind_of}
 use Rattle.chip_face.specs.declared.specification.ChipSpec.{ChipSpec}
 use Rattle.rack_run.specs.ChainLaw.{ChainLaw, SitsIn}
-use Rattle.rack_run.specs.Seating.{is_kind, of_kind, seat_at, seated_from, seated, kinds_of, before_of, psus_after, smis_after}
-use Rattle.rack_run.specs.Sockets.{sockets_of, needed_of, short_by, shortage_in, or_else, free_socket, with_socket, chain_with}
+use Rattle.rack_run.specs.Seating.{of_kind, seat_at, no_sockets, counted, seated_from, seated, kinds_of}
+use Rattle.rack_run.specs.Sockets.{sockets_of, needed_of, shortage_of, short_by, shortage_in, or_else, free_socket, with_socket, chain_with}
 use Rattle.rack_run.specs.declared.sockets.Shortage.{Shortage}
+use Rattle.rack_run.proofs.CountedKinds.{itself, is_same, both_ways, count_own, count_other}
 
 -- the socket of a kind with so many of its kind before it, in sockets of these kinds from one on
-abbrev socket_of : ChipKind → ℕ → ℕ → ℕ → ℕ → List ChipKind → Option ℕ
-socket_of j n psus smis socket [] = None
-socket_of j n psus smis socket (k ∷ kinds) =
-    if is_kind j k && (before_of k psus smis == n) then Some socket
-    else socket_of j n (psus_after k psus) (smis_after k smis) (socket + 1) kinds
+abbrev socket_of : ChipKind → ℕ → (ChipKind → ℕ) → ℕ → List ChipKind → Option ℕ
+socket_of j n before socket [] = None
+socket_of j n before socket (k ∷ kinds) =
+    if same_kind j k && (before k == n) then Some socket else socket_of j n (counted k before) (socket + 1) kinds
 
--- a chain has of each kind just the first sockets, so many
-abbrev pub HasFirst : (psus_taken smis_taken : ℕ) → List ℕ → (psus smis socket : ℕ) → List ChipKind → Type 0
-HasFirst p s chain psus smis socket [] = Unit {0}
-HasFirst p s chain psus smis socket (k ∷ kinds) =
-    (list_any (λ held. held == socket) chain ≡ nat_lt (before_of k psus smis) (before_of k p s))
-    × HasFirst p s chain (psus_after k psus) (smis_after k smis) (socket + 1) kinds
+-- a chain has of each kind just the first sockets, as many as are taken
+abbrev pub HasFirst : (taken : ChipKind → ℕ) → List ℕ → (before : ChipKind → ℕ) (socket : ℕ) → List ChipKind → Type 0
+HasFirst taken chain before socket [] = Unit {0}
+HasFirst taken chain before socket (k ∷ kinds) =
+    (list_any (λ held. held == socket) chain ≡ nat_lt (before k) (taken k))
+    × HasFirst taken chain (counted k before) (socket + 1) kinds
 
 -- none is taken
-pub has_none : (psus smis socket : ℕ) (kinds : List ChipKind) → HasFirst 0 0 [] psus smis socket kinds
-has_none psus smis socket [] = tt
-has_none psus smis socket (Psu ∷ kinds) = (grind (arith, nat_tests), has_none (psus + 1) smis (socket + 1) kinds)
-has_none psus smis socket (Smi ∷ kinds) = (grind (arith, nat_tests), has_none psus (smis + 1) (socket + 1) kinds)
-
-same_kind : (j : ChipKind) → is_kind j j ≡ true
-same_kind Psu = refl
-same_kind Smi = refl
+pub has_none : (before : ChipKind → ℕ) (socket : ℕ) (kinds : List ChipKind) → HasFirst no_sockets [] before socket kinds
+has_none before socket [] = tt
+has_none before socket (k ∷ kinds) = (grind (arith, nat_tests), has_none (counted k before) (socket + 1) kinds)
 
 -- ---- numbers
 
@@ -62,39 +58,38 @@ choose b t socket free next within later = by (nat_lt b t) refl
     by true is = rw (passed b t is) (later (passed_within b t is))
     by false is = rw (met b t is within) refl
 
-pub free_is : (j : ChipKind) (p s : ℕ) (chain : List ℕ) (psus smis socket : ℕ) (kinds : List ChipKind) →
-    HasFirst p s chain psus smis socket kinds → before_of j psus smis ≤ before_of j p s →
-    free_socket j chain socket kinds ≡ socket_of j (before_of j p s) psus smis socket kinds
-free_is j p s chain psus smis socket [] has within = refl
-free_is Psu p s chain psus smis socket (Psu ∷ kinds) has within =
-    rw has.0 (choose psus p socket _ _ within (λ later. free_is Psu p s chain (psus + 1) smis (socket + 1) kinds has.1 later))
-free_is Psu p s chain psus smis socket (Smi ∷ kinds) has within = free_is Psu p s chain psus (smis + 1) (socket + 1) kinds has.1 within
-free_is Smi p s chain psus smis socket (Psu ∷ kinds) has within = free_is Smi p s chain (psus + 1) smis (socket + 1) kinds has.1 within
-free_is Smi p s chain psus smis socket (Smi ∷ kinds) has within =
-    rw has.0 (choose smis s socket _ _ within (λ later. free_is Smi p s chain psus (smis + 1) (socket + 1) kinds has.1 later))
+pub free_is : (j : ChipKind) (taken : ChipKind → ℕ) (chain : List ℕ) (before : ChipKind → ℕ) (socket : ℕ) (kinds : List ChipKind) →
+    HasFirst taken chain before socket kinds → before j ≤ taken j →
+    free_socket j chain socket kinds ≡ socket_of j (taken j) before socket kinds
+free_is j taken chain before socket [] has within = refl
+free_is j taken chain before socket (k ∷ kinds) has within =
+    by (same_kind j k) refl (λ later. free_is j taken chain (counted k before) (socket + 1) kinds has.1 later)
+  where
+    by : (own : Bool) → same_kind j k ≡ own →
+        (counted k before j ≤ taken j →
+        free_socket j chain (socket + 1) kinds ≡ socket_of j (taken j) (counted k before) (socket + 1) kinds) →
+        (if own && not (list_any (λ held. held == socket) chain) then Some socket else free_socket j chain (socket + 1) kinds)
+        ≡ (if own && (before k == taken j) then Some socket else socket_of j (taken j) (counted k before) (socket + 1) kinds)
+    by true is go =
+        let same : k ≡ j = is_same j k is in
+        let held : list_any (λ held. held == socket) chain ≡ nat_lt (before j) (taken j) =
+        subst (λ i. list_any (λ held. held == socket) chain ≡ nat_lt (before i) (taken i)) same has.0 in
+        let one : counted k before j ≡ before j + 1 = ap (λ i. counted i before j) same ∙ count_own j before in
+        rw (held, ap before same)
+        (choose (before j) (taken j) socket _ _ within (λ later. go (omega (arith, one, later))))
+    by false is go = go (omega (arith, count_other k j before is, within))
 
 -- ---- what sits there
 
 -- the socket found is one of these
-socket_from : (j : ChipKind) (n psus smis socket : ℕ) (kinds : List ChipKind) (t : ℕ) →
-    socket_of j n psus smis socket kinds ≡ Some t → socket ≤ t
-socket_from j n psus smis socket [] t is = cc
-socket_from Psu n psus smis socket (Psu ∷ kinds) t is =
-    by (psus == n) is (λ later. socket_from Psu n (psus + 1) smis (socket + 1) kinds t later)
+socket_from : (j : ChipKind) (n : ℕ) (before : ChipKind → ℕ) (socket : ℕ) (kinds : List ChipKind) (t : ℕ) →
+    socket_of j n before socket kinds ≡ Some t → socket ≤ t
+socket_from j n before socket [] t is = cc
+socket_from j n before socket (k ∷ kinds) t is =
+    by (same_kind j k && (before k == n)) is (λ later. socket_from j n (counted k before) (socket + 1) kinds t later)
   where
-    by : (here : Bool) → (if here then Some socket else socket_of Psu n (psus + 1) smis (socket + 1) kinds) ≡ Some t →
-        (socket_of Psu n (psus + 1) smis (socket + 1) kinds ≡ Some t → socket + 1 ≤ t) → socket ≤ t
-    by true e later = let same : socket ≡ t = cc in omega (arith, same)
-    by false e later = let beyond : socket + 1 ≤ t = later e in omega (arith, beyond)
-socket_from Psu n psus smis socket (Smi ∷ kinds) t is =
-    let beyond : socket + 1 ≤ t = socket_from Psu n psus (smis + 1) (socket + 1) kinds t is in omega (arith, beyond)
-socket_from Smi n psus smis socket (Psu ∷ kinds) t is =
-    let beyond : socket + 1 ≤ t = socket_from Smi n (psus + 1) smis (socket + 1) kinds t is in omega (arith, beyond)
-socket_from Smi n psus smis socket (Smi ∷ kinds) t is =
-    by (smis == n) is (λ later. socket_from Smi n psus (smis + 1) (socket + 1) kinds t later)
-  where
-    by : (here : Bool) → (if here then Some socket else socket_of Smi n psus (smis + 1) (socket + 1) kinds) ≡ Some t →
-        (socket_of Smi n psus (smis + 1) (socket + 1) kinds ≡ Some t → socket + 1 ≤ t) → socket ≤ t
+    by : (here : Bool) → (if here then Some socket else socket_of j n (counted k before) (socket + 1) kinds) ≡ Some t →
+        (socket_of j n (counted k before) (socket + 1) kinds ≡ Some t → socket + 1 ≤ t) → socket ≤ t
     by true e later = let same : socket ≡ t = cc in omega (arith, same)
     by false e later = let beyond : socket + 1 ≤ t = later e in omega (arith, beyond)
 
@@ -142,73 +137,89 @@ found_from b n t socket rest within is = by (b == n) refl is
     by false met e = inr (grind (arith, nat_tests), e)
 
 -- the socket is one of those from here on, or one before
-abbrev Placed : (j : ChipKind) (n psus smis socket t : ℕ) → List ChipKind → Type 0
-Placed j n psus smis socket t kinds =
-    ((before_of j psus smis ≤ n) × (socket_of j n psus smis socket kinds ≡ Some t)) ⊎ ((n < before_of j psus smis) × (t < socket))
+abbrev Placed : (j : ChipKind) (n : ℕ) (before : ChipKind → ℕ) (socket t : ℕ) → List ChipKind → Type 0
+Placed j n before socket t kinds =
+    ((before j ≤ n) × (socket_of j n before socket kinds ≡ Some t)) ⊎ ((n < before j) × (t < socket))
 
-abbrev HasMore : (j : ChipKind) (p s : ℕ) (chain : List ℕ) (t psus smis socket : ℕ) (kinds : List ChipKind) → Type 0
-HasMore j p s chain t psus smis socket kinds = Placed j (before_of j p s) psus smis socket t kinds →
-    HasFirst (psus_after j p) (smis_after j s) (chain ++ t ∷ []) psus smis socket kinds
+module _ (j : ChipKind) (taken : ChipKind → ℕ) (chain : List ℕ) (t : ℕ) where
+  -- this socket is in the longer chain just where it is one of the first, and the socket found has its place among those behind
+  abbrev TakenHere : (before : ChipKind → ℕ) (socket : ℕ) (k : ChipKind) → List ChipKind → Type 0
+  TakenHere before socket k kinds =
+      (list_any (λ held. held == socket) (chain ++ t ∷ []) ≡ nat_lt (before k) (counted j taken k))
+      × Placed j (taken j) (counted k before) (socket + 1) t kinds
 
-taken_more : (j : ChipKind) (p s : ℕ) (chain : List ℕ) (t psus smis socket : ℕ) (kinds : List ChipKind) →
-    HasFirst p s chain psus smis socket kinds → HasMore j p s chain t psus smis socket kinds
-taken_more j p s chain t psus smis socket [] has placed = tt
-taken_more Psu p s chain t psus smis socket (Psu ∷ kinds) has placed =
-    by placed (λ next. taken_more Psu p s chain t (psus + 1) smis (socket + 1) kinds has.1 next)
-  where
-    chosen : FoundFrom psus p t socket (socket_of Psu p (psus + 1) smis (socket + 1) kinds) → HasMore Psu p s chain t (psus + 1) smis (socket + 1) kinds →
-        HasFirst (p + 1) s (chain ++ t ∷ []) psus smis socket (Psu ∷ kinds)
-    chosen (inl here) more = (
-      one_more chain t socket ∙ rw has.0 (own_up_to psus p t socket (omega (arith, here.0)) (λ e. here.1)),
-      more (inr (omega (arith, here.0), omega (arith, here.1))),
-    )
-    chosen (inr later) more =
-        (one_more chain t socket ∙ rw has.0 (own_up_to psus p t socket (omega (arith, later.0)) (λ e. omega (arith, e, later.0))), more (inl later))
+  own_socket : (before : ChipKind → ℕ) (socket : ℕ) (kinds : List ChipKind) →
+      socket_of j (taken j) before socket (j ∷ kinds)
+      ≡ (if before j == taken j then Some socket else socket_of j (taken j) (counted j before) (socket + 1) kinds)
+  own_socket before socket kinds = rw (itself j) refl
 
-    by : Placed Psu p psus smis socket t (Psu ∷ kinds) → HasMore Psu p s chain t (psus + 1) smis (socket + 1) kinds →
-        HasFirst (p + 1) s (chain ++ t ∷ []) psus smis socket (Psu ∷ kinds)
-    by (inl now) more = chosen (found_from psus p t socket _ now.0 now.1) more
-    by (inr past) more =
-        (one_more chain t socket ∙ rw has.0 (own_past psus p t socket past.0 past.1), more (inr (omega (arith, past.0), omega (arith, past.1))))
-taken_more Psu p s chain t psus smis socket (Smi ∷ kinds) has placed =
-    by placed (λ next. taken_more Psu p s chain t psus (smis + 1) (socket + 1) kinds has.1 next)
-  where
-    by : Placed Psu p psus smis socket t (Smi ∷ kinds) →
-        (Placed Psu p psus (smis + 1) (socket + 1) t kinds → HasFirst (p + 1) s (chain ++ t ∷ []) psus (smis + 1) (socket + 1) kinds) →
-        HasFirst (p + 1) s (chain ++ t ∷ []) psus smis socket (Smi ∷ kinds)
-    by (inl now) more =
-        let beyond : socket + 1 ≤ t = socket_from Psu p psus (smis + 1) (socket + 1) kinds t now.1 in
-        (one_more chain t socket ∙ rw has.0 (other smis s t socket (λ e. omega (arith, e, beyond))), more (inl now))
-    by (inr past) more =
-        (one_more chain t socket ∙ rw has.0 (other smis s t socket (λ e. omega (arith, e, past.1))), more (inr (past.0, omega (arith, past.1))))
-taken_more Smi p s chain t psus smis socket (Psu ∷ kinds) has placed =
-    by placed (λ next. taken_more Smi p s chain t (psus + 1) smis (socket + 1) kinds has.1 next)
-  where
-    by : Placed Smi s psus smis socket t (Psu ∷ kinds) →
-        (Placed Smi s (psus + 1) smis (socket + 1) t kinds → HasFirst p (s + 1) (chain ++ t ∷ []) (psus + 1) smis (socket + 1) kinds) →
-        HasFirst p (s + 1) (chain ++ t ∷ []) psus smis socket (Psu ∷ kinds)
-    by (inl now) more =
-        let beyond : socket + 1 ≤ t = socket_from Smi s (psus + 1) smis (socket + 1) kinds t now.1 in
-        (one_more chain t socket ∙ rw has.0 (other psus p t socket (λ e. omega (arith, e, beyond))), more (inl now))
-    by (inr past) more =
-        (one_more chain t socket ∙ rw has.0 (other psus p t socket (λ e. omega (arith, e, past.1))), more (inr (past.0, omega (arith, past.1))))
-taken_more Smi p s chain t psus smis socket (Smi ∷ kinds) has placed =
-    by placed (λ next. taken_more Smi p s chain t psus (smis + 1) (socket + 1) kinds has.1 next)
-  where
-    chosen : FoundFrom smis s t socket (socket_of Smi s psus (smis + 1) (socket + 1) kinds) → HasMore Smi p s chain t psus (smis + 1) (socket + 1) kinds →
-        HasFirst p (s + 1) (chain ++ t ∷ []) psus smis socket (Smi ∷ kinds)
-    chosen (inl here) more = (
-      one_more chain t socket ∙ rw has.0 (own_up_to smis s t socket (omega (arith, here.0)) (λ e. here.1)),
-      more (inr (omega (arith, here.0), omega (arith, here.1))),
-    )
-    chosen (inr later) more =
-        (one_more chain t socket ∙ rw has.0 (own_up_to smis s t socket (omega (arith, later.0)) (λ e. omega (arith, e, later.0))), more (inl later))
+  taken_own : (before : ChipKind → ℕ) (socket : ℕ) (kinds : List ChipKind) →
+      list_any (λ held. held == socket) chain ≡ nat_lt (before j) (taken j) → Placed j (taken j) before socket t (j ∷ kinds) →
+      TakenHere before socket j kinds
+  taken_own before socket kinds has placed = by placed
+    where
+      here : (list_any (λ held. held == socket) chain || (t == socket)) ≡ nat_lt (before j) (taken j + 1) →
+          list_any (λ held. held == socket) (chain ++ t ∷ []) ≡ nat_lt (before j) (counted j taken j)
+      here e = one_more chain t socket ∙ e ∙ ap (nat_lt (before j)) (sym (count_own j taken))
 
-    by : Placed Smi s psus smis socket t (Smi ∷ kinds) → HasMore Smi p s chain t psus (smis + 1) (socket + 1) kinds →
-        HasFirst p (s + 1) (chain ++ t ∷ []) psus smis socket (Smi ∷ kinds)
-    by (inl now) more = chosen (found_from smis s t socket _ now.0 now.1) more
-    by (inr past) more =
-        (one_more chain t socket ∙ rw has.0 (own_past smis s t socket past.0 past.1), more (inr (omega (arith, past.0), omega (arith, past.1))))
+      chosen : FoundFrom (before j) (taken j) t socket (socket_of j (taken j) (counted j before) (socket + 1) kinds) →
+          TakenHere before socket j kinds
+      chosen (inl now) = (
+        here (rw has (own_up_to (before j) (taken j) t socket (omega (arith, now.0)) (λ e. now.1))),
+        inr (omega (arith, count_own j before, now.0), omega (arith, now.1)),
+      )
+      chosen (inr later) = (
+        here (rw has (own_up_to (before j) (taken j) t socket (omega (arith, later.0)) (λ e. omega (arith, e, later.0)))),
+        inl (omega (arith, count_own j before, later.0), later.1),
+      )
+
+      by : Placed j (taken j) before socket t (j ∷ kinds) → TakenHere before socket j kinds
+      by (inl now) = chosen (found_from (before j) (taken j) t socket _ now.0 (sym (own_socket before socket kinds) ∙ now.1))
+      by (inr past) = (
+        here (rw has (own_past (before j) (taken j) t socket past.0 past.1)),
+        inr (omega (arith, count_own j before, past.0), omega (arith, past.1)),
+      )
+
+  taken_other : (before : ChipKind → ℕ) (socket : ℕ) (k : ChipKind) (kinds : List ChipKind) → same_kind j k ≡ false →
+      list_any (λ held. held == socket) chain ≡ nat_lt (before k) (taken k) → Placed j (taken j) before socket t (k ∷ kinds) →
+      TakenHere before socket k kinds
+  taken_other before socket k kinds apart has placed = by placed
+    where
+      same : counted j taken k ≡ taken k
+      same = count_other j k taken (both_ways k j ∙ apart)
+
+      behind : counted k before j ≡ before j
+      behind = count_other k j before apart
+
+      here : t ≢ socket → list_any (λ held. held == socket) (chain ++ t ∷ []) ≡ nat_lt (before k) (counted j taken k)
+      here differs = one_more chain t socket ∙ rw has (other (before k) (taken k) t socket differs) ∙ ap (nat_lt (before k)) (sym same)
+
+      by : Placed j (taken j) before socket t (k ∷ kinds) → TakenHere before socket k kinds
+      by (inl now) =
+          let found : socket_of j (taken j) (counted k before) (socket + 1) kinds ≡ Some t = rw apart at now.1 in
+          let beyond : socket + 1 ≤ t = socket_from j (taken j) (counted k before) (socket + 1) kinds t found in
+          (here (λ e. omega (arith, e, beyond)), inl (omega (arith, behind, now.0), found))
+      by (inr past) =
+          (here (λ e. omega (arith, e, past.1)), inr (omega (arith, behind, past.0), omega (arith, past.1)))
+
+  taken_here : (before : ChipKind → ℕ) (socket : ℕ) (k : ChipKind) (kinds : List ChipKind) →
+      list_any (λ held. held == socket) chain ≡ nat_lt (before k) (taken k) → Placed j (taken j) before socket t (k ∷ kinds) →
+      TakenHere before socket k kinds
+  taken_here before socket k kinds has placed = by (same_kind j k) refl
+    where
+      by : (own : Bool) → same_kind j k ≡ own → TakenHere before socket k kinds
+      by true is =
+          subst (λ i. list_any (λ held. held == socket) chain ≡ nat_lt (before i) (taken i) →
+          Placed j (taken j) before socket t (i ∷ kinds) → TakenHere before socket i kinds) (sym (is_same j k is))
+          (taken_own before socket kinds) has placed
+      by false is = taken_other before socket k kinds is has placed
+
+  taken_more : (before : ChipKind → ℕ) (socket : ℕ) (kinds : List ChipKind) → HasFirst taken chain before socket kinds →
+      Placed j (taken j) before socket t kinds → HasFirst (counted j taken) (chain ++ t ∷ []) before socket kinds
+  taken_more before socket [] has placed = tt
+  taken_more before socket (k ∷ kinds) has placed =
+      let here = taken_here before socket k kinds has.0 placed in
+      (here.0, taken_more (counted k before) (socket + 1) kinds has.1 here.1)
 
 -- ---- what sits in a socket found, and that one is found
 
@@ -220,41 +231,35 @@ behind x xs socket t o beyond lies =
 first : (x : ChipSpec) (xs : List ChipSpec) (socket t : ℕ) → t ≡ socket → slice_get (x ∷ xs) (t - socket) ≡ Some x
 first x xs socket t same = let none : t - socket ≡ 0 = omega (arith, same) in rw none refl
 
-seat_there : (j : ChipKind) (all : List ChipSpec) (n psus smis socket : ℕ) (kinds : List ChipKind) (t : ℕ) →
-    socket_of j n psus smis socket kinds ≡ Some t → slice_get (seated_from all psus smis kinds) (t - socket) ≡ Some (seat_at all j n)
-seat_there j all n psus smis socket [] t is = cc
-seat_there Psu all n psus smis socket (Psu ∷ kinds) t is =
-    by (psus == n) refl is (λ later. seat_there Psu all n (psus + 1) smis (socket + 1) kinds t later)
+seat_there : (j : ChipKind) (all : List ChipSpec) (n : ℕ) (before : ChipKind → ℕ) (socket : ℕ) (kinds : List ChipKind) (t : ℕ) →
+    socket_of j n before socket kinds ≡ Some t → slice_get (seated_from all before kinds) (t - socket) ≡ Some (seat_at all j n)
+seat_there j all n before socket [] t is = cc
+seat_there j all n before socket (k ∷ kinds) t is =
+    by (same_kind j k) (before k == n) refl refl is (λ later. seat_there j all n (counted k before) (socket + 1) kinds t later)
   where
-    by : (here : Bool) → (psus == n) ≡ here → (if here then Some socket else socket_of Psu n (psus + 1) smis (socket + 1) kinds) ≡ Some t →
-        (socket_of Psu n (psus + 1) smis (socket + 1) kinds ≡ Some t →
-        slice_get (seated_from all (psus + 1) smis kinds) (t - (socket + 1)) ≡ Some (seat_at all Psu n)) →
-        slice_get (seat_at all Psu psus ∷ seated_from all (psus + 1) smis kinds) (t - socket) ≡ Some (seat_at all Psu n)
-    by true met e more =
-        let rank : psus ≡ n = grind (arith, nat_tests) in
-        let same : t ≡ socket = cc in first _ _ socket t same ∙ ap (λ k. Some (seat_at all Psu k)) rank
-    by false met e more = behind _ _ socket t _ (socket_from Psu n (psus + 1) smis (socket + 1) kinds t e) (more e)
-seat_there Psu all n psus smis socket (Smi ∷ kinds) t is =
-    behind _ _ socket t _ (socket_from Psu n psus (smis + 1) (socket + 1) kinds t is) (seat_there Psu all n psus (smis + 1) (socket + 1) kinds t is)
-seat_there Smi all n psus smis socket (Psu ∷ kinds) t is =
-    behind _ _ socket t _ (socket_from Smi n (psus + 1) smis (socket + 1) kinds t is) (seat_there Smi all n (psus + 1) smis (socket + 1) kinds t is)
-seat_there Smi all n psus smis socket (Smi ∷ kinds) t is =
-    by (smis == n) refl is (λ later. seat_there Smi all n psus (smis + 1) (socket + 1) kinds t later)
-  where
-    by : (here : Bool) → (smis == n) ≡ here → (if here then Some socket else socket_of Smi n psus (smis + 1) (socket + 1) kinds) ≡ Some t →
-        (socket_of Smi n psus (smis + 1) (socket + 1) kinds ≡ Some t →
-        slice_get (seated_from all psus (smis + 1) kinds) (t - (socket + 1)) ≡ Some (seat_at all Smi n)) →
-        slice_get (seat_at all Smi smis ∷ seated_from all psus (smis + 1) kinds) (t - socket) ≡ Some (seat_at all Smi n)
-    by true met e more =
-        let rank : smis ≡ n = grind (arith, nat_tests) in
-        let same : t ≡ socket = cc in first _ _ socket t same ∙ ap (λ k. Some (seat_at all Smi k)) rank
-    by false met e more = behind _ _ socket t _ (socket_from Smi n psus (smis + 1) (socket + 1) kinds t e) (more e)
+    later : socket_of j n (counted k before) (socket + 1) kinds ≡ Some t →
+        (socket_of j n (counted k before) (socket + 1) kinds ≡ Some t →
+        slice_get (seated_from all (counted k before) kinds) (t - (socket + 1)) ≡ Some (seat_at all j n)) →
+        slice_get (seat_at all k (before k) ∷ seated_from all (counted k before) kinds) (t - socket) ≡ Some (seat_at all j n)
+    later e more = behind _ _ socket t _ (socket_from j n (counted k before) (socket + 1) kinds t e) (more e)
 
-sits_there : (j : ChipKind) (all : List ChipSpec) (n : ℕ) (kinds : List ChipKind) (t : ℕ) → socket_of j n 0 0 0 kinds ≡ Some t →
-    slice_get (seated_from all 0 0 kinds) t ≡ Some (seat_at all j n)
+    by : (own here : Bool) → same_kind j k ≡ own → (before k == n) ≡ here →
+        (if own && here then Some socket else socket_of j n (counted k before) (socket + 1) kinds) ≡ Some t →
+        (socket_of j n (counted k before) (socket + 1) kinds ≡ Some t →
+        slice_get (seated_from all (counted k before) kinds) (t - (socket + 1)) ≡ Some (seat_at all j n)) →
+        slice_get (seat_at all k (before k) ∷ seated_from all (counted k before) kinds) (t - socket) ≡ Some (seat_at all j n)
+    by true true own met e more =
+        let rank : before k ≡ n = grind (arith, nat_tests) in
+        let same : t ≡ socket = cc in
+        first _ _ socket t same ∙ ap (λ i. Some (seat_at all k i)) rank ∙ ap (λ i. Some (seat_at all i n)) (is_same j k own)
+    by true false own met e more = later e more
+    by false here own met e more = later e more
+
+sits_there : (j : ChipKind) (all : List ChipSpec) (n : ℕ) (kinds : List ChipKind) (t : ℕ) → socket_of j n no_sockets 0 kinds ≡ Some t →
+    slice_get (seated_from all no_sockets kinds) t ≡ Some (seat_at all j n)
 sits_there j all n kinds t is =
     let same : t - 0 ≡ t = omega arith in
-    subst (λ k. slice_get (seated_from all 0 0 kinds) k ≡ Some (seat_at all j n)) same (seat_there j all n 0 0 0 kinds t is)
+    subst (λ k. slice_get (seated_from all no_sockets kinds) k ≡ Some (seat_at all j n)) same (seat_there j all n no_sockets 0 kinds t is)
 
 record Found (o : Option ℕ) : Type 0 where
   pub place : ℕ
@@ -267,21 +272,36 @@ next_or b n socket rest within more = by (b == n) refl
     by true met = record { place = socket; is = refl }
     by false met = more (grind (arith, nat_tests))
 
-one_socket : (j : ChipKind) (kinds : List ChipKind) → sockets_of j (j ∷ kinds) ≡ suc (sockets_of j kinds)
-one_socket Psu kinds = sym (length-filter (is_kind Psu) (Psu ∷ kinds)) ∙ ap suc (length-filter (is_kind Psu) kinds)
-one_socket Smi kinds = sym (length-filter (is_kind Smi) (Smi ∷ kinds)) ∙ ap suc (length-filter (is_kind Smi) kinds)
+-- one more is counted, or it isn't
+count_with : {X : Type 0} (test : X → Bool) (x : X) (xs : List X) (own : Bool) → test x ≡ own →
+    count_by test (x ∷ xs) ≡ (if own then suc (count_by test xs) else count_by test xs)
+count_with test x xs own is = sum_by-cons (λ y. if test y then 1 else 0) x xs ∙ by own is
+  where
+    by : (b : Bool) → test x ≡ b →
+        (if test x then 1 else 0) + count_by test xs ≡ (if b then suc (count_by test xs) else count_by test xs)
+    by true e = rw e (omega arith)
+    by false e = rw e (omega arith)
 
-there_is : (j : ChipKind) (n psus smis socket : ℕ) (kinds : List ChipKind) → before_of j psus smis ≤ n →
-    n < before_of j psus smis + sockets_of j kinds → Found (socket_of j n psus smis socket kinds)
-there_is j n psus smis socket [] within enough = absurd (omega (arith, within, enough))
-there_is Psu n psus smis socket (Psu ∷ kinds) within enough =
-    let one = one_socket Psu kinds in
-    next_or psus n socket _ within (λ later. there_is Psu n (psus + 1) smis (socket + 1) kinds later (omega (arith, one, enough)))
-there_is Psu n psus smis socket (Smi ∷ kinds) within enough = there_is Psu n psus (smis + 1) (socket + 1) kinds within enough
-there_is Smi n psus smis socket (Psu ∷ kinds) within enough = there_is Smi n (psus + 1) smis (socket + 1) kinds within enough
-there_is Smi n psus smis socket (Smi ∷ kinds) within enough =
-    let one = one_socket Smi kinds in
-    next_or smis n socket _ within (λ later. there_is Smi n psus (smis + 1) (socket + 1) kinds later (omega (arith, one, enough)))
+there_is : (j : ChipKind) (n : ℕ) (before : ChipKind → ℕ) (socket : ℕ) (kinds : List ChipKind) → before j ≤ n →
+    n < before j + sockets_of j kinds → Found (socket_of j n before socket kinds)
+there_is j n before socket [] within enough = absurd (omega (arith, within, enough))
+there_is j n before socket (k ∷ kinds) within enough =
+    by (same_kind j k) refl (λ here more. there_is j n (counted k before) (socket + 1) kinds here more)
+  where
+    by : (own : Bool) → same_kind j k ≡ own →
+        (counted k before j ≤ n → n < counted k before j + sockets_of j kinds → Found (socket_of j n (counted k before) (socket + 1) kinds)) →
+        Found (if own && (before k == n) then Some socket else socket_of j n (counted k before) (socket + 1) kinds)
+    by true is go =
+        let same : k ≡ j = is_same j k is in
+        let one : counted k before j ≡ before j + 1 = ap (λ i. counted i before j) same ∙ count_own j before in
+        let more : sockets_of j (k ∷ kinds) ≡ suc (sockets_of j kinds) = count_with (same_kind j) k kinds true is in
+        let here : before k ≡ before j = ap before same in
+        next_or (before k) n socket _ (omega (arith, here, within))
+        (λ later. go (omega (arith, one, here, later)) (omega (arith, one, more, enough)))
+    by false is go =
+        let same : counted k before j ≡ before j = count_other k j before is in
+        let more : sockets_of j (k ∷ kinds) ≡ sockets_of j kinds = count_with (same_kind j) k kinds false is in
+        go (omega (arith, same, within)) (omega (arith, same, more, enough))
 
 -- ---- chip by chip
 
@@ -290,14 +310,14 @@ nth_behind : (xs ys : List ChipSpec) (x : ChipSpec) → slice_get (xs ++ x ∷ y
 nth_behind [] ys x = refl
 nth_behind (z ∷ xs) ys x = nth_behind xs ys x
 
-own_seat : (j : ChipKind) (done chips : List ChipSpec) (chip : ChipSpec) → kind_of chip ≡ j →
-    seat_at (done ++ chip ∷ chips) j (needed_of j done) ≡ chip
-own_seat j done chips chip is =
-    let own : is_kind j (kind_of chip) ≡ true = rw is (same_kind j) in
+own_seat : (done chips : List ChipSpec) (chip : ChipSpec) →
+    seat_at (done ++ chip ∷ chips) (kind_of chip) (needed_of (kind_of chip) done) ≡ chip
+own_seat done chips chip =
+    let j = kind_of chip in
     let split : of_kind j (done ++ chip ∷ chips) ≡ of_kind j done ++ chip ∷ of_kind j chips =
-    filter-append (λ c. is_kind j (kind_of c)) done (chip ∷ chips)
-    ∙ ap (λ b. of_kind j done ++ (if b then chip ∷ of_kind j chips else of_kind j chips)) own in
-    let rank : length (of_kind j done) ≡ needed_of j done = length-filter (λ c. is_kind j (kind_of c)) done in
+    filter-append (λ c. same_kind j (kind_of c)) done (chip ∷ chips)
+    ∙ ap (λ b. of_kind j done ++ (if b then chip ∷ of_kind j chips else of_kind j chips)) (itself j) in
+    let rank : length (of_kind j done) ≡ needed_of j done = length-filter (λ c. same_kind j (kind_of c)) done in
     rw (split, ← rank, nth_behind (of_kind j done) (of_kind j chips) chip) refl
 
 -- how a chain goes on, with the chips that sit in its further sockets
@@ -307,67 +327,45 @@ record GoesOn (seats : List ChipSpec) (chain whole : List ℕ) (chips : List Chi
   pub sit : AllZip (SitsIn seats) rest chips
 
 -- how many chips of a kind there are with one more
-needed_with : (j : ChipKind) (done chips : List ChipSpec) (chip : ChipSpec) (own : Bool) → is_kind j (kind_of chip) ≡ own →
+needed_with : (j : ChipKind) (done chips : List ChipSpec) (chip : ChipSpec) (own : Bool) → same_kind j (kind_of chip) ≡ own →
     needed_of j (done ++ chip ∷ chips) ≡ needed_of j done + (if own then suc (needed_of j chips) else needed_of j chips)
 needed_with j done chips chip own is =
-    let test : ChipSpec → Bool = λ c. is_kind j (kind_of c) in
-    let split : filter test (done ++ chip ∷ chips) ≡ filter test done ++ (if own then chip ∷ filter test chips else filter test chips) =
-    filter-append test done (chip ∷ chips) ∙ ap (λ b. filter test done ++ (if b then chip ∷ filter test chips else filter test chips)) is in
-    let behind : length (if own then chip ∷ filter test chips else filter test chips) ≡ (if own then suc (needed_of j chips) else needed_of j chips) =
-    by own in
-    sym (length-filter test (done ++ chip ∷ chips)) ∙ ap length split
-    ∙ length-append (filter test done) (if own then chip ∷ filter test chips else filter test chips)
-    ∙ (let ahead = length-filter test done in cc)
-  where
-    by : (b : Bool) → length (if b then chip ∷ filter (λ c. is_kind j (kind_of c)) chips else filter (λ c. is_kind j (kind_of c)) chips)
-        ≡ (if b then suc (needed_of j chips) else needed_of j chips)
-    by true = ap suc (length-filter (λ c. is_kind j (kind_of c)) chips)
-    by false = length-filter (λ c. is_kind j (kind_of c)) chips
+    sum_by-append (λ c. if same_kind j (kind_of c) then 1 else 0) done (chip ∷ chips)
+    ∙ ap (λ n. needed_of j done + n) (count_with (λ c. same_kind j (kind_of c)) chip chips own is)
 
-sits : (all done chips : List ChipSpec) (kinds : List ChipKind) (chain : List ℕ) (p s : ℕ) → all ≡ done ++ chips →
-    p ≡ needed_of Psu done → s ≡ needed_of Smi done → needed_of Psu all ≤ sockets_of Psu kinds → needed_of Smi all ≤ sockets_of Smi kinds →
-    HasFirst p s chain 0 0 0 kinds → GoesOn (seated_from all 0 0 kinds) chain (chain_with kinds chain chips) chips
-sits all done [] kinds chain p s whole psus smis psus_fit smis_fit has = record { rest = []; are = sym (append-nil chain); sit = tt }
-sits all done (chip ∷ chips) kinds chain p s whole psus smis psus_fit smis_fit has =
-    by (kind_of chip) refl (λ a b t x y z.
-    sits all (done ++ chip ∷ []) chips kinds (chain ++ t ∷ []) a b (whole ∙ sym (append_assoc done (chip ∷ []) chips)) x y psus_fit smis_fit z)
+-- so are the chips so far, with one more
+counts_more : (done : List ChipSpec) (chip : ChipSpec) (taken : ChipKind → ℕ) → ((k : ChipKind) → taken k ≡ needed_of k done) →
+    (k : ChipKind) → counted (kind_of chip) taken k ≡ needed_of k (done ++ chip ∷ [])
+counts_more done chip taken are k = by (same_kind k (kind_of chip)) refl
   where
-    by : (j : ChipKind) → kind_of chip ≡ j →
-        ((a b t : ℕ) → a ≡ needed_of Psu (done ++ chip ∷ []) → b ≡ needed_of Smi (done ++ chip ∷ []) →
-        HasFirst a b (chain ++ t ∷ []) 0 0 0 kinds →
-        GoesOn (seated_from all 0 0 kinds) (chain ++ t ∷ []) (chain_with kinds (chain ++ t ∷ []) chips) chips) →
-        GoesOn (seated_from all 0 0 kinds) chain (chain_with kinds chain (chip ∷ chips)) (chip ∷ chips)
-    by Psu is go =
-        let total : needed_of Psu all ≡ needed_of Psu done + suc (needed_of Psu chips) =
-        ap (needed_of Psu) whole ∙ needed_with Psu done chips chip true (ap (is_kind Psu) is) in
-        let found = there_is Psu p 0 0 0 kinds (omega arith) (omega (arith, psus, total, psus_fit)) in
-        let free : free_socket (kind_of chip) chain 0 kinds ≡ Some found.place =
-        ap (λ k. free_socket k chain 0 kinds) is ∙ free_is Psu p s chain 0 0 0 kinds has (omega arith) ∙ found.is in
-        let one : needed_of Psu (done ++ chip ∷ []) ≡ needed_of Psu done + 1 = needed_with Psu done [] chip true (ap (is_kind Psu) is) in
-        let none : needed_of Smi (done ++ chip ∷ []) ≡ needed_of Smi done + 0 = needed_with Smi done [] chip false (ap (is_kind Smi) is) in
-        let next = go (p + 1) s found.place (omega (arith, psus, one)) (omega (arith, smis, none))
-        (taken_more Psu p s chain found.place 0 0 0 kinds has (inl (omega arith, found.is))) in
-        let seat : slice_get (seated_from all 0 0 kinds) found.place ≡ Some chip =
-        sits_there Psu all p kinds found.place found.is
-        ∙ ap Some (ap (λ n. seat_at all Psu n) psus ∙ ap (λ cs. seat_at cs Psu (needed_of Psu done)) whole ∙ own_seat Psu done chips chip is) in
-        record {
-          rest = found.place ∷ next.rest;
-          are = ap (λ o. chain_with kinds (with_socket chain o) chips) free ∙ next.are ∙ append_assoc chain (found.place ∷ []) next.rest;
-          sit = (seat, next.sit);
-        }
-    by Smi is go =
-        let total : needed_of Smi all ≡ needed_of Smi done + suc (needed_of Smi chips) =
-        ap (needed_of Smi) whole ∙ needed_with Smi done chips chip true (ap (is_kind Smi) is) in
-        let found = there_is Smi s 0 0 0 kinds (omega arith) (omega (arith, smis, total, smis_fit)) in
-        let free : free_socket (kind_of chip) chain 0 kinds ≡ Some found.place =
-        ap (λ k. free_socket k chain 0 kinds) is ∙ free_is Smi p s chain 0 0 0 kinds has (omega arith) ∙ found.is in
-        let one : needed_of Smi (done ++ chip ∷ []) ≡ needed_of Smi done + 1 = needed_with Smi done [] chip true (ap (is_kind Smi) is) in
-        let none : needed_of Psu (done ++ chip ∷ []) ≡ needed_of Psu done + 0 = needed_with Psu done [] chip false (ap (is_kind Psu) is) in
-        let next = go p (s + 1) found.place (omega (arith, psus, none)) (omega (arith, smis, one))
-        (taken_more Smi p s chain found.place 0 0 0 kinds has (inl (omega arith, found.is))) in
-        let seat : slice_get (seated_from all 0 0 kinds) found.place ≡ Some chip =
-        sits_there Smi all s kinds found.place found.is
-        ∙ ap Some (ap (λ n. seat_at all Smi n) smis ∙ ap (λ cs. seat_at cs Smi (needed_of Smi done)) whole ∙ own_seat Smi done chips chip is) in
+    by : (own : Bool) → same_kind k (kind_of chip) ≡ own → (if own then taken k + 1 else taken k) ≡ needed_of k (done ++ chip ∷ [])
+    by true is = let one : needed_of k (done ++ chip ∷ []) ≡ needed_of k done + 1 = needed_with k done [] chip true is in omega (arith, are k, one)
+    by false is =
+        let none : needed_of k (done ++ chip ∷ []) ≡ needed_of k done + 0 = needed_with k done [] chip false is in omega (arith, are k, none)
+
+sits : (all done chips : List ChipSpec) (kinds : List ChipKind) (chain : List ℕ) (taken : ChipKind → ℕ) → all ≡ done ++ chips →
+    ((k : ChipKind) → taken k ≡ needed_of k done) → ((k : ChipKind) → needed_of k all ≤ sockets_of k kinds) →
+    HasFirst taken chain no_sockets 0 kinds → GoesOn (seated_from all no_sockets kinds) chain (chain_with kinds chain chips) chips
+sits all done [] kinds chain taken whole are fit has = record { rest = []; are = sym (append-nil chain); sit = tt }
+sits all done (chip ∷ chips) kinds chain taken whole are fit has =
+    by (λ t z.
+    sits all (done ++ chip ∷ []) chips kinds (chain ++ t ∷ []) (counted (kind_of chip) taken) (whole ∙ sym (append_assoc done (chip ∷ []) chips))
+    (counts_more done chip taken are) fit z)
+  where
+    by : ((t : ℕ) → HasFirst (counted (kind_of chip) taken) (chain ++ t ∷ []) no_sockets 0 kinds →
+        GoesOn (seated_from all no_sockets kinds) (chain ++ t ∷ []) (chain_with kinds (chain ++ t ∷ []) chips) chips) →
+        GoesOn (seated_from all no_sockets kinds) chain (chain_with kinds chain (chip ∷ chips)) (chip ∷ chips)
+    by go =
+        let j = kind_of chip in
+        let total : needed_of j all ≡ needed_of j done + suc (needed_of j chips) =
+        ap (needed_of j) whole ∙ needed_with j done chips chip true (itself j) in
+        let found = there_is j (taken j) no_sockets 0 kinds (omega arith) (omega (arith, are j, total, fit j)) in
+        let free : free_socket j chain 0 kinds ≡ Some found.place =
+        free_is j taken chain no_sockets 0 kinds has (omega arith) ∙ found.is in
+        let next = go found.place (taken_more j taken chain found.place no_sockets 0 kinds has (inl (omega arith, found.is))) in
+        let seat : slice_get (seated_from all no_sockets kinds) found.place ≡ Some chip =
+        sits_there j all (taken j) kinds found.place found.is
+        ∙ ap Some (ap (λ n. seat_at all j n) (are j) ∙ ap (λ cs. seat_at cs j (needed_of j done)) whole ∙ own_seat done chips chip) in
         record {
           rest = found.place ∷ next.rest;
           are = ap (λ o. chain_with kinds (with_socket chain o) chips) free ∙ next.are ∙ append_assoc chain (found.place ∷ []) next.rest;
@@ -393,10 +391,21 @@ second_none : (a b : Option Shortage) → or_else a b ≡ None → b ≡ None
 second_none (Some x) b e = cc
 second_none None b e = e
 
+-- where no kind is short
+pub enough_of : (chips : List ChipSpec) (kinds : List ChipKind) → shortage_of chips kinds ≡ None →
+    (k : ChipKind) → needed_of k chips ≤ sockets_of k kinds
+enough_of chips kinds none k = by k
+  where
+    behind : or_else (shortage_in Smi chips kinds) (shortage_in Pio chips kinds) ≡ None
+    behind = second_none (shortage_in Psu chips kinds) _ none
+
+    by : (k : ChipKind) → needed_of k chips ≤ sockets_of k kinds
+    by Psu = fits_by Psu _ _ (first_none (shortage_in Psu chips kinds) _ none)
+    by Smi = fits_by Smi _ _ (first_none (shortage_in Smi chips kinds) _ behind)
+    by Pio = fits_by Pio _ _ (second_none (shortage_in Smi chips kinds) _ behind)
+
 pub chain_sits : ChainLaw
 chain_sits chips states enough =
     let kinds = kinds_of states in
-    let psus = fits_by Psu _ _ (first_none (shortage_in Psu chips kinds) (shortage_in Smi chips kinds) enough) in
-    let smis = fits_by Smi _ _ (second_none (shortage_in Psu chips kinds) (shortage_in Smi chips kinds) enough) in
-    let goes_on = sits chips [] chips kinds [] 0 0 refl refl refl psus smis (has_none 0 0 0 kinds) in
+    let goes_on = sits chips [] chips kinds [] no_sockets refl (λ k. refl) (enough_of chips kinds enough) (has_none no_sockets 0 kinds) in
     subst (λ chain. AllZip (SitsIn (seated chips states)) chain chips) (sym goes_on.are) goes_on.sit

@@ -6,9 +6,9 @@ use Rattle.std.specs.List.{list_any}
 use Rattle.std.proofs.Math.ListN.{get_or-map}
 use Rattle.std.proofs.lemmas.List.{length-map, at_drop_more}
 use Rattle.std.proofs.lemmas.List.Sums.{count_by_more_yes, count_by_more_no}
-use Rattle.f8_spec.specs.ChipState.{ChipState}
+use Rattle.f8_spec.specs.ChipState.{ChipState, same_kind}
 use Rattle.f8_spec.specs.declared.chips.ChipKind.{ChipKind}
-use Rattle.rack_run.specs.Seating.{is_kind, kinds_of}
+use Rattle.rack_run.specs.Seating.{kinds_of}
 use Rattle.rack_run.specs.Sockets.{sockets_of, free_socket}
 
 module _ {X : Type 0} (V : X → ChipState) (kind : ChipKind) (xs : List X) (i : ℕ) (x : X) where
@@ -19,22 +19,22 @@ module _ {X : Type 0} (V : X → ChipState) (kind : ChipKind) (xs : List X) (i :
       ∙ ap (λ (y : X). (V y).view.kind) (sym is)
 
   kind_there : x ≡ get_or xs i x →
-      is_kind kind (get_or (kinds_of (map V xs)) i (V x).view.kind) ≡ is_kind kind (V x).view.kind
-  kind_there is = ap (is_kind kind) (kind_at is)
+      same_kind kind (get_or (kinds_of (map V xs)) i (V x).view.kind) ≡ same_kind kind (V x).view.kind
+  kind_there is = ap (same_kind kind) (kind_at is)
 
   within_kinds : i < length xs → i < length (kinds_of (map V xs))
   within_kinds within = omega (arith, length-map xs V, length-map (map V xs) (λ (s : ChipState). s.view.kind))
 
-  pub counted_yes : i < length xs → x ≡ get_or xs i x → is_kind kind (V x).view.kind ≡ true →
+  pub counted_yes : i < length xs → x ≡ get_or xs i x → same_kind kind (V x).view.kind ≡ true →
       sockets_of kind (take (i + 1) (kinds_of (map V xs))) ≡ sockets_of kind (take i (kinds_of (map V xs))) + 1
   counted_yes within is same =
-      count_by_more_yes (is_kind kind) (kinds_of (map V xs)) i (V x).view.kind (within_kinds within)
+      count_by_more_yes (same_kind kind) (kinds_of (map V xs)) i (V x).view.kind (within_kinds within)
       (kind_there is ∙ same)
 
-  pub counted_no : i < length xs → x ≡ get_or xs i x → is_kind kind (V x).view.kind ≡ false →
+  pub counted_no : i < length xs → x ≡ get_or xs i x → same_kind kind (V x).view.kind ≡ false →
       sockets_of kind (take (i + 1) (kinds_of (map V xs))) ≡ sockets_of kind (take i (kinds_of (map V xs)))
   counted_no within is other =
-      count_by_more_no (is_kind kind) (kinds_of (map V xs)) i (V x).view.kind (within_kinds within)
+      count_by_more_no (same_kind kind) (kinds_of (map V xs)) i (V x).view.kind (within_kinds within)
       (kind_there is ∙ other)
 
   module _ (chain : List ℕ) (within : i < length xs) (is : x ≡ get_or xs i x) where
@@ -47,12 +47,12 @@ module _ {X : Type 0} (V : X → ChipState) (kind : ChipKind) (xs : List X) (i :
         ∙ ap (λ (k : ChipKind). free_socket kind chain i (k ∷ drop (i + 1) kinds)) (kind_at is)
 
     -- it is free
-    pub free_here : is_kind kind (V x).view.kind ≡ true → list_any (λ held. held == i) chain ≡ false →
+    pub free_here : same_kind kind (V x).view.kind ≡ true → list_any (λ held. held == i) chain ≡ false →
         free_socket kind chain i (drop i kinds) ≡ Some i
     free_here same fresh = here ∙ rw (same, fresh) refl
 
-    -- it is of the other kind
-    pub free_other : is_kind kind (V x).view.kind ≡ false →
+    -- it is of another kind
+    pub free_other : same_kind kind (V x).view.kind ≡ false →
         free_socket kind chain i (drop i kinds) ≡ free_socket kind chain (i + 1) (drop (i + 1) kinds)
     free_other other = here ∙ rw other refl
 
@@ -61,7 +61,7 @@ module _ {X : Type 0} (V : X → ChipState) (kind : ChipKind) (xs : List X) (i :
         free_socket kind chain i (drop i kinds) ≡ free_socket kind chain (i + 1) (drop (i + 1) kinds)
     free_held held =
         here
-        ∙ rw held (passed (is_kind kind (V x).view.kind) (Some i) (free_socket kind chain (i + 1) (drop (i + 1) kinds)))
+        ∙ rw held (passed (same_kind kind (V x).view.kind) (Some i) (free_socket kind chain (i + 1) (drop (i + 1) kinds)))
       where
         passed : (b : Bool) (first later : Option ℕ) → (if b && not true then first else later) ≡ later
         passed true first later = refl

@@ -4,6 +4,7 @@ use Rattle.std.proofs.Common.{None, refl, ◌∙◌, arith}
 use Rattle.std.specs.Prelude.{slice_get}
 use Rattle.f8_spec.specs.Instructions.{decoded, row_of, row_clocks}
 use Rattle.f8_spec.specs.ChipState.{ChipView}
+use Rattle.f8_spec.specs.declared.chips.PowerOn.{PowerOn}
 use Rattle.f8_spec.specs.declared.instructions.Op.{Op}
 use Rattle.f8_spec.specs.declared.instructions.Row.{Row}
 use Rattle.console_spec.specs.FlatStep.{clocks_by}
@@ -136,11 +137,11 @@ starts : (end : End) (s : State) → s.count ≡ 0 → Suffices end (most_instru
 starts (Steps n) s none = omega (arith, none)
 starts (Frames n) s none = omega arith
 
-starts_reset : (vs : List ChipView) (chain : List ℕ) (script : Script) →
-    Suffices script.end (most_instructions script.end) (position_after_reset (begun vs chain script)).flat.state
-starts_reset vs chain script =
-    starts script.end (position_after_reset (begun vs chain script)).flat.state
-    (events_alike (events_at 0 script.events) (power_position vs chain script.power)).count
+starts_reset : (vs : List ChipView) (chain : List ℕ) (powers : List PowerOn) (script : Script) →
+    Suffices script.end (most_instructions script.end) (position_after_reset (begun vs chain powers script)).flat.state
+starts_reset vs chain powers script =
+    starts script.end (position_after_reset (begun vs chain powers script)).flat.state
+    (events_alike (events_at 0 script.events) (power_position vs chain powers script.power)).count
 
 behind_reset : (script : Script) (x : Position) (rest : Position → Telling) →
     EndsAsAsked script (rest (position_after_reset x)).ending → (fault : Option Fault) →
@@ -150,12 +151,12 @@ behind_reset script x rest ends (Some fault) = λ done. absurd (unserved_not_don
 
 pub end_law : EndLaw
 unfolding played_by referred_by
-end_law vs chain traced script =
-    let x = begun vs chain script in
-    let y = begun vs (chain_in_order vs) script in
+end_law vs chain powers traced script =
+    let x = begun vs chain powers script in
+    let y = begun vs (chain_in_order vs) powers script in
     let most = most_instructions script.end in (
       behind_reset script x (λ z. telling (on_rack traced) script most z)
-          (ends (on_rack traced) script rack_fairly most (position_after_reset x) (starts_reset vs chain script))
+          (ends (on_rack traced) script rack_fairly most (position_after_reset x) (starts_reset vs chain powers script))
           (reset_fault x),
-      ends on_flat script flat_fairly most (position_after_reset y) (starts_reset vs (chain_in_order vs) script),
+      ends on_flat script flat_fairly most (position_after_reset y) (starts_reset vs (chain_in_order vs) powers script),
     )

@@ -125,25 +125,25 @@ no_chip_comes (Pulse chip) chain states none = pulsed_by (slice_get chain chip) 
 -- ---- a whole run
 
 abbrev pub start_of : List ChipView → Script → Position
-start_of vs script = position_after_reset (begun vs (chain_in_order vs) script)
+start_of vs script = position_after_reset (begun vs (chain_in_order vs) [] script)
 
 referred_is : (vs : List ChipView) (script : Script) →
-    referred_by vs script ≡ rest_on on_flat script (start_of vs script)
+    referred_by vs [] script ≡ rest_on on_flat script (start_of vs script)
 unfolding referred_by
 referred_is vs script = refl
 
 module _ (vs : List ChipView) (script : Script) (olds news : List ChipState) (a b : Output) where
   pub tells_whole : (ending : Ending) → RunsOut Writes on_flat script ending olds news a b (start_of vs script) →
-      TellsEnd ending (referred_by vs script).ending
+      TellsEnd ending (referred_by vs [] script).ending
   tells_whole ending out = subst (λ (t : Telling). TellsEnd ending t.ending) (sym (referred_is vs script)) out.tells
 
   pub lines_whole : (ending : Ending) → RunsOut Writes on_flat script ending olds news a b (start_of vs script) →
-      Adds a b (text_in Writes (told_in (referred_by vs script).moments))
+      Adds a b (text_in Writes (told_in (referred_by vs [] script).moments))
   lines_whole ending out =
       subst (λ (t : Telling). Adds a b (text_in Writes (told_in t.moments))) (sym (referred_is vs script)) out.lines
 
   pub lines_cut : (Asks : List ℕ → Type 0) → RunsShort Asks Writes on_flat script olds news a b (start_of vs script) →
-      AddsPart a b (text_in Writes (told_in (referred_by vs script).moments))
+      AddsPart a b (text_in Writes (told_in (referred_by vs [] script).moments))
   lines_cut Asks short =
       subst (λ (t : Telling). AddsPart a b (text_in Writes (told_in t.moments))) (sym (referred_is vs script))
       (cut_part Writes (start_of vs script).chain (rest_on on_flat script (start_of vs script)).moments olds news a b short.cut)
@@ -158,6 +158,6 @@ pub keeps_at_start : (isa : IsaState) (vs : List ChipView) (script : Script) (ph
     StandsAt isa 0 (start_of vs script) →
     phi ≡ isa.phi → Keeps (new_progress phi) (start_of vs script).flat.state
 keeps_at_start isa vs script phi stands same =
-    let quiet = events_quiet (events_at 0 script.events) (power_position vs (chain_in_order vs) script.power) in
+    let quiet = events_quiet (events_at 0 script.events) (power_position vs (chain_in_order vs) [] script.power) in
     keeps_new phi (start_of vs script).flat.state quiet.0 quiet.1
     (same ∙ ap (λ (r : Readout). r.phi) (flat_reads isa [] (start_of vs script) (stands_at_start isa vs script stands)))

@@ -1,4 +1,5 @@
 pub mod Counts
+pub mod CountedKinds
 pub mod Seats
 pub mod ToldTexts
 pub mod PutLaws
@@ -15,6 +16,7 @@ pub mod RunLaws
 pub mod MachineTurns
 pub mod PlayLaws
 pub mod PlayAsking
+pub mod UsualPowers
 pub mod FlatTurns
 pub mod EndLaws
 pub mod TraceLaws

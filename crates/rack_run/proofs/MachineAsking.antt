@@ -18,10 +18,11 @@ use Rattle.f8_machine.specs.Fitting.{tried, tried_in}
 use Rattle.f8_machine.specs.Keying.{is_own, keyed_machine}
 use Rattle.f8_machine.specs.MachineState.{MachineState}
 use Rattle.f8_machine.specs.Questions.{allowances, code_of, codes_of, followed_all}
-use Rattle.f8_machine.specs.Refinement.{Represents, Refines, ResetRefines}
+use Rattle.f8_machine.specs.Refinement.{Refines, ResetRefines}
 use Rattle.f8_machine.specs.Rounds.{heard_of}
 use Rattle.f8_machine.specs.declared.heard.Heard.{Heard}
-use Rattle.f8_machine.specs.declared.outcome.Mode.TheVariants.{Powered}
+use Rattle.f8_machine.specs.declared.outcome.Mode.{Mode}
+use Rattle.f8_machine.specs.declared.outcome.Mode.TheVariants.{Powered, Running, Stopped}
 use Rattle.f8_machine.specs.declared.outcome.Outcome.{Outcome}
 use Rattle.f8_machine.specs.declared.outcome.Outcome.TheVariants.{Done, Fault as FaultOutcome, Reserved}
 use Rattle.rack_run.specs.Asking.{AsksOn, AsksWithin, served_codes, turn_codes, unserved_codes}
@@ -98,13 +99,20 @@ served_asks chips p q old new codes follows few = record {
       omega (arith, few, whole, behind);
 }
 
+-- a machine that was stopped tries none, and no machine more than its outcome tells
+tried_most : (chips p q : ℕ) (index : Index) (outcome : Outcome) (mode : Mode) → q ≤ p + allowances chips index (tried mode outcome) →
+    q ≤ p + allowances chips index (tried_in outcome)
+tried_most chips p q index outcome Powered few = few
+tried_most chips p q index outcome Running few = few
+tried_most chips p q index outcome (Stopped why) few = omega (arith, few)
+
 -- ---- an instruction
 
-module _ (traced : Bool) (x : Position) (outcome : Outcome) (before after : MachineState) (olds news : List ChipState)
-    (chips p q : ℕ) (stands : Represents before olds x) (refines : Refines outcome before after news x)
+module _ (traced : Bool) (x : Position) (outcome : Outcome) (before after : MachineState) (news : List ChipState)
+    (chips p q : ℕ) (refines : Refines outcome before after news x)
     (few : q ≤ p + allowances chips before.index (tried before.mode outcome)) where
   in_tried : q ≤ p + allowances chips before.index (tried_in outcome)
-  in_tried = rw stands.running at few
+  in_tried = tried_most chips p q before.index outcome before.mode few
 
   pub turn_within : AsksWithin (λ l. allowances chips before.index l) p q (turn_codes (on_rack traced) x)
   turn_within =
@@ -112,11 +120,11 @@ module _ (traced : Bool) (x : Position) (outcome : Outcome) (before after : Mach
       (outcome_tried outcome before after news x refines) in_tried
 
   -- it is done
-  pub turn_on : (wrote : Option PortWrite) (steps : List Heard) → outcome ≡ Done wrote steps →
+  pub turn_on : (olds : List ChipState) (wrote : Option PortWrite) (steps : List Heard) → outcome ≡ Done wrote steps →
       Follows outcome before after olds news →
       AsksOn (λ l. allowances chips before.index l) (λ l. allowances chips after.index l) p q
       (turn_codes (on_rack traced) x)
-  turn_on wrote steps is follows =
+  turn_on olds wrote steps is follows =
       let index : after.index ≡ followed_all (codes_of steps) before.index = rw is at follows.index in
       let few_steps : q ≤ p + allowances chips before.index (codes_of steps) = rw is at in_tried in
       let codes : codes_of steps ≡ turn_codes (on_rack traced) x =
@@ -131,10 +139,10 @@ abbrev pub reset_codes : Position → List ℕ
 reset_codes x = served_codes (reset_course x).steps ++ unserved_codes (reset_turn x)
 
 module _ (x : Position) (outcome : Outcome) (before after : MachineState) (news : List ChipState)
-    (chips p q : ℕ) (powered : before.mode ≡ Powered) (refines : ResetRefines outcome before after news x)
+    (chips p q : ℕ) (refines : ResetRefines outcome before after news x)
     (few : q ≤ p + allowances chips before.index (tried before.mode outcome)) where
   reset_in_tried : q ≤ p + allowances chips before.index (tried_in outcome)
-  reset_in_tried = rw powered at few
+  reset_in_tried = tried_most chips p q before.index outcome before.mode few
 
   pub reset_within : AsksWithin (λ l. allowances chips before.index l) p q (reset_codes x)
   reset_within =

@@ -73,9 +73,9 @@ cut_part detail chain ms olds news a b cut =
     (adds_part_first cut.between b (text_in detail cut.at.told) (text_in detail (told_in cut.behind)) cut.part))
 
 module _ (detail : Detail) (script : Script) (chain : List ℕ) (olds powered : List ChipState)
-    (powers : RackPowers script.power olds powered) where
+    (powers : RackPowers script.power chain [] olds powered) where
   abbrev x : Position
-  x = begun (views olds) chain script
+  x = begun (views olds) chain [] script
 
   abbrev turn : Turn
   turn = goes_unless (reset_fault x) (position_after_reset x)
@@ -147,17 +147,17 @@ module _ (detail : Detail) (script : Script) (chain : List ℕ) (olds powered : 
 
   -- the run stays on its chain
   chain_is : x.chain ≡ chain
-  chain_is = events_chain (events_at 0 script.events) (power_position (views olds) chain script.power)
+  chain_is = events_chain (events_at 0 script.events) (power_position (views olds) chain [] script.power)
 
   chain_after : (y : Position) → turn ≡ Goes y → y.chain ≡ chain
   chain_after y turns = sym (ap (λ (z : Position). z.chain) (reset_leads (reset_fault x) x y turns)) ∙ chain_is
 
   -- the position that the events of frame 0 leave
   pub quiet_writes : x.flat.state.writes ≡ []
-  quiet_writes = (events_quiet (events_at 0 script.events) (power_position (views olds) chain script.power)).0
+  quiet_writes = (events_quiet (events_at 0 script.events) (power_position (views olds) chain [] script.power)).0
 
   pub quiet_count : x.flat.state.count ≡ 0
-  quiet_count = (events_quiet (events_at 0 script.events) (power_position (views olds) chain script.power)).1
+  quiet_count = (events_quiet (events_at 0 script.events) (power_position (views olds) chain [] script.power)).1
 
   pub after_writes : (y : Position) → turn ≡ Goes y → y.flat.state.writes ≡ []
   after_writes y turns =
@@ -301,7 +301,7 @@ pub powered_reads : (m : MachineState) (states : List ChipState) (x : Position) 
 powered_reads m states x p = rw (p.stands.flow, p.stands.holds.registers, p.stands.phi) refl
 
 module _ {E : Type 0} (detail : Detail) (script : Script) (chain : List ℕ) (olds powered : List ChipState)
-    (powers : RackPowers script.power olds powered)
+    (powers : RackPowers script.power chain [] olds powered)
     (mids reset_states : List ChipState)
     (came : Come chain (events_at 0 script.events) powered mids) (hs : List Heard)
     (heard : hs ≡ map heard_of (reset_course (x detail script chain olds powered powers)).steps)

@@ -1,12 +1,12 @@
 -- The chips of a kind, and what sits in the sockets of a rack.
-use Rattle.std.proofs.Common.{◌≡◌, ℕ, zero, suc, ◌+◌, ◌<◌, inl, inr, arith, true, List, [], ◌∷◌, ◌++◌, map, length}
+use Rattle.std.proofs.Common.{◌≡◌, ℕ, zero, suc, ◌+◌, ◌<◌, inl, inr, arith, List, [], ◌∷◌, ◌++◌, map, length}
 use Rattle.std.proofs.Common.{get_or, take, drop, add-one, refl, sym, ap, ◌∙◌, subst}
 use Rattle.std.specs.Prelude.{Option, Some, slice_get}
 use Rattle.std.proofs.Math.ListN.{set, length-set}
 use Rattle.std.proofs.Math.Seq.{drop-nil, map-set_same}
 use Rattle.chip_face.specs.Fitting.{Fits, IsSpec, fitted}
 use Rattle.chip_face.specs.declared.specification.ChipSpec.{ChipSpec}
-use Rattle.chip_face.specs.declared.specification.ChipSpec.TheVariants.{Blank, Psu as PsuSpec, Smi as SmiSpec}
+use Rattle.chip_face.specs.declared.specification.ChipSpec.TheVariants.{Blank, Psu as PsuSpec, Smi as SmiSpec, Pio as PioSpec}
 use Rattle.cpu3850.specs.OwnWrites.{LeaveOwnPorts}
 use Rattle.f8_machine.proofs.OwnPorts.{leave_own_ports}
 use Rattle.f8_spec.specs.BusArbitration.{seat_of}
@@ -15,24 +15,10 @@ use Rattle.data_bus.proofs.Racks.{ChangedBelow, whole_again}
 use Rattle.std.proofs.lemmas.List.{length-map}
 use Rattle.f8_spec.specs.ChipState.{ChipView, ChipState, IsWhole}
 use Rattle.f8_spec.specs.declared.chips.ChipKind.{ChipKind}
-use Rattle.f8_spec.specs.declared.chips.ChipKind.TheVariants.{Psu, Smi}
 use Rattle.f8_machine.specs.Refinement.{AreWhole}
-use Rattle.rack_run.specs.Seating.{LeavesOwn, is_kind, seat_at, seated_from, kinds_of, before_of, psus_after}
-use Rattle.rack_run.specs.Seating.{smis_after, seated, kinds_of, fitted_as, fitted_views, FitsWhole, RackFitsInPart}
-
-pub kind_of_is : (kind other : ChipKind) → is_kind kind other ≡ true → other ≡ kind
-kind_of_is Psu Psu e = refl
-kind_of_is Psu Smi e = cc
-kind_of_is Smi Psu e = cc
-kind_of_is Smi Smi e = refl
-
--- what sits in the next socket, and in those behind it
-seated_more : (chips : List ChipSpec) (psus smis : ℕ) (kind : ChipKind) (kinds : List ChipKind) →
-    seated_from chips psus smis (kind ∷ kinds)
-    ≡ seat_at chips kind (before_of kind psus smis) ∷ seated_from chips (psus_after kind psus) (smis_after kind smis)
-    kinds
-seated_more chips psus smis Psu kinds = refl
-seated_more chips psus smis Smi kinds = refl
+use Rattle.rack_run.specs.Seating.{LeavesOwn, seat_at, no_sockets, counted, seated_from, seated, kinds_of, fitted_as, fitted_views}
+use Rattle.rack_run.specs.Seating.{FitsWhole, RackFitsInPart}
+use Rattle.rack_run.proofs.CountedKinds.{seated_alike}
 
 first_of : {A : Type 0} (xs ys : List A) (i : ℕ) (x : A) → drop i xs ≡ x ∷ ys → slice_get xs i ≡ Some x
 first_of [] ys i x e = let none : [] ≡ x ∷ ys = sym (drop-nil i) ∙ e in cc
@@ -46,26 +32,25 @@ rest_of (z ∷ xs) ys (suc i) x e = rest_of xs ys i x e
 
 -- so far the sockets are counted by their kinds
 pub record Counted (chips : List ChipSpec) (specs : List ChipSpec) (kinds : List ChipKind)
-    (i psus smis : ℕ) : Type 0 where
-  pub left : seated_from chips psus smis (drop i kinds) ≡ drop i specs
+    (i : ℕ) (before : ChipKind → ℕ) : Type 0 where
+  pub left : seated_from chips before (drop i kinds) ≡ drop i specs
 
-pub counted_here : (chips specs : List ChipSpec) (kinds : List ChipKind) (i psus smis : ℕ) (kind : ChipKind)
+pub counted_here : (chips specs : List ChipSpec) (kinds : List ChipKind) (i : ℕ) (before : ChipKind → ℕ) (kind : ChipKind)
     (later : List ChipKind) →
     drop i kinds ≡ kind ∷ later →
-    Counted chips specs kinds i psus smis → slice_get specs i ≡ Some (seat_at chips kind (before_of kind psus smis))
-counted_here chips specs kinds i psus smis kind later e counted =
-    first_of specs _ i _
-    (sym counted.left ∙ ap (seated_from chips psus smis) e ∙ seated_more chips psus smis kind later)
+    Counted chips specs kinds i before → slice_get specs i ≡ Some (seat_at chips kind (before kind))
+counted_here chips specs kinds i before kind later e counted =
+    first_of specs _ i _ (sym counted.left ∙ ap (seated_from chips before) e)
 
-pub counted_more : (chips specs : List ChipSpec) (kinds : List ChipKind) (i psus smis : ℕ) (kind : ChipKind)
+pub counted_more : (chips specs : List ChipSpec) (kinds : List ChipKind) (i : ℕ) (before after : ChipKind → ℕ) (kind : ChipKind)
     (later : List ChipKind) →
     drop i kinds ≡ kind ∷ later →
-    Counted chips specs kinds i psus smis →
-    Counted chips specs kinds (suc i) (psus_after kind psus) (smis_after kind smis)
-counted_more chips specs kinds i psus smis kind later e counted = record {
-  left = ap (seated_from chips (psus_after kind psus) (smis_after kind smis)) (rest_of kinds later i kind e)
-      ∙ sym
-      (rest_of specs _ i _ (sym counted.left ∙ ap (seated_from chips psus smis) e ∙ seated_more chips psus smis kind later));
+    Counted chips specs kinds i before → ((k : ChipKind) → after k ≡ counted kind before k) →
+    Counted chips specs kinds (suc i) after
+counted_more chips specs kinds i before after kind later e so_far same = record {
+  left = seated_alike chips (counted kind before) after (drop (suc i) kinds) same
+      ∙ ap (seated_from chips (counted kind before)) (rest_of kinds later i kind e)
+      ∙ sym (rest_of specs _ i _ (sym so_far.left ∙ ap (seated_from chips before) e));
 }
 
 -- the kinds from a socket on
@@ -107,8 +92,10 @@ fits_seated specs socket seat old new is fits whole ports = record {
 fitted_leaves : (patch : Option (ℕ × ℕ)) (spec : ChipSpec) → IsSpec spec → LeavesOwn (fitted patch spec)
 fitted_leaves patch (Blank kind) is first e = cc
 fitted_leaves patch (PsuSpec base rom ports vector wired) is first e =
-    let same : ports ≡ first = cc in omega (arith, is.above_cpu, same)
+    let same : ports ≡ first = cc in omega (arith, is.four_ports.above_cpu, same)
 fitted_leaves patch (SmiSpec pages rom wired) is first e = let same : 12 ≡ first = cc in omega (arith, same)
+fitted_leaves patch (PioSpec ports vector wired) is first e =
+    let same : ports ≡ first = cc in omega (arith, is.above_cpu, same)
 
 pub leaves_own : (spec : ChipSpec) (old new : ChipState) → IsSpec spec → Fits spec old new → LeavesOwn new.view
 leaves_own spec old new is fits first e =
@@ -129,11 +116,10 @@ all_leave specs olds news all = leave_own_ports news (ports_from specs 0 olds ne
 
 -- ---- the views of a rack that is fitted
 
-seated_length : (chips : List ChipSpec) (psus smis : ℕ) (kinds : List ChipKind) →
-    length (seated_from chips psus smis kinds) ≡ length kinds
-seated_length chips psus smis [] = refl
-seated_length chips psus smis (Psu ∷ kinds) = ap suc (seated_length chips (psus + 1) smis kinds)
-seated_length chips psus smis (Smi ∷ kinds) = ap suc (seated_length chips psus (smis + 1) kinds)
+seated_length : (chips : List ChipSpec) (before : ChipKind → ℕ) (kinds : List ChipKind) →
+    length (seated_from chips before kinds) ≡ length kinds
+seated_length chips before [] = refl
+seated_length chips before (kind ∷ kinds) = ap suc (seated_length chips (counted kind before) kinds)
 
 views_from : (specs : List ChipSpec) (n : ℕ) (rest : List ChipSpec) (olds news : List ChipState) → drop n specs ≡ rest →
     length rest ≡ length olds → NumberedZip (FitsWhole specs) n olds news →
@@ -154,7 +140,7 @@ pub views_fitted : (chips : List ChipSpec) (olds news : List ChipState) →
     views news ≡ fitted_views chips olds
 views_fitted chips olds news all =
     views_from (seated chips olds) 0 (seated chips olds) olds news refl
-    (seated_length chips 0 0 (kinds_of olds) ∙ length-map olds (λ (s : ChipState). s.view.kind)) all
+    (seated_length chips no_sockets (kinds_of olds) ∙ length-map olds (λ (s : ChipState). s.view.kind)) all
 
 -- ---- a rack that is fitted in part
 

@@ -6,7 +6,7 @@ use Rattle.std.specs.Prelude.{if◌then◌else◌}
 use Rattle.f8_spec.specs.Instructions.{decoded, row_of, step_clocks}
 use Rattle.f8_spec.specs.MicroSteps.{Step, Operand, long_step, short_step, reset_steps}
 use Rattle.f8_spec.specs.MicroSteps.{clocks_along}
-use Rattle.f8_spec.specs.BusArbitration.{Verdict, Served, Conflict, Undriven, Astray, rule_of}
+use Rattle.f8_spec.specs.BusArbitration.{Ruling, Served, Conflict, Undriven, Astray, rule_of}
 use Rattle.f8_spec.specs.declared.instructions.Op.{Op}
 use Rattle.f8_spec.specs.declared.instructions.Row.{Row}
 use Rattle.f8_spec.specs.declared.instructions.Row.TheVariants.{StackToK, DataToPair, ReadData, StoreData, Immediate}
@@ -22,7 +22,7 @@ use Rattle.console_spec.specs.BusTrace.{with_unaccessed, ending_steps, steps_wit
 use Rattle.console_spec.specs.Run.{Position, Turn, Goes, decided, goes_unless, instruction_fault, instruction_course}
 use Rattle.console_spec.specs.Run.{position_after, opcode_at, course_as, gets_at, gets_all_at, reset_access, reset_gets}
 use Rattle.console_spec.specs.Run.{reset_course, reset_fault}
-use Rattle.console_spec.specs.Services.{Fault, access_verdict, fault_by, first_fault, or_later}
+use Rattle.console_spec.specs.Services.{Fault, access_ruling, fault_by, first_fault, or_later}
 use Rattle.console_spec.proofs.InputLaws.{accesses-with_opcode}
 use Rattle.f8_machine.proofs.Rows.{clocks_with}
 use Rattle.rack_run.specs.TraceLaw.{TraceLaw, fault_in, fault_of_turn, clocks_heard}
@@ -52,7 +52,7 @@ idle_course i c copies s later (a ∷ behind) e = rw e refl
 access_course : (i : Inputs) (c : Flow) (copies : List Copy) (s : Step) (later : List Step) (a : Access)
     (behind : List Access) →
     is_access (rule_of s.romc) ≡ true →
-    course_of i c copies (s ∷ later) (a ∷ behind) ≡ course_by i s (access_verdict c copies a)
+    course_of i c copies (s ∷ later) (a ∷ behind) ≡ course_by i s (access_ruling c copies a)
     (course_of i c copies later behind)
 access_course i c copies s later a behind e = rw e refl
 
@@ -67,20 +67,20 @@ step_agrees i s socket rest fault later is = record {
       ∙ sym (sum_by-cons (λ t. step_clocks t.long) s later);
 }
 
-verdict_agrees : (i : Inputs) (s : Step) (romc : ℕ) (v : Verdict) (rest : Course) (fault : Option Fault)
+ruling_agrees : (i : Inputs) (s : Step) (romc : ℕ) (v : Ruling) (rest : Course) (fault : Option Fault)
     (later : List Step) →
     s.romc ≡ romc →
     Agrees rest fault later → Agrees (course_by i s v rest) (or_later (fault_by romc v) fault) (s ∷ later)
-verdict_agrees i s romc (Served socket) rest fault later code is = step_agrees i s socket rest fault later is
-verdict_agrees i s romc (Conflict parties) rest fault later code is = record {
+ruling_agrees i s romc (Served socket) rest fault later code is = step_agrees i s socket rest fault later is
+ruling_agrees i s romc (Conflict parties) rest fault later code is = record {
   faults = ap (λ n. Some (Fault.Conflict n parties)) code;
   clocks = λ none. cc;
 }
-verdict_agrees i s romc (Undriven at) rest fault later code is = record {
+ruling_agrees i s romc (Undriven at) rest fault later code is = record {
   faults = ap (λ n. Some (Fault.Undriven n at)) code;
   clocks = λ none. cc;
 }
-verdict_agrees i s romc (Astray socket at reference) rest fault later code is = record {
+ruling_agrees i s romc (Astray socket at reference) rest fault later code is = record {
   faults = ap (λ n. Some (Fault.Astray n socket at reference)) code;
   clocks = λ none. cc;
 }
@@ -98,7 +98,7 @@ agrees i c copies (s ∷ later) accesses (idle e pairs) =
 agrees i c copies (s ∷ later) (a ∷ behind) (accessed e code pairs) =
     subst (λ course. Agrees course (first_fault c copies (a ∷ behind)) (s ∷ later))
     (sym (access_course i c copies s later a behind e))
-    (verdict_agrees i s a.romc (access_verdict c copies a) (course_of i c copies later behind) (first_fault c copies behind) later code
+    (ruling_agrees i s a.romc (access_ruling c copies a) (course_of i c copies later behind) (first_fault c copies behind) later code
     (agrees i c copies later behind pairs))
 
 -- ---- the steps of an instruction

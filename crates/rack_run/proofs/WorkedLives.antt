@@ -4,7 +4,7 @@ use Rattle.std.specs.Prelude.{take}
 use Rattle.f8_spec.specs.ChipState.{ChipView, powered, pulsed}
 use Rattle.f8_spec.specs.declared.instructions.Op.TheVariants.{Bf}
 use Rattle.console_spec.specs.BusTrace.{TracedStep}
-use Rattle.console_spec.specs.CounterCopies.{power_start}
+use Rattle.console_spec.specs.Powering.{power_start}
 use Rattle.console_spec.specs.Run.{Position, with_pulse_at, instruction_course}
 use Rattle.console_spec.proofs.Played.{played, played_record, running}
 use Rattle.console_spec.proofs.WorkedRacks.{psu}

@@ -7,7 +7,7 @@ use Rattle.f8_spec.specs.declared.chips.ChipKind.{ChipKind}
 use Rattle.f8_spec.specs.declared.chips.ChipKind.TheVariants as kind
 use Rattle.f8_spec.specs.declared.chips.PageSort.TheVariants.{Ram}
 use Rattle.chip_face.specs.declared.specification.ChipSpec.{ChipSpec}
-use Rattle.chip_face.specs.declared.specification.ChipSpec.TheVariants.{Psu, Smi}
+use Rattle.chip_face.specs.declared.specification.ChipSpec.TheVariants.{Blank, Psu, Smi, Pio}
 use Rattle.console_spec.specs.FlatMemory.{first_memory}
 use Rattle.console_spec.specs.FlatStep.{chosen_at}
 use Rattle.f8_spec.specs.ShiftTimer.{steps_to_expiry}
@@ -15,7 +15,7 @@ use Rattle.console_spec.specs.Processor.{own_inputs, effect}
 use Rattle.console_spec.specs.Run.{Ending, Done, Reserved}
 use Rattle.console_spec.specs.Telling.{telling, played_by}
 use Rattle.console_spec.proofs.Played.{played}
-use Rattle.rack_run.specs.Seating.{fitted_views}
+use Rattle.rack_run.specs.Seating.{no_sockets, seated_from, fitted_views}
 use Rattle.rack_run.specs.Sockets.{shortage_of, chain_of}
 
 -- a 3851 at 0 with LIS 1, NOP, and a branch to the NOP
@@ -28,7 +28,7 @@ ram number = Smi (record { number = number; sort = Ram } ∷ []) [] false
 
 -- ---- sockets
 
--- those of the program's own rack: twelve for 3851s and two for 3853s
+-- twelve for 3851s and two for 3853s
 abbrev own_sockets : List ChipKind
 own_sockets = replicate 12 kind.Psu ++ replicate 2 kind.Smi
 
@@ -40,6 +40,22 @@ thirteen_psus = refl
 
 three_smis : shortage_of (described ∷ ram 0x28 ∷ ram 0x29 ∷ ram 0x2A ∷ []) own_sockets ≡ Some (record { kind = kind.Smi; need = 3; have = 2 })
 three_smis = refl
+
+-- the same with two sockets for 3861s behind them
+abbrev three_kinds : List ChipKind
+three_kinds = own_sockets ++ replicate 2 kind.Pio
+
+-- a 3861 with these four ports
+abbrev pio : ℕ → ChipSpec
+pio ports = Pio ports 0 false
+
+three_pios : shortage_of (pio 8 ∷ pio 12 ∷ pio 16 ∷ []) three_kinds ≡ Some (record { kind = kind.Pio; need = 3; have = 2 })
+three_pios = refl
+
+-- the kind of the first chip described doesn't say which shortage is told
+smis_before_pios : shortage_of (pio 8 ∷ pio 12 ∷ pio 16 ∷ ram 0x28 ∷ ram 0x29 ∷ ram 0x2A ∷ []) three_kinds
+    ≡ Some (record { kind = kind.Smi; need = 3; have = 2 })
+smis_before_pios = refl
 
 one_chip : shortage_of (described ∷ []) own_sockets ≡ None
 one_chip = refl
@@ -109,6 +125,14 @@ mixed_chain = refl
 
 own_chain : chain_of (described ∷ ram 0x28 ∷ described ∷ ram 0x29 ∷ []) own_sockets ≡ 0 ∷ 12 ∷ 1 ∷ 13 ∷ []
 own_chain = refl
+
+-- a 3861 sits in a socket of its own kind alone
+three_kinds_chain : chain_of (pio 8 ∷ described ∷ pio 12 ∷ ram 0x28 ∷ []) three_kinds ≡ 14 ∷ 0 ∷ 15 ∷ 12 ∷ []
+three_kinds_chain = refl
+
+-- and a blank one of its kind where there are no more of them
+three_kinds_seats : seated_from (pio 8 ∷ []) no_sockets (kind.Pio ∷ kind.Smi ∷ kind.Pio ∷ []) ≡ pio 8 ∷ Blank kind.Smi ∷ Blank kind.Pio ∷ []
+three_kinds_seats = refl
 
 -- a chip for which there is no socket is left out
 short_chain : chain_of (ram 0x28 ∷ described ∷ []) (kind.Psu ∷ []) ≡ 0 ∷ []

@@ -52,14 +52,15 @@ TellsEnd told ending = Tells told ending.position.flat.state ending.stop
 
 -- ---- on a rack
 
+-- nothing is said of the power-on of a chip of its own
 abbrev pub run_on : Detail → Script → List ℕ → List ChipState → Telling
-run_on detail script chain states = played_by (views states) chain (is_traced detail) script
+run_on detail script chain states = played_by (views states) chain [] (is_traced detail) script
 
 -- the run to its end: every chip is powered and lives through the moments of the run, and the sink was given all that is told
 pub record Plays (detail : Detail) (script : Script) (chain : List ℕ) (told : Ending) (olds news : List ChipState)
     (old new : Output) : Type 0 where
   pub powered : List ChipState
-  pub powers : RackPowers script.power olds powered
+  pub powers : RackPowers script.power chain [] olds powered
   pub lived : Lives chain (run_on detail script chain olds).moments powered news
   pub tells : TellsEnd told (run_on detail script chain olds).ending
   pub lines : Adds old new (text_in detail (told_in (run_on detail script chain olds).moments))
@@ -83,7 +84,7 @@ pub record CutShort (detail : Detail) (chain : List ℕ) (ms : List Moment) (old
 pub record PlaysPart (Asks : List ℕ → Type 0) (detail : Detail) (script : Script) (chain : List ℕ)
     (olds news : List ChipState) (old new : Output) : Type 0 where
   pub powered : List ChipState
-  pub powers : RackPowers script.power olds powered
+  pub powers : RackPowers script.power chain [] olds powered
   pub cut : CutShort detail chain (run_on detail script chain olds).moments powered news old new
   pub part : AddsPart old new (text_in detail (told_in (run_on detail script chain olds).moments))
   pub asks : Asks (codes_up_to cut.before cut.at cut.behind (run_on detail script chain olds).ending.stop)
@@ -92,7 +93,7 @@ pub record PlaysPart (Asks : List ℕ → Type 0) (detail : Detail) (script : Sc
 
 -- the run of a description's chips, each fitted without a patch
 abbrev pub flat_run : Script → List ChipSpec → Telling
-flat_run script chips = referred_by (views_of chips) script
+flat_run script chips = referred_by (views_of chips) [] script
 
 -- A whole run on the flat instruction set alone: the sink was given all that is told.
 pub record Refers (script : Script) (told : Ending) (chips : List ChipSpec) (old new : Output) : Type 0 where

@@ -1,25 +1,20 @@
 -- Which chip of a description sits in which socket of a rack, and what fitting makes of the rack. That the k-th chip of a kind goes to the
 -- k-th socket of that kind, and that all other sockets are blank, is this project's own.
-use Rattle.std.specs.Prelude.{◌≡◌, ℕ, ◌≤◌, ◌<◌, ◌+◌, ◌⊎◌, Bool, true, false, List, [], ◌∷◌, map, take, drop, slice_get}
+use Rattle.std.specs.Prelude.{◌≡◌, ℕ, ◌≤◌, ◌<◌, ◌+◌, ◌⊎◌, if◌then◌else◌, List, [], ◌∷◌, map, take, drop, slice_get}
 use Rattle.std.specs.Prelude.{length, Option, Some, None}
 use Rattle.std.specs.List.{filter}
 use Rattle.data_bus.specs.Racks.{NumberedZip}
-use Rattle.f8_spec.specs.ChipState.{ChipView, ChipState, IsWhole}
+use Rattle.f8_spec.specs.ChipState.{ChipView, ChipState, IsWhole, same_kind}
 use Rattle.f8_spec.specs.declared.chips.ChipKind.{ChipKind}
-use Rattle.f8_spec.specs.declared.chips.ChipKind.TheVariants.{Psu, Smi}
+use Rattle.f8_spec.specs.declared.chips.ChipKind.TheVariants.{Psu, Smi, Pio}
 use Rattle.chip_face.specs.Fitting.{Fits, fitted, kind_of}
 use Rattle.chip_face.specs.declared.specification.ChipSpec.{ChipSpec}
 use Rattle.chip_face.specs.declared.specification.ChipSpec.TheVariants.{Blank}
-
-abbrev pub is_kind : ChipKind → ChipKind → Bool
-is_kind Psu Psu = true
-is_kind Psu Smi = false
-is_kind Smi Psu = false
-is_kind Smi Smi = true
+use Rattle.rack_run.specs.declared.seat.Sockets.{Sockets}
 
 -- the chips of a kind, in the order of the description
 abbrev pub of_kind : ChipKind → List ChipSpec → List ChipSpec
-of_kind kind chips = filter (λ c. is_kind kind (kind_of c)) chips
+of_kind kind chips = filter (λ c. same_kind kind (kind_of c)) chips
 
 abbrev pub or_blank : ChipKind → Option ChipSpec → ChipSpec
 or_blank kind (Some chip) = chip
@@ -29,31 +24,32 @@ or_blank kind None = Blank kind
 abbrev pub seat_at : List ChipSpec → ChipKind → ℕ → ChipSpec
 seat_at chips kind before = or_blank kind (slice_get (of_kind kind chips) before)
 
+-- the sockets of each kind that were counted
+abbrev pub so_far : Sockets → ChipKind → ℕ
+so_far s Psu = s.psus
+so_far s Smi = s.smis
+so_far s Pio = s.pios
+
+-- no socket of any kind
+abbrev pub no_sockets : ChipKind → ℕ
+no_sockets kind = 0
+
+-- the sockets of each kind, with one more of a kind
+abbrev pub counted : ChipKind → (ChipKind → ℕ) → ChipKind → ℕ
+counted kind before k = if same_kind k kind then before k + 1 else before k
+
 -- what sits in sockets of these kinds, by the sockets of each kind before them
-abbrev pub seated_from : List ChipSpec → ℕ → ℕ → List ChipKind → List ChipSpec
-seated_from chips psus smis [] = []
-seated_from chips psus smis (Psu ∷ kinds) = seat_at chips Psu psus ∷ seated_from chips (psus + 1) smis kinds
-seated_from chips psus smis (Smi ∷ kinds) = seat_at chips Smi smis ∷ seated_from chips psus (smis + 1) kinds
+abbrev pub seated_from : List ChipSpec → (ChipKind → ℕ) → List ChipKind → List ChipSpec
+seated_from chips before [] = []
+seated_from chips before (kind ∷ kinds) =
+    seat_at chips kind (before kind) ∷ seated_from chips (counted kind before) kinds
 
 abbrev pub kinds_of : List ChipState → List ChipKind
 kinds_of states = map (λ s. s.view.kind) states
 
 -- what sits in each socket of a rack
 abbrev pub seated : List ChipSpec → List ChipState → List ChipSpec
-seated chips states = seated_from chips 0 0 (kinds_of states)
-
--- the sockets of a kind before, and those of each kind after one more
-abbrev pub before_of : ChipKind → ℕ → ℕ → ℕ
-before_of Psu psus smis = psus
-before_of Smi psus smis = smis
-
-abbrev pub psus_after : ChipKind → ℕ → ℕ
-psus_after Psu psus = psus + 1
-psus_after Smi psus = psus
-
-abbrev pub smis_after : ChipKind → ℕ → ℕ
-smis_after Psu smis = smis
-smis_after Smi smis = smis + 1
+seated chips states = seated_from chips no_sockets (kinds_of states)
 
 -- the ports of a chip begin above those of the processor's own
 abbrev pub LeavesOwn : ChipView → Type 0

@@ -3,20 +3,20 @@
 use Rattle.std.specs.Prelude.{ℕ, ◌+◌, ◌==◌, nat_lt, not, ◌&&◌, if◌then◌else◌, List, [], ◌∷◌, ◌++◌, count_by, Option}
 use Rattle.std.specs.Prelude.{Some, None}
 use Rattle.std.specs.List.{list_any}
+use Rattle.f8_spec.specs.ChipState.{same_kind}
 use Rattle.f8_spec.specs.declared.chips.ChipKind.{ChipKind}
-use Rattle.f8_spec.specs.declared.chips.ChipKind.TheVariants.{Psu, Smi}
+use Rattle.f8_spec.specs.declared.chips.ChipKind.TheVariants.{Psu, Smi, Pio}
 use Rattle.chip_face.specs.Fitting.{kind_of}
 use Rattle.chip_face.specs.declared.specification.ChipSpec.{ChipSpec}
-use Rattle.rack_run.specs.Seating.{is_kind}
 use Rattle.rack_run.specs.declared.sockets.Shortage.{Shortage}
 
 -- the sockets of a kind in a rack of chips of these kinds
 abbrev pub sockets_of : ChipKind → List ChipKind → ℕ
-sockets_of kind kinds = count_by (is_kind kind) kinds
+sockets_of kind kinds = count_by (same_kind kind) kinds
 
 -- the chips of a kind in a description
 abbrev pub needed_of : ChipKind → List ChipSpec → ℕ
-needed_of kind chips = count_by (λ c. is_kind kind (kind_of c)) chips
+needed_of kind chips = count_by (λ c. same_kind kind (kind_of c)) chips
 
 abbrev pub short_by : ChipKind → ℕ → ℕ → Option Shortage
 short_by kind need have = if nat_lt have need then Some (record { kind = kind; need = need; have = have }) else None
@@ -29,9 +29,10 @@ abbrev pub or_else : Option Shortage → Option Shortage → Option Shortage
 or_else (Some shortage) other = Some shortage
 or_else None other = other
 
--- the first such kind, the 3851 before the 3853
+-- the first such kind, of the 3851, the 3853 and the 3861 in this order
 abbrev pub shortage_of : List ChipSpec → List ChipKind → Option Shortage
-shortage_of chips kinds = or_else (shortage_in Psu chips kinds) (shortage_in Smi chips kinds)
+shortage_of chips kinds =
+    or_else (shortage_in Psu chips kinds) (or_else (shortage_in Smi chips kinds) (shortage_in Pio chips kinds))
 
 -- ---- the chain of a description
 
@@ -39,7 +40,7 @@ shortage_of chips kinds = or_else (shortage_in Psu chips kinds) (shortage_in Smi
 abbrev pub free_socket : ChipKind → List ℕ → ℕ → List ChipKind → Option ℕ
 free_socket kind chain socket [] = None
 free_socket kind chain socket (k ∷ kinds) =
-    if is_kind kind k && not (list_any (λ held. held == socket) chain) then Some socket else free_socket kind chain
+    if same_kind kind k && not (list_any (λ held. held == socket) chain) then Some socket else free_socket kind chain
     (socket + 1) kinds
 
 abbrev pub with_socket : List ℕ → Option ℕ → List ℕ

@@ -14,6 +14,7 @@ mod run;
 mod seat;
 mod sockets;
 mod telling;
+mod usual;
 
 pub use detail::Detail;
 pub use ending::{Ending, Halt};
@@ -22,3 +23,4 @@ pub use on_flat::{ReferFault, refer};
 pub use on_rack::play;
 pub use seat::fit_all;
 pub use sockets::{Shortage, chain_of, first_shortage};
+pub use usual::power_usual;

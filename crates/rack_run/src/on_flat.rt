@@ -1,5 +1,5 @@
 // A run on the flat instruction set alone.
-ghost use Rattle.std.specs.Prelude.{◌≤◌, IfOk, IfErr};
+ghost use Rattle.std.specs.Prelude.{◌≤◌, [], IfOk, IfErr};
 ghost use Rattle.console_spec.specs.Run.{power_position, chain_in_order, position_after_reset};
 ghost use Rattle.f8_isa.specs.IsaState.{StandsAt};
 ghost use Rattle.memory_map.specs.MapOf.{views_of};
@@ -13,7 +13,7 @@ use super::events::happen_at;
 use super::player::Player;
 use super::progress::Progress;
 use super::run::run;
-use chip_face::{ChipList, Memory};
+use chip_face::{ChipList, Memory, Powers};
 use console_board::PortWrite;
 use console_spec::{Event, Regs};
 use f8_isa::Isa;
@@ -77,14 +77,16 @@ impl Player for Isa {
     ghost reads = { flat_reads };
 }
 
-/// The instruction set after power-on with a byte and reset.
+/// The instruction set after power-on with a byte, where nothing is said of any chip's own, and reset.
+#[tactic(auto, using(crate::proofs::UsualPowers::usual_position))]
 fn power_on(alloc: Global, chips: &ChipList, fill: u8) -> Result<Isa, Memory>
     ensures stands { let vs = views_of chips.now in IfOk result (λ isa.
-        StandsAt isa 0 (position_after_reset (power_position vs (chain_in_order vs) fill))) }
+        StandsAt isa 0 (position_after_reset (power_position vs (chain_in_order vs) [] fill))) }
     ensures phi { IfOk result (λ isa. isa.phi ≤ RESET_PHI) }
 {
     let map = Map::of(alloc, chips)?;
-    Isa::new(alloc, &map, chips, fill)
+    let powers = Powers::usual(chips.as_slice().len());
+    Isa::new(alloc, &map, chips, &powers, fill)
 }
 
 /// Why a run on the flat instruction set alone came to no end.

@@ -19,6 +19,7 @@ use super::player::Player;
 use super::progress::Progress;
 use super::run::{ending, run};
 use super::telling::{tell_fault, tell_steps};
+use super::usual::power_usual;
 use chip_face::{Chip, MOST_CHIPS};
 use console_board::PortWrite;
 use console_spec::{Event, Regs};
@@ -151,7 +152,7 @@ pub fn play<K: Sink>(
         (K.output sink.old) (K.output sink.new)) }
     ensures chips { length rack.new.items ≡ length rack.old.items }
 {
-    let mut machine = Machine::power(script.power, chain, rack);
+    let mut machine = power_usual(script.power, chain, rack);
     happen_at(&mut machine, rack, script.events.as_slice(), 0);
     let outcome = machine.reset(rack);
     tell_outcome(sink, detail, &outcome)?;

@@ -1,16 +1,17 @@
 // Fitting a rack for a description.
 ghost use Rattle.std.specs.Prelude.{◌≡◌, ◌≤◌, ◌<◌, ◌+◌, length, map, slice_get};
 ghost use Rattle.std.specs.Prelude.{IfSome, OnOk, OnErr, Some, None, All};
+ghost use Rattle.f8_spec.specs.declared.chips.ChipKind.{ChipKind};
 ghost use Rattle.f8_spec.specs.BusArbitration.{seat_of};
-ghost use Rattle.f8_spec.specs.ChipState.{IsWhole};
+ghost use Rattle.f8_spec.specs.ChipState.{IsWhole, same_kind};
 ghost use Rattle.cpu3850.specs.OwnWrites.{LeaveOwnPorts};
 ghost use Rattle.data_bus.specs.Racks.{views};
 ghost use Rattle.chip_face.specs.Fitting.{Fits, IsSpec, kind_of};
 ghost use Rattle.f8_machine.specs.Refinement.{AreWhole};
-ghost use Rattle.rack_run.specs.Seating.{LeavesOwn, is_kind, of_kind, seat_at, before_of, psus_after};
-ghost use Rattle.rack_run.specs.Seating.{smis_after, seated, fitted_views, RackFits, RackFitsInPart};
+ghost use Rattle.rack_run.specs.Seating.{LeavesOwn, of_kind, seat_at, so_far, no_sockets, counted, seated};
+ghost use Rattle.rack_run.specs.Seating.{fitted_views, RackFits, RackFitsInPart};
 
-use chip_face::{Chip, ChipKind, ChipList, ChipSpec, FitFault, MOST_CHIPS, Memory};
+use chip_face::{Chip, ChipKind, ChipList, ChipSpec, FitFault, MOST_CHIPS, Memory, same_kind};
 use data_bus::Rack;
 use std::alloc::Global;
 
@@ -32,18 +33,8 @@ fn fit_one(alloc: Global, chip: &mut Box<dyn Chip>, spec: &ChipSpec) -> Result<(
     }
 }
 
-/// The specification is for a chip of this kind.
-pub(crate) fn is_for(spec: &ChipSpec, kind: ChipKind) -> bool
-    ensures { result ≡ is_kind kind (kind_of spec.now) }
-{
-    match kind {
-        ChipKind::Psu => matches!(spec.kind(), ChipKind::Psu),
-        ChipKind::Smi => matches!(spec.kind(), ChipKind::Smi),
-    }
-}
-
 /// The chip of a kind with so many of the kind before it.
-#[tactic(auto, using(crate::proofs::Seats::kind_of_is))]
+#[tactic(auto, using(crate::proofs::CountedKinds::is_same))]
 fn nth_of_kind(chips: &[ChipSpec], kind: ChipKind, before: usize) -> Option<&ChipSpec>
     requires specified { All IsSpec chips.now }
     ensures some { IfSome result (λ spec.
@@ -54,7 +45,7 @@ fn nth_of_kind(chips: &[ChipSpec], kind: ChipKind, before: usize) -> Option<&Chi
 {
     let mut left = before;
     for spec in chips {
-        if is_for(spec, kind) {
+        if same_kind(kind, spec.kind()) {
             if left == 0 {
                 return Some(spec);
             }
@@ -88,11 +79,48 @@ fn fit_socket(
     }
 }
 
-/// The sockets of each kind so far.
+/// The sockets of each kind so far. Contracts see them as a function of the kind.
 #[derive(Clone, Copy, Debug)]
 struct Sockets {
     psus: usize,
     smis: usize,
+    pios: usize,
+}
+
+impl Sockets {
+    /// None of any kind.
+    fn new() -> Sockets
+        ensures { (kind : ChipKind) → so_far result kind ≡ no_sockets kind }
+    {
+        Sockets {
+            psus: 0,
+            smis: 0,
+            pios: 0,
+        }
+    }
+
+    /// Those of a kind.
+    fn of(&self, kind: ChipKind) -> usize
+        ensures { result ≡ so_far self.now kind }
+    {
+        match kind {
+            ChipKind::Psu => self.psus,
+            ChipKind::Smi => self.smis,
+            ChipKind::Pio => self.pios,
+        }
+    }
+
+    /// Counts one more of a kind.
+    fn count(&mut self, kind: ChipKind)
+        requires { so_far self.old kind < MOST_CHIPS }
+        ensures { (other : ChipKind) → so_far self.new other ≡ counted kind (so_far self.old) other }
+    {
+        match kind {
+            ChipKind::Psu => self.psus += 1,
+            ChipKind::Smi => self.smis += 1,
+            ChipKind::Pio => self.pios += 1,
+        }
+    }
 }
 
 /// Fits the chip in the next socket, and counts the socket.
@@ -103,32 +131,20 @@ fn fit_next(
     chip: &mut Box<dyn Chip>,
 ) -> Result<(), Memory>
     requires specified { All IsSpec chips.now }
-    requires psus { sockets.old.psus < MOST_CHIPS }
-    requires smis { sockets.old.smis < MOST_CHIPS }
+    requires few { (kind : ChipKind) → so_far sockets.old kind < MOST_CHIPS }
     ensures fits { let kind = (state chip.old).view.kind in OnOk result
-        (Fits (seat_at chips.now kind (before_of kind sockets.old.psus sockets.old.smis))
-        (state chip.old) (state chip.new)) }
+        (Fits (seat_at chips.now kind (so_far sockets.old kind)) (state chip.old) (state chip.new)) }
     ensures whole { OnOk result (IsWhole (state chip.new).view) }
     ensures ports { OnOk result (LeavesOwn (state chip.new).view) }
     ensures same { OnErr result (state chip.new ≡ state chip.old) }
     ensures asked { queries chip.new ≡ queries chip.old }
-    ensures psus { sockets.new.psus ≡ psus_after (state chip.old).view.kind sockets.old.psus }
-    ensures smis { sockets.new.smis ≡ smis_after (state chip.old).view.kind sockets.old.smis }
-    ensures more { sockets.new.psus + sockets.new.smis ≡ sockets.old.psus + sockets.old.smis + 1 }
+    ensures counted { (kind : ChipKind) → so_far sockets.new kind
+        ≡ counted (state chip.old).view.kind (so_far sockets.old) kind }
 {
     let kind = chip.kind();
-    match kind {
-        ChipKind::Psu => {
-            let before = sockets.psus;
-            sockets.psus = before + 1;
-            fit_socket(alloc, chips, kind, before, chip)
-        }
-        ChipKind::Smi => {
-            let before = sockets.smis;
-            sockets.smis = before + 1;
-            fit_socket(alloc, chips, kind, before, chip)
-        }
-    }
+    let before = sockets.of(kind);
+    sockets.count(kind);
+    fit_socket(alloc, chips, kind, before, chip)
 }
 
 /// Fits a rack of at most 16 chips for a description: the k-th chip of a kind goes to the k-th socket of that kind, and all other sockets
@@ -147,7 +163,7 @@ pub fn fit_all(alloc: Global, chips: &ChipList, rack: &mut Rack) -> Result<(), M
     ensures chips { length rack.new.items ≡ length rack.old.items }
 {
     let chips = chips.as_slice();
-    let mut sockets = Sockets { psus: 0, smis: 0 };
+    let mut sockets = Sockets::new();
     for chip in rack.iter_mut() {
         fit_next(alloc, chips, &mut sockets, chip)?;
     }

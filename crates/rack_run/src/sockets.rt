@@ -1,12 +1,12 @@
 // The sockets that a description needs of a rack, and those that its chips take.
 ghost use Rattle.std.specs.Prelude.{◌≡◌, ◌≤◌, ◌<◌, ◌==◌, false, length, map, IfSome};
 ghost use Rattle.std.specs.List.{list_any};
-ghost use Rattle.rack_run.specs.Seating.{is_kind, kinds_of};
+ghost use Rattle.f8_spec.specs.ChipState.{same_kind};
+ghost use Rattle.rack_run.specs.Seating.{kinds_of};
 ghost use Rattle.rack_run.specs.Sockets.{needed_of, sockets_of, shortage_of, shortage_in};
 ghost use Rattle.rack_run.specs.Sockets.{free_socket, chain_of};
 
-use super::seat::is_for;
-use chip_face::{Chip, ChipKind, ChipList, ChipSpec, MOST_CHIPS};
+use chip_face::{Chip, ChipKind, ChipList, ChipSpec, MOST_CHIPS, same_kind};
 use data_bus::Rack;
 use f8_machine::Chain;
 
@@ -30,7 +30,7 @@ fn sockets_needed(chips: &[ChipSpec], kind: ChipKind) -> u8
 {
     let mut count = 0;
     for chip in chips {
-        if is_for(chip, kind) {
+        if same_kind(kind, chip.kind()) {
             count += 1;
         }
     }
@@ -39,12 +39,9 @@ fn sockets_needed(chips: &[ChipSpec], kind: ChipKind) -> u8
 
 /// The chip is of this kind.
 fn is_of(chip: &Box<dyn Chip>, kind: ChipKind) -> bool
-    ensures { result ≡ is_kind kind (state chip.now).view.kind }
+    ensures { result ≡ same_kind kind (state chip.now).view.kind }
 {
-    match kind {
-        ChipKind::Psu => matches!(chip.kind(), ChipKind::Psu),
-        ChipKind::Smi => matches!(chip.kind(), ChipKind::Smi),
-    }
+    same_kind(kind, chip.kind())
 }
 
 /// The sockets of a kind in a rack.
@@ -72,17 +69,20 @@ fn shortage_in_kind(chips: &[ChipSpec], rack: &Rack, kind: ChipKind) -> Option<S
     (have < need).then(|| Shortage { kind, need, have })
 }
 
-/// The first kind, the 3851 before the 3853, of which a description has more chips than a rack of at most 16 chips has sockets. That each
+/// The first kind, of the 3851, the 3853 and the 3861 in this order, of which a description has more chips than a rack of at most 16 chips has sockets. That each
 /// chip needs a socket of its kind is this project's own.
 pub fn first_shortage(chips: &ChipList, rack: &Rack) -> Option<Shortage>
     requires few { length rack.now.items ≤ MOST_CHIPS }
     ensures { result ≡ shortage_of chips.now (kinds_of (map state rack.now.items)) }
 {
     let chips = chips.as_slice();
-    match shortage_in_kind(chips, rack, ChipKind::Psu) {
-        Some(shortage) => Some(shortage),
-        None => shortage_in_kind(chips, rack, ChipKind::Smi),
+    if let Some(shortage) = shortage_in_kind(chips, rack, ChipKind::Psu) {
+        return Some(shortage);
     }
+    if let Some(shortage) = shortage_in_kind(chips, rack, ChipKind::Smi) {
+        return Some(shortage);
+    }
+    shortage_in_kind(chips, rack, ChipKind::Pio)
 }
 
 /// The first socket of a kind that isn't in the chain.

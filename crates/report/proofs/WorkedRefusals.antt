@@ -2,7 +2,7 @@
 use Rattle.std.proofs.Common.{◌≡◌, Some, None, refl}
 use Rattle.std.specs.Prelude.{codes}
 use Rattle.std.specs.Fmt.{digits}
-use Rattle.f8_spec.specs.declared.chips.ChipKind.TheVariants.{Psu, Smi}
+use Rattle.f8_spec.specs.declared.chips.ChipKind.TheVariants.{Psu, Smi, Pio}
 use Rattle.report.specs.RefusalLines.{asm_line, cart_line, long_line, reader_line, sockets_line, store_line}
 use Rattle.report.specs.declared.refusal_lines.Reader.TheVariants.{Script}
 
@@ -33,6 +33,10 @@ empty_rack = refl
 three_smis : sockets_line Smi 3 2 ≡ codes "error sockets 3853 need 3 have 2\n"
 unfolding sockets_line digits
 three_smis = refl
+
+one_pio : sockets_line Pio 1 0 ≡ codes "error sockets 3861 need 1 have 0\n"
+unfolding sockets_line digits
+one_pio = refl
 
 no_script : store_line (codes "script") None ≡ codes "error store script\n"
 unfolding store_line

@@ -1,7 +1,7 @@
 -- The lines of refusals, as bytes. Every line ends with a line feed, and numbers are decimal.
 use Rattle.std.specs.Prelude.{ℕ, List, [], ◌++◌, codes, decimal, Option, Some, None}
 use Rattle.f8_spec.specs.declared.chips.ChipKind.{ChipKind}
-use Rattle.f8_spec.specs.declared.chips.ChipKind.TheVariants.{Psu, Smi}
+use Rattle.f8_spec.specs.declared.chips.ChipKind.TheVariants.{Psu, Smi, Pio}
 use Rattle.report.specs.declared.refusal_lines.Reader.{Reader}
 use Rattle.report.specs.declared.refusal_lines.Reader.TheVariants.{Script, Cert, Debug}
 
@@ -66,6 +66,7 @@ rack_line count = codes "error rack " ++ decimal count ++ codes "\n"
 abbrev pub kind_text : ChipKind → List ℕ
 kind_text Psu = codes "3851"
 kind_text Smi = codes "3853"
+kind_text Pio = codes "3861"
 
 -- the rack has too few sockets of a kind: so many are needed, and it has so many
 unfoldable pub sockets_line : ChipKind → ℕ → ℕ → List ℕ

@@ -203,6 +203,7 @@ pub fn kind_text(kind: ChipKind) -> &'static [u8]
     match kind {
         ChipKind::Psu => b"3851",
         ChipKind::Smi => b"3853",
+        ChipKind::Pio => b"3861",
     }
 }
 

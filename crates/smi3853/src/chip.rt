@@ -234,7 +234,9 @@ impl Chip for Smi {
                     Err(_) => Err(FitFault::Memory),
                 }
             }
-            ChipSpec::Blank(ChipKind::Psu) | ChipSpec::Psu { .. } => Err(FitFault::WrongKind),
+            ChipSpec::Blank(ChipKind::Psu | ChipKind::Pio)
+            | ChipSpec::Psu { .. }
+            | ChipSpec::Pio { .. } => Err(FitFault::WrongKind),
         }
     }
 

@@ -1,5 +1,5 @@
 -- A turn puts the line of the first entries of the rest; where that fails, a first part of all lines was put.
-use Rattle.std.proofs.Common.{◌∙◌, arith}
+use Rattle.std.proofs.Common.{arith}
 use Rattle.std.proofs.lemmas.Result.{err_from_is_err_and}
 use Rattle.std.proofs.lemmas.List.{nil_from_length}
 use Rattle.outside.proofs.SinkLaws.{put_so_far_more, put_so_far_all, put_so_far_part}

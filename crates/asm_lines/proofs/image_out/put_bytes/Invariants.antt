@@ -1,5 +1,5 @@
 -- The lines of the entries before the rest are written, and no fault was met.
-use Rattle.std.proofs.Common.{◌≡◌, length}
+use Rattle.std.proofs.Common.{length}
 use Rattle.console_spec.specs.RunText.{text_of}
 use Rattle.outside.proofs.SinkLaws.{PutSoFar}
 use Rattle.asm_lines.specs.ImageLines.{byte_lines}

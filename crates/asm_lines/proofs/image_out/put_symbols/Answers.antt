@@ -1,5 +1,5 @@
 -- A turn puts the line of the next name; where that fails, a first part of all lines was put.
-use Rattle.std.proofs.Common.{◌≤◌, ◌<◌, ◌∙◌, sym, arith, rules, length, w64}
+use Rattle.std.proofs.Common.{◌≤◌, ◌<◌, sym, arith, rules, length, w64}
 use mir.Val.{SFits}
 use Rattle.std.proofs.lemmas.Result.{err_from_is_err_and}
 use Rattle.std.proofs.lemmas.Int.{to_z-of_z}

@@ -1,5 +1,5 @@
 -- The lines of the names so far are written, and no fault was met.
-use Rattle.std.proofs.Common.{◌≡◌, map, drop}
+use Rattle.std.proofs.Common.{map, drop}
 use Rattle.console_spec.specs.RunText.{text_of}
 use Rattle.outside.proofs.SinkLaws.{PutSoFar}
 use Rattle.asm_lines.specs.ImageLines.{symbol_line, symbol_lines}

@@ -1,5 +1,5 @@
 -- A turn puts the next line; where that fails, a first part of the text was put.
-use Rattle.std.proofs.Common.{◌≡◌, ◌++◌, ◌∙◌}
+use Rattle.std.proofs.Common.{◌≡◌, ◌++◌}
 use Rattle.std.proofs.lemmas.Result.{err_from_is_err_and}
 use Rattle.std.proofs.lemmas.List.{take-append-drop}
 use Rattle.outside.proofs.SinkLaws.{put_so_far_more, put_so_far_part}

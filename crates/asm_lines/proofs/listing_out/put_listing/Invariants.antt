@@ -1,5 +1,5 @@
 -- The text before the rest is written, and no fault was met.
-use Rattle.std.proofs.Common.{◌≡◌, length}
+use Rattle.std.proofs.Common.{length}
 use Rattle.outside.proofs.SinkLaws.{PutSoFar}
 use Rattle.asm_lines.proofs.listing_out.put_listing.Given as goal
 

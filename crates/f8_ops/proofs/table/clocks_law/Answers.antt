@@ -1,5 +1,5 @@
 -- No instruction takes more clocks than the constants say.
-use Rattle.std.proofs.Common.{◌≤◌, arith}
+use Rattle.std.proofs.Common.{arith}
 use Rattle.f8_ops.proofs.ClockBounds.{most_clocks, most_before_fetch}
 use Rattle.f8_ops.proofs.table.clocks_law.Goals as goal
 

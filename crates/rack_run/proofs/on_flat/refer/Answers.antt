@@ -1,5 +1,5 @@
 -- The run on the instruction set is that of the definitions, with no chip.
-use Rattle.std.proofs.Common.{refl}
+use Rattle.std.proofs.Common.{[], refl}
 use Rattle.console_spec.specs.Run.{power_position, chain_in_order}
 use Rattle.memory_map.specs.MapOf.{views_of}
 use Rattle.pad_script.specs.Reading.{seen}
@@ -11,7 +11,7 @@ pub returns-in-Ok-run-clause-refers : goal.returns-in-Ok-run-clause-refers
 returns-in-Ok-run-clause-refers g c =
     let script = seen c.args.script.now in
     let vs = views_of c.args.chips.now in
-    let first = power_position vs (chain_in_order vs) script.power in
+    let first = power_position vs (chain_in_order vs) [] script.power in
     let begins : BeginsAt c.in-Ok.isa first = record { unwritten = refl; stands = c.in-Ok.ensures.stands } in
     let begun = (rw c.as_slice.ensures.events at (c.happen_at.ensures.begins first begins)).stands in
     let keeps = keeps_at_start c.happen_at.new.player vs script c.phi.result begun c.phi.ensures in
@@ -26,7 +26,7 @@ pub returns-clause-failed : goal.returns-clause-failed
 returns-clause-failed g c =
     let script = seen c.args.script.now in
     let vs = views_of c.args.chips.now in
-    let first = power_position vs (chain_in_order vs) script.power in
+    let first = power_position vs (chain_in_order vs) [] script.power in
     let begins : BeginsAt c.in-Ok.isa first = record { unwritten = refl; stands = c.in-Ok.ensures.stands } in
     let begun = (rw c.as_slice.ensures.events at (c.happen_at.ensures.begins first begins)).stands in
     let keeps = keeps_at_start c.happen_at.new.player vs script c.phi.result begun c.phi.ensures in

@@ -1,28 +1,28 @@
 -- Each chip is fitted by its socket, and the chips behind it are as they were.
-use Rattle.std.proofs.Common.{◌≡◌, ◌∙◌, ◌+◌, ◌<◌, ◌≤◌, length, map, refl, ap, vec_len, arith, add-one}
+use Rattle.std.proofs.Common.{◌≡◌, ◌∙◌, ◌<◌, ◌≤◌, length, map, refl, ap, vec_len, arith, add-one}
 use Rattle.std.proofs.Math.ListN.{length-set, set}
 use Rattle.std.proofs.Math.Seq.{map-set_same}
 use Rattle.data_bus.proofs.Racks.{changed-none, changed-more, changed-written, unchanged_at, whole_again}
+use Rattle.rack_run.specs.Seating.{so_far, no_sockets}
+use Rattle.rack_run.proofs.CountedKinds.{count_most, seated_alike}
 use Rattle.rack_run.proofs.Seats.{counted_here, counted_more, kinds_from, all_whole, all_leave, fits_seated}
 use Rattle.rack_run.proofs.Seats.{views_fitted, partly_written}
 use Rattle.std.proofs.lemmas.Result.{err_from_is_err_and}
 use Rattle.rack_run.proofs.seat.fit_all.Goals as goal
 
 pub loop-chip-init : goal.loop-chip-init
-loop-chip-init g c =
-    record { few = refl; counted = record { left = refl }; changed = changed-none _ _; asked = refl }
+loop-chip-init g c = record {
+  few = λ kind. omega (arith, c.new-sockets.ensures kind);
+  counted = record { left = seated_alike c.as_slice-chips.result.now no_sockets (so_far c.new-sockets.result) _ c.new-sockets.ensures };
+  changed = changed-none _ _;
+  asked = refl;
+}
 
-pub fit_next-requires-clause-psus : goal.fit_next-requires-clause-psus
-fit_next-requires-clause-psus g c =
+pub fit_next-requires-clause-few : goal.fit_next-requires-clause-few
+fit_next-requires-clause-few g c kind =
     let within : c.loop-chip.chip-index < length c.args.rack.now.items =
     rw c.deref_mut-chip-items.ensures.value at c.loop-chip-test.true in
-    omega (arith, within, c.requires.few, c.loop-chip.invariant.few)
-
-pub fit_next-requires-clause-smis : goal.fit_next-requires-clause-smis
-fit_next-requires-clause-smis g c =
-    let within : c.loop-chip.chip-index < length c.args.rack.now.items =
-    rw c.deref_mut-chip-items.ensures.value at c.loop-chip-test.true in
-    omega (arith, within, c.requires.few, c.loop-chip.invariant.few)
+    omega (arith, within, c.requires.few, c.loop-chip.invariant.few kind)
 
 pub loop-chip-preserved : goal.loop-chip-preserved
 loop-chip-preserved g c =
@@ -32,14 +32,16 @@ loop-chip-preserved g c =
     c.loop-chip-test.true c.loop-chip.auto.chip-items c.loop-chip.invariant.changed in
     let kinds = kinds_from _ c.loop-chip.chip-index _ here in
     let seat =
-    counted_here c.as_slice-chips.result.now _ _ c.loop-chip.chip-index c.loop-chip.sockets.psus
-    c.loop-chip.sockets.smis _ _ kinds
+    counted_here c.as_slice-chips.result.now _ _ c.loop-chip.chip-index (so_far c.loop-chip.sockets) _ _ kinds
     c.loop-chip.invariant.counted in
     record {
-      few = c.fit_next.ensures.more ∙ ap (λ n. n + 1) c.loop-chip.invariant.few;
-      counted = rw (c.fit_next.ensures.psus, c.fit_next.ensures.smis, add-one)
-          (counted_more c.as_slice-chips.result.now _ _ c.loop-chip.chip-index c.loop-chip.sockets.psus c.loop-chip.sockets.smis _ _ kinds
-          c.loop-chip.invariant.counted);
+      few = λ kind.
+          let most =
+          count_most _ kind (so_far c.loop-chip.sockets) (so_far c.fit_next.new.sockets) (c.fit_next.ensures.counted kind) in
+          omega (arith, most, c.loop-chip.invariant.few kind);
+      counted = rw add-one
+          (counted_more c.as_slice-chips.result.now _ _ c.loop-chip.chip-index (so_far c.loop-chip.sockets)
+          (so_far c.fit_next.new.sockets) _ _ kinds c.loop-chip.invariant.counted c.fit_next.ensures.counted);
       changed =
           changed-more (λ b. (goal.Chip-dyn g (b.vtable, b.value)).state b.value) _ c.deref_mut-chip-items.result.now
           c.loop-chip.chip-items c.loop-chip.chip-index c.chip-item.result

@@ -1,4 +1,4 @@
--- The socket is free, or it is of the other kind or in the chain.
+-- The socket is free, or it is of another kind or in the chain.
 use Rattle.std.proofs.Common.{◌<◌, ◌∙◌, length, sym}
 use Rattle.rack_run.proofs.Counts.{free_here, free_other, free_held}
 use Rattle.rack_run.proofs.sockets.free_socket.Goals.{else-is_of-via-then-is_of+else-not-contains}

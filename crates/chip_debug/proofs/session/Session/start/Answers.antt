@@ -9,11 +9,11 @@ use Rattle.chip_debug.proofs.session.Session.start.Goals as goal
 pub returns-clause-at : goal.returns-clause-at
 returns-clause-at g c = λ whole ports.
     let olds = map (λ b. (goal.Chip-dyn g (b.vtable, b.value)).state b.value) c.args.rack.now.items in
-    let begins = c.power-machine.ensures.pair whole ports in
+    let begins = c.power_usual-machine.ensures.pair whole ports in
     let ready : IsReady olds = record { whole = whole; free = ports } in
     let small : c.args.fill < 256 = search rules in
-    let shows = powered_shows c.args.fill c.args.chain c.power-machine.result.index c.args.breaks c.power-machine.result
-    olds _ small c.power-machine.ensures.machine c.power-machine.ensures.powered ready in
+    let shows = powered_shows c.args.fill c.args.chain c.power_usual-machine.result.index c.args.breaks c.power_usual-machine.result
+    olds _ small c.power_usual-machine.ensures.machine c.power_usual-machine.ensures.powered ready in
     rw c.halt_of-halt.ensures
-    (reset_at (powered_scene c.args.fill c.args.chain c.args.breaks (views olds)) c.power-machine.result c.reset.new.self _ _
+    (reset_at (powered_scene c.args.fill c.args.chain c.args.breaks (views olds)) c.power_usual-machine.result c.reset.new.self _ _
     c.args.breaks shows refl refl refl begins c.reset.result c.reset.ensures.follows (c.reset.ensures.refines _ begins))

@@ -19,9 +19,12 @@ returns c =
       takers = c.all_takers.result;
       psu = c.of.result;
       smi = c.of-2.result;
-      covered = c.all_held.result;
+      pio = c.of-3.result;
+      covered = c.all_held_once.result;
       overlaps = c.any_shared.result;
       wired = c.some_wired.result;
+      vectors = c.in_ok-vectors.vectors.items;
+      written = c.some_written.result;
     })
     c.requires.specified (rw end at c.loop-number.invariant)
     (record {
@@ -29,7 +32,10 @@ returns c =
       takers = c.all_takers.ensures;
       psu = c.of.ensures;
       smi = c.of-2.ensures;
-      covered = c.all_held.ensures;
+      pio = c.of-3.ensures;
+      covered = c.all_held_once.ensures;
       overlaps = c.any_shared.ensures;
       wired = c.some_wired.ensures;
+      vectors = c.in_ok-vectors.ensures.each;
+      written = c.some_written.ensures;
     })

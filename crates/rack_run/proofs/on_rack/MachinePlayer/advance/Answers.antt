@@ -39,21 +39,21 @@ returns-in-Reserved-clause-cut g c = λ x r.
 
 pub returns-in_default-clause-asked_cut : goal.returns-in_default-clause-asked_cut
 returns-in_default-clause-asked_cut g c = λ x r.
-    turn_within (is_traced c.args.detail) x c.instr-outcome.result c.args.self.now c.instr-outcome.new.self _ _ _ _ _ r
+    turn_within (is_traced c.args.detail) x c.instr-outcome.result c.args.self.now c.instr-outcome.new.self _ _ _ _
     (c.instr-outcome.ensures.advances.refines x r) c.instr-outcome.ensures.asked
 
 pub returns-in-Done-clause-asked : goal.returns-in-Done-clause-asked
 returns-in-Done-clause-asked g c = λ x r.
-    turn_on (is_traced c.args.detail) x c.instr-outcome.result c.args.self.now c.instr-outcome.new.self _ _ _ _ _ r
-    (c.instr-outcome.ensures.advances.refines x r) c.instr-outcome.ensures.asked _ _ c.in-Done.is
+    turn_on (is_traced c.args.detail) x c.instr-outcome.result c.args.self.now c.instr-outcome.new.self _ _ _ _
+    (c.instr-outcome.ensures.advances.refines x r) c.instr-outcome.ensures.asked _ _ _ c.in-Done.is
     c.instr-outcome.ensures.follows
 
 pub returns-in-Fault-clause-asked_cut : goal.returns-in-Fault-clause-asked_cut
 returns-in-Fault-clause-asked_cut g c = λ x r.
-    turn_within (is_traced c.args.detail) x c.instr-outcome.result c.args.self.now c.instr-outcome.new.self _ _ _ _ _ r
+    turn_within (is_traced c.args.detail) x c.instr-outcome.result c.args.self.now c.instr-outcome.new.self _ _ _ _
     (c.instr-outcome.ensures.advances.refines x r) c.instr-outcome.ensures.asked
 
 pub returns-in-Reserved-clause-asked_cut : goal.returns-in-Reserved-clause-asked_cut
 returns-in-Reserved-clause-asked_cut g c = λ x r.
-    turn_within (is_traced c.args.detail) x c.instr-outcome.result c.args.self.now c.instr-outcome.new.self _ _ _ _ _ r
+    turn_within (is_traced c.args.detail) x c.instr-outcome.result c.args.self.now c.instr-outcome.new.self _ _ _ _
     (c.instr-outcome.ensures.advances.refines x r) c.instr-outcome.ensures.asked

@@ -1,5 +1,5 @@
 -- The palette that is read is that of the pixels that the rows show, and past the last row nothing is drawn.
-use Rattle.std.proofs.Common.{◌≡◌, ◌<◌, [], length, sym, ap, ◌∙◌, arith}
+use Rattle.std.proofs.Common.{◌≡◌, ◌<◌, [], sym, ap, ◌∙◌, arith}
 use Rattle.video.specs.ScreenState.{row_in, palette_in, in_each_row}
 use Rattle.video.proofs.ShownLaws.{shown_palette, palette_of-past}
 use Rattle.video.proofs.video_memory.Screen.palette.Goals as goal
