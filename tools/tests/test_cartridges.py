@@ -1,6 +1,7 @@
 """The cartridges as they lie in cartridges/, on the built program: real files, sources that are fetched, a 3853 in its socket."""
 from __future__ import annotations
 
+import functools
 import subprocess
 import unittest
 
@@ -60,6 +61,12 @@ RUNS = [
         'frame 40 phi 1193204 tone 0',
         'frame 43 phi 1282700 tone 2',
         'stop done']),
+    (['play'], 'signboard', 0, [
+        'verdict whole',
+        'frame 2 phi 59662 tone 0',
+        'frame 3 phi 89492 tone 0',
+        'frame 5 phi 149152 tone 0',
+        'stop done']),
     (['play'], 'heartbeat', 0, HEARTBEAT),
     (['ref'], 'heartbeat', 0, HEARTBEAT),
 ]
@@ -73,11 +80,17 @@ PARTED_WITHOUT_CHIPS = ['stop done', 'regs P=0010 P1=0000 D0=0016 D1=2804 A=11 I
 # row has the word of the verdict alone.
 VERDICTS = {
     'product': (0, 'whole 30'), 'copied': (0, 'whole 30'), 'summed': (0, 'agreed 11'), 'two_roms': (0, 'agreed 27'), 'lighthouse': (0, 'agreed'),
+    'signboard': (0, 'whole'),
     'parted': (7, 'refused 0009 ---- . 7'), 'heartbeat': (7, 'refused 0019 ---- . 10')}
 
 
 def run(command: list[str], name: str) -> tuple[int, list[str]]:
-    words = [*command, f'cartridges/{name}/cart.toml', *([] if command == ['check'] else [f'cartridges/{name}/script.txt'])]
+    """The status of the program on a cartridge, and its lines. Long runs are made once for all tests."""
+    return ran(*command, f'cartridges/{name}/cart.toml', *([] if command == ['check'] else [f'cartridges/{name}/script.txt']))
+
+
+@functools.cache
+def ran(*words: str) -> tuple[int, list[str]]:
     done = subprocess.run([PROGRAM, *words], cwd=TOP, capture_output=True, text=True, timeout=60)
     return done.returncode, done.stdout.splitlines()
 
@@ -123,6 +136,15 @@ class Cartridges(unittest.TestCase):
             at = next(at for at, line in enumerate(lines) if line.startswith(f'frame {number} '))
             rows = [line[2:].translate(str.maketrans('0123', ' .o#')) for line in lines[at + 1:at + 65:2]]
             self.assertEqual([f'    {row}'.rstrip() for row in rows], [line.rstrip() for line in shown])
+
+    def test_letters_of_the_signboard(self):
+        _, lines = run(['play'], 'signboard')
+        text = (TOP / 'cartridges/signboard/README.md').read_text()
+        shown = text.partition("for the colour 2:\n\n")[2].partition('\n\nThe other')[0].splitlines()
+        at = next(at for at, line in enumerate(lines) if line.startswith('frame 5 '))
+        rows = [line[2:].translate(str.maketrans('02', ' #')) for line in lines[at + 1:at + 65]]
+        self.assertEqual([f'    {row}'.rstrip() for row in rows[20:43]], [line.rstrip() for line in shown])
+        self.assertEqual({mark for row in rows[:20] + rows[43:] for mark in row}, {' '})
 
 
 if __name__ == '__main__':

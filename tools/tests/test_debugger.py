@@ -40,6 +40,10 @@ class Debugger(unittest.TestCase):
         done = self.told('cartridges/parted/cart.toml', commands)
         self.assertEqual((done.stdout, done.returncode), (printed, 0))
 
+    def test_the_file_has_the_commands_of_the_page(self):
+        lines = (TOP / 'cartridges/parted/commands.txt').read_text('utf-8').splitlines()
+        self.assertEqual(''.join(f'{line}\n' for line in lines if line and not line.startswith('#')), walk()[0])
+
     def test_counters_of_each_chip(self):
         with tempfile.NamedTemporaryFile('w', suffix='.toml') as cart:
             cart.write(CART)

@@ -7,14 +7,7 @@ import unittest
 from pathlib import Path
 
 import tool
-from tool import call, needs_program
-
-try:
-    import tomllib
-except ImportError:
-    tomllib = None
-
-needs_toml = unittest.skipUnless(tomllib, 'Python before 3.11 has no reader of TOML')
+from tool import call, needs_program, needs_toml, tomllib
 
 
 class Describe(unittest.TestCase):
@@ -65,7 +58,39 @@ class Describe(unittest.TestCase):
         chips = tomllib.loads(self.described('--smi', '--ram', '28', '--at', '0100', 'a', a=b'\x2b' * 257).text)['chip']
         self.assertEqual(chips, [{'kind': '3853', 'rom_page': 1, 'rom_pages': 2, 'ram_page': 0x28, 'ram_pages': 1, 'rom': '2B' * 257}])
 
+    @needs_toml
+    def test_files_at_addresses_of_their_own_and_a_jump(self):
+        chips = tomllib.loads(self.described('a@0800', 'b', '--jump', '0802', a=b'\x2b', b=b'\x17').text)['chip']
+        self.assertEqual([(chip['base'], chip['ports'], chip['rom']) for chip in chips],
+                         [(0, 4, '290802'), (0x800, 8, '2B'), (0xC00, 12, '17')])
+        (self.folder / 'a@b@1').write_bytes(b'\x99')
+        chips = tomllib.loads(self.described('a', 'a@b@1@$0400', '--smi', a=b'\x2b').text)['chip']
+        self.assertEqual([(chip['rom_page'], chip['rom']) for chip in chips], [(0, '2B'), (4, '99')])
+
+    @needs_toml
+    def test_lines_of_asm_over_several_chips(self):
+        done = call('describe', '-', stdin='0002 2B90\n0400 17\nsym A -3\n', cwd=self.folder)
+        self.assertIn('# lines of asm: 3 bytes from 0002 on', done.text)
+        self.assertEqual([(chip['base'], chip['rom']) for chip in tomllib.loads(done.text)['chip']], [(0, 'FFFF2B90'), (0x400, '17')])
+        chips = tomllib.loads(call('describe', '--smi', '-', stdin='0102 2B\n0300 17\n').text)['chip']
+        self.assertEqual([(chip['rom_page'], chip['rom_pages'], chip['rom']) for chip in chips], [(1, 3, 'FFFF2B' + 'FF' * 509 + '17')])
+
+    @needs_toml
+    @needs_program
+    def test_an_assembly_text(self):
+        chips = tomllib.loads(self.described('game.f8', **{'game.f8': b' NOP\n ORG $0400\nX: JMP X\n'}).text)['chip']
+        self.assertEqual([(chip['base'], chip['rom']) for chip in chips], [(0, '2B'), (0x400, '290400')])
+        self.refused('bad.f8: error asm file line 1 column 2 cause 3; tools/explain', 'bad.f8', **{'bad.f8': b' NOPE\n'})
+
+    @needs_toml
+    def test_the_last_ports(self):
+        chips = tomllib.loads(self.described('--ports', '252', 'a', a=b'\x2b').text)['chip']
+        self.assertEqual([chip['ports'] for chip in chips], [252])
+
     def test_what_cannot_be_done(self):
+        self.refused('both have 0400 to 07FF', 'a@0400', 'b@0400', a=b'\x2b', b=b'\x2b')
+        self.refused('its own addresses', 'b@0400', b=b'0400 2B\n')
+        self.refused("a@4x: '4x' is not one to 4 hexadecimal digits", 'a@4x', a=b'\x2b')
         self.refused('no bytes', 'a', a=b'')
         self.refused('no multiple of 1,024', '--at', '0100', 'a', a=b'\x2b')
         self.refused('13 chips of the kind 3851', 'a', a=b'\x2b' * 12289)

@@ -6,6 +6,9 @@ import unittest
 from pathlib import Path
 
 import tool
+from companion.assembly import Image
+from companion.program import Answer, Program
+from companion.words import Refused
 from tool import call, needs_program
 
 LOOP = '0400 20038F0190FB1C\nsym LOOP 1024\nsym COUNT 3\n'
@@ -46,13 +49,32 @@ class Disassembly(unittest.TestCase):
                          ['        ORG $0000', '        DCI L0003', 'L0003:  DB $2B,$2B', '        POP', ''])
 
     @needs_program
+    def test_data_is_parted_at_a_label_and_at_a_gap(self):
+        done = call('disassembly', '--data', '3-8', '-', stdin='0000 2A00052B2B2B\n0007 2B2B29\n000A 0000\nsym TABLE 5\n')
+        self.assertEqual([line.split(';')[0].rstrip() for line in done.text.split('\n')],
+                         ['        ORG $0000', 'L0000:  DCI TABLE', '        DB $2B,$2B', 'TABLE:  DB $2B',
+                          '        ORG $0007', '        DB $2B,$2B', '        JMP L0000', ''])
+
+    @needs_program
+    def test_a_long_name_has_a_line_of_its_own(self):
+        done = call('disassembly', '-', stdin='0000 290004\r\n0004 1C\r\nsym SEVENTH 4\r\n')
+        self.assertEqual([line.split(';')[0].rstrip() for line in done.text.split('\n')],
+                         ['        ORG $0000', '        JMP SEVENTH', '        ORG $0004', 'SEVENTH:', '        POP', ''])
+        self.assertIn('SIXTH:  POP', call('disassembly', '-', stdin='0000 290004\n0004 1C\nsym SIXTH 4\n').text)
+
+    @needs_program
+    def test_the_last_address_has_a_byte(self):
+        done = call('disassembly', '--at', 'FFFF', '-', stdin='2B')
+        self.assertEqual((done.text.split(';')[0].split(), done.told), (['ORG', '$FFFF', 'NOP'], ''))
+
+    @needs_program
     def test_random_bytes_come_out_again(self):
         data = random.Random(1975).randbytes(3000)
         with tempfile.TemporaryDirectory() as folder:
             path = Path(folder) / 'text.f8'
-            path.write_text(call('disassembly', '--at', 'E000', '-', stdin=data).text)
-            program = self.tool.Program([str(tool.PROGRAM)])
-            self.assertEqual(program.image(path.read_text()), dict(enumerate(data, 0xE000)))
+            path.write_text(call('disassembly', '--at', '2000', '-', stdin=data).text)
+            image = Image.of(Program((str(tool.PROGRAM),)).done('asm', path))
+            self.assertEqual(image.bytes, dict(enumerate(data, 0x2000)))
 
     @needs_program
     def test_comments_go_where_the_text_would_be_too_long(self):
@@ -75,15 +97,24 @@ class Disassembly(unittest.TestCase):
         self.assertEqual(call('disassembly', '--data', '5-4', '-').returncode, 2)
 
     def test_text_that_gives_other_bytes_is_not_written(self):
-        class Wrong(self.tool.Program):
-            def run(self, command, text):
-                return 'ORG $0000\nNOP\n' if command == 'dis' else '0000 2C\n'
-        with self.assertRaisesRegex(self.tool.Failed, 'not assemble to the same bytes'):
-            self.tool.disassembled(self.tool.read(b'2B', None, False), [], Wrong([]))
+        class Wrong(Program):
+            def run(self, command, *words):
+                return Answer(b'ORG $0000\nNOP\n' if command == 'dis' else b'0000 2C\n', 0)
+        with self.assertRaisesRegex(Refused, 'not assemble to the same bytes'):
+            self.tool.disassembled(self.tool.read(b'2B', None, False), [], Wrong(()))
 
     def test_name_of_a_label_is_free(self):
         statements = [self.tool.Statement(0, 'BF 0,$0000', b'\x90\xff')]
-        self.assertEqual(self.tool.labelled(statements, {7: 'L0000'}), {0: 'L0000_'})
+        self.assertEqual(self.tool.labelled(statements, self.tool.Input(names={7: 'L0000'})), {0: 'L0000_1'})
+
+    @needs_program
+    def test_names_of_a_file(self):
+        with tempfile.TemporaryDirectory() as folder:
+            names = Path(folder) / 'game.names'
+            names.write_text('0.loop 0800\nlr 0801\nmain.wait = 0803\nmain_wait 0804\nRAM 2800\nend 0806\n')
+            done = call('disassembly', '--at', '0800', '--names', names, '-', stdin='2B90FE2A28002B')
+        self.assertEqual([line.split(';')[0].rstrip() for line in done.text.split('\n')], [
+            '        ORG $0800', '_0_loop:', '        NOP', 'lr_1:   BR _0_loop', 'main_wait:', '        DCI $2800', 'end:    NOP', ''])
 
 
 if __name__ == '__main__':

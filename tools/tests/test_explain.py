@@ -9,6 +9,8 @@ from pathlib import Path
 from textwrap import dedent
 
 import tool
+from companion.explaining.files import Files
+from companion.explaining.lines import explain
 from tool import call, needs_program
 
 CHIP = 'format = 1\n\n[[chip]]\nkind = "3851"\nbase = 0x0000\nports = 4\n'
@@ -16,8 +18,6 @@ HAS_TOML = sys.version_info >= (3, 11)
 
 
 class Explain(unittest.TestCase):
-    tool = tool.load('explain')
-
     def explained(self, line: str, **files: str) -> str:
         """What is said of a line, where the files cart, script or file have these texts."""
         here = os.getcwd()
@@ -26,7 +26,7 @@ class Explain(unittest.TestCase):
                 (Path(folder) / name).write_bytes(text.encode())
             os.chdir(folder)
             try:
-                told = self.tool.explain(line, self.tool.Files(names={name: name for name in files}))
+                told = explain(line, Files(names={name: name for name in files}))
             finally:
                 os.chdir(here)
         return ''.join(line + '\n' for line in told)
@@ -65,7 +65,7 @@ class Explain(unittest.TestCase):
         self.assert_asm('LOOP LI 5', 1, 3, 'colon after it: `LOOP:`')
         self.assert_asm('LOOP', 1, 3, 'colon after it: `LOOP:`')
         self.assert_asm(' LSI 4', 2, 3, 'Is `LI` or `LIS` meant?')
-        self.assert_asm(' LR A,(IS)+', 8, 11, 'is `S`')
+        self.assert_asm(' LR A,(IS)+', 8, 11, 'write `I` for `(IS)+`')
         self.assert_asm(' LR DC0,Q', 9, 11, 'is named `DC`')
         self.assert_asm(' LR A,R5', 7, 5, 'write `5` for `R5`')
         self.assert_asm(' LI 256', 5, 6, '-128 to 255')
@@ -84,7 +84,7 @@ class Explain(unittest.TestCase):
         self.assertIn('begins with 0x', told)
         self.assertIn('there twice', self.explained('error cart toml', cart=CHIP + 'ports = 4\n'))
         self.assertIn('`"a.f8"`', self.explained('error cart toml', cart=CHIP + 'source = a.f8\n'))
-        self.assertIn('not UTF-8', call('explain', '--cart', '/bin/sh', stdin='error cart toml\n').told)
+        self.assertIn('binary file: tools/describe', call('explain', '--cart', '/bin/sh', stdin='error cart toml\n').told)
         self.assertIn('too many digits', self.explained('error cart toml', cart=CHIP.replace('0x0000', '1' * 5000)))
         self.assertIn('nested too deep', self.explained('error cart toml', cart='split = ' + '[' * 2000))
 
@@ -118,10 +118,12 @@ class Explain(unittest.TestCase):
             self.assertIn(hint, told, text)
             self.assertIn(f'Cause {cause}, ', told)
         self.assertIn('Cause 6, NoEnd', self.explained('error script line 1 cause 6'))
+        told = self.explained('error script line 2 cause 1', script='show 1\nsteps = 5\n')
+        self.assertIn('script, line 2, column 7\n    steps = 5\n          ^\n', told)
 
     def test_files_of_digits(self):
         self.assertIn('file, line 2, column 3\n    2B,90', self.explained('error hex', file='2B\n2B,90\n'))
-        self.assertIn('lines of asm', self.explained('error hex', file='0000 2B90FE\nsym LOOP 1\n'))
+        self.assertIn('lines of `asm`', self.explained('error hex', file='0000 2B90FE\nsym LOOP 1\n'))
         self.assertIn('half a byte', self.explained('error hex', file='2B9'))
 
     @unittest.skipUnless(HAS_TOML, 'Python before 3.11 has no reader of TOML')
@@ -141,6 +143,7 @@ class Explain(unittest.TestCase):
         told = self.explained('refused 0009 ---- 03 7', cart='format = 1\nsplit = [5]\n' + CHIP.split('\n', 1)[-1] + 'rom = "2B"\n')
         self.assertRegex(told, r'(?s)Reason 7: a data access.*What helps: .*0009 lies in chip 0.*r5 is 03.*The return is not known')
         self.assertIn('`split`', call('explain', 'toomany').told)
+        self.assertIn('tools/why CART names these reads.', call('explain', 'agreed', 27).told)
 
     @unittest.skipUnless(HAS_TOML, 'Python before 3.11 has no reader of TOML')
     def test_a_description_of_another_run(self):
@@ -157,7 +160,7 @@ class Explain(unittest.TestCase):
         told = self.explained('error cert line 2 cause 4', cert='F8CERT 1 2\n0000\n')
         self.assertRegex(told, r'cert, line 2\n    0000\nCause 4, Order: .*\nEach point is there once')
         self.assertIn('Cause 5, End: ', self.explained('error cert line 9 cause 5', cert='F8CERT 1 2\n'))
-        self.assertIn('Reason 3: ', self.explained('unsafe 0000 ---- . 3'))
+        self.assertRegex(self.explained('unsafe 0000 ---- . 3'), '(?s)Reason 3: .*check --cert CART makes')
         self.assertRegex(self.explained('notclosed start to 0000 ---- .'), 'No state covers the start.*\nThe certificate belongs to another')
         self.assertRegex(self.explained('notclosed 0000 ---- . to 0001 ---- .'), 'No state covers what holds at the second point.*\nWhat holds')
 
@@ -183,6 +186,8 @@ class Explain(unittest.TestCase):
         self.assertEqual((done.text, done.returncode), ('error words\n', 1))
         self.assertIn('./channel_f play --trace CART SCRIPT', done.told)
         self.assertEqual(call('explain', 'no/such/program').returncode, 1)
+        done = call('explain', '--names', 'no/such/file', sys.executable, '-c', 'print("error words")')
+        self.assertEqual((done.text, done.told, done.returncode), ('', 'explain: no/such/file: No such file or directory\n', 1))
 
     def test_every_cause_of_the_pages_is_found(self):
         lines = [f'error asm {what} line 1 column 1 cause {n}' for what in ('file', 'source 0') for n in (1, 2, 3, 4, 5, 6, 7, 8, 9, 11)]
@@ -193,7 +198,7 @@ class Explain(unittest.TestCase):
         lines += [f'error cert line 1 cause {n}' for n in range(1, 7)]
         lines += [f'error debug line 1 cause {n}' for n in range(1, 5)]
         for line in lines:
-            self.assertRegex('\n'.join(self.tool.explain(line, self.tool.Files())), r'Cause \d+, \w+: .+ \(docs/\w+\.md\)', line)
+            self.assertRegex('\n'.join(explain(line, Files())), r'Cause \d+, \w+: .+ \(docs/\w+\.md\)', line)
         self.assertIn('not found', self.explained('error asm file line 1 column 1 cause 10'))
 
     @needs_program

@@ -1,5 +1,7 @@
 from __future__ import annotations
 
+import io
+import re
 import struct
 import subprocess
 import sys
@@ -7,6 +9,7 @@ import tempfile
 import unittest
 import zlib
 from pathlib import Path
+from unittest import mock
 
 import tool
 from tool import call, frame, needs_program
@@ -38,8 +41,59 @@ class Frames(unittest.TestCase):
         line = call('frames', '--narrow', '--depth', '24', stdin=frame()).text.split('\n')[1]
         self.assertEqual(sum(c in ' ▗▖▄▝▐▞▟▘▚▌▙▀▜▛█' for c in line), 64)
 
+    def test_a_narrow_cell_has_the_two_colours_that_most_of_its_pixels_have(self):
+        frames = tool.load('frames')
+        quarters = frames.Quarters([(n, n, n) for n in range(4)], deep=True)
+
+        def cell(*pixels: int) -> tuple[int, int, str]:
+            found = re.fullmatch(r'\x1b\[38;2;(\d);\1;\1;48;2;(\d);\2;\2m(.)', quarters.cell(pixels))
+            return int(found[1]), int(found[2]), found[3]
+
+        # The ink, the ground, and where the ink is.  Of colours that as many pixels have, the higher ones are kept.
+        self.assertEqual(cell(3, 3, 3, 0), (0, 3, '▗'))
+        self.assertEqual(cell(0, 3, 0, 3), (0, 3, '▌'))
+        self.assertEqual(cell(1, 1, 0, 3), (3, 1, '▗'))
+        self.assertEqual(cell(0, 1, 2, 3), (2, 3, '▛'))
+        # One that is as near to the ink as to the ground goes with the ground.
+        self.assertEqual(cell(2, 1, 3, 3), (2, 3, '▀'))
+        self.assertEqual(cell(1, 1, 2, 3), (3, 1, '▗'))
+
     def test_no_two_pairs_look_alike_in_plain(self):
         self.assertEqual(len(set(''.join(tool.load('frames').PLAIN))), 16)
+
+    def test_the_painter_goes_by_the_options_and_the_terminal(self):
+        frames = tool.load('frames')
+
+        def painted(*words: str, terminal: bool, **environment: str) -> str:
+            with mock.patch.dict('os.environ', {'COLUMNS': '200', **environment}, clear=True):
+                return frames.painter_of(frames.options_of(list(words)), terminal).text([[0, 3] * 64] * 64)[0].partition('▀')[0]
+
+        plain = painted('--plain', terminal=True)
+        self.assertEqual(plain, ' #' * 64)
+        self.assertEqual(painted(terminal=False), plain)
+        self.assertEqual(painted(terminal=True, NO_COLOR='1'), plain)
+        red = ('--colours', 'ff0000,ff0000,ff0000,ff0000')
+        self.assertEqual(painted(*red, '--depth', '256', terminal=False, NO_COLOR='1'), '\x1b[38;5;196;48;5;196m')
+        self.assertEqual(painted(*red, terminal=True), '\x1b[38;5;196;48;5;196m')
+        self.assertEqual(painted(*red, terminal=True, COLORTERM='truecolor'), '\x1b[38;2;255;0;0;48;2;255;0;0m')
+        self.assertEqual(painted(*red, '--depth', '256', terminal=True, COLORTERM='truecolor'), '\x1b[38;5;196;48;5;196m')
+
+    def test_a_picture_is_narrow_on_a_narrow_terminal(self):
+        frames = tool.load('frames')
+        for columns, kind in (('127', frames.Quarters), ('128', frames.Blocks)):
+            with mock.patch.dict('os.environ', {'COLUMNS': columns}):
+                self.assertIs(type(frames.painter_of(frames.options_of([]), True)), kind)
+                self.assertIs(type(frames.painter_of(frames.options_of(['--depth', '24']), False)), frames.Blocks)
+
+    def test_a_film_goes_over_the_picture_before_unless_a_line_came_between(self):
+        frames = tool.load('frames')
+        out = io.BytesIO()
+        show = frames.Show(frames.options_of(['--fps', '1000']), frames.Plain(), True, out)
+        up = b'\x1b[33A\r\x1b[K'  # the 32 lines of the picture and that of the frame
+        show.run([line.encode() for line in (frame(1) + frame(2) + 'out 1 02 03\n' + frame(3) + AFTER + frame(4)).splitlines(True)])
+        before, *pictures = out.getvalue().split(b'frame ')
+        self.assertEqual([picture.splitlines()[0] for picture in pictures], [b'%d phi 596600 tone 0' % number for number in (1, 2, 3, 4)])
+        self.assertEqual([part.endswith(up) for part in (before, *pictures[:3])], [False, True, True, False])
 
     def test_writes_are_kept_on_request(self):
         self.assertIn('out 32 00 20\n', call('frames', '--writes', stdin=BEFORE).text)
@@ -80,6 +134,16 @@ class Frames(unittest.TestCase):
         start = data.index(b'IDAT')
         body = zlib.decompress(data[start + 4:start + 4 + struct.unpack('>I', data[start - 4:start])[0]])
         self.assertEqual((len(body), body[:3], body[33:36]), (64 * 33, b'\x00\x1b\x00', b'\x00\xff\x00'))
+
+    def test_png_has_as_many_dots_a_pixel_as_the_scale(self):
+        frames = tool.load('frames')
+        rows = [[int(digit) for digit in row] for row in CORNER]
+        data = frames.png(rows, frames.colours_of('grey'), 2)
+        self.assertEqual(struct.unpack('>II', data[16:24]), (256, 128))
+        start = data.index(b'IDAT')
+        body = zlib.decompress(data[start + 4:start + 4 + struct.unpack('>I', data[start - 4:start])[0]])
+        self.assertEqual([body[at:at + 3] for at in range(0, 4 * 65, 65)], [b'\x00\x05\xaf'] * 2 + [b'\x00\xff\xff'] * 2)
+        self.assertEqual(len(body), 128 * 65)
 
     def test_status_is_that_of_the_command(self):
         done = call('frames', sys.executable, '-c', 'print("error words"); raise SystemExit(3)')

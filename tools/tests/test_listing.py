@@ -7,6 +7,9 @@ import unittest
 from pathlib import Path
 
 import tool
+from companion.assembly import Assembler, Image, Line, Text
+from companion.program import Program
+from companion.words import Refused
 from tool import call, needs_program
 
 
@@ -33,6 +36,21 @@ class Listing(unittest.TestCase):
         self.assertEqual(done.text.split('\n\n')[1].split('\n'), [
             'COUNT    03       3  line    2  used 5', 'LOOP    400    1024  line    5  used 6', 'ALONE   404    1028  line    7  used -', ''])
         self.assertEqual((done.returncode, done.told), (0, ''))
+
+    @needs_program
+    def test_values_below_zero_keep_their_sign(self):
+        done = self.listed('LESS: EQU -5\nLEAST: EQU 0-$1234\n LI LESS\n')
+        self.assertEqual(done.text.split('\n')[:3], [
+            '    1        = -05              LESS: EQU -5', '    2        = -1234            LEAST: EQU 0-$1234',
+            '    3  0000  20 FB               LI LESS'])
+        self.assertEqual(done.text.split('\n\n')[1].split('\n'),
+                         ['LEAST  -1234   -4660  line    2  used -', 'LESS    -05      -5  line    1  used 3', ''])
+
+    @needs_program
+    def test_names_of_one_value_come_by_lines_with_the_lines_that_use_them(self):
+        done = self.listed('Z: NOP\nB: EQU Z\nM: BR M\n DB B,B,Z\n')
+        self.assertEqual(done.text.split('\n\n')[1].split('\n'),
+                         ['Z    00       0  line    1  used 2 4', 'B    00       0  line    2  used 4', 'M    01       1  line    3  used -', ''])
 
     @needs_program
     def test_org_may_lead_back_and_have_a_label(self):
@@ -73,16 +91,13 @@ class Listing(unittest.TestCase):
 
     @needs_program
     def test_bytes_are_those_of_asm_in_every_cartridge(self):
-        listing = tool.load('listing')
+        program = Program((str(tool.PROGRAM),))
         for path in sorted((tool.TOP / 'cartridges').glob('*/*.f8')):
-            assembler = listing.Assembler([str(tool.PROGRAM)])
-            image = assembler.file(str(path))
-            lines = listing.placed(path.read_bytes(), image, assembler)
-            placed = {line.address + n: byte for line in lines for n, byte in enumerate(line.bytes)}
-            self.assertEqual(placed, image.bytes, path)
+            placed = {line.address + n: byte for line in Text.read(path, program).lines for n, byte in enumerate(line.bytes)}
+            self.assertEqual(placed, Image.of(program.done('asm', path)).bytes, path)
 
     def test_names_of_a_line(self):
-        line = tool.load('listing').Line(1, b"X: DB 'A',';',$FF,Y ; Z")
+        line = Line(1, b"X: DB 'A',';',$FF,Y ; Z")
         self.assertEqual(list(line.names()), [b'X', b'DB', b'Y'])
 
     def test_program_that_fails(self):
@@ -95,21 +110,19 @@ class Listing(unittest.TestCase):
         self.assertRegex(done.told, r'^listing: .* no closing quotation\n$')
 
     def test_the_program_is_called_a_few_times_at_most(self):
-        listing = tool.load('listing')
-
-        class Stub(listing.Assembler):
+        class Stub(Assembler):
             runs = 0
 
-            def text(self, text):
+            def image(self, text):
                 self.runs += 1
-                return listing.Image(names={name: 0 for name in re.findall(rb'^(_\d+):', text, re.M)})
+                return Image(names={name: 0 for name in re.findall(rb'^(_\d+):', text, re.M)})
 
-        stub, image = Stub([]), listing.Image()
+        stub = Stub(Program(()))
         nops = b' NOP\n' * 5000
-        listing.placed(nops + b';' + b'x' * 236_434 + b'\n', image, stub)
+        stub.placed(nops + b';' + b'x' * 236_434 + b'\n')
         self.assertEqual(stub.runs, 50)
-        with self.assertRaisesRegex(ValueError, '261,437 bytes is too long for a listing: with 5,001 lines it may have 261,436$'):
-            listing.placed(nops + b';' + b'x' * 236_435 + b'\n', image, stub)
+        with self.assertRaisesRegex(Refused, '261,437 bytes is too long for a listing: with 5,001 lines it may have 261,436$'):
+            stub.placed(nops + b';' + b'x' * 236_435 + b'\n')
         self.assertEqual(stub.runs, 50)
 
 

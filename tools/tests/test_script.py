@@ -62,6 +62,7 @@ esac
 PROGRAM = '''#!/bin/sh
 echo "$@"
 if [ "$1" = wait ]; then echo "$$" >pid; exec sleep 60; fi
+if [ "$1" = debug ]; then cat; fi
 exit "$(cat status)"
 '''
 
@@ -84,6 +85,7 @@ class Script(unittest.TestCase):
         shutil.copy(TOP / 'channel_f', self.top)
         (self.top / 'tools').mkdir()
         shutil.copy(TOP / 'tools/prove', self.top / 'tools')
+        shutil.copytree(TOP / 'tools/companion', self.top / 'tools/companion')
         self.put('crates.txt', CRATES)
         self.put('HANDLES', '')
         self.put('status', '0')
@@ -97,12 +99,12 @@ class Script(unittest.TestCase):
         (self.top / name).write_text(text)
         return self.top / name
 
-    def start(self, *words: str, with_rt: bool = True, path: str = '') -> subprocess.Popen:
+    def start(self, *words: str, with_rt: bool = True, path: str = '', shell: tuple[str, ...] = (), **streams: object) -> subprocess.Popen:
         path = path or (f'{self.top}/bin:{os.environ["PATH"]}' if with_rt else '/usr/bin:/bin')
         environment = {**os.environ, 'PATH': path, 'TMPDIR': str(self.top / 'temporary')}
-        return subprocess.Popen([self.top / 'channel_f', *words], cwd=self.top, env=environment, text=True, stdin=subprocess.DEVNULL,
-                                stdout=subprocess.PIPE, stderr=subprocess.PIPE, start_new_session=True,
-                                preexec_fn=heed_signals)
+        call = [*shell, self.top / 'channel_f', *words]
+        streams = {'stdin': subprocess.DEVNULL, 'stdout': subprocess.PIPE, 'stderr': subprocess.PIPE, **streams}
+        return subprocess.Popen(call, cwd=self.top, env=environment, text=True, start_new_session=True, preexec_fn=heed_signals, **streams)
 
     def call(self, *words: str, with_rt: bool = True, path: str = '') -> subprocess.CompletedProcess:
         process = self.start(*words, with_rt=with_rt, path=path)
@@ -135,8 +137,8 @@ class Script(unittest.TestCase):
         return [name for name in BELOW if (self.top / 'crates' / name / 'out/rlib/stamp').exists()]
 
     def test_help_needs_no_build(self):
-        for word in ('--help', '-h', 'help', '--version'):
-            done = self.call(word, with_rt=False)
+        for words in (['--help'], ['-h'], ['help'], ['--version'], ['play', '--help'], ['check', 'cart.toml', '-h'], ['--unproved', 'asm', '-h']):
+            done = self.call(*words, with_rt=False)
             self.assertEqual((done.returncode, done.stderr), (0, ''))
             self.assertIn('channel_f play CART SCRIPT', done.stdout)
         done = self.call(with_rt=False)
@@ -180,9 +182,40 @@ class Script(unittest.TestCase):
             self.call('gen', '1')
             self.assertEqual([it.partition(':')[0] for it in self.calls()[before:]], [*again, 'channel_f_main'])
 
+    def test_every_part_of_a_source_starts_a_build(self):
+        files = [f'crates/low/{name}' for name in ('src/lib.rt', 'specs/Low.antt', 'proofs/Low.antt')]
+        for name in files:
+            self.put(name, '')
+        self.call('gen', '1')
+        for name in ('crates.txt', 'HANDLES', *files, *(name.rpartition('/')[0] for name in files)):
+            self.assertEqual(self.call('gen', '1', with_rt=False).returncode, 0, name)
+            before = (self.top / name).stat().st_mtime
+            os.utime(self.top / name, (before + 60, before + 60))
+            self.assertIn('the command rt', self.call('gen', '1', with_rt=False).stderr, name)
+            os.utime(self.top / name, (before, before))
+
+    def test_a_word_behind_two_dashes_is_a_name(self):
+        self.call('gen', '1')
+        self.assertEqual(self.call('asm', '--', '-h').stdout, 'asm -- -h\n')
+
+    def test_standard_input_reaches_the_program(self):
+        self.call('gen', '1')
+        for shell in filter(shutil.which, ('sh', 'dash', 'bash')):
+            process = self.start('debug', 'cart', '/dev/stdin', shell=(shell,), stdin=subprocess.PIPE)
+            self.assertEqual(process.communicate('run 5\n', timeout=30), ('debug cart /dev/stdin\nrun 5\n', ''), shell)
+            closed = self.start('debug', 'cart', '/dev/stdin', shell=(shell, '-c', f'exec {shell} "$@" <&-', shell))
+            self.assertEqual(closed.communicate(timeout=30), ('debug cart /dev/stdin\n', ''), shell)
+
+    def test_a_closed_pipe_is_silent(self):
+        self.call('gen', '1')
+        self.put('status', '5')
+        self.assertEqual(self.call('gen', '1').stderr, '')
+        with open(os.devnull, 'w') as output, self.start('gen', '1', stdout=output) as process:
+            self.assertIn('status 5', process.communicate(timeout=30)[1])
+
     def test_status_is_the_programs_and_is_said_in_words(self):
         self.call('gen', '1')
-        for status, word in ((1, '--help'), (2, 'error'), (3, 'stop'), (4, 'error store'), (5, 'output'), (6, 'memory'),
+        for status, word in ((1, '--help'), (2, 'error'), (3, 'stop'), (4, 'error store'), (6, 'memory'),
                              (7, 'CHECKER'), (8, 'reserved'), (10, 'the words')):
             self.put('status', str(status))
             done = self.call('gen', '1')

@@ -1,10 +1,13 @@
 """tools/starve: which programs it takes, and that a call of the built program ends as it has to without any one of its allocations."""
 from __future__ import annotations
 
+import contextlib
+import io
 import re
 import tempfile
 import unittest
 from pathlib import Path
+from unittest import mock
 
 import tool
 
@@ -27,6 +30,50 @@ class Programs(unittest.TestCase):
         done = tool.call('starve', '--help')
         self.assertEqual(done.returncode, 0)
         self.assertIn('Refuses each allocation', done.text)
+
+
+class Played(starve.Starving):
+    """A call whose runs are given: the first with all memory, and then each without one allocation."""
+
+    def __init__(self, *runs: tuple[int, bytes]):
+        self.words, self.runs = ['asm', 'x.f8'], runs
+
+    def once(self, refused: int | None) -> tuple[int, int, bytes]:
+        status, written = self.runs[refused or 0]
+        return status, len(self.runs) - 1, written
+
+
+class Judging(unittest.TestCase):
+    def judged(self, *runs: tuple[int, bytes]) -> tuple[bool, str]:
+        told = io.StringIO()
+        with contextlib.redirect_stdout(told):
+            right = Played(*runs).all()
+        return right, told.getvalue()
+
+    def test_each_run_ends_with_6_and_writes_nothing(self):
+        self.assertEqual(self.judged((0, b'0000 2B\n'), (6, b''), (6, b'')), (True, (
+            'asm x.f8: status 0, 8 bytes, 2 allocations\n'
+            'asm x.f8: 2 allocations refused, 2 of them with status 6 and nothing written\n')))
+
+    def test_a_run_that_wrote_something_is_wrong(self):
+        right, told = self.judged((0, b'0000 2B\n'), (6, b''), (6, b'0'))
+        self.assertFalse(right)
+        self.assertIn('without allocation 2 status 6, 1 bytes written\n', told)
+        self.assertIn('2 allocations refused, 1 of them with status 6', told)
+
+    def test_a_run_that_ends_otherwise_is_wrong(self):
+        for ended in (0, 2, -11):
+            right, told = self.judged((0, b''), (ended, b''), (6, b''))
+            self.assertFalse(right)
+            self.assertIn(f'without allocation 1 status {ended}, 0 bytes written\n', told)
+
+    def test_a_program_that_asks_for_nothing_shows_nothing(self):
+        self.assertFalse(self.judged((0, b''))[0])
+
+    def test_one_call_of_its_own_that_fails_is_told(self):
+        for wrong, status in ((None, 0), ('play', 1), ('asm', 1), ('check', 1)):
+            with mock.patch.object(starve, 'Starving', lambda program, words, folder: mock.Mock(all=lambda: words[0] != wrong)):
+                self.assertEqual(starve.main(['--program', '/bin/sh']), status)
 
 
 @tool.needs_program
