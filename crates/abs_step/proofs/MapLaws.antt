@@ -4,14 +4,14 @@ use Rattle.std.specs.Prelude.{Option, Some, None, ◌==◌, nat_le, if◌then◌
 use Rattle.std.specs.List.{AllByRecursion, enumerate_from}
 use Rattle.std.proofs.lemmas.Bool.Decides.{nat_tests}
 use Rattle.f8_spec.specs.BusCodes.{count_at, counter_of}
-use Rattle.f8_spec.specs.ChipState.{has_counters, same_kind}
+use Rattle.f8_spec.specs.ChipState.{has_counters}
 use Rattle.f8_spec.specs.BusArbitration.{Seat, seat_holds, seat_has_ram, seat_has_data_port, seat_has_port, parties}
 use Rattle.f8_spec.specs.BusArbitration.{Served, place_in, port_read_ruling, port_write_ruling}
 use Rattle.f8_spec.specs.declared.bus.Counter.TheVariants.{NoCounter}
 use Rattle.f8_spec.specs.declared.bus.BusRule.TheVariants.{Read, Store, PortRead, PortWrite}
 use Rattle.f8_spec.specs.declared.bus.Party.{Party}
 use Rattle.f8_spec.specs.declared.chips.ChipKind.{ChipKind}
-use Rattle.f8_spec.specs.declared.chips.ChipKind.TheVariants.{Psu, Smi, Pio}
+use Rattle.f8_spec.proofs.SameKind.{itself, is_same}
 use Rattle.console_spec.specs.Writes.{readers, takers}
 use Rattle.console_spec.specs.CounterCopies.{Copy}
 use Rattle.console_spec.specs.BusAccesses.{Access, at_port}
@@ -24,24 +24,6 @@ use Rattle.abs_step.proofs.Knowing.{left_of, right_of, both_of}
 use Rattle.abs_step.proofs.Members.{SomeOf, some_of_any, some_map, all_of, any_in, from_all}
 use Rattle.abs_step.proofs.Accesses.{AtMostOne, WouldNot}
 use Rattle.abs_step.proofs.Holders.{HeldByOne, NotHeld, ram_is_held, holder_has_pages}
-
--- ---- kinds
-
-itself : (kind : ChipKind) → same_kind kind kind ≡ true
-itself Psu = refl
-itself Smi = refl
-itself Pio = refl
-
-same : (first second : ChipKind) → same_kind first second ≡ true → second ≡ first
-same Psu Psu e = refl
-same Smi Smi e = refl
-same Pio Pio e = refl
-same Psu Smi e = absurd (cc)
-same Psu Pio e = absurd (cc)
-same Smi Psu e = absurd (cc)
-same Smi Pio e = absurd (cc)
-same Pio Psu e = absurd (cc)
-same Pio Smi e = absurd (cc)
 
 -- what the map says of one chip
 pub record IsMapped (m : MapView) (s : Seat) : Type 0 where
@@ -66,7 +48,7 @@ HoldsAs kind at s = (s.kind ≡ kind) × (seat_holds s at ≡ true)
 
 pub some_of_kind : (kind : ChipKind) (ss : List Seat) (at : ℕ) → kind_holds kind ss at ≡ true → SomeOf (HoldsAs kind at) ss
 some_of_kind kind ss at held = some_map _ (HoldsAs kind at) ss
-    (all_of _ ss (λ s is h. (same kind s.kind (left_of _ _ h), right_of _ _ h)))
+    (all_of _ ss (λ s is h. (is_same kind s.kind (left_of _ _ h), right_of _ _ h)))
     (some_of_any (has_kind_and_page kind (at / 256)) ss held)
 
 -- ---- at most one chip would answer

@@ -13,7 +13,8 @@ use Rattle.abs_step.specs.RackSeats.{IsBlank, AreSeated, none_left as no_socket,
 use Rattle.rack_run.specs.Seating.{of_kind, seat_at, no_sockets, counted, seated_from, kinds_of, fitted_as, fitted_views}
 use Rattle.rack_run.specs.Sockets.{shortage_of}
 use Rattle.rack_run.proofs.Chains.{enough_of}
-use Rattle.rack_run.proofs.CountedKinds.{itself, is_same, count_own, count_other}
+use Rattle.f8_spec.proofs.SameKind.{itself, is_same}
+use Rattle.rack_run.proofs.CountedKinds.{count_own, count_other}
 
 -- ---- chips in sockets
 

@@ -1,5 +1,6 @@
 pub mod Tables
 pub mod ValuesBelow
+pub mod SameKind
 pub mod TimerCycle
 pub mod TimerPeriod
 pub mod TimerExpiry

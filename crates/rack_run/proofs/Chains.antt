@@ -17,7 +17,8 @@ use Rattle.rack_run.specs.ChainLaw.{ChainLaw, SitsIn}
 use Rattle.rack_run.specs.Seating.{of_kind, seat_at, no_sockets, counted, seated_from, seated, kinds_of}
 use Rattle.rack_run.specs.Sockets.{sockets_of, needed_of, shortage_of, short_by, shortage_in, or_else, free_socket, with_socket, chain_with}
 use Rattle.rack_run.specs.declared.sockets.Shortage.{Shortage}
-use Rattle.rack_run.proofs.CountedKinds.{itself, is_same, both_ways, count_own, count_other}
+use Rattle.f8_spec.proofs.SameKind.{itself, is_same, both_ways}
+use Rattle.rack_run.proofs.CountedKinds.{count_own, count_other}
 
 -- the socket of a kind with so many of its kind before it, in sockets of these kinds from one on
 abbrev socket_of : ChipKind → ℕ → (ChipKind → ℕ) → ℕ → List ChipKind → Option ℕ

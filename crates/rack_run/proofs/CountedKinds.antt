@@ -1,38 +1,11 @@
--- Kinds of chip that are the same, or not, and how many sockets of each are counted.
+-- How many sockets of each kind of chip are counted.
 use Rattle.std.proofs.Common.{◌≡◌, ℕ, ◌+◌, ◌≤◌, Bool, true, false, List, [], ◌∷◌, refl, ap, ◌∙◌, arith}
 use Rattle.std.specs.Prelude.{if◌then◌else◌}
 use Rattle.f8_spec.specs.ChipState.{same_kind}
 use Rattle.f8_spec.specs.declared.chips.ChipKind.{ChipKind}
-use Rattle.f8_spec.specs.declared.chips.ChipKind.TheVariants.{Psu, Smi, Pio}
+use Rattle.f8_spec.proofs.SameKind.{itself}
 use Rattle.chip_face.specs.declared.specification.ChipSpec.{ChipSpec}
 use Rattle.rack_run.specs.Seating.{counted, seat_at, seated_from}
-
-pub itself : (kind : ChipKind) → same_kind kind kind ≡ true
-itself Psu = refl
-itself Smi = refl
-itself Pio = refl
-
-pub is_same : (kind other : ChipKind) → same_kind kind other ≡ true → other ≡ kind
-is_same Psu Psu e = refl
-is_same Psu Smi e = cc
-is_same Psu Pio e = cc
-is_same Smi Psu e = cc
-is_same Smi Smi e = refl
-is_same Smi Pio e = cc
-is_same Pio Psu e = cc
-is_same Pio Smi e = cc
-is_same Pio Pio e = refl
-
-pub both_ways : (kind other : ChipKind) → same_kind kind other ≡ same_kind other kind
-both_ways Psu Psu = refl
-both_ways Psu Smi = refl
-both_ways Psu Pio = refl
-both_ways Smi Psu = refl
-both_ways Smi Smi = refl
-both_ways Smi Pio = refl
-both_ways Pio Psu = refl
-both_ways Pio Smi = refl
-both_ways Pio Pio = refl
 
 -- one more of the kind itself, and no more of another
 pub count_own : (kind : ChipKind) (before : ChipKind → ℕ) → counted kind before kind ≡ before kind + 1
