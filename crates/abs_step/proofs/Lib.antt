@@ -32,7 +32,6 @@ pub mod SafeBelow
 pub mod SuccessorOrder
 pub mod ChipPages
 pub mod MapViews
-pub mod FirstPowers
 pub mod ScriptStarts
 pub mod ScriptEnds
 pub mod WorkedMaps

@@ -21,7 +21,7 @@ use Rattle.console_spec.specs.declared.Sort.{Sort}
 use Rattle.console_spec.specs.declared.Sort.TheVariants.{Rom, Ram, Void, Nothing, Shared}
 use Rattle.console_spec.specs.FreeRuns.{AreBytes, AreAddresses, IsFreeStart, HasByte}
 use Rattle.abs_step.specs.ScriptRuns.{IsScriptFor}
-use Rattle.abs_step.proofs.FirstPowers.{fill_small, start_small}
+use Rattle.console_spec.proofs.PowerLaws.{fill_small, start_small}
 use Rattle.abs_step.proofs.Ranges.{set_bytes}
 
 -- ---- memory at power-on

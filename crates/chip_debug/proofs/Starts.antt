@@ -15,7 +15,7 @@ use Rattle.console_spec.specs.Run.{reset_access, reset_course, reset_fault, rese
 use Rattle.console_spec.specs.Services.{Fault, access_ruling}
 use Rattle.data_bus.specs.Racks.{views}
 use Rattle.data_bus.specs.declared.index.Index.{Index}
-use Rattle.f8_machine.proofs.Powers.{fill_small}
+use Rattle.console_spec.proofs.PowerLaws.{fill_small}
 use Rattle.f8_machine.specs.Advancing.{Follows}
 use Rattle.f8_machine.specs.HeardSteps.{HaveBytes}
 use Rattle.f8_machine.specs.MachineState.{MachineState, powered_machine, steps_in}

@@ -2,6 +2,7 @@ pub mod Played
 pub mod InputLaws
 pub mod Walks
 pub mod RequestLaws
+pub mod PowerLaws
 pub mod WorkedRacks
 pub mod WorkedRuns
 mod WorkedPictures

@@ -29,7 +29,7 @@ use Rattle.f8_machine.specs.declared.outcome.Outcome.{Outcome}
 use Rattle.f8_machine.specs.declared.outcome.StoppedBy.{StoppedBy}
 use Rattle.f8_machine.proofs.Counting.{counted_none}
 use Rattle.f8_machine.proofs.FirstViews.{seat_of-powered}
-use Rattle.f8_machine.proofs.Powers.{start_small}
+use Rattle.console_spec.proofs.PowerLaws.{start_small}
 
 -- ---- power-on
 

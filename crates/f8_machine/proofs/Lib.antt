@@ -1,6 +1,5 @@
 pub mod Chains
 pub mod Counting
-pub mod Powers
 pub mod FitMachines
 pub mod Places
 pub mod StepTests

@@ -25,7 +25,7 @@ use Rattle.f8_machine.proofs.FirstViews.{powered_views, powered_comes, views_pow
 use Rattle.f8_machine.proofs.FirstViews.{length-first_memory, length-filled_bytes, seat_of-powered}
 use Rattle.f8_machine.proofs.Kept.{Comes, comes}
 use Rattle.f8_machine.proofs.PortSteps.{latch_small}
-use Rattle.f8_machine.proofs.Powers.{fill_small}
+use Rattle.console_spec.proofs.PowerLaws.{fill_small}
 use Rattle.f8_machine.proofs.RequestEvents.{in_time_powered}
 
 -- each chip stands where its copy will be reset from
