@@ -120,7 +120,7 @@ fitted patch (Pio ports vector wired) = record (blank_view PioKind) {
 }
 
 -- A chip after it was fitted, which is of the specification's kind. The steps that it tells and its patch stay.
-pub record Fits (spec : ChipSpec) (old new : ChipState) : Type 0 where
+pub record FitsAs (spec : ChipSpec) (old new : ChipState) : Type 0 where
   pub kind : kind_of spec ≡ old.view.kind
   pub view : new.view ≡ fitted old.patch spec
   pub heard : new.heard_steps ≡ old.heard_steps

@@ -15,7 +15,7 @@ use std::alloc::Global;
 pub trait Chip: Drop {
     ghost use Rattle.std.specs.Prelude.{◌≡◌, ◌≢◌, ◌↔◌, OnOk, OnErr, IsErrOf};
     ghost use Rattle.f8_spec.specs.ChipState.{ChipState, IsWhole, MayHear, PowersOn, Settles, TakesKeys, TakesPulse, has_ram_at, held_byte, is_asking, latch_at, offered, told_counters};
-    ghost use Rattle.chip_face.specs.Fitting.{Fits, IsSpec, kind_of};
+    ghost use Rattle.chip_face.specs.Fitting.{FitsAs, IsSpec, kind_of};
     ghost use Rattle.chip_face.specs.Queries.{one_more};
     ghost use Rattle.chip_face.specs.Steps.{IsStepLength};
     ghost use Rattle.std.specs.Prelude.{ℕ};
@@ -32,7 +32,7 @@ pub trait Chip: Drop {
     /// chip; whether and when `Memory` comes, each kind of chip says. After any fault the chip is as it was.
     fn fit(&mut self, alloc: Global, spec: &ChipSpec) -> Result<(), FitFault>
         requires { IsSpec spec.now }
-        ensures ok { OnOk result (Fits spec.now (state self.old) (state self.new)) }
+        ensures ok { OnOk result (FitsAs spec.now (state self.old) (state self.new)) }
         ensures whole { OnOk result (IsWhole (state self.new).view) }
         ensures wrong_kind { IsErrOf result FitFault.WrongKind
             ↔ (kind_of spec.now ≢ (state self.old).view.kind) }

@@ -68,7 +68,7 @@ impl Chip for Listener {
     ghost use Rattle.std.specs.Prelude.{◌≡◌, ◌≢◌, ◌↔◌, false, OnOk, OnErr, IsErrOf};
     ghost use Rattle.f8_spec.specs.ChipState.{IsWhole, MayHear, PowersOn, Settles, TakesKeys, TakesPulse, told_step};
     ghost use Rattle.f8_spec.specs.ChipState.{has_ram_at, held_byte, latch_at, offered, told_counters};
-    ghost use Rattle.chip_face.specs.Fitting.{Fits, IsSpec, is_blank, kind_of};
+    ghost use Rattle.chip_face.specs.Fitting.{FitsAs, IsSpec, is_blank, kind_of};
     ghost use Rattle.chip_face.specs.Queries.{one_more};
     ghost use Rattle.chip_face.specs.Steps.{IsStepLength};
     ghost use Rattle.chip_fakes.specs.ListenerState.{listener_state, listener_queries, recording_of};
@@ -84,7 +84,7 @@ impl Chip for Listener {
 
     fn fit(&mut self, alloc: Global, spec: &ChipSpec) -> Result<(), FitFault>
         requires { IsSpec spec.now }
-        ensures ok { OnOk result (Fits spec.now (listener_state self.old)
+        ensures ok { OnOk result (FitsAs spec.now (listener_state self.old)
             (listener_state self.new)) }
         ensures whole { OnOk result (IsWhole (listener_state self.new).view) }
         ensures wrong_kind { IsErrOf result FitFault.WrongKind

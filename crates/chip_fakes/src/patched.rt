@@ -53,7 +53,7 @@ fn patched_rom(alloc: Global, base: u16, rom: &[u8], at: u16, byte: u8) -> Resul
 impl Chip for Patched {
     ghost use Rattle.std.specs.Prelude.{◌≢◌, ◌↔◌, false, OnOk, OnErr, IsErrOf};
     ghost use Rattle.f8_spec.specs.ChipState.{IsWhole};
-    ghost use Rattle.chip_face.specs.Fitting.{Fits, IsSpec, is_blank, kind_of};
+    ghost use Rattle.chip_face.specs.Fitting.{FitsAs, IsSpec, is_blank, kind_of};
     ghost use Rattle.chip_fakes.specs.PatchedState.{patched_state, patched_queries};
 
     ghost state = { patched_state };
@@ -66,7 +66,7 @@ impl Chip for Patched {
 
     fn fit(&mut self, alloc: Global, spec: &ChipSpec) -> Result<(), FitFault>
         requires { IsSpec spec.now }
-        ensures ok { OnOk result (Fits spec.now (patched_state self.old) (patched_state self.new)) }
+        ensures ok { OnOk result (FitsAs spec.now (patched_state self.old) (patched_state self.new)) }
         ensures whole { OnOk result (IsWhole (patched_state self.new).view) }
         ensures wrong_kind { IsErrOf result FitFault.WrongKind
             ↔ (kind_of spec.now ≢ (patched_state self.old).view.kind) }

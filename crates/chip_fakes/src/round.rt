@@ -15,7 +15,7 @@ pub enum Round {
 impl Chip for Round {
     ghost use Rattle.std.specs.Prelude.{◌≡◌, ◌≢◌, ◌↔◌, false, OnOk, OnErr, IsErrOf};
     ghost use Rattle.f8_spec.specs.ChipState.{IsWhole};
-    ghost use Rattle.chip_face.specs.Fitting.{Fits, IsSpec, is_blank, kind_of};
+    ghost use Rattle.chip_face.specs.Fitting.{FitsAs, IsSpec, is_blank, kind_of};
     ghost use Rattle.chip_fakes.specs.Rounds.{round_state, round_queries};
 
     ghost state = { round_state };
@@ -31,7 +31,7 @@ impl Chip for Round {
 
     fn fit(&mut self, alloc: Global, spec: &ChipSpec) -> Result<(), FitFault>
         requires { IsSpec spec.now }
-        ensures ok { OnOk result (Fits spec.now (round_state self.old) (round_state self.new)) }
+        ensures ok { OnOk result (FitsAs spec.now (round_state self.old) (round_state self.new)) }
         ensures whole { OnOk result (IsWhole (round_state self.new).view) }
         ensures wrong_kind { IsErrOf result FitFault.WrongKind
             ↔ (kind_of spec.now ≢ (round_state self.old).view.kind) }

@@ -142,7 +142,7 @@ impl Pio {
 impl Chip for Pio {
     ghost use Rattle.std.specs.Prelude.{◌≢◌, ◌↔◌, OnOk, OnErr, IsErrOf};
     ghost use Rattle.f8_spec.specs.ChipState.{IsWhole};
-    ghost use Rattle.chip_face.specs.Fitting.{Fits, IsSpec, kind_of};
+    ghost use Rattle.chip_face.specs.Fitting.{FitsAs, IsSpec, kind_of};
     ghost use Rattle.pio3861.specs.PioState.{pio_state, pio_queries};
 
     ghost state = { pio_state };
@@ -156,7 +156,7 @@ impl Chip for Pio {
     /// A 3861 has no memory, so that none is wanting.
     fn fit(&mut self, _alloc: Global, spec: &ChipSpec) -> Result<(), FitFault>
         requires { IsSpec spec.now }
-        ensures ok { OnOk result (Fits spec.now (pio_state self.old) (pio_state self.new)) }
+        ensures ok { OnOk result (FitsAs spec.now (pio_state self.old) (pio_state self.new)) }
         ensures whole { OnOk result (IsWhole (pio_state self.new).view) }
         ensures wrong_kind { IsErrOf result FitFault.WrongKind
             ↔ (kind_of spec.now ≢ (pio_state self.old).view.kind) }

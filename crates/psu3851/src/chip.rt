@@ -201,7 +201,7 @@ impl Psu {
 impl Chip for Psu {
     ghost use Rattle.std.specs.Prelude.{◌≢◌, ◌↔◌, OnOk, OnErr, IsErrOf};
     ghost use Rattle.f8_spec.specs.ChipState.{IsWhole};
-    ghost use Rattle.chip_face.specs.Fitting.{Fits, IsSpec, kind_of};
+    ghost use Rattle.chip_face.specs.Fitting.{FitsAs, IsSpec, kind_of};
     ghost use Rattle.psu3851.specs.PsuState.{psu_state, psu_queries};
 
     ghost state = { psu_state };
@@ -215,7 +215,7 @@ impl Chip for Psu {
     /// A 3851 has the room for its ROM, so that memory is never wanting.
     fn fit(&mut self, _alloc: Global, spec: &ChipSpec) -> Result<(), FitFault>
         requires { IsSpec spec.now }
-        ensures ok { OnOk result (Fits spec.now (psu_state self.old) (psu_state self.new)) }
+        ensures ok { OnOk result (FitsAs spec.now (psu_state self.old) (psu_state self.new)) }
         ensures whole { OnOk result (IsWhole (psu_state self.new).view) }
         ensures wrong_kind { IsErrOf result FitFault.WrongKind
             ↔ (kind_of spec.now ≢ (psu_state self.old).view.kind) }

@@ -4,7 +4,7 @@ use Rattle.std.proofs.Common.{get_or, take, drop, add-one, refl, sym, ap, ◌∙
 use Rattle.std.specs.Prelude.{Option, Some, slice_get}
 use Rattle.std.proofs.Math.ListN.{set, length-set}
 use Rattle.std.proofs.Math.Seq.{drop-nil, map-set_same}
-use Rattle.chip_face.specs.Fitting.{Fits, IsSpec, fitted}
+use Rattle.chip_face.specs.Fitting.{FitsAs, IsSpec, fitted}
 use Rattle.chip_face.specs.declared.specification.ChipSpec.{ChipSpec}
 use Rattle.chip_face.specs.declared.specification.ChipSpec.TheVariants.{Blank, Psu as PsuSpec, Smi as SmiSpec, Pio as PioSpec}
 use Rattle.cpu3850.specs.OwnWrites.{LeaveOwnPorts}
@@ -78,12 +78,12 @@ all_whole specs olds news all = whole_from specs 0 olds news all
 -- a chip that is fitted as what sits in the next socket
 pub fits_seated : (specs : List ChipSpec) (socket : ℕ) (seat : ChipSpec) (old new : ChipState) →
     slice_get specs socket ≡ Some seat →
-    Fits seat old new → IsWhole new.view → LeavesOwn new.view →
+    FitsAs seat old new → IsWhole new.view → LeavesOwn new.view →
     FitsWhole specs socket old new
 fits_seated specs socket seat old new is fits whole ports = record {
   fits =
       λ spec lies. let same : Some seat ≡ Some spec = sym is
-      ∙ lies in let seats : seat ≡ spec = cc in subst (λ (c : ChipSpec). Fits c old new) seats fits;
+      ∙ lies in let seats : seat ≡ spec = cc in subst (λ (c : ChipSpec). FitsAs c old new) seats fits;
   whole = whole;
   ports = ports;
 }
@@ -97,7 +97,7 @@ fitted_leaves patch (SmiSpec pages rom wired) is first e = let same : 12 ≡ fir
 fitted_leaves patch (PioSpec ports vector wired) is first e =
     let same : ports ≡ first = cc in omega (arith, is.above_cpu, same)
 
-pub leaves_own : (spec : ChipSpec) (old new : ChipState) → IsSpec spec → Fits spec old new → LeavesOwn new.view
+pub leaves_own : (spec : ChipSpec) (old new : ChipState) → IsSpec spec → FitsAs spec old new → LeavesOwn new.view
 leaves_own spec old new is fits first e =
     fitted_leaves old.patch spec is first (ap (λ (v : ChipView). v.ports) (sym fits.view) ∙ e)
 

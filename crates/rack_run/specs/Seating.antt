@@ -7,7 +7,7 @@ use Rattle.data_bus.specs.Racks.{NumberedZip}
 use Rattle.f8_spec.specs.ChipState.{ChipView, ChipState, IsWhole, same_kind}
 use Rattle.f8_spec.specs.declared.chips.ChipKind.{ChipKind}
 use Rattle.f8_spec.specs.declared.chips.ChipKind.TheVariants.{Psu, Smi, Pio}
-use Rattle.chip_face.specs.Fitting.{Fits, fitted, kind_of}
+use Rattle.chip_face.specs.Fitting.{FitsAs, fitted, kind_of}
 use Rattle.chip_face.specs.declared.specification.ChipSpec.{ChipSpec}
 use Rattle.chip_face.specs.declared.specification.ChipSpec.TheVariants.{Blank}
 use Rattle.rack_run.specs.declared.seat.Sockets.{Sockets}
@@ -57,7 +57,7 @@ LeavesOwn v = (first : ℕ) → v.ports ≡ Some first → 2 ≤ first
 
 -- The chip in a socket is fitted as what sits there, has 256 bytes for each of its pages, and leaves the processor its own ports.
 pub record FitsWhole (specs : List ChipSpec) (socket : ℕ) (old new : ChipState) : Type 0 where
-  pub fits : (spec : ChipSpec) → slice_get specs socket ≡ Some spec → Fits spec old new
+  pub fits : (spec : ChipSpec) → slice_get specs socket ≡ Some spec → FitsAs spec old new
   pub whole : IsWhole new.view
   pub ports : LeavesOwn new.view
 

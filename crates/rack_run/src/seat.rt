@@ -6,7 +6,7 @@ ghost use Rattle.f8_spec.specs.BusArbitration.{seat_of};
 ghost use Rattle.f8_spec.specs.ChipState.{IsWhole, same_kind};
 ghost use Rattle.cpu3850.specs.OwnWrites.{LeaveOwnPorts};
 ghost use Rattle.data_bus.specs.Racks.{views};
-ghost use Rattle.chip_face.specs.Fitting.{Fits, IsSpec, kind_of};
+ghost use Rattle.chip_face.specs.Fitting.{FitsAs, IsSpec, kind_of};
 ghost use Rattle.f8_machine.specs.Refinement.{AreWhole};
 ghost use Rattle.rack_run.specs.Seating.{LeavesOwn, of_kind, seat_at, so_far, no_sockets, counted, seated};
 ghost use Rattle.rack_run.specs.Seating.{fitted_views, RackFits, RackFitsInPart};
@@ -20,7 +20,7 @@ use std::alloc::Global;
 fn fit_one(alloc: Global, chip: &mut Box<dyn Chip>, spec: &ChipSpec) -> Result<(), Memory>
     requires spec { IsSpec spec.now }
     requires kind { kind_of spec.now ≡ (state chip.old).view.kind }
-    ensures fits { OnOk result (Fits spec.now (state chip.old) (state chip.new)) }
+    ensures fits { OnOk result (FitsAs spec.now (state chip.old) (state chip.new)) }
     ensures whole { OnOk result (IsWhole (state chip.new).view) }
     ensures ports { OnOk result (LeavesOwn (state chip.new).view) }
     ensures same { OnErr result (state chip.new ≡ state chip.old) }
@@ -67,7 +67,7 @@ fn fit_socket(
     requires specified { All IsSpec chips.now }
     requires kind { kind ≡ (state chip.old).view.kind }
     ensures fits { OnOk result
-        (Fits (seat_at chips.now kind before) (state chip.old) (state chip.new)) }
+        (FitsAs (seat_at chips.now kind before) (state chip.old) (state chip.new)) }
     ensures whole { OnOk result (IsWhole (state chip.new).view) }
     ensures ports { OnOk result (LeavesOwn (state chip.new).view) }
     ensures same { OnErr result (state chip.new ≡ state chip.old) }
@@ -133,7 +133,7 @@ fn fit_next(
     requires specified { All IsSpec chips.now }
     requires few { (kind : ChipKind) → so_far sockets.old kind < MOST_CHIPS }
     ensures fits { let kind = (state chip.old).view.kind in OnOk result
-        (Fits (seat_at chips.now kind (so_far sockets.old kind)) (state chip.old) (state chip.new)) }
+        (FitsAs (seat_at chips.now kind (so_far sockets.old kind)) (state chip.old) (state chip.new)) }
     ensures whole { OnOk result (IsWhole (state chip.new).view) }
     ensures ports { OnOk result (LeavesOwn (state chip.new).view) }
     ensures same { OnErr result (state chip.new ≡ state chip.old) }

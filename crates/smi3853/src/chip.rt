@@ -196,7 +196,7 @@ impl Smi {
 impl Chip for Smi {
     ghost use Rattle.std.specs.Prelude.{◌≢◌, ◌↔◌, false, OnOk, OnErr, IsErrOf};
     ghost use Rattle.f8_spec.specs.ChipState.{IsWhole};
-    ghost use Rattle.chip_face.specs.Fitting.{Fits, IsSpec, is_blank, kind_of};
+    ghost use Rattle.chip_face.specs.Fitting.{FitsAs, IsSpec, is_blank, kind_of};
     ghost use Rattle.smi3853.specs.SmiState.{smi_state, smi_queries};
 
     ghost state = { smi_state };
@@ -210,7 +210,7 @@ impl Chip for Smi {
     /// The pages' bytes take memory, which is never wanting where the chip is to be blank.
     fn fit(&mut self, alloc: Global, spec: &ChipSpec) -> Result<(), FitFault>
         requires { IsSpec spec.now }
-        ensures ok { OnOk result (Fits spec.now (smi_state self.old) (smi_state self.new)) }
+        ensures ok { OnOk result (FitsAs spec.now (smi_state self.old) (smi_state self.new)) }
         ensures whole { OnOk result (IsWhole (smi_state self.new).view) }
         ensures wrong_kind { IsErrOf result FitFault.WrongKind
             ↔ (kind_of spec.now ≢ (smi_state self.old).view.kind) }
