@@ -15,7 +15,7 @@ pub use f8_spec::{ChipKind, Memory, Offer, Page, PageSort, PowerOn};
 pub use face::Chip;
 pub use fault::FitFault;
 pub use kinds::same_kind;
-pub use lists::{Bytes, PageList};
+pub use lists::{Bytes, FixedList, PageList};
 pub use powers::{Powers, USUAL_POWER};
 pub use romc_table::{Counters, Romc};
 pub use sizes::{MOST_CHIPS, PAGE_SIZE, PSU_ROM_SIZE, SMI_FIRST_PORT, rom_size};

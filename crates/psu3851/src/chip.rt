@@ -236,7 +236,7 @@ impl Chip for Psu {
                 wired,
             } => {
                 self.clear();
-                self.rom.copy_from_slice(rom.as_slice());
+                self.rom.copy_from_slice(rom.as_bytes());
                 self.base = *base;
                 self.size = PSU_ROM_SIZE as u16;
                 self.ports = Some(*ports);
