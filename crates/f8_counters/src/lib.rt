@@ -3,12 +3,14 @@
 #![tactic(auto)]
 
 mod interrupts;
+mod io_ports;
 mod offers;
 mod ports;
 mod registers;
 mod words;
 
 pub use interrupts::Interrupts;
+pub use io_ports::IoPorts;
 pub use offers::{counter_byte, offered, offered_if};
 pub use ports::port_offset;
 pub use registers::Registers;

@@ -1,28 +1,13 @@
 -- What contracts see of a 3861.
-use Rattle.std.specs.Prelude.{ℕ, [], None}
-use Rattle.f8_spec.specs.BusCodes.{count_at}
+use Rattle.std.specs.Prelude.{ℕ, None}
 use Rattle.f8_spec.specs.ChipState.{ChipView, ChipState, blank_view}
 use Rattle.f8_spec.specs.declared.chips.ChipKind.TheVariants.{Pio as PioKind}
+use Rattle.f8_counters.specs.IoPortsView.{with_ports}
 use Rattle.pio3861.specs.declared.chip.Pio.{Pio}
 
 -- it holds no page, and its counters are 0
 abbrev pub pio_view : Pio → ChipView
-pio_view p = record {
-  kind = PioKind;
-  pages = [];
-  bytes = [];
-  counters = count_at 0;
-  latches = p.latches;
-  key_bytes = p.key_bytes;
-  control = p.interrupts.control;
-  timer = p.interrupts.timer.state;
-  phase = p.interrupts.timer.phase;
-  vector = p.vector;
-  ports = p.ports;
-  wired = p.interrupts.wired;
-  request = p.interrupts.request;
-  last = p.last;
-}
+pio_view p = with_ports p.ports (record (blank_view PioKind) { last = p.last })
 
 -- a 3861 tells no step that it heard, and has no patch
 abbrev pub pio_state : Pio → ChipState

@@ -2,7 +2,7 @@
 ghost use Rattle.std.specs.Prelude.{◌≡◌, ◌<◌, ◌≤◌};
 
 use chip_face::{Chip, ChipKind, ChipSpec, FitFault, Offer};
-use f8_counters::{Interrupts, high_byte, low_byte, offered, port_offset};
+use f8_counters::{IoPorts, high_byte, low_byte, offered, offered_if};
 use romc_table::{Counters, Romc};
 use std::alloc::Global;
 
@@ -12,16 +12,8 @@ pub struct Pio {
     /// The byte of the last bus step.
     last: u8,
 
-    /// The first of its four ports, and none while it is blank.
-    ports: Option<u8>,
-
-    /// A latch and a key byte for each of its two data ports.
-    latches: [u8; 2],
-    key_bytes: [u8; 2],
-
-    /// Control, timer and request.
-    interrupts: Interrupts,
-    vector: u16,
+    /// Two data ports, control and timer, with the interrupt. It has none of them while it is blank.
+    ports: IoPorts,
 
     /// How many questions were put to the chip.
     asked: u64,
@@ -38,11 +30,7 @@ impl Pio {
     {
         Pio {
             last: 0,
-            ports: None,
-            latches: [0; 2],
-            key_bytes: [0; 2],
-            interrupts: Interrupts::new(false),
-            vector: 0,
+            ports: IoPorts::new(None, 0, false),
             asked: 0,
         }
     }
@@ -66,49 +54,6 @@ impl Pio {
     }
 }
 
-/// Ports.
-impl Pio {
-    ghost use Rattle.std.specs.Prelude.{option_and_then};
-    ghost use Rattle.f8_spec.specs.ChipState.{data_port, offset_from, port_role, port_written_if};
-    ghost use Rattle.pio3861.specs.PioState.{pio_view, pio_queries};
-
-    /// The place of a port among the chip's four, and `None` where the chip doesn't have it.
-    #[inline]
-    fn port_offset(&self, port: u8) -> Option<u8>
-        ensures { result ≡ option_and_then (offset_from port) (pio_view self.now).ports }
-    {
-        port_offset(port, self.ports?)
-    }
-
-    /// The place of a data port's latch, and `None` where the port is not a data port of the chip.
-    #[inline]
-    fn data_port(&self, port: u8) -> Option<usize>
-        ensures { result ≡ data_port (pio_view self.now) port }
-    {
-        let offset = self.port_offset(port)?;
-        if offset < 2 {
-            Some(usize::from(offset))
-        } else {
-            None
-        }
-    }
-
-    /// A byte for a port, which is lost where the chip doesn't have it. A write to control ends a latched request.
-    fn write_port(&mut self, port: u8, byte: u8)
-        ensures view { pio_view self.new ≡ port_written_if (port_role (pio_view self.old) port) byte
-            (pio_view self.old) }
-        ensures asked { pio_queries self.new ≡ pio_queries self.old }
-    {
-        match self.port_offset(port) {
-            Some(0) => self.latches[0] = byte,
-            Some(1) => self.latches[1] = byte,
-            Some(2) => self.interrupts.write_control(byte),
-            Some(3) => self.interrupts.write_timer(byte),
-            _ => {}
-        }
-    }
-}
-
 /// What a bus step does.
 impl Pio {
     ghost use Rattle.f8_spec.specs.ChipState.{effect, timer_passed};
@@ -122,7 +67,7 @@ impl Pio {
         ensures view { pio_view self.new ≡ timer_passed phi (pio_view self.old) }
         ensures asked { pio_queries self.new ≡ pio_queries self.old }
     {
-        self.interrupts.pass(phi);
+        self.ports.interrupts.pass(phi);
     }
 
     /// The effect of the code on ports and request. A 3861 has no RAM, so that a store is lost.
@@ -132,8 +77,8 @@ impl Pio {
         ensures asked { pio_queries self.new ≡ pio_queries self.old }
     {
         match romc {
-            Romc::VECTOR_HIGH if first => self.interrupts.acknowledge(),
-            Romc::WRITE_PORT => self.write_port(self.last, byte),
+            Romc::VECTOR_HIGH if first => self.ports.interrupts.acknowledge(),
+            Romc::WRITE_PORT => self.ports.write(self.last, byte),
             _ => {}
         }
     }
@@ -175,9 +120,7 @@ impl Chip for Pio {
                 wired,
             } => {
                 self.clear();
-                self.ports = Some(*ports);
-                self.vector = *vector;
-                self.interrupts = Interrupts::new(*wired);
+                self.ports = IoPorts::new(Some(*ports), *vector, *wired);
                 Ok(())
             }
             ChipSpec::Blank(ChipKind::Psu | ChipKind::Smi)
@@ -188,32 +131,23 @@ impl Chip for Pio {
 
     fn power(&mut self, _fill: u8, _start: u16) {
         self.last = 0;
-        self.latches = [0; 2];
-        self.key_bytes = [0; 2];
-        self.interrupts.power();
+        self.ports.power();
     }
 
     fn offer(&mut self, romc: Romc, first: bool) -> Option<Offer> {
         self.count();
         match romc {
             Romc::VECTOR_LOW if first => {
-                let at = self.interrupts.given_vector(self.vector);
+                let at = self.ports.given_vector();
                 offered(low_byte(at), at)
             }
             Romc::VECTOR_HIGH if first => {
-                let at = self.interrupts.given_vector(self.vector);
+                let at = self.ports.given_vector();
                 offered(high_byte(at), at)
             }
             // A port goes by the last byte, which names it. The chip takes a byte.
-            Romc::WRITE_PORT => {
-                let _offset = self.port_offset(self.last)?;
-                offered(0, u16::from(self.last))
-            }
-            Romc::READ_PORT => {
-                let place = self.data_port(self.last)?;
-                let byte = self.latches[place] | self.key_bytes[place];
-                offered(byte, u16::from(self.last))
-            }
+            Romc::WRITE_PORT => offered_if(self.ports.has(self.last), 0, u16::from(self.last)),
+            Romc::READ_PORT => offered(self.ports.read(self.last)?, u16::from(self.last)),
             _ => None,
         }
     }
@@ -225,7 +159,7 @@ impl Chip for Pio {
     }
 
     fn asks(&self) -> bool {
-        self.interrupts.asks()
+        self.ports.interrupts.asks()
     }
 
     fn counters(&mut self) -> Counters {
@@ -250,18 +184,15 @@ impl Chip for Pio {
 
     fn latch(&mut self, port: u8) -> Option<u8> {
         self.count();
-        let place = self.data_port(port)?;
-        Some(self.latches[place])
+        self.ports.latch(port)
     }
 
     fn keys(&mut self, port: u8, byte: u8) {
-        if let Some(place) = self.data_port(port) {
-            self.key_bytes[place] = byte;
-        }
+        self.ports.set_keys(port, byte);
     }
 
     fn pulse(&mut self) {
-        self.interrupts.pulse();
+        self.ports.interrupts.pulse();
     }
 
     fn asked(&self) -> u64 {

@@ -3,6 +3,7 @@ use Rattle.std.specs.Prelude.{ℕ, ◌==◌, if◌then◌else◌, List, [], None
 use Rattle.f8_spec.specs.ChipState.{ChipView, ChipState, blank_view}
 use Rattle.f8_spec.specs.declared.chips.ChipKind.TheVariants.{Psu as PsuKind}
 use Rattle.f8_spec.specs.declared.chips.Page.{Page}
+use Rattle.f8_counters.specs.IoPortsView.{with_ports}
 use Rattle.chip_face.specs.Fitting.{psu_pages}
 use Rattle.psu3851.specs.declared.chip.Psu.{Psu}
 
@@ -14,22 +15,12 @@ abbrev pub held_bytes : Psu → List ℕ
 held_bytes p = if p.size == 0 then [] else p.rom
 
 abbrev pub psu_view : Psu → ChipView
-psu_view p = record {
-  kind = PsuKind;
+psu_view p = with_ports p.ports (record (blank_view PsuKind) {
   pages = held_pages p;
   bytes = held_bytes p;
   counters = p.registers;
-  latches = p.latches;
-  key_bytes = p.key_bytes;
-  control = p.interrupts.control;
-  timer = p.interrupts.timer.state;
-  phase = p.interrupts.timer.phase;
-  vector = p.vector;
-  ports = p.ports;
-  wired = p.interrupts.wired;
-  request = p.interrupts.request;
   last = p.last;
-}
+})
 
 -- a 3851 tells no step that it heard, and has no patch
 abbrev pub psu_state : Psu → ChipState
