@@ -73,6 +73,13 @@ impl Steps {
         self.row.count == 0
     }
 
+    /// The step at a place, and `None` past the last.
+    pub fn get(&self, place: usize) -> Option<Step>
+        ensures { result ≡ slice_get self.now place }
+    {
+        self.as_slice().get(place).copied()
+    }
+
     /// The clocks of all steps, in Φ.
     pub fn clocks(&self) -> u8
         ensures { result ≡ sum_by (λ step. step_clocks step.long) self.now }
@@ -92,7 +99,7 @@ impl Steps {
     pub fn last(&self) -> Option<Step>
         ensures { result ≡ slice_get self.now (length self.now - 1) }
     {
-        self.as_slice().get(self.len().saturating_sub(1)).copied()
+        self.get(self.len().saturating_sub(1))
     }
 
     /// The clocks of all steps but the last, in Φ.
