@@ -4,7 +4,7 @@ use Rattle.std.specs.Prelude.{Some}
 use Rattle.f8_spec.specs.ChipState.{ChipView}
 use Rattle.f8_spec.specs.declared.instructions.Op.TheVariants.{Bf}
 use Rattle.console_spec.specs.Run.{Position, position_after, instruction_fault, with_pulse_at}
-use Rattle.console_spec.specs.Services.{Fault, Conflict, Undriven}
+use Rattle.console_spec.specs.Services.{Conflict, Undriven}
 use Rattle.console_spec.proofs.Played.{running, played}
 use Rattle.console_spec.proofs.WorkedInterrupts.{wired_psu}
 use Rattle.console_spec.proofs.WorkedRacks.{psu}
