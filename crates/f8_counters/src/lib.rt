@@ -1,5 +1,5 @@
-//! What the kinds of storage chip have alike: the counters and what each bus step does to them, and control, timer and request (Mostek
-//! 3851 and 3853 data sheets).
+//! What the kinds of chip have alike: the counters and what each bus step does to them, control, timer and request, and four ports of which
+//! two are data ports (Mostek 3851, 3853 and 3861 data sheets).
 #![tactic(auto)]
 
 mod interrupts;
