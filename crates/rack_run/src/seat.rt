@@ -34,7 +34,7 @@ fn fit_one(alloc: Global, chip: &mut Box<dyn Chip>, spec: &ChipSpec) -> Result<(
 }
 
 /// The chip of a kind with so many of the kind before it.
-#[tactic(auto, using(crate::proofs::CountedKinds::is_same))]
+#[tactic(auto, using(f8_spec::proofs::SameKind::is_same))]
 fn nth_of_kind(chips: &[ChipSpec], kind: ChipKind, before: usize) -> Option<&ChipSpec>
     requires specified { All IsSpec chips.now }
     ensures some { IfSome result (λ spec.
