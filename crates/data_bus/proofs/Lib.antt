@@ -1,5 +1,6 @@
 pub mod Answers
 pub mod Racks
+pub mod Zipped
 pub mod Gathering
 pub mod Questions
 pub mod CodeFacts

@@ -10,10 +10,11 @@ use Rattle.f8_spec.specs.BusArbitration.{Seat, seat_of}
 use Rattle.probe.specs.ProbeState.{ProbeState, probe_after}
 use Rattle.data_bus.specs.declared.marks.Marks.{Marks}
 use Rattle.data_bus.specs.Racks.{NumberedZip, SettlesStep, RackSettles, views}
-use Rattle.data_bus.specs.KnownAgreement.{marks_after, CountAgrees, ChipAgrees, AllAgree, AreAddresses, AllAddresses, has_page, parts}
+use Rattle.data_bus.specs.KnownAgreement.{marks_after, CountAgrees, ChipAgrees, AllAgree, AreAddresses, AllAddresses, IsCounted, has_page, parts}
 use Rattle.data_bus.proofs.Agreements.{keeps}
 use Rattle.data_bus.proofs.CounterRanges.{moved_small}
 use Rattle.data_bus.proofs.SteppedChips.{StepsAlong, own_moved, steps_along}
+use Rattle.data_bus.proofs.Zipped.{zip_alike, zip_all}
 
 -- ---- one chip
 
@@ -54,13 +55,9 @@ chip_agrees is_parted romc byte marks reference old new parted along of_its_kind
 -- no chip's kind, pages, ports or fixed vector change
 pub seats_stay : (romc : ℕ) (long : Bool) (first : Option ℕ) (byte n : ℕ) (olds news : List ChipState) →
     NumberedZip (SettlesStep romc long first byte) n olds news → map seat_of (views news) ≡ map seat_of (views olds)
-seats_stay romc long first byte n [] [] settled = refl
-seats_stay romc long first byte n [] (new ∷ news) settled = absurd settled
-seats_stay romc long first byte n (old ∷ olds) [] settled = absurd settled
-seats_stay romc long first byte n (old ∷ olds) (new ∷ news) settled =
-    let along = steps_along romc long first byte n old new settled.0 in
-    ap (λ s. s ∷ map seat_of (views news)) along.seat
-    ∙ ap (λ ss. seat_of old.view ∷ ss) (seats_stay romc long first byte (n + 1) olds news settled.1)
+seats_stay romc long first byte n olds news settled =
+    zip_alike (SettlesStep romc long first byte) (λ (s : ChipState). s.view) (λ (s : ChipState). s.view) seat_of seat_of
+    (λ k old new one. (steps_along romc long first byte k old new one).seat) n olds news settled
 
 agreement_from : (is_parted : Bool) (romc : ℕ) (long : Bool) (first : Option ℕ) (byte n : ℕ) (marks : Marks) (reference : Count)
     (olds news : List ChipState) → (list_any parts (map seat_of (views olds)) ≡ true → is_parted ≡ true) →
@@ -87,19 +84,14 @@ kind_kept old new seat is = record {
   pages = λ none. pages_stay old new seat ∙ is.pages (sym (ap has_counters (kind_stays old new seat)) ∙ none);
 }
 
-addresses_from : (romc : ℕ) (long : Bool) (first : Option ℕ) (byte n : ℕ) (olds news : List ChipState) → byte < 256 →
-    NumberedZip (SettlesStep romc long first byte) n olds news → AllAddresses (views olds) → AllAddresses (views news)
-addresses_from romc long first byte n [] [] below settled are = tt
-addresses_from romc long first byte n [] (new ∷ news) below settled are = absurd settled
-addresses_from romc long first byte n (old ∷ olds) [] below settled are = absurd settled
-addresses_from romc long first byte n (old ∷ olds) (new ∷ news) below settled are =
-    let along = steps_along romc long first byte n old new settled.0 in (
-      record {
-        addresses = subst AreAddresses (sym along.counters) (own_small romc byte old.view.kind old.view.counters below are.0.addresses);
-        of_its_kind = kind_kept old.view new.view along.seat are.0.of_its_kind;
-      },
-      addresses_from romc long first byte (n + 1) olds news below settled.1 are.1,
-    )
+counted_after : (romc : ℕ) (long : Bool) (first : Option ℕ) (byte socket : ℕ) (old new : ChipState) → byte < 256 →
+    SettlesStep romc long first byte socket old new → IsCounted old.view → IsCounted new.view
+counted_after romc long first byte socket old new below settled is =
+    let along = steps_along romc long first byte socket old new settled in
+    record {
+      addresses = subst AreAddresses (sym along.counters) (own_small romc byte old.view.kind old.view.counters below is.addresses);
+      of_its_kind = kind_kept old.view new.view along.seat is.of_its_kind;
+    }
 
 -- ---- a whole rack
 
@@ -114,4 +106,6 @@ agreement_kept is_parted romc long first byte marks probe olds news parted settl
 -- the counters stay addresses
 pub addresses_kept : (romc : ℕ) (long : Bool) (first : Option ℕ) (byte : ℕ) (olds news : List ChipState) → byte < 256 →
     RackSettles romc long first byte olds news → AllAddresses (views olds) → AllAddresses (views news)
-addresses_kept romc long first byte olds news below settled are = addresses_from romc long first byte 0 olds news below settled are
+addresses_kept romc long first byte olds news below settled are =
+    zip_all (SettlesStep romc long first byte) (λ (s : ChipState). s.view) (λ (s : ChipState). s.view) IsCounted IsCounted
+    (λ k old new one is. counted_after romc long first byte k old new below one is) 0 olds news settled are
