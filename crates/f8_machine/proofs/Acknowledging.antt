@@ -1,6 +1,6 @@
 -- The steps of an acknowledgement: the one that ends a request ends that of the marked chip, and it changes nothing else that a plain step
 -- doesn't.
-use Rattle.std.proofs.Common.{◌≡◌, ℕ, zero, suc, ◌+◌, Bool, true, false, List, [], ◌∷◌, map, refl, sym, ap, ap₂, ◌∙◌, subst, ◌<◌}
+use Rattle.std.proofs.Common.{◌≡◌, ℕ, ◌+◌, Bool, true, false, List, [], ◌∷◌, map, refl, sym, ap, ap₂, ◌∙◌, subst, ◌<◌}
 use Rattle.std.proofs.Common.{arith, eqb-true, eq-eqb}
 use Rattle.std.specs.Prelude.{◌==◌, ◌&&◌, not, is_some, Option, Some, None, option_map, slice_get}
 use Rattle.std.proofs.lemmas.Option.{slice_get-map}
@@ -16,6 +16,7 @@ use Rattle.console_spec.specs.InterruptRequests.{History, IsPast}
 use Rattle.console_spec.specs.declared.PortWrite.{PortWrite}
 use Rattle.console_spec.proofs.RequestLaws.{past-later, past-acknowledged, after_acknowledgement}
 use Rattle.data_bus.specs.Racks.{NumberedZip, SettlesStep, RackSettles, views}
+use Rattle.data_bus.proofs.Zipped.{Paired, paired, zip_mapped}
 use Rattle.f8_machine.specs.RackViews.{IsCopy, AreCopies, HoldsFlat, IsPort, HoldsPorts}
 use Rattle.f8_machine.specs.Requests.{IsDevice, device_of, device_passed, device_ended}
 use Rattle.f8_machine.specs.RequestsHeld.{HasRequests, HoldRequests, IsInTime, marked_step}
@@ -24,27 +25,6 @@ use Rattle.f8_machine.proofs.Kept.{Comes, comes}
 use Rattle.f8_machine.proofs.RequestSteps.{vector_same}
 use Rattle.f8_machine.proofs.Slots.{plain_step}
 
--- ---- lists in step, read by a place
-
--- an element of the second list has one of the first at its place
-pub record Paired {A B : Type 0} (R : ℕ → A → B → Type 0) (xs : List A) (place number : ℕ) (y : B) : Type 0 where
-  pub from : A
-  pub is : slice_get xs place ≡ Some from
-  pub related : R number from y
-
-pub paired : {A B : Type 0} (R : ℕ → A → B → Type 0) (n number place : ℕ) (xs : List A) (ys : List B) (y : B) → n + place ≡ number →
-    NumberedZip R n xs ys → slice_get ys place ≡ Some y → Paired R xs place number y
-paired R n number place [] [] y e all lies = cc
-paired R n number place [] (z ∷ ys) y e all lies = absurd all
-paired R n number place (x ∷ xs) [] y e all lies = absurd all
-paired R n number zero (x ∷ xs) (z ∷ ys) y e all lies =
-    let same : z ≡ y = cc in
-    let at : n ≡ number = omega arith in
-    record { from = x; is = refl; related = subst (λ (m : ℕ). R m x y) at (subst (R n x) same all.0) }
-paired R n number (suc place) (x ∷ xs) (z ∷ ys) y e all lies =
-    let later : Paired R xs place number y = paired R (n + 1) number place xs ys y (omega arith) all.1 lies in
-    record { from = later.from; is = later.is; related = later.related }
-
 -- ---- a code that marks nobody's request as ended
 
 -- but for that one code the mark of a chip says nothing
@@ -52,20 +32,12 @@ unmarked : (romc byte clocks : ℕ) (marked : Bool) (v : ChipView) → (romc == 
     after_step (marked_step romc byte clocks marked) v ≡ after_step (plain_step romc byte clocks) v
 unmarked romc byte clocks marked v other = rw other refl
 
-unmarked_from : (romc : ℕ) (long : Bool) (first : Option ℕ) (byte n : ℕ) (olds news : List ChipState) → (romc == 0x13) ≡ false →
-    NumberedZip (SettlesStep romc long first byte) n olds news →
-    views news ≡ map (after_step (plain_step romc byte (step_clocks long))) (views olds)
-unmarked_from romc long first byte n [] [] other all = refl
-unmarked_from romc long first byte n [] (new ∷ news) other all = absurd all
-unmarked_from romc long first byte n (old ∷ olds) [] other all = absurd all
-unmarked_from romc long first byte n (old ∷ olds) (new ∷ news) other all =
-    ap₂ (λ (v : ChipView) (vs : List ChipView). v ∷ vs)
-    (all.0.view ∙ unmarked romc byte (step_clocks long) (is_first first n) old.view other)
-    (unmarked_from romc long first byte (n + 1) olds news other all.1)
-
 pub views_unmarked : (romc : ℕ) (long : Bool) (first : Option ℕ) (byte : ℕ) (olds news : List ChipState) → (romc == 0x13) ≡ false →
     RackSettles romc long first byte olds news → views news ≡ map (after_step (plain_step romc byte (step_clocks long))) (views olds)
-views_unmarked romc long first byte olds news other all = unmarked_from romc long first byte 0 olds news other all
+views_unmarked romc long first byte olds news other all =
+    zip_mapped (SettlesStep romc long first byte) (λ (s : ChipState). s.view) (λ (s : ChipState). s.view)
+    (after_step (plain_step romc byte (step_clocks long)))
+    (λ k old new one. one.view ∙ unmarked romc byte (step_clocks long) (is_first first k) old.view other) 0 olds news all
 
 -- ---- the code that ends a request
 

@@ -1,7 +1,7 @@
 -- The questions of bus steps are counted, one step after another.
 use Rattle.std.proofs.Common.{◌≡◌, ℕ, ◌+◌, ◌≤◌, List, [], ◌∷◌, ◌++◌, refl, sym, ap, ◌∙◌, arith}
 use Rattle.std.proofs.lemmas.List.{map-append}
-use Rattle.std.specs.Prelude.{Result, Ok, Err, IfOk, IfErr}
+use Rattle.std.specs.Prelude.{Result, Ok, Err, IfOk, OnErr}
 use Rattle.f8_spec.specs.ChipState.{ChipState}
 use Rattle.f8_spec.specs.BusArbitration.{Ruling, Served as ServedBy, Conflict, Undriven, Astray}
 use Rattle.probe.specs.ProbeState.{ProbeState}
@@ -10,7 +10,7 @@ use Rattle.data_bus.specs.declared.cycle.Cycle.{Cycle}
 use Rattle.data_bus.specs.PageIndex.{allowance, followed}
 use Rattle.data_bus.specs.declared.fault.BusFault.{BusFault}
 use Rattle.data_bus.specs.declared.index.Index.{Index}
-use Rattle.f8_machine.specs.Questions.{Asking, Counted, CountsOn, CountsTried, allowances, code_of, codes_of, followed_all}
+use Rattle.f8_machine.specs.Questions.{Asking, Counted, CountsOn, CountsOnTried, allowances, code_of, codes_of, followed_all}
 use Rattle.f8_machine.specs.declared.heard.Heard.{Heard}
 
 followed_all-more : (codes : List ℕ) (romc : ℕ) (index : Index) →
@@ -66,7 +66,7 @@ answered_code romc byte (Astray socket at reference) fault e =
 pub tried_by : (size : ℕ) (cycle : Cycle) (probe : ProbeState) (states : List ChipState) (fault : BusFault) (known after : Index)
     (asked more : ℕ) (earlier now : List Heard) → Err fault ≡ step_answer cycle probe states → after ≡ known →
     more ≤ asked + allowance cycle.romc known size → now ≡ earlier →
-    CountsTried size fault (record { index = known; questions = asked; steps = earlier })
+    CountsOnTried size fault (record { index = known; questions = asked; steps = earlier })
     (record { index = after; questions = more; steps = now })
 tried_by size cycle probe states fault known after asked more earlier now answer stays few told = record {
   on = λ chips first before same counted.
@@ -94,7 +94,7 @@ counts_both size mid old between new alike one two = record {
 }
 
 pub counts_then_tried : (size mid : ℕ) (fault : BusFault) (old between new : Asking) → mid ≡ size → CountsOn size old between →
-    CountsTried mid fault between new → CountsTried size fault old new
+    CountsOnTried mid fault between new → CountsOnTried size fault old new
 counts_then_tried size mid fault old between new alike one two = record {
   on = λ chips first before same counted. two.on chips first before (same ∙ sym alike) (one.on chips first before same counted);
 }
@@ -105,10 +105,10 @@ pub counts_if_ok : {A E : Type 0} (r : Result A E) (size mid : ℕ) (old between
 counts_if_ok (Ok a) size mid old between new alike one two = counts_both size mid old between new alike one two
 counts_if_ok (Err e) size mid old between new alike one two = two
 
-pub tried_if_err : {A E : Type 0} (fault : E → BusFault) (r : Result A E) (size mid : ℕ) (old between new : Asking) → mid ≡ size →
-    CountsOn size old between → IfErr r (λ e. CountsTried mid (fault e) between new) → IfErr r (λ e. CountsTried size (fault e) old new)
-tried_if_err fault (Ok a) size mid old between new alike one two = two
-tried_if_err fault (Err e) size mid old between new alike one two = counts_then_tried size mid (fault e) old between new alike one two
+pub tried_on_err : {A E : Type 0} (fault : BusFault) (r : Result A E) (size mid : ℕ) (old between new : Asking) → mid ≡ size →
+    CountsOn size old between → OnErr r (CountsOnTried mid fault between new) → OnErr r (CountsOnTried size fault old new)
+tried_on_err fault (Ok a) size mid old between new alike one two = two
+tried_on_err fault (Err e) size mid old between new alike one two = counts_then_tried size mid fault old between new alike one two
 
 -- at the beginning nothing is counted
 pub counted_none : (chips : ℕ) (index : Index) (questions : ℕ) (steps : List Heard) → steps ≡ [] →

@@ -16,7 +16,8 @@ use Rattle.f8_spec.specs.BusArbitration.{Seat, seat_of}
 use Rattle.f8_spec.specs.declared.chips.Page.{Page}
 use Rattle.f8_spec.specs.declared.chips.PageSort.{PageSort}
 use Rattle.f8_spec.specs.declared.chips.PageSort.TheVariants.{Rom, Ram, Void}
-use Rattle.data_bus.specs.Racks.{NumberedZip, views}
+use Rattle.data_bus.specs.Racks.{NumberedZip}
+use Rattle.data_bus.proofs.Zipped.{zip_numbered}
 use Rattle.console_spec.specs.declared.Sort.{Sort}
 use Rattle.console_spec.specs.declared.Sort.TheVariants.{Rom as RomSort, Ram as RamSort, Void as VoidSort, Nothing}
 use Rattle.console_spec.specs.declared.Sort.TheVariants.{Shared}
@@ -287,15 +288,9 @@ first_flat fill start vs filled = holds_flat_by vs (powered_views fill start vs)
         (slice_index v.bytes (here.place * 256 + at % 256)) byte))
 
 -- the views from a socket on
-powered_from : (fill start : ℕ → ℕ) (n : ℕ) (olds news : List ChipState) → NumberedZip (PowersInSocket fill start) n olds news →
-    views news ≡ map (λ x. powered (fill x.0) (start x.0) x.1) (enumerate_from n (views olds))
-powered_from fill start n [] [] all = refl
-powered_from fill start n [] (new ∷ news) all = absurd all
-powered_from fill start n (old ∷ olds) [] all = absurd all
-powered_from fill start n (old ∷ olds) (new ∷ news) all =
-    ap₂ (λ v vs. v ∷ vs) all.0.view (powered_from fill start (n + 1) olds news all.1)
-
 -- the views of a rack whose chips were powered
 pub views_powered : (fill start : ℕ → ℕ) (olds news : List ChipState) → NumberedZip (PowersInSocket fill start) 0 olds news →
     map (λ s. s.view) news ≡ powered_views fill start (map (λ s. s.view) olds)
-views_powered fill start olds news all = powered_from fill start 0 olds news all
+views_powered fill start olds news all =
+    zip_numbered (PowersInSocket fill start) (λ (s : ChipState). s.view) (λ (s : ChipState). s.view)
+    (λ (k : ℕ) (v : ChipView). powered (fill k) (start k) v) (λ k old new one. one.view) 0 olds news all

@@ -10,16 +10,17 @@ use Rattle.f8_spec.specs.BusArbitration.{Seat, seat_of}
 use Rattle.f8_spec.specs.declared.chips.PowerOn.{PowerOn}
 use Rattle.console_spec.specs.Powering.{fill_in, start_in}
 use Rattle.probe.specs.ProbeState.{ProbeState}
-use Rattle.data_bus.specs.KnownAgreement.{AllAddresses, AllAgree, AreAddresses, CountAgrees, IsCounted, has_page, parts}
+use Rattle.data_bus.specs.KnownAgreement.{AllAddresses, AreAddresses, ChipAgrees, CountAgrees, IsCounted, has_page, parts}
 use Rattle.data_bus.specs.PageIndex.{IsIndexOf, StandsFor, seats}
 use Rattle.data_bus.specs.Racks.{NumberedZip, views}
+use Rattle.data_bus.proofs.Zipped.{zip_alike, zip_all, zip_as}
 use Rattle.data_bus.specs.declared.fault.BusFault.{BusFault}
 use Rattle.data_bus.specs.declared.index.Index.{Index}
 use Rattle.data_bus.specs.declared.marks.Marks.{Marks}
 use Rattle.f8_machine.specs.Fitting.{tried, tried_in}
 use Rattle.f8_machine.specs.Keying.{KeysInSocket}
 use Rattle.f8_machine.specs.MachineState.{IsReset, MachineState}
-use Rattle.f8_machine.specs.Questions.{Counted, CountedTried, CountsOn, CountsTried, allowances}
+use Rattle.f8_machine.specs.Questions.{Counted, CountedTried, CountsOn, CountsOnTried, allowances}
 use Rattle.f8_machine.specs.RequestsHeld.{PulsesIf, PulsesInSocket, RackPulsed}
 use Rattle.f8_machine.specs.Rounds.{PowersInSocket, RackPowers}
 use Rattle.f8_machine.specs.declared.heard.Heard.{Heard}
@@ -58,12 +59,9 @@ powered_addresses fill chain powers olds news are on =
 
 powered_seats : (fill start : ℕ → ℕ) (n : ℕ) (olds news : List ChipState) → NumberedZip (PowersInSocket fill start) n olds news →
     seats news ≡ seats olds
-powered_seats fill start n [] [] on = refl
-powered_seats fill start n [] (new ∷ news) on = absurd on
-powered_seats fill start n (old ∷ olds) [] on = absurd on
-powered_seats fill start n (old ∷ olds) (new ∷ news) on =
-    ap (λ (s : Seat). s ∷ seats news) (ap seat_of on.0.view ∙ seat_of-powered (fill n) (start n) old.view)
-    ∙ ap (λ (l : List Seat). seat_of old.view ∷ l) (powered_seats fill start (n + 1) olds news on.1)
+powered_seats fill start n olds news on =
+    zip_alike (PowersInSocket fill start) (λ (s : ChipState). s.view) (λ (s : ChipState). s.view) seat_of seat_of
+    (λ k old new one. ap seat_of one.view ∙ seat_of-powered (fill k) (start k) old.view) n olds news on
 
 -- whether a chip parts from the probe at an exchange, as before power-on
 pub power_parted : (fill : ℕ) (chain : List ℕ) (powers : List PowerOn) (index : Index) (olds mids : List ChipState) →
@@ -79,27 +77,22 @@ record IsAlike (old new : ChipState) : Type 0 where
   pub counters : new.view.counters ≡ old.view.counters
 
 alike_seats : (n : ℕ) (olds news : List ChipState) → NumberedZip (λ k. IsAlike) n olds news → seats news ≡ seats olds
-alike_seats n [] [] alike = refl
-alike_seats n [] (new ∷ news) alike = absurd alike
-alike_seats n (old ∷ olds) [] alike = absurd alike
-alike_seats n (old ∷ olds) (new ∷ news) alike =
-    ap (λ (s : Seat). s ∷ seats news) alike.0.seat ∙ ap (λ l. seat_of old.view ∷ l) (alike_seats (n + 1) olds news alike.1)
+alike_seats n olds news alike =
+    zip_alike (λ (k : ℕ). IsAlike) (λ (s : ChipState). s.view) (λ (s : ChipState). s.view) seat_of seat_of
+    (λ k old new one. one.seat) n olds news alike
 
 AgreesBy : Marks → Count → Seat → Count → Type 0
 AgreesBy marks reference s own = has_page s.pages ≡ true → CountAgrees marks reference (has_second_counter s.kind) own
 
-alike_agree : (marks : Marks) (reference : Count) (n : ℕ) (olds news : List ChipState) → NumberedZip (λ k. IsAlike) n olds news →
-    AllAgree marks reference (views olds) → AllAgree marks reference (views news)
+agrees_alike : (marks : Marks) (reference : Count) (old new : ChipState) → IsAlike old new → ChipAgrees marks reference old.view →
+    ChipAgrees marks reference new.view
 unfolding AgreesBy
-alike_agree marks reference n [] [] alike agree = tt
-alike_agree marks reference n [] (new ∷ news) alike agree = absurd alike
-alike_agree marks reference n (old ∷ olds) [] alike agree = absurd alike
-alike_agree marks reference n (old ∷ olds) (new ∷ news) alike agree =
-    let before : AgreesBy marks reference (seat_of old.view) old.view.counters = agree.0 in
+agrees_alike marks reference old new alike agrees =
+    let before : AgreesBy marks reference (seat_of old.view) old.view.counters = agrees in
     let after : AgreesBy marks reference (seat_of new.view) new.view.counters =
-    subst (λ (s : Seat). AgreesBy marks reference s new.view.counters) (sym alike.0.seat)
-    (subst (λ (c : Count). AgreesBy marks reference (seat_of old.view) c) (sym alike.0.counters) before) in
-    (after, alike_agree marks reference (n + 1) olds news alike.1 agree.1)
+    subst (λ (s : Seat). AgreesBy marks reference s new.view.counters) (sym alike.seat)
+    (subst (λ (c : Count). AgreesBy marks reference (seat_of old.view) c) (sym alike.counters) before) in
+    after
 
 alike_counted : (old new : ChipState) → IsAlike old new → IsCounted old.view → IsCounted new.view
 alike_counted old new alike is =
@@ -111,20 +104,14 @@ alike_counted old new alike is =
       };
     }
 
-alike_addresses : (n : ℕ) (olds news : List ChipState) → NumberedZip (λ k. IsAlike) n olds news → AllAddresses (views olds) →
-    AllAddresses (views news)
-alike_addresses n [] [] alike are = tt
-alike_addresses n [] (new ∷ news) alike are = absurd alike
-alike_addresses n (old ∷ olds) [] alike are = absurd alike
-alike_addresses n (old ∷ olds) (new ∷ news) alike are =
-    (alike_counted old new alike.0 are.0, alike_addresses (n + 1) olds news alike.1 are.1)
-
 stands_alike : (index : Index) (probe : ProbeState) (olds news : List ChipState) → NumberedZip (λ k. IsAlike) 0 olds news →
     StandsFor index probe olds → StandsFor index probe news
 stands_alike index probe olds news alike stands = record {
   lists = subst (λ these. IsIndexOf index these) (sym (alike_seats 0 olds news alike)) stands.lists;
-  marks = alike_agree index.marks probe.count 0 olds news alike stands.marks;
-  addresses = alike_addresses 0 olds news alike stands.addresses;
+  marks = zip_all (λ (k : ℕ). IsAlike) (λ (s : ChipState). s.view) (λ (s : ChipState). s.view) (ChipAgrees index.marks probe.count)
+      (ChipAgrees index.marks probe.count) (λ k old new one. agrees_alike index.marks probe.count old new one) 0 olds news alike stands.marks;
+  addresses = zip_all (λ (k : ℕ). IsAlike) (λ (s : ChipState). s.view) (λ (s : ChipState). s.view) IsCounted IsCounted
+      (λ k old new one. alike_counted old new one) 0 olds news alike stands.addresses;
 }
 
 -- a key byte
@@ -135,16 +122,11 @@ keyed_alike port byte old new takes = by (data_port old.view port) takes.view
     by None e = record { seat = ap seat_of e; counters = ap (λ (v : ChipView). v.counters) e }
     by (Some place) e = record { seat = ap seat_of e; counters = ap (λ (v : ChipView). v.counters) e }
 
-all_keyed : (port byte n : ℕ) (olds news : List ChipState) → NumberedZip (KeysInSocket port byte) n olds news →
-    NumberedZip (λ k. IsAlike) n olds news
-all_keyed port byte n [] [] keys = tt
-all_keyed port byte n [] (new ∷ news) keys = absurd keys
-all_keyed port byte n (old ∷ olds) [] keys = absurd keys
-all_keyed port byte n (old ∷ olds) (new ∷ news) keys = (keyed_alike port byte old new keys.0, all_keyed port byte (n + 1) olds news keys.1)
-
 pub keyed_fits : (port byte : ℕ) (index : Index) (probe : ProbeState) (olds news : List ChipState) →
     NumberedZip (KeysInSocket port byte) 0 olds news → StandsFor index probe olds → StandsFor index probe news
-keyed_fits port byte index probe olds news keys stands = stands_alike index probe olds news (all_keyed port byte 0 olds news keys) stands
+keyed_fits port byte index probe olds news keys stands =
+    stands_alike index probe olds news (zip_as (KeysInSocket port byte) (λ (k : ℕ). IsAlike) (λ k old new one. keyed_alike port byte old new one)
+    0 olds news keys) stands
 
 -- a pulse
 pulsed_alike : (b : Bool) (old new : ChipState) → PulsesIf b old new → IsAlike old new
@@ -158,18 +140,12 @@ pulsed_alike false old new same = record {
   counters = ap (λ (s : ChipState). s.view.counters) same;
 }
 
-all_pulsed : (chosen n : ℕ) (olds news : List ChipState) → NumberedZip (PulsesInSocket chosen) n olds news →
-    NumberedZip (λ k. IsAlike) n olds news
-all_pulsed chosen n [] [] pulses = tt
-all_pulsed chosen n [] (new ∷ news) pulses = absurd pulses
-all_pulsed chosen n (old ∷ olds) [] pulses = absurd pulses
-all_pulsed chosen n (old ∷ olds) (new ∷ news) pulses =
-    (pulsed_alike (chosen == n) old new pulses.0, all_pulsed chosen (n + 1) olds news pulses.1)
-
 pub pulsed_fits : (found : Option ℕ) (index : Index) (probe : ProbeState) (olds news : List ChipState) → RackPulsed found olds news →
     StandsFor index probe olds → StandsFor index probe news
 pulsed_fits None index probe olds news same stands = subst (λ (states : List ChipState). StandsFor index probe states) (sym same) stands
-pulsed_fits (Some chosen) index probe olds news pulses stands = stands_alike index probe olds news (all_pulsed chosen 0 olds news pulses) stands
+pulsed_fits (Some chosen) index probe olds news pulses stands =
+    stands_alike index probe olds news (zip_as (PulsesInSocket chosen) (λ (k : ℕ). IsAlike) (λ k old new one. pulsed_alike (chosen == k) old new one)
+    0 olds news pulses) stands
 
 -- ---- the questions, from the beginning of a call
 
@@ -179,7 +155,7 @@ pub counted_whole : (size : ℕ) (known after : Index) (asked more : ℕ) (earli
 counted_whole size known after asked more earlier now none counts = counts.on size known asked refl (counted_none size known asked earlier none)
 
 pub tried_whole : (size : ℕ) (fault : BusFault) (known after : Index) (asked more : ℕ) (earlier now : List Heard) → earlier ≡ [] →
-    CountsTried size fault (record { index = known; questions = asked; steps = earlier }) (record { index = after; questions = more; steps = now }) →
+    CountsOnTried size fault (record { index = known; questions = asked; steps = earlier }) (record { index = after; questions = more; steps = now }) →
     CountedTried size known asked fault (record { index = after; questions = more; steps = now })
 tried_whole size fault known after asked more earlier now none counts = counts.on size known asked refl (counted_none size known asked earlier none)
 

@@ -1,5 +1,5 @@
 -- A key byte from outside keeps what a machine and its rack stand for.
-use Rattle.std.proofs.Common.{◌≡◌, ℕ, zero, suc, ◌+◌, ◌*◌, ◌<◌, ◌≤◌, Bool, true, false, List, [], ◌∷◌, map, length}
+use Rattle.std.proofs.Common.{◌≡◌, ℕ, zero, suc, ◌*◌, ◌<◌, ◌≤◌, Bool, true, false, List, [], ◌∷◌, map, length}
 use Rattle.std.proofs.Common.{refl, sym, ap, ap₂, ◌∙◌, subst, arith, eqb-true, eq-eqb, length-set}
 use Rattle.std.specs.Prelude.{◌==◌, nat_lt, if◌then◌else◌, Option, Some, None, option_map, option_and_then, slice_get}
 use Rattle.std.specs.Prelude.{slice_index, slice_set}
@@ -23,6 +23,7 @@ use Rattle.cpu3850.specs.CpuSteps.{CpuState}
 use Rattle.cpu3850.specs.OwnWrites.{own_ports}
 use Rattle.cpu3850.proofs.PortLaws.{own_ports-with_key}
 use Rattle.data_bus.specs.Racks.{NumberedZip, views}
+use Rattle.data_bus.proofs.Zipped.{zip_mapped}
 use Rattle.f8_machine.specs.RackViews.{AreCopies, HeldOnce, HoldsFlat, ReadOnce, IsPort, HoldsPorts}
 use Rattle.f8_machine.specs.Keying.{is_own, KeysInSocket, RackTakesKeys, RackKeyedBy, RackKeyed, keyed_machine}
 use Rattle.f8_machine.specs.MachineState.{MachineState}
@@ -52,11 +53,9 @@ keyed_leaves (Some place) byte v = record { seat = refl; counters = refl; bytes 
 -- the views of a rack
 keyed_from : (port byte n : ℕ) (olds news : List ChipState) → NumberedZip (KeysInSocket port byte) n olds news →
     views news ≡ map (keyed port byte) (views olds)
-keyed_from port byte n [] [] all = refl
-keyed_from port byte n [] (new ∷ news) all = absurd all
-keyed_from port byte n (old ∷ olds) [] all = absurd all
-keyed_from port byte n (old ∷ olds) (new ∷ news) all =
-    ap₂ (λ v vs. v ∷ vs) all.0.view (keyed_from port byte (n + 1) olds news all.1)
+keyed_from port byte n olds news all =
+    zip_mapped (KeysInSocket port byte) (λ (s : ChipState). s.view) (λ (s : ChipState). s.view) (keyed port byte)
+    (λ k old new one. one.view) n olds news all
 
 seats_keyed : (port byte : ℕ) (vs : List ChipView) → map seat_of (map (keyed port byte) vs) ≡ map seat_of vs
 seats_keyed port byte [] = refl

@@ -1,5 +1,5 @@
 -- Power, key bytes, a write to a port of the processor's own and pulses keep the requests of a rack together with the history of the run.
-use Rattle.std.proofs.Common.{◌≡◌, ℕ, ◌+◌, ◌%◌, ◌<◌, ◌≤◌, Bool, true, false, List, [], ◌∷◌, map, refl, sym, ap, ap₂, ◌∙◌, subst, arith}
+use Rattle.std.proofs.Common.{◌≡◌, ℕ, ◌+◌, ◌%◌, ◌<◌, ◌≤◌, Bool, true, false, List, [], map, refl, sym, ap, ◌∙◌, subst, arith}
 use Rattle.std.proofs.Common.{eqb-true, eq-eqb}
 use Rattle.std.specs.Prelude.{◌==◌, if◌then◌else◌, Option, Some, None, option_map, option_and_then, is_some, slice_get}
 use Rattle.std.proofs.lemmas.Bool.{le-leb, lt-ltb}
@@ -14,11 +14,12 @@ use Rattle.console_spec.specs.InterruptRequests.{timer_port, request_by, has_exp
 use Rattle.console_spec.specs.Writes.{latch_of, takers}
 use Rattle.console_spec.specs.declared.PortWrite.{PortWrite}
 use Rattle.console_spec.proofs.RequestLaws.{past-written, past-pulsed, after_write, after_pulse}
-use Rattle.data_bus.specs.Racks.{NumberedZip, views}
+use Rattle.data_bus.specs.Racks.{views}
+use Rattle.data_bus.proofs.Zipped.{Paired, paired, zip_alike}
 use Rattle.f8_machine.specs.Requests.{Device, IsDevice, device_of}
 use Rattle.f8_machine.specs.RequestsHeld.{IsIdle, HasVector, HasRequests, HoldRequests, IsInTime}
 use Rattle.f8_machine.specs.RequestsHeld.{PulsesIf, PulsesInSocket, RackPulses}
-use Rattle.f8_machine.proofs.Acknowledging.{Paired, paired, unasked}
+use Rattle.f8_machine.proofs.Acknowledging.{unasked}
 use Rattle.f8_machine.proofs.DeviceLaws.{device_of-pulsed, device_idle, device_pulse, device_unpulsed}
 use Rattle.f8_machine.proofs.FirstViews.{powered_views, powered_comes}
 use Rattle.f8_machine.proofs.Kept.{Comes, comes}
@@ -199,16 +200,10 @@ pulse_leaves true old new pulse = ap unasked pulse.view ∙ by (admits_pulses ol
     by false = refl
 pulse_leaves false old new pulse = ap (λ (s : ChipState). unasked s.view) pulse
 
-pulses_from : (chosen n : ℕ) (olds news : List ChipState) → NumberedZip (PulsesInSocket chosen) n olds news →
-    map unasked (views news) ≡ map unasked (views olds)
-pulses_from chosen n [] [] all = refl
-pulses_from chosen n [] (new ∷ news) all = absurd all
-pulses_from chosen n (old ∷ olds) [] all = absurd all
-pulses_from chosen n (old ∷ olds) (new ∷ news) all = ap₂ (λ (v : ChipView) (vs : List ChipView). v ∷ vs)
-    (pulse_leaves (chosen == n) old new all.0) (pulses_from chosen (n + 1) olds news all.1)
-
 pub views_pulsed : (chosen : ℕ) (olds news : List ChipState) → RackPulses chosen olds news → map unasked (views news) ≡ map unasked (views olds)
-views_pulsed chosen olds news all = pulses_from chosen 0 olds news all
+views_pulsed chosen olds news all =
+    zip_alike (PulsesInSocket chosen) (λ (s : ChipState). s.view) (λ (s : ChipState). s.view) unasked unasked
+    (λ k old new one. pulse_leaves (chosen == k) old new one) 0 olds news all
 
 -- A pulse at the chip in a socket. Where control lets it in, it comes after the last control write and acknowledgement of that chip.
 pub in_time_pulsed : (chosen time : ℕ) (h : History) (olds news : List ChipState) →

@@ -1,6 +1,6 @@
 -- The bus steps of reset, one by one.
 use Rattle.std.proofs.Common.{◌≡◌, ℕ, Bool, List, [], ◌∷◌, Some, None, refl, sym, ap, subst, ◌∙◌}
-use Rattle.std.specs.Prelude.{Result, Ok, Err, IfOk, IfErr, OnErr}
+use Rattle.std.specs.Prelude.{Result, Ok, Err, IfOk, OnErr}
 use Rattle.f8_spec.specs.BusCodes.{driver_of}
 use Rattle.f8_spec.specs.ChipState.{ChipState}
 use Rattle.f8_spec.specs.MicroSteps.{Step, Opcode, short_step, reset_steps}
@@ -16,7 +16,6 @@ use Rattle.cpu3850.specs.declared.steps.Step.{Step as Cpu3850Step}
 use Rattle.f8_machine.specs.BusSteps.{IsPlain, IsServed, IsRefused, heard_served}
 use Rattle.f8_machine.specs.Faults.{fault_of}
 use Rattle.f8_machine.specs.Rounds.{RackRuns}
-use Rattle.f8_machine.specs.declared.carry.Unserved.{Unserved}
 use Rattle.f8_machine.proofs.RackLaws.{rack_runs_more, rack_runs_stays, plain_marks}
 use Rattle.f8_machine.proofs.Slots.{rack_stays_same}
 use Rattle.f8_machine.specs.Resetting.{IsAtPower, IsFetched, IsNotFetched}
@@ -106,10 +105,9 @@ on_err (Ok a) P p = tt
 on_err (Err e) P p = p
 
 -- two clauses on a refusal
-pub if_err_both : {A E : Type 0} (P R Q : E → Type 0) (r : Result A E) → ((e : E) → P e → R e → Q e) → IfErr r P →
-    IfErr r R → IfErr r Q
-if_err_both P R Q (Ok a) f p q = p
-if_err_both P R Q (Err e) f p q = f e p q
+pub on_err_both : {A E : Type 0} (P R Q : Type 0) (r : Result A E) → (P → R → Q) → OnErr r P → OnErr r R → OnErr r Q
+on_err_both P R Q (Ok a) f p q = p
+on_err_both P R Q (Err e) f p q = f p q
 
 -- the rack after a step that is served
 pub rack_served : (step : Cpu3850Step) → IsPlain step.romc → (byte : ℕ) (probe probe_now : ProbeState) (olds mids news : List ChipState)
@@ -121,13 +119,13 @@ rack_served step plain byte probe probe_now olds mids news steps steps_now ran s
     (plain_marks (heard_served step byte served.socket) plain) ran served.settled)
 
 -- and after one that is served or not
-pub rack_ran : (step : Cpu3850Step) → IsPlain step.romc → (r : Result ℕ Unserved) (probe probe_now : ProbeState)
+pub rack_ran : {E : Type 0} (step : Cpu3850Step) → IsPlain step.romc → (r : Result ℕ E) (fault : BusFault) (probe probe_now : ProbeState)
     (olds mids news : List ChipState) (steps steps_now : List Heard) → RackRuns steps olds mids →
     IfOk r (λ byte. IsServed step 0 probe probe_now mids news steps steps_now byte) →
-    IfErr r (λ unserved. IsRefused step unserved.fault probe probe_now mids news steps steps_now) →
+    OnErr r (IsRefused step fault probe probe_now mids news steps steps_now) →
     RackRuns steps_now olds news
-rack_ran step plain (Ok byte) probe probe_now olds mids news steps steps_now ran served refused =
+rack_ran step plain (Ok byte) fault probe probe_now olds mids news steps steps_now ran served refused =
     rack_served step plain byte probe probe_now olds mids news steps steps_now ran served
-rack_ran step plain (Err e) probe probe_now olds mids news steps steps_now ran served refused =
+rack_ran step plain (Err e) fault probe probe_now olds mids news steps steps_now ran served refused =
     subst (λ (l : List Heard). RackRuns l olds news) (sym refused.recorded)
     (rack_runs_stays steps olds mids news ran (rack_stays_same mids news refused.stays))

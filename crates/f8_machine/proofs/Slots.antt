@@ -13,7 +13,8 @@ use Rattle.f8_spec.specs.Instructions.{step_clocks}
 use Rattle.f8_spec.specs.declared.chips.ChipKind.{ChipKind}
 use Rattle.f8_spec.specs.declared.chips.ChipKind.TheVariants.{Psu, Smi, Pio}
 use Rattle.f8_spec.specs.declared.chips.Page.{Page}
-use Rattle.data_bus.specs.Racks.{NumberedZip, SettlesStep, Stays, RackSettles, RackStays, views}
+use Rattle.data_bus.specs.Racks.{NumberedZip, SettlesStep, Stays, RackSettles, RackStays}
+use Rattle.data_bus.proofs.Zipped.{zip_mapped}
 use Rattle.f8_spec.specs.ChipState.{IsFilled}
 
 -- the step as a chip hears it whose interrupt is not acknowledged
@@ -36,7 +37,7 @@ leaves_all : (v : ChipView) → LeavesBytes v v
 leaves_all v = record { rest = record { seat = refl; counters = refl }; bytes = refl }
 
 -- only a chip whose vector ports write has a port for a half of it
-abbrev FitsRole : ChipKind → PortRole → Type 0
+abbrev pub FitsRole : ChipKind → PortRole → Type 0
 FitsRole kind (DataPort place) = Unit {0}
 FitsRole kind VectorHigh = has_fixed_vector kind ≡ false
 FitsRole kind VectorLow = has_fixed_vector kind ≡ false
@@ -50,7 +51,7 @@ data_fits kind offset true timer = tt
 data_fits kind offset false true = tt
 data_fits kind offset false false = tt
 
-role_fits : (kind : ChipKind) (offset : ℕ) → FitsRole kind (role_at kind offset)
+pub role_fits : (kind : ChipKind) (offset : ℕ) → FitsRole kind (role_at kind offset)
 role_fits Psu offset = data_fits Psu offset (offset == 2) (offset == 3)
 role_fits Pio offset = data_fits Pio offset (offset == 2) (offset == 3)
 role_fits Smi offset = by (offset == 2) (offset == 3) (offset == 0)
@@ -204,21 +205,13 @@ comes_after romc byte clocks vs place v w lies lies_after =
     ∙ lies_after in
     cc
 
--- the views from a socket on
-settled_from : (romc : ℕ) (long : Bool) (byte n : ℕ) (olds news : List ChipState) →
-    NumberedZip (SettlesStep romc long None byte) n olds news →
-    views news ≡ map (after_step (plain_step romc byte (step_clocks long))) (views olds)
-settled_from romc long byte n [] [] all = refl
-settled_from romc long byte n [] (new ∷ news) all = absurd all
-settled_from romc long byte n (old ∷ olds) [] all = absurd all
-settled_from romc long byte n (old ∷ olds) (new ∷ news) all =
-    ap₂ (λ v vs. v ∷ vs) all.0.view (settled_from romc long byte (n + 1) olds news all.1)
-
 -- the views of a rack that heard a step
 pub views_settled : (romc : ℕ) (long : Bool) (byte : ℕ) (olds news : List ChipState) →
     RackSettles romc long None byte olds news →
     map (λ s. s.view) news ≡ map (after_step (plain_step romc byte (step_clocks long))) (map (λ s. s.view) olds)
-views_settled romc long byte olds news all = settled_from romc long byte 0 olds news all
+views_settled romc long byte olds news all =
+    zip_mapped (SettlesStep romc long None byte) (λ (s : ChipState). s.view) (λ (s : ChipState). s.view)
+    (after_step (plain_step romc byte (step_clocks long))) (λ k old new one. one.view) 0 olds news all
 
 -- the chips from a socket on
 stays_from : (n : ℕ) (olds news : List ChipState) → NumberedZip Stays n olds news → news ≡ olds

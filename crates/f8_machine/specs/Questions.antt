@@ -1,5 +1,5 @@
 -- The questions that the bus steps of a machine put to the chips of its rack, step by step.
-use Rattle.std.specs.Prelude.{◌≡◌, ℕ, ◌+◌, ◌≤◌, Bool, List, [], ◌∷◌, ◌++◌, map}
+use Rattle.std.specs.Prelude.{◌≡◌, ℕ, ◌+◌, ◌≤◌, Bool, List, [], ◌∷◌, ◌++◌, map, length, sum_by}
 use Rattle.f8_spec.specs.BusCodes.{counter_of}
 use Rattle.f8_spec.specs.BusArbitration.{rule_of}
 use Rattle.data_bus.specs.Allowances.{allowance_by}
@@ -9,6 +9,7 @@ use Rattle.data_bus.specs.declared.fault.BusFault.{BusFault}
 use Rattle.data_bus.specs.declared.fault.BusFault.TheVariants.{Conflict, Undriven, Astray}
 use Rattle.data_bus.specs.declared.index.Index.{Index}
 use Rattle.data_bus.specs.declared.marks.Marks.{Marks}
+use Rattle.f8_machine.specs.declared.bus.Bus.{Bus}
 use Rattle.f8_machine.specs.declared.heard.Heard.{Heard}
 
 -- ---- steps
@@ -62,6 +63,22 @@ pub record CountsOn (size : ℕ) (old new : Asking) : Type 0 where
   pub on : (chips : ℕ) (first : Index) (before : ℕ) → chips ≡ size → Counted chips first before old →
       Counted chips first before new
 
-pub record CountsTried (size : ℕ) (fault : BusFault) (old new : Asking) : Type 0 where
+pub record CountsOnTried (size : ℕ) (fault : BusFault) (old new : Asking) : Type 0 where
   pub on : (chips : ℕ) (first : Index) (before : ℕ) → chips ≡ size → Counted chips first before old →
       CountedTried chips first before fault new
+
+-- ---- what a call counts
+
+-- the rack's chips, by the questions that each was put, the bus and the record of steps
+abbrev pub asking : {X : Type 0} → (X → ℕ) → List X → Bus → List Heard → Asking
+asking queries chips bus steps = record { index = bus.index; questions = sum_by queries chips; steps = steps }
+
+-- from the chips, the bus and the record before a call to those after it the count goes on
+abbrev pub Counts : {X : Type 0} → (X → ℕ) → List X → List X → Bus → Bus → List Heard → List Heard → Type 0
+Counts queries olds news before after earlier now =
+    CountsOn (length olds) (asking queries olds before earlier) (asking queries news after now)
+
+-- and a step more was tried, which was not served
+abbrev pub CountsTried : {X : Type 0} → BusFault → (X → ℕ) → List X → List X → Bus → Bus → List Heard → List Heard → Type 0
+CountsTried fault queries olds news before after earlier now =
+    CountsOnTried (length olds) fault (asking queries olds before earlier) (asking queries news after now)

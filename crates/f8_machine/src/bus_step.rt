@@ -1,17 +1,17 @@
 //! One bus step of a machine.
-ghost use Rattle.std.specs.Prelude.{◌≡◌, ◌<◌, ◌≤◌, length, map, sum_by, IfOk, IfErr, IfSome, OnErr};
+ghost use Rattle.std.specs.Prelude.{◌≡◌, ◌<◌, ◌≤◌, length, map, sum_by, IfOk, IfSome, OnErr};
 ghost use Rattle.data_bus.specs.PageIndex.{StandsFor};
 ghost use Rattle.data_bus.specs.Racks.{ChosenAsks};
 ghost use Rattle.f8_machine.specs.BusSteps.{IsPlain, IsServed, IsServedBy, IsRefused, IsRefusedBy, heard_served};
-ghost use Rattle.f8_machine.specs.Questions.{CountsOn, CountsTried};
+ghost use Rattle.f8_machine.specs.Questions.{Counts, CountsTried};
 
-use super::carry::Unserved;
+use super::bus::Bus;
 use super::heard::{Heard, taker, who_drove};
 use super::record::{MOST_HEARD, Record};
+use super::unserved::{NotServed, Unserved};
 use chip_face::{Chip, MOST_CHIPS};
 use cpu3850::Step;
-use data_bus::{BusFault, Cycle, Index, Rack, Served, step_asking, step_by as bus, step_known};
-use probe::Probe;
+use data_bus::{Cycle, Rack, Served, step_asking, step_by, step_known};
 
 /// A served step, as a trace tells it.
 fn heard(step: &Step, served: Served) -> Heard
@@ -32,28 +32,26 @@ fn heard(step: &Step, served: Served) -> Heard
 #[inline(never)]
 fn known_step(
     rack: &mut Rack,
-    probe: &mut Probe,
-    known: &mut Index,
+    bus: &mut Bus,
     step: &Step,
     placed: u8,
     steps: &mut Record,
 ) -> Option<u8>
     requires few { length rack.old.items ≤ MOST_CHIPS }
     requires room { length steps.old < MOST_HEARD }
-    requires stands { StandsFor known.old probe.old (map state rack.old.items) }
+    requires stands { StandsFor bus.old.index bus.old.probe (map state rack.old.items) }
     requires plain { IsPlain step.now.romc }
-    ensures served { IfSome result (λ byte. IsServed step.now placed probe.old probe.new
+    ensures served { IfSome result (λ byte. IsServed step.now placed bus.old.probe bus.new.probe
         (map state rack.old.items) (map state rack.new.items) steps.old steps.new byte) }
-    ensures counted { IfSome result (λ byte. CountsOn (length rack.old.items)
-        (record { index = known.old; questions = sum_by queries rack.old.items; steps = steps.old })
-        (record { index = known.new; questions = sum_by queries rack.new.items; steps = steps.new })) }
+    ensures counted { IfSome result (λ byte. Counts queries rack.old.items rack.new.items
+        bus.old bus.new steps.old steps.new) }
     ensures stays { result ≡ None → map state rack.new.items ≡ map state rack.old.items }
-    ensures unheard { result ≡ None → probe.new ≡ probe.old }
-    ensures index_stays { result ≡ None → known.new ≡ known.old }
+    ensures unheard { result ≡ None → bus.new.probe ≡ bus.old.probe }
+    ensures index_stays { result ≡ None → bus.new.index ≡ bus.old.index }
     ensures untold { result ≡ None → steps.new ≡ steps.old }
     ensures unasked { result ≡ None →
         sum_by queries rack.new.items ≡ sum_by queries rack.old.items }
-    ensures stands { StandsFor known.new probe.new (map state rack.new.items) }
+    ensures stands { StandsFor bus.new.index bus.new.probe (map state rack.new.items) }
     ensures chips { length rack.new.items ≡ length rack.old.items }
 {
     let cycle = Cycle {
@@ -62,7 +60,7 @@ fn known_step(
         byte: placed,
         first: None,
     };
-    match step_known(rack, probe, known, cycle) {
+    match step_known(rack, &mut bus.probe, &mut bus.index, cycle) {
         Some(served) => {
             steps.push(heard(step, served));
             Some(served.byte)
@@ -71,17 +69,12 @@ fn known_step(
     }
 }
 
-/// A bus step wasn't served; what there is to say of it stands where the caller has a place for it.
-#[derive(Clone, Copy, Debug, PartialEq, Eq)]
-pub(crate) struct NotServed;
-
 /// One bus step as [`bus_step`] does it, where the index didn't tell that it is served.
 #[tactic(auto, using(crate::proofs::BusAnswers::none_chosen, crate::proofs::BusAnswers::served_by, crate::proofs::BusAnswers::refused_by, crate::proofs::Counting::counts_by, crate::proofs::Counting::tried_by))]
 #[inline(never)]
 fn whole_step(
     rack: &mut Rack,
-    probe: &mut Probe,
-    known: &mut Index,
+    bus: &mut Bus,
     step: &Step,
     placed: u8,
     steps: &mut Record,
@@ -89,20 +82,19 @@ fn whole_step(
 ) -> Result<u8, NotServed>
     requires few { length rack.old.items ≤ MOST_CHIPS }
     requires room { length steps.old < MOST_HEARD }
-    requires stands { StandsFor known.old probe.old (map state rack.old.items) }
+    requires stands { StandsFor bus.old.index bus.old.probe (map state rack.old.items) }
     requires plain { IsPlain step.now.romc }
-    ensures served { IfOk result (λ byte. IsServed step.now placed probe.old probe.new
+    ensures served { IfOk result (λ byte. IsServed step.now placed bus.old.probe bus.new.probe
         (map state rack.old.items) (map state rack.new.items) steps.old steps.new byte) }
-    ensures refused { OnErr result (IsRefused step.now unserved.new.fault probe.old probe.new
-        (map state rack.old.items) (map state rack.new.items) steps.old steps.new) }
+    ensures refused { OnErr result (IsRefused step.now unserved.new.fault
+        bus.old.probe bus.new.probe (map state rack.old.items) (map state rack.new.items)
+        steps.old steps.new) }
     ensures long { OnErr result (unserved.new.long ≡ step.now.long) }
-    ensures stands { StandsFor known.new probe.new (map state rack.new.items) }
-    ensures counted { IfOk result (λ byte. CountsOn (length rack.old.items)
-        (record { index = known.old; questions = sum_by queries rack.old.items; steps = steps.old })
-        (record { index = known.new; questions = sum_by queries rack.new.items; steps = steps.new })) }
-    ensures tried { OnErr result (CountsTried (length rack.old.items) unserved.new.fault
-        (record { index = known.old; questions = sum_by queries rack.old.items; steps = steps.old })
-        (record { index = known.new; questions = sum_by queries rack.new.items; steps = steps.new })) }
+    ensures stands { StandsFor bus.new.index bus.new.probe (map state rack.new.items) }
+    ensures counted { IfOk result (λ byte. Counts queries rack.old.items rack.new.items
+        bus.old bus.new steps.old steps.new) }
+    ensures tried { OnErr result (CountsTried unserved.new.fault queries
+        rack.old.items rack.new.items bus.old bus.new steps.old steps.new) }
     ensures chips { length rack.new.items ≡ length rack.old.items }
 {
     let cycle = Cycle {
@@ -111,7 +103,7 @@ fn whole_step(
         byte: placed,
         first: None,
     };
-    match step_asking(rack, probe, known, &cycle) {
+    match step_asking(rack, &mut bus.probe, &mut bus.index, &cycle) {
         Ok(served) => {
             steps.push(heard(step, served));
             Ok(served.byte)
@@ -132,8 +124,7 @@ fn whole_step(
 #[inline(always)]
 pub(crate) fn bus_step(
     rack: &mut Rack,
-    probe: &mut Probe,
-    known: &mut Index,
+    bus: &mut Bus,
     step: Step,
     placed: u8,
     steps: &mut Record,
@@ -141,25 +132,24 @@ pub(crate) fn bus_step(
 ) -> Result<u8, NotServed>
     requires few { length rack.old.items ≤ MOST_CHIPS }
     requires room { length steps.old < MOST_HEARD }
-    requires stands { StandsFor known.old probe.old (map state rack.old.items) }
+    requires stands { StandsFor bus.old.index bus.old.probe (map state rack.old.items) }
     requires plain { IsPlain step.romc }
-    ensures served { IfOk result (λ byte. IsServed step placed probe.old probe.new
+    ensures served { IfOk result (λ byte. IsServed step placed bus.old.probe bus.new.probe
         (map state rack.old.items) (map state rack.new.items) steps.old steps.new byte) }
-    ensures refused { OnErr result (IsRefused step unserved.new.fault probe.old probe.new
-        (map state rack.old.items) (map state rack.new.items) steps.old steps.new) }
+    ensures refused { OnErr result (IsRefused step unserved.new.fault
+        bus.old.probe bus.new.probe (map state rack.old.items) (map state rack.new.items)
+        steps.old steps.new) }
     ensures long { OnErr result (unserved.new.long ≡ step.long) }
-    ensures stands { StandsFor known.new probe.new (map state rack.new.items) }
-    ensures counted { IfOk result (λ byte. CountsOn (length rack.old.items)
-        (record { index = known.old; questions = sum_by queries rack.old.items; steps = steps.old })
-        (record { index = known.new; questions = sum_by queries rack.new.items; steps = steps.new })) }
-    ensures tried { OnErr result (CountsTried (length rack.old.items) unserved.new.fault
-        (record { index = known.old; questions = sum_by queries rack.old.items; steps = steps.old })
-        (record { index = known.new; questions = sum_by queries rack.new.items; steps = steps.new })) }
+    ensures stands { StandsFor bus.new.index bus.new.probe (map state rack.new.items) }
+    ensures counted { IfOk result (λ byte. Counts queries rack.old.items rack.new.items
+        bus.old bus.new steps.old steps.new) }
+    ensures tried { OnErr result (CountsTried unserved.new.fault queries
+        rack.old.items rack.new.items bus.old bus.new steps.old steps.new) }
     ensures chips { length rack.new.items ≡ length rack.old.items }
 {
-    match known_step(rack, probe, known, &step, placed, steps) {
+    match known_step(rack, bus, &step, placed, steps) {
         Some(byte) => Ok(byte),
-        None => whole_step(rack, probe, known, &step, placed, steps, unserved),
+        None => whole_step(rack, bus, &step, placed, steps, unserved),
     }
 }
 
@@ -169,28 +159,28 @@ pub(crate) fn bus_step(
 #[inline(always)]
 pub(crate) fn bus_step_by(
     rack: &mut Rack,
-    probe: &mut Probe,
-    known: &mut Index,
+    bus: &mut Bus,
     step: Step,
     placed: u8,
     first: Option<u8>,
     steps: &mut Record,
-) -> Result<u8, BusFault>
+    unserved: &mut Unserved,
+) -> Result<u8, NotServed>
     requires few { length rack.old.items ≤ MOST_CHIPS }
     requires room { length steps.old < MOST_HEARD }
-    requires stands { StandsFor known.old probe.old (map state rack.old.items) }
+    requires stands { StandsFor bus.old.index bus.old.probe (map state rack.old.items) }
     requires chosen { ChosenAsks step.romc first (map state rack.old.items) }
-    ensures served { IfOk result (λ byte. IsServedBy first step placed probe.old probe.new
+    ensures served { IfOk result (λ byte. IsServedBy first step placed bus.old.probe bus.new.probe
         (map state rack.old.items) (map state rack.new.items) steps.old steps.new byte) }
-    ensures refused { IfErr result (λ fault. IsRefusedBy first step fault probe.old probe.new
-        (map state rack.old.items) (map state rack.new.items) steps.old steps.new) }
-    ensures stands { StandsFor known.new probe.new (map state rack.new.items) }
-    ensures counted { IfOk result (λ byte. CountsOn (length rack.old.items)
-        (record { index = known.old; questions = sum_by queries rack.old.items; steps = steps.old })
-        (record { index = known.new; questions = sum_by queries rack.new.items; steps = steps.new })) }
-    ensures tried { IfErr result (λ fault. CountsTried (length rack.old.items) fault
-        (record { index = known.old; questions = sum_by queries rack.old.items; steps = steps.old })
-        (record { index = known.new; questions = sum_by queries rack.new.items; steps = steps.new })) }
+    ensures refused { OnErr result (IsRefusedBy first step unserved.new.fault
+        bus.old.probe bus.new.probe (map state rack.old.items) (map state rack.new.items)
+        steps.old steps.new) }
+    ensures long { OnErr result (unserved.new.long ≡ step.long) }
+    ensures stands { StandsFor bus.new.index bus.new.probe (map state rack.new.items) }
+    ensures counted { IfOk result (λ byte. Counts queries rack.old.items rack.new.items
+        bus.old bus.new steps.old steps.new) }
+    ensures tried { OnErr result (CountsTried unserved.new.fault queries
+        rack.old.items rack.new.items bus.old bus.new steps.old steps.new) }
     ensures chips { length rack.new.items ≡ length rack.old.items }
 {
     let cycle = Cycle {
@@ -199,11 +189,17 @@ pub(crate) fn bus_step_by(
         byte: placed,
         first,
     };
-    match bus(rack, probe, known, cycle) {
+    match step_by(rack, &mut bus.probe, &mut bus.index, cycle) {
         Ok(served) => {
             steps.push(heard(&step, served));
             Ok(served.byte)
         }
-        Err(fault) => Err(fault),
+        Err(fault) => {
+            *unserved = Unserved {
+                fault,
+                long: step.long,
+            };
+            Err(NotServed)
+        }
     }
 }

@@ -1,5 +1,5 @@
 //! The chips described, by the sockets in which they stand.
-ghost use Rattle.std.specs.Prelude.{◌≡◌, ◌<◌, ◌≤◌, ◌==◌, false, ◌++◌, [], ◌∷◌, length};
+ghost use Rattle.std.specs.Prelude.{◌≡◌, ◌<◌, ◌≤◌, ◌==◌, false, ◌++◌, [], ◌∷◌, length, slice_get};
 ghost use Rattle.std.specs.List.{list_any};
 ghost use Rattle.f8_machine.specs.Chains.{AreDistinct};
 
@@ -73,5 +73,12 @@ impl Chain {
     {
         let len = self.len;
         &self.sockets[..len]
+    }
+
+    /// The socket in a place, and `None` past the last.
+    pub fn get(&self, place: usize) -> Option<u8>
+        ensures { result ≡ slice_get self.now place }
+    {
+        self.as_slice().get(place).copied()
     }
 }

@@ -3,6 +3,7 @@
 #![tactic(auto)]
 
 mod all_chips;
+mod bus;
 mod bus_step;
 mod carry;
 mod chain;
@@ -15,6 +16,7 @@ mod outcome;
 mod pulse;
 mod record;
 mod reset;
+mod unserved;
 mod wrote;
 
 pub use chain::Chain;

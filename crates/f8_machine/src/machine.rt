@@ -1,7 +1,7 @@
 //! The machine: power, reset, instructions, key bytes and pulses.
 use super::all_chips::{key_all, power_all};
-use super::bus_step::NotServed;
-use super::carry::{Unserved, carry_out};
+use super::bus::Bus;
+use super::carry::carry_out;
 use super::chain::Chain;
 use super::flow::Flow;
 use super::interrupt::clocks_of_plan;
@@ -9,6 +9,7 @@ use super::outcome::{Mode, Outcome, StoppedBy};
 use super::pulse::pulse_at;
 use super::record::Record;
 use super::reset::fetch_first;
+use super::unserved::{NotServed, Unserved};
 use super::wrote::done_write;
 use chip_face::{Chip, Counters, MOST_CHIPS, Powers};
 use console_spec::Regs;
@@ -24,7 +25,7 @@ use std::marker::Model;
 /// is stopped, and answers the same again.
 #[derive(Debug, Drop)]
 pub struct Machine {
-    probe: Probe,
+    bus: Bus,
     cpu: Cpu,
 
     /// The counters as the last instruction that was done left them.
@@ -36,9 +37,6 @@ pub struct Machine {
     /// The sockets of the chips described.
     chain: Chain,
     mode: Mode,
-
-    /// The index of the rack's pages, by which bus steps find the chip that answers.
-    index: Index,
 }
 
 impl Model for Machine {
@@ -49,13 +47,13 @@ impl Model for Machine {
     ghost Value = { MachineState };
 
     ghost view = { λ m. record {
-      probe = m.probe;
+      probe = m.bus.probe;
       cpu = m.cpu;
       flow = flow_of m.flow;
       phi = m.phi;
       chain = m.chain;
       mode = m.mode;
-      index = m.index;
+      index = m.bus.index;
     } };
 
     // Before reset no clock has passed.
@@ -77,7 +75,7 @@ impl Machine {
     ghost use Rattle.f8_machine.specs.Fitting.{Fits, tried};
     ghost use Rattle.f8_machine.specs.Questions.{allowances};
     ghost use Rattle.f8_machine.specs.HeardSteps.{HaveBytes};
-    ghost use Rattle.f8_machine.specs.MachineState.{IsReset, powered_machine, steps_in};
+    ghost use Rattle.f8_machine.specs.MachineState.{IsReset, halted, powered_machine, steps_in};
     ghost use Rattle.f8_machine.specs.Refinement.{AreWhole, Represents, IsPowered, ResetRefines};
     ghost use Rattle.f8_machine.specs.Advancing.{Follows, Advances, Halts, StaysStopped};
     ghost use Rattle.f8_machine.specs.Rounds.{RackPowers};
@@ -112,13 +110,15 @@ impl Machine {
         power_all(rack, fill, chain.as_slice(), powers.as_slice());
         let index = Index::of(rack);
         Machine {
-            probe: Probe::new(),
+            bus: Bus {
+                probe: Probe::new(),
+                index,
+            },
             cpu: Cpu::power(fill),
             flow: Flow::zero(),
             phi: 0,
             chain,
             mode: Mode::Powered,
-            index,
         }
     }
 
@@ -140,17 +140,18 @@ impl Machine {
         ensures chips { length rack.new.items ≡ length rack.old.items }
     {
         let mut steps = Record::new();
-        let fetched = fetch_first(rack, &mut self.probe, &mut self.index, &mut steps);
+        let mut cut = Unserved::place();
+        let fetched = fetch_first(rack, &mut self.bus, &mut steps, &mut cut);
         steps.bytes_law();
         match fetched {
             Ok(opcode) => {
                 self.cpu.fetch(opcode);
-                self.flow = Flow::of(self.probe.counters());
+                self.flow = Flow::of(self.bus.probe.counters());
                 self.phi += RESET_PHI;
                 self.mode = Mode::Running;
                 Outcome::Done { wrote: None, steps }
             }
-            Err(cut) => {
+            Err(NotServed) => {
                 self.mode = Mode::Stopped(cut.to_stopped_by());
                 let Unserved { fault, long } = cut;
                 Outcome::Fault { fault, long, steps }
@@ -188,8 +189,7 @@ impl Machine {
         let plan = match self.cpu.plan() {
             Ok(plan) => plan,
             Err(Reserved { code }) => {
-                let at = self.flow.p;
-                self.mode = Mode::Stopped(StoppedBy::Reserved { at, code });
+                let at = self.stop_at_reserved(code);
                 return Outcome::Reserved { at, code };
             }
         };
@@ -199,8 +199,7 @@ impl Machine {
         let mut unserved = Unserved::place();
         let carried = carry_out(
             &mut self.cpu,
-            &mut self.probe,
-            &mut self.index,
+            &mut self.bus,
             rack,
             &plan,
             &self.chain,
@@ -209,7 +208,7 @@ impl Machine {
         );
         match carried {
             Ok(chosen) => {
-                self.flow = Flow::of(self.probe.counters());
+                self.flow = Flow::of(self.bus.probe.counters());
                 self.phi += clocks_of_plan(chosen, &plan);
                 let wrote = done_write(code, self.phi, self.cpu.ports(), steps.as_slice());
                 Outcome::Done { wrote, steps }
@@ -222,6 +221,17 @@ impl Machine {
                 Outcome::Fault { fault, long, steps }
             }
         }
+    }
+
+    /// Stops at the opcode held, which no instruction has. It answers the address at which it stands.
+    fn stop_at_reserved(&mut self, code: u8) -> u16
+        ensures at { result ≡ self.old.flow.p }
+        ensures stopped { self.new ≡ halted (StoppedBy.Reserved self.old.flow.p code)
+            self.old.probe self.old.index self.old }
+    {
+        let at = self.flow.p;
+        self.mode = Mode::Stopped(StoppedBy::Reserved { at, code });
+        at
     }
 
     /// A key byte from outside: at port 0 or 1 it is the processor's own, and at any other port it comes to every chip. The port then reads
@@ -262,7 +272,7 @@ impl Machine {
         ensures asked { map queries rack.new.items ≡ map queries rack.old.items }
         ensures chips { length rack.new.items ≡ length rack.old.items }
     {
-        if let Some(&socket) = self.chain.as_slice().get(usize::from(chip)) {
+        if let Some(socket) = self.chain.get(usize::from(chip)) {
             pulse_at(rack, socket);
         }
     }
@@ -304,7 +314,7 @@ impl Machine {
     pub fn reference(&self) -> Counters
         ensures { result ≡ probe_counters self.now.probe }
     {
-        self.probe.counters()
+        self.bus.probe.counters()
     }
 
     /// The clocks of reset and of the instructions that were done, in Φ.

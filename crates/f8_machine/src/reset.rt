@@ -1,20 +1,20 @@
 //! The bus steps of reset.
-ghost use Rattle.std.specs.Prelude.{◌≡◌, ◌<◌, ◌≤◌, ◌+◌, [], length, map, sum_by, IfOk, IfErr, OnOk};
+ghost use Rattle.std.specs.Prelude.{◌≡◌, ◌<◌, ◌≤◌, ◌+◌, [], length, map, IfOk, OnErr, OnOk};
 ghost use Rattle.console_spec.specs.Run.{Position};
 ghost use Rattle.data_bus.specs.PageIndex.{StandsFor};
 ghost use Rattle.f8_machine.specs.BusSteps.{IsPlain, IsServed, IsRefused};
 ghost use Rattle.f8_machine.specs.MachineState.{probe_after_steps};
-ghost use Rattle.f8_machine.specs.Questions.{CountsOn, CountsTried};
+ghost use Rattle.f8_machine.specs.Questions.{Counts, CountsTried};
 ghost use Rattle.f8_machine.specs.Resetting.{IsAtPower, IsFetched, IsNotFetched};
 ghost use Rattle.f8_machine.specs.Rounds.{RackRuns};
 
-use super::bus_step::{NotServed, bus_step};
-use super::carry::Unserved;
+use super::bus::Bus;
+use super::bus_step::bus_step;
 use super::record::{MOST_HEARD, Record};
+use super::unserved::{NotServed, Unserved};
 use chip_face::{Chip, MOST_CHIPS};
 use cpu3850::{Romc, Step};
-use data_bus::{Index, Rack};
-use probe::Probe;
+use data_bus::Rack;
 use romc_table::Driver;
 
 /// The steps of reset: the CPU works by itself, the program counters go to 0, and the opcode there is fetched.
@@ -39,63 +39,57 @@ const FETCH: Step = Step {
 /// A bus step in which the CPU places 00.
 fn quiet_step(
     rack: &mut Rack,
-    probe: &mut Probe,
-    known: &mut Index,
+    bus: &mut Bus,
     step: Step,
     steps: &mut Record,
-) -> Result<u8, Unserved>
+    unserved: &mut Unserved,
+) -> Result<u8, NotServed>
     requires few { length rack.old.items ≤ MOST_CHIPS }
     requires room { length steps.old < MOST_HEARD }
     requires plain { IsPlain step.romc }
-    requires stands { StandsFor known.old probe.old (map state rack.old.items) }
-    ensures served { IfOk result (λ byte. IsServed step 0 probe.old probe.new
+    requires stands { StandsFor bus.old.index bus.old.probe (map state rack.old.items) }
+    ensures served { IfOk result (λ byte. IsServed step 0 bus.old.probe bus.new.probe
         (map state rack.old.items) (map state rack.new.items) steps.old steps.new byte) }
     ensures longer { OnOk result (length steps.new ≡ length steps.old + 1) }
-    ensures refused { IfErr result (λ unserved. IsRefused step unserved.fault probe.old probe.new
-        (map state rack.old.items) (map state rack.new.items) steps.old steps.new) }
-    ensures long { IfErr result (λ unserved. unserved.long ≡ step.long) }
-    ensures stands { StandsFor known.new probe.new (map state rack.new.items) }
-    ensures counted { IfOk result (λ byte. CountsOn (length rack.old.items)
-        (record { index = known.old; questions = sum_by queries rack.old.items; steps = steps.old })
-        (record { index = known.new; questions = sum_by queries rack.new.items; steps = steps.new })) }
-    ensures tried { IfErr result (λ unserved. CountsTried (length rack.old.items) unserved.fault
-        (record { index = known.old; questions = sum_by queries rack.old.items; steps = steps.old })
-        (record { index = known.new; questions = sum_by queries rack.new.items; steps = steps.new })) }
+    ensures refused { OnErr result (IsRefused step unserved.new.fault
+        bus.old.probe bus.new.probe (map state rack.old.items) (map state rack.new.items)
+        steps.old steps.new) }
+    ensures long { OnErr result (unserved.new.long ≡ step.long) }
+    ensures stands { StandsFor bus.new.index bus.new.probe (map state rack.new.items) }
+    ensures counted { IfOk result (λ byte. Counts queries rack.old.items rack.new.items
+        bus.old bus.new steps.old steps.new) }
+    ensures tried { OnErr result (CountsTried unserved.new.fault queries
+        rack.old.items rack.new.items bus.old bus.new steps.old steps.new) }
     ensures chips { length rack.new.items ≡ length rack.old.items }
 {
-    let mut unserved = Unserved::place();
-    match bus_step(rack, probe, known, step, 0, steps, &mut unserved) {
-        Ok(byte) => Ok(byte),
-        Err(NotServed) => Err(unserved),
-    }
+    bus_step(rack, bus, step, 0, steps, unserved)
 }
 
-/// The bus steps of reset, each told in `steps`. It answers the opcode at 0.
+/// The bus steps of reset, each told in `steps`. It answers the opcode at 0; where a step isn't served `unserved` tells it.
 pub(crate) fn fetch_first(
     rack: &mut Rack,
-    probe: &mut Probe,
-    known: &mut Index,
+    bus: &mut Bus,
     steps: &mut Record,
-) -> Result<u8, Unserved>
+    unserved: &mut Unserved,
+) -> Result<u8, NotServed>
     requires few { length rack.old.items ≤ MOST_CHIPS }
     requires none { steps.old ≡ [] }
-    requires stands { StandsFor known.old probe.old (map state rack.old.items) }
-    ensures fetched { (x : Position) → IsAtPower probe.old (map state rack.old.items) x →
-        IfOk result (λ opcode. IsFetched opcode probe.new (map state rack.new.items) steps.new x) }
-    ensures cut { (x : Position) → IsAtPower probe.old (map state rack.old.items) x →
-        IfErr result (λ unserved. IsNotFetched steps.new unserved.fault unserved.long x) }
+    requires stands { StandsFor bus.old.index bus.old.probe (map state rack.old.items) }
+    ensures fetched { (x : Position) → IsAtPower bus.old.probe (map state rack.old.items) x →
+        IfOk result (λ opcode. IsFetched opcode bus.new.probe
+        (map state rack.new.items) steps.new x) }
+    ensures cut { (x : Position) → IsAtPower bus.old.probe (map state rack.old.items) x →
+        OnErr result (IsNotFetched steps.new unserved.new.fault unserved.new.long x) }
     ensures ran { RackRuns steps.new (map state rack.old.items) (map state rack.new.items) }
-    ensures reference { probe.new ≡ probe_after_steps steps.new probe.old }
-    ensures stands { StandsFor known.new probe.new (map state rack.new.items) }
-    ensures counted { IfOk result (λ opcode. CountsOn (length rack.old.items)
-        (record { index = known.old; questions = sum_by queries rack.old.items; steps = steps.old })
-        (record { index = known.new; questions = sum_by queries rack.new.items; steps = steps.new })) }
-    ensures tried { IfErr result (λ unserved. CountsTried (length rack.old.items) unserved.fault
-        (record { index = known.old; questions = sum_by queries rack.old.items; steps = steps.old })
-        (record { index = known.new; questions = sum_by queries rack.new.items; steps = steps.new })) }
+    ensures reference { bus.new.probe ≡ probe_after_steps steps.new bus.old.probe }
+    ensures stands { StandsFor bus.new.index bus.new.probe (map state rack.new.items) }
+    ensures counted { IfOk result (λ opcode. Counts queries rack.old.items rack.new.items
+        bus.old bus.new steps.old steps.new) }
+    ensures tried { OnErr result (CountsTried unserved.new.fault queries
+        rack.old.items rack.new.items bus.old bus.new steps.old steps.new) }
     ensures chips { length rack.new.items ≡ length rack.old.items }
 {
-    quiet_step(rack, probe, known, IDLE, steps)?;
-    quiet_step(rack, probe, known, TO_ZERO, steps)?;
-    quiet_step(rack, probe, known, FETCH, steps)
+    quiet_step(rack, bus, IDLE, steps, unserved)?;
+    quiet_step(rack, bus, TO_ZERO, steps, unserved)?;
+    quiet_step(rack, bus, FETCH, steps, unserved)
 }

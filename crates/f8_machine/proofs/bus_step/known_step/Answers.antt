@@ -7,6 +7,6 @@ use Rattle.f8_machine.proofs.bus_step.known_step.Goals as goal
 
 pub returns-in-Some-clause-counted : goal.returns-in-Some-clause-counted
 returns-in-Some-clause-counted g c =
-    counts_by _ (heard_served c.args.step.now c.in-Some.served.byte c.in-Some.served.socket) c.args.known.now c.step_known.new.index _ _
+    counts_by _ (heard_served c.args.step.now c.in-Some.served.byte c.in-Some.served.socket) c.args.bus.now.index c.step_known.new.index _ _
     c.args.steps.now c.push.new.self c.in-Some.ensures.marks c.in-Some.ensures.asked
     (c.push.ensures ∙ ap (λ (h : Heard). c.args.steps.now ++ h ∷ []) c.heard.ensures)

@@ -91,7 +91,7 @@ loop-index-init g c =
       reference = rw c.requires.none refl;
       stands = c.requires.stands;
       counted = counts_none _ _;
-      left = λ op x holds. rw c.requires.none (remaining_first c.args.cpu.now c.args.probe.now _ c.args.chain.now op x
+      left = λ op x holds. rw c.requires.none (remaining_first c.args.cpu.now c.args.bus.now.probe _ c.args.chain.now op x
           c.before_last-before.result.now before holds);
     }
 
@@ -111,8 +111,8 @@ pub returns-in_err-byte-clause-cut : goal.returns-in_err-byte-clause-cut
 returns-in_err-byte-clause-cut g c = λ op x holds.
     let stopped = remaining_stops (row_of op) x (gets_all_at op x) (instruction_aim op x) _
     c.before_last-before.result.now c.index-before-index.result c.loop-index.index
-    c.loop-index.cpu c.loop-index.probe _ c.loop-index.steps
-    c.bus_step.new.unserved.fault c.bus_step.new.probe _ c.bus_step.new.steps c.loop-index-test.true c.index-before-index.is
+    c.loop-index.cpu c.loop-index.bus.probe _ c.loop-index.steps
+    c.bus_step.new.unserved.fault c.bus_step.new.bus.probe _ c.bus_step.new.steps c.loop-index-test.true c.index-before-index.is
     c.in_err-byte.ensures.refused (c.loop-index.invariant.left op x holds) in
     on_err c.from_residual.result _ (record {
       unserved = stopped.fault_is;
@@ -123,14 +123,14 @@ returns-in_err-byte-clause-cut g c = λ op x holds.
 
 pub returns-in_err-byte-clause-ran : goal.returns-in_err-byte-clause-ran
 returns-in_err-byte-clause-ran g c =
-    (ran_still c.args.probe.now _ c.index-before-index.result c.bus_step.new.unserved.fault c.loop-index.probe c.bus_step.new.probe _ _
+    (ran_still c.args.bus.now.probe _ c.index-before-index.result c.bus_step.new.unserved.fault c.loop-index.bus.probe c.bus_step.new.bus.probe _ _
     c.loop-index.steps c.bus_step.new.steps
     (record { rack = c.loop-index.invariant.ran; reference = c.loop-index.invariant.reference })
     c.in_err-byte.ensures.refused).rack
 
 pub returns-in_err-byte-clause-reference : goal.returns-in_err-byte-clause-reference
 returns-in_err-byte-clause-reference g c =
-    (ran_still c.args.probe.now _ c.index-before-index.result c.bus_step.new.unserved.fault c.loop-index.probe c.bus_step.new.probe _ _
+    (ran_still c.args.bus.now.probe _ c.index-before-index.result c.bus_step.new.unserved.fault c.loop-index.bus.probe c.bus_step.new.bus.probe _ _
     c.loop-index.steps c.bus_step.new.steps
     (record { rack = c.loop-index.invariant.ran; reference = c.loop-index.invariant.reference })
     c.in_err-byte.ensures.refused).reference
@@ -151,8 +151,8 @@ loop-index-preserved g c =
     let more : c.loop-index.index + 1 < length (planned c.loop-index.cpu) =
     rw c.loop-index.invariant.plan (shorter _ _ c.loop-index.index c.loop-index.invariant.longer
     c.loop-index-test.true) in
-    let ran = ran_more c.args.probe.now _ c.index-before-index.result c.drive-placed.result c.in_ok-byte.byte
-    c.loop-index.probe c.bus_step.new.probe _ _ c.loop-index.steps c.bus_step.new.steps codes.0
+    let ran = ran_more c.args.bus.now.probe _ c.index-before-index.result c.drive-placed.result c.in_ok-byte.byte
+    c.loop-index.bus.probe c.bus_step.new.bus.probe _ _ c.loop-index.steps c.bus_step.new.steps codes.0
     (record { rack = c.loop-index.invariant.ran; reference = c.loop-index.invariant.reference }) served in
     record {
       short = c.loop-index.invariant.short;
@@ -176,8 +176,8 @@ loop-index-preserved g c =
       left = λ op x holds.
           remaining_more (row_of op) x (gets_all_at op x) (instruction_aim op x) _ c.before_last-before.result.now
           c.index-before-index.result c.loop-index.index c.loop-index.cpu
-          c.loop-index.probe _ c.loop-index.steps
-          c.drive-placed.result c.in_ok-byte.byte c.take.new.self c.bus_step.new.probe _ c.bus_step.new.steps codes.0
+          c.loop-index.bus.probe _ c.loop-index.steps
+          c.drive-placed.result c.in_ok-byte.byte c.take.new.self c.bus_step.new.bus.probe _ c.bus_step.new.steps codes.0
           c.loop-index-test.true
           c.index-before-index.is c.drive-placed.ensures c.take.ensures served
           (c.loop-index.invariant.left op x holds);
@@ -232,13 +232,13 @@ pub returns-clause-done : goal.returns-clause-done
 returns-clause-done g c = λ op x holds.
     let past : length c.before_last-before.result.now ≤ c.loop-index.index = search rules in
     let ended = remaining_over (row_of op) x (gets_all_at op x) (instruction_aim op x) _
-    c.before_last-before.result.now c.loop-index.index c.loop-index.cpu c.loop-index.probe _ c.loop-index.steps past
+    c.before_last-before.result.now c.loop-index.index c.loop-index.cpu c.loop-index.bus.probe _ c.loop-index.steps past
     (c.loop-index.invariant.left op x holds) in
     let index_is = at_end c.loop-index.index _ _ c.len.result c.loop-index.invariant.within past
     c.loop-index.invariant.longer (c.len.ensures.value ∙ ap length c.requires.plan) in
-    carried_out c.args.cpu.now c.loop-index.cpu c.args.chain.now op x c.loop-index.index c.loop-index.probe
-    c.acknowledge_chosen.new.probe c.bus_step-2.new.probe _ _ _ c.loop-index.steps c.acknowledge_chosen.new.steps
-    c.bus_step-2.new.steps c.choose-chosen.result c.fetch_by-fetch.result c.in-Some.last c.args.probe.now _ holds
+    carried_out c.args.cpu.now c.loop-index.cpu c.args.chain.now op x c.loop-index.index c.loop-index.bus.probe
+    c.acknowledge_chosen.new.bus.probe c.bus_step-2.new.bus.probe _ _ _ c.loop-index.steps c.acknowledge_chosen.new.steps
+    c.bus_step-2.new.steps c.choose-chosen.result c.fetch_by-fetch.result c.in-Some.last c.args.bus.now.probe _ holds
     c.loop-index.invariant.opcode
     (last_at c.loop-index.index _ _ _ c.loop-index.invariant.within past c.loop-index.invariant.longer
     (length-planned c.args.cpu.now op holds.instruction))
@@ -280,22 +280,22 @@ returns-clause-open g c = λ op held.
 
 pub returns-clause-ran : goal.returns-clause-ran
 returns-clause-ran g c =
-    (ran_more c.args.probe.now _ c.fetch_by-fetch.result 0 c.in_ok-opcode.opcode c.acknowledge_chosen.new.probe
-    c.bus_step-2.new.probe _ _ c.acknowledge_chosen.new.steps c.bus_step-2.new.steps
+    (ran_more c.args.bus.now.probe _ c.fetch_by-fetch.result 0 c.in_ok-opcode.opcode c.acknowledge_chosen.new.bus.probe
+    c.bus_step-2.new.bus.probe _ _ c.acknowledge_chosen.new.steps c.bus_step-2.new.steps
     (fetch_plain c.args.cpu.now c.args.plan.now c.requires.instruction _ c.in-Some.last c.fetch_by-fetch.result
     c.choose-chosen.result c.requires.plan c.last.ensures c.in-Some.is c.fetch_by-fetch.ensures)
-    (ran_chosen c.args.probe.now _ c.choose-chosen.result c.loop-index.probe c.acknowledge_chosen.new.probe _ _
+    (ran_chosen c.args.bus.now.probe _ c.choose-chosen.result c.loop-index.bus.probe c.acknowledge_chosen.new.bus.probe _ _
     c.loop-index.steps c.acknowledge_chosen.new.steps
     (record { rack = c.loop-index.invariant.ran; reference = c.loop-index.invariant.reference })
     c.acknowledge_chosen.ensures.acknowledged) c.in_ok-opcode.ensures.served).rack
 
 pub returns-clause-reference : goal.returns-clause-reference
 returns-clause-reference g c =
-    (ran_more c.args.probe.now _ c.fetch_by-fetch.result 0 c.in_ok-opcode.opcode c.acknowledge_chosen.new.probe
-    c.bus_step-2.new.probe _ _ c.acknowledge_chosen.new.steps c.bus_step-2.new.steps
+    (ran_more c.args.bus.now.probe _ c.fetch_by-fetch.result 0 c.in_ok-opcode.opcode c.acknowledge_chosen.new.bus.probe
+    c.bus_step-2.new.bus.probe _ _ c.acknowledge_chosen.new.steps c.bus_step-2.new.steps
     (fetch_plain c.args.cpu.now c.args.plan.now c.requires.instruction _ c.in-Some.last c.fetch_by-fetch.result
     c.choose-chosen.result c.requires.plan c.last.ensures c.in-Some.is c.fetch_by-fetch.ensures)
-    (ran_chosen c.args.probe.now _ c.choose-chosen.result c.loop-index.probe c.acknowledge_chosen.new.probe _ _
+    (ran_chosen c.args.bus.now.probe _ c.choose-chosen.result c.loop-index.bus.probe c.acknowledge_chosen.new.bus.probe _ _
     c.loop-index.steps c.acknowledge_chosen.new.steps
     (record { rack = c.loop-index.invariant.ran; reference = c.loop-index.invariant.reference })
     c.acknowledge_chosen.ensures.acknowledged) c.in_ok-opcode.ensures.served).reference
@@ -304,11 +304,11 @@ pub returns-in_err-opcode-clause-cut : goal.returns-in_err-opcode-clause-cut
 returns-in_err-opcode-clause-cut g c = λ op x holds.
     let past : length c.before_last-before.result.now ≤ c.loop-index.index = search rules in
     let ended = remaining_over (row_of op) x (gets_all_at op x) (instruction_aim op x) _
-    c.before_last-before.result.now c.loop-index.index c.loop-index.cpu c.loop-index.probe _ c.loop-index.steps past
+    c.before_last-before.result.now c.loop-index.index c.loop-index.cpu c.loop-index.bus.probe _ c.loop-index.steps past
     (c.loop-index.invariant.left op x holds) in
-    on_err c.from_residual-in_err-opcode.result _ (cut_short c.args.cpu.now c.loop-index.cpu c.args.chain.now op x c.loop-index.index c.loop-index.probe
-    c.acknowledge_chosen.new.probe c.bus_step-2.new.probe _ _ _ c.loop-index.steps c.acknowledge_chosen.new.steps
-    c.bus_step-2.new.steps c.choose-chosen.result c.fetch_by-fetch.result c.in-Some.last c.args.probe.now _ holds
+    on_err c.from_residual-in_err-opcode.result _ (cut_short c.args.cpu.now c.loop-index.cpu c.args.chain.now op x c.loop-index.index c.loop-index.bus.probe
+    c.acknowledge_chosen.new.bus.probe c.bus_step-2.new.bus.probe _ _ _ c.loop-index.steps c.acknowledge_chosen.new.steps
+    c.bus_step-2.new.steps c.choose-chosen.result c.fetch_by-fetch.result c.in-Some.last c.args.bus.now.probe _ holds
     c.loop-index.invariant.opcode
     (last_at c.loop-index.index _ _ _ c.loop-index.invariant.within past c.loop-index.invariant.longer
     (length-planned c.args.cpu.now op holds.instruction))
@@ -320,18 +320,18 @@ returns-in_err-opcode-clause-cut g c = λ op x holds.
 
 pub returns-in_err-opcode-clause-ran : goal.returns-in_err-opcode-clause-ran
 returns-in_err-opcode-clause-ran g c =
-    (ran_still c.args.probe.now _ c.fetch_by-fetch.result c.bus_step-2.new.unserved.fault c.acknowledge_chosen.new.probe
-    c.bus_step-2.new.probe _ _ c.acknowledge_chosen.new.steps c.bus_step-2.new.steps
-    (ran_chosen c.args.probe.now _ c.choose-chosen.result c.loop-index.probe c.acknowledge_chosen.new.probe _ _
+    (ran_still c.args.bus.now.probe _ c.fetch_by-fetch.result c.bus_step-2.new.unserved.fault c.acknowledge_chosen.new.bus.probe
+    c.bus_step-2.new.bus.probe _ _ c.acknowledge_chosen.new.steps c.bus_step-2.new.steps
+    (ran_chosen c.args.bus.now.probe _ c.choose-chosen.result c.loop-index.bus.probe c.acknowledge_chosen.new.bus.probe _ _
     c.loop-index.steps c.acknowledge_chosen.new.steps
     (record { rack = c.loop-index.invariant.ran; reference = c.loop-index.invariant.reference })
     c.acknowledge_chosen.ensures.acknowledged) c.in_err-opcode.ensures.refused).rack
 
 pub returns-in_err-opcode-clause-reference : goal.returns-in_err-opcode-clause-reference
 returns-in_err-opcode-clause-reference g c =
-    (ran_still c.args.probe.now _ c.fetch_by-fetch.result c.bus_step-2.new.unserved.fault c.acknowledge_chosen.new.probe
-    c.bus_step-2.new.probe _ _ c.acknowledge_chosen.new.steps c.bus_step-2.new.steps
-    (ran_chosen c.args.probe.now _ c.choose-chosen.result c.loop-index.probe c.acknowledge_chosen.new.probe _ _
+    (ran_still c.args.bus.now.probe _ c.fetch_by-fetch.result c.bus_step-2.new.unserved.fault c.acknowledge_chosen.new.bus.probe
+    c.bus_step-2.new.bus.probe _ _ c.acknowledge_chosen.new.steps c.bus_step-2.new.steps
+    (ran_chosen c.args.bus.now.probe _ c.choose-chosen.result c.loop-index.bus.probe c.acknowledge_chosen.new.bus.probe _ _
     c.loop-index.steps c.acknowledge_chosen.new.steps
     (record { rack = c.loop-index.invariant.ran; reference = c.loop-index.invariant.reference })
     c.acknowledge_chosen.ensures.acknowledged) c.in_err-opcode.ensures.refused).reference

@@ -23,9 +23,9 @@ sure_step-requires-4-clause-chosen g c = λ acknowledges.
 
 pub returns-clause-acknowledged : goal.returns-clause-acknowledged
 returns-clause-acknowledged g c = record {
-  freed = record { probe = c.sure_step.new.probe; states = _; steps = c.sure_step.new.steps };
-  idled = record { probe = c.sure_step-2.new.probe; states = _; steps = c.sure_step-2.new.steps };
-  lowered = record { probe = c.sure_step-3.new.probe; states = _; steps = c.sure_step-3.new.steps };
+  freed = record { probe = c.sure_step.new.bus.probe; states = _; steps = c.sure_step.new.steps };
+  idled = record { probe = c.sure_step-2.new.bus.probe; states = _; steps = c.sure_step-2.new.steps };
+  lowered = record { probe = c.sure_step-3.new.bus.probe; states = _; steps = c.sure_step-3.new.steps };
   freed_byte = c.sure_step.result;
   idled_byte = c.sure_step-2.result;
   low = c.sure_step-3.result;

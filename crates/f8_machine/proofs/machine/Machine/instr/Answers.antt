@@ -25,11 +25,11 @@ returns-in-Ok-carried-clause-advances g c =
     record {
       refines = λ x r.
           done_from c.args.self.now _ c.self.view_is _ _ found.0 x found.1 r
-          c.carry_out-carried.new.cpu c.carry_out-carried.new.probe c.carry_out-carried.new.known _ c.clocks_of_plan.result c.done_write-wrote.result
+          c.carry_out-carried.new.cpu c.carry_out-carried.new.bus.probe c.carry_out-carried.new.bus.index _ c.clocks_of_plan.result c.done_write-wrote.result
           c.carry_out-carried.new.steps c.in-Ok-carried.chosen
           (rw c.opcode-code.ensures at c.opcode-code.type_inv)
           c.kept-kept.ensures.ranges (λ holds. c.in-Ok-carried.ensures.done found.0 x holds)
-          (c.of-self-inside.ensures c.carry_out-carried.new.probe c.counters.ensures) clocks
+          (c.of-self-inside.ensures c.carry_out-carried.new.bus.probe c.counters.ensures) clocks
           (write_as_told _ _ found.0 _ _ _ _ _ c.done_write-wrote.ensures (ap decoded c.opcode-code.ensures ∙ found.1)
           c.ports.ensures c.as_slice.ensures.value);
       clocks = spent_few c.args.self.now.phi _ c.clocks_of_plan.result
@@ -44,7 +44,7 @@ returns-in-Err-carried-clause-advances g c = record {
   refines = λ x r.
       let found = some_of (decoded c.self.inside.cpu.opcode) (c.in-Ok.ensures.instruction.0 refl) in
       faulted_from c.args.self.now _ c.self.view_is _ found.0 x found.1 r
-      c.carry_out-carried.new.cpu c.restore.new.self c.carry_out-carried.new.probe c.carry_out-carried.new.known c.kept-kept.result
+      c.carry_out-carried.new.cpu c.restore.new.self c.carry_out-carried.new.bus.probe c.carry_out-carried.new.bus.index c.kept-kept.result
       c.carry_out-carried.new.unserved.fault c.to_stopped_by.result c.carry_out-carried.new.unserved.long c.carry_out-carried.new.steps
       (rw c.opcode-code.ensures at c.opcode-code.type_inv)
       c.kept-kept.ensures.ranges (λ holds. c.in-Err-carried.ensures.cut found.0 x holds)
@@ -55,7 +55,7 @@ returns-in-Err-carried-clause-advances g c = record {
 
 pub returns-in-Ok-carried-clause-follows : goal.returns-in-Ok-carried-clause-follows
 returns-in-Ok-carried-clause-follows g c =
-    let counted = counted_whole _ c.self.inside.index c.carry_out-carried.new.known _ _ c.new-steps.result
+    let counted = counted_whole _ c.self.inside.bus.index c.carry_out-carried.new.bus.index _ _ c.new-steps.result
     c.carry_out-carried.new.steps c.new-steps.ensures c.in-Ok-carried.ensures.counted in
     record {
       ran = search rules;
@@ -68,7 +68,7 @@ returns-in-Ok-carried-clause-follows g c =
 
 pub returns-in-Ok-carried-clause-asked : goal.returns-in-Ok-carried-clause-asked
 returns-in-Ok-carried-clause-asked g c =
-    let counted = counted_whole _ c.self.inside.index c.carry_out-carried.new.known _ _ c.new-steps.result
+    let counted = counted_whole _ c.self.inside.bus.index c.carry_out-carried.new.bus.index _ _ c.new-steps.result
     c.carry_out-carried.new.steps c.new-steps.ensures c.in-Ok-carried.ensures.counted in
     asked_running c.args.self.now _ c.self.view_is c.requires.mode c.in_default.not-Stopped
     (Done c.done_write-wrote.result c.carry_out-carried.new.steps) _ _ _
@@ -76,7 +76,7 @@ returns-in-Ok-carried-clause-asked g c =
 
 pub returns-in-Err-carried-clause-follows : goal.returns-in-Err-carried-clause-follows
 returns-in-Err-carried-clause-follows g c =
-    let counted = tried_whole _ c.carry_out-carried.new.unserved.fault c.self.inside.index c.carry_out-carried.new.known _ _ c.new-steps.result
+    let counted = tried_whole _ c.carry_out-carried.new.unserved.fault c.self.inside.bus.index c.carry_out-carried.new.bus.index _ _ c.new-steps.result
     c.carry_out-carried.new.steps c.new-steps.ensures c.in-Err-carried.ensures.tried in
     record {
       ran = search rules;
@@ -89,7 +89,7 @@ returns-in-Err-carried-clause-follows g c =
 
 pub returns-in-Err-carried-clause-asked : goal.returns-in-Err-carried-clause-asked
 returns-in-Err-carried-clause-asked g c =
-    let counted = tried_whole _ c.carry_out-carried.new.unserved.fault c.self.inside.index c.carry_out-carried.new.known _ _ c.new-steps.result
+    let counted = tried_whole _ c.carry_out-carried.new.unserved.fault c.self.inside.bus.index c.carry_out-carried.new.bus.index _ _ c.new-steps.result
     c.carry_out-carried.new.steps c.new-steps.ensures c.in-Err-carried.ensures.tried in
     asked_running c.args.self.now _ c.self.view_is c.requires.mode c.in_default.not-Stopped
     (Fault c.carry_out-carried.new.unserved.fault c.carry_out-carried.new.unserved.long c.carry_out-carried.new.steps) _ _ _

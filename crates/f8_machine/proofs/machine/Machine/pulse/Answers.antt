@@ -1,6 +1,5 @@
 -- A pulse keeps what the machine and the rack stand for.
-use Rattle.std.proofs.Common.{◌≡◌, Some, None, refl, slice_get}
-use Rattle.std.proofs.lemmas.Option.{slice_get_read, slice_get_past}
+use Rattle.std.proofs.Common.{◌≡◌, Some, None, refl, slice_get, sym}
 use Rattle.f8_machine.proofs.FitMachines.{pulsed_fits}
 use Rattle.f8_machine.proofs.Pulsed.{represents_pulsed, powered_pulsed}
 use Rattle.f8_machine.proofs.machine.Machine.pulse.Goals as goal
@@ -9,15 +8,12 @@ use Rattle.f8_machine.proofs.machine.Machine.pulse.Goals.{in-Some, in_default}
 pub returns-clause-pulsed : goal.returns-clause-pulsed
 returns-clause-pulsed g c = elim c.match-get.branch [
   | in-Some w ↦
-      let read = w.in-Some.ensures.lookup in
-      let found : slice_get c.args.self.now.chain c.args.chip ≡ Some w.in-Some.field-0.now =
-      rw (← c.self.view_is, ← c.as_slice.ensures.value, ← c.from.ensures)
-      (slice_get_read c.as_slice.result.now _ c.from.result w.in-Some.field-0.now refl read.3.0 read.1) in
+      let found : slice_get c.args.self.now.chain c.args.chip ≡ Some w.in-Some.socket =
+      rw (← c.self.view_is, ← c.from.ensures) (sym w.in-Some.ensures) in
       rw (w.rack-is, found) w.pulse_at.ensures.pulsed
   | in_default w ↦
       let none : slice_get c.args.self.now.chain c.args.chip ≡ None =
-      rw (← c.self.view_is, ← c.as_slice.ensures.value, ← c.from.ensures)
-      (slice_get_past c.as_slice.result.now c.from.result w.in_default.ensures.lookup.3) in
+      rw (← c.self.view_is, ← c.from.ensures) (sym w.in_default.ensures) in
       rw (w.rack-is, none) refl
 ]
 

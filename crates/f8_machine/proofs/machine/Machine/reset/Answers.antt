@@ -9,20 +9,20 @@ use Rattle.f8_machine.proofs.machine.Machine.reset.Goals as goal
 
 pub returns-in-Ok-clause-refines : goal.returns-in-Ok-clause-refines
 returns-in-Ok-clause-refines g c = λ x p.
-    reset_done c.args.self.now _ c.self.view_is _ _ x c.in-Ok.opcode c.fetch_first-fetched.new.probe c.fetch_first-fetched.new.known c.fetch.new.self _
+    reset_done c.args.self.now _ c.self.view_is _ _ x c.in-Ok.opcode c.fetch_first-fetched.new.bus.probe c.fetch_first-fetched.new.bus.index c.fetch.new.self _
     c.fetch_first-fetched.new.steps p
     (λ at. c.in-Ok.ensures.fetched x at) c.fetch.ensures
-    (c.of-self-inside.ensures c.fetch_first-fetched.new.probe c.counters.ensures)
+    (c.of-self-inside.ensures c.fetch_first-fetched.new.bus.probe c.counters.ensures)
 
 pub returns-in-Err-clause-refines : goal.returns-in-Err-clause-refines
 returns-in-Err-clause-refines g c = λ x p.
-    reset_cut c.args.self.now _ c.self.view_is _ x c.fetch_first-fetched.new.probe c.fetch_first-fetched.new.known c.in-Err.cut.fault
-    c.to_stopped_by.result c.in-Err.cut.long c.fetch_first-fetched.new.steps p
+    reset_cut c.args.self.now _ c.self.view_is _ x c.fetch_first-fetched.new.bus.probe c.fetch_first-fetched.new.bus.index c.fetch_first-fetched.new.unserved.fault
+    c.to_stopped_by.result c.fetch_first-fetched.new.unserved.long c.fetch_first-fetched.new.steps p
     (λ at. c.in-Err.ensures.cut x at) c.to_stopped_by.ensures
 
 pub returns-in-Ok-clause-follows : goal.returns-in-Ok-clause-follows
 returns-in-Ok-clause-follows g c =
-    let counted = counted_whole _ c.self.inside.index c.fetch_first-fetched.new.known _ _ c.new-steps.result c.fetch_first-fetched.new.steps
+    let counted = counted_whole _ c.self.inside.bus.index c.fetch_first-fetched.new.bus.index _ _ c.new-steps.result c.fetch_first-fetched.new.steps
     c.new-steps.ensures c.in-Ok.ensures.counted in
     record {
       ran = search rules;
@@ -34,13 +34,13 @@ returns-in-Ok-clause-follows g c =
 
 pub returns-in-Ok-clause-asked : goal.returns-in-Ok-clause-asked
 returns-in-Ok-clause-asked g c =
-    let counted = counted_whole _ c.self.inside.index c.fetch_first-fetched.new.known _ _ c.new-steps.result c.fetch_first-fetched.new.steps
+    let counted = counted_whole _ c.self.inside.bus.index c.fetch_first-fetched.new.bus.index _ _ c.new-steps.result c.fetch_first-fetched.new.steps
     c.new-steps.ensures c.in-Ok.ensures.counted in
     asked_powered c.args.self.now _ c.self.view_is c.requires.mode (Done None c.fetch_first-fetched.new.steps) _ _ _ counted.asked
 
 pub returns-in-Err-clause-follows : goal.returns-in-Err-clause-follows
 returns-in-Err-clause-follows g c =
-    let counted = tried_whole _ c.in-Err.cut.fault c.self.inside.index c.fetch_first-fetched.new.known _ _ c.new-steps.result
+    let counted = tried_whole _ c.fetch_first-fetched.new.unserved.fault c.self.inside.bus.index c.fetch_first-fetched.new.bus.index _ _ c.new-steps.result
     c.fetch_first-fetched.new.steps c.new-steps.ensures c.in-Err.ensures.tried in
     record {
       ran = search rules;
@@ -52,7 +52,7 @@ returns-in-Err-clause-follows g c =
 
 pub returns-in-Err-clause-asked : goal.returns-in-Err-clause-asked
 returns-in-Err-clause-asked g c =
-    let counted = tried_whole _ c.in-Err.cut.fault c.self.inside.index c.fetch_first-fetched.new.known _ _ c.new-steps.result
+    let counted = tried_whole _ c.fetch_first-fetched.new.unserved.fault c.self.inside.bus.index c.fetch_first-fetched.new.bus.index _ _ c.new-steps.result
     c.fetch_first-fetched.new.steps c.new-steps.ensures c.in-Err.ensures.tried in
     asked_powered c.args.self.now _ c.self.view_is c.requires.mode
-    (Fault c.in-Err.cut.fault c.in-Err.cut.long c.fetch_first-fetched.new.steps) _ _ _ counted.asked
+    (Fault c.fetch_first-fetched.new.unserved.fault c.fetch_first-fetched.new.unserved.long c.fetch_first-fetched.new.steps) _ _ _ counted.asked
