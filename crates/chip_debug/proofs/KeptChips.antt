@@ -5,13 +5,11 @@ use Rattle.std.specs.Prelude.{◌==◌, ◌&&◌, not, if◌then◌else◌, Opti
 use Rattle.f8_spec.specs.BusArbitration.{seat_of}
 use Rattle.f8_spec.specs.ChipState.{ChipView, ChipState, HeardStep, IsWhole, PortRole, DataPort, VectorHigh, VectorLow}
 use Rattle.f8_spec.specs.ChipState.{ControlPort, TimerPort, after_step, admits_pulses, bytes_with}
-use Rattle.f8_spec.specs.ChipState.{bytes_with_at, data_port, effect, has_fixed_vector, has_ram_at, keyed_at, offset_from}
+use Rattle.f8_spec.specs.ChipState.{bytes_with_at, data_port, effect, has_ram_at, keyed_at, offset_from}
 use Rattle.f8_spec.specs.ChipState.{place_of, port_role, port_written, port_written_if, powered, pulsed, role_at, stored}
 use Rattle.f8_spec.specs.ChipState.{timer_passed}
-use Rattle.f8_spec.specs.declared.chips.ChipKind.{ChipKind}
-use Rattle.f8_spec.specs.declared.chips.ChipKind.TheVariants.{Psu, Smi, Pio}
 use Rattle.f8_machine.proofs.FirstViews.{length-filled_bytes, seat_of-powered}
-use Rattle.f8_machine.proofs.Slots.{length-bytes_with}
+use Rattle.f8_machine.proofs.Slots.{FitsRole, length-bytes_with, role_fits}
 use Rattle.f8_machine.specs.HeardSteps.{HaveBytes}
 use Rattle.f8_machine.specs.Keying.{KeysInSocket}
 use Rattle.f8_machine.specs.RequestsHeld.{PulsesIf, PulsesInSocket}
@@ -34,36 +32,6 @@ keeps_all : (v : ChipView) → Keeps v v
 keeps_all v = record { seat = refl; whole = λ whole. whole }
 
 -- ---- a bus step
-
--- only a chip whose vector ports write has a port for a half of it
-abbrev FitsRole : ChipKind → PortRole → Type 0
-FitsRole kind (DataPort place) = Unit {0}
-FitsRole kind VectorHigh = has_fixed_vector kind ≡ false
-FitsRole kind VectorLow = has_fixed_vector kind ≡ false
-FitsRole kind ControlPort = Unit {0}
-FitsRole kind TimerPort = Unit {0}
-
-role_fits : (kind : ChipKind) (offset : ℕ) → FitsRole kind (role_at kind offset)
-role_fits Psu offset = by (offset == 2) (offset == 3)
-  where
-    by : (control timer : Bool) → FitsRole Psu (if control then ControlPort else if timer then TimerPort else DataPort offset)
-    by true timer = tt
-    by false true = tt
-    by false false = tt
-role_fits Smi offset = by (offset == 2) (offset == 3) (offset == 0)
-  where
-    by : (control timer high : Bool) → FitsRole Smi (if control then ControlPort else if timer then TimerPort else
-        if high then VectorHigh else VectorLow)
-    by true timer high = tt
-    by false true high = tt
-    by false false true = refl
-    by false false false = refl
-role_fits Pio offset = by (offset == 2) (offset == 3)
-  where
-    by : (control timer : Bool) → FitsRole Pio (if control then ControlPort else if timer then TimerPort else DataPort offset)
-    by true timer = tt
-    by false true = tt
-    by false false = tt
 
 written_keeps : (role : PortRole) (byte : ℕ) (v : ChipView) → FitsRole v.kind role → Keeps v (port_written role byte v)
 written_keeps (DataPort place) byte v fits =
