@@ -12,7 +12,7 @@ use Rattle.data_bus.specs.declared.marks.Marks.{Marks}
 use Rattle.data_bus.specs.KnownAgreement.{AllAddresses, AllAgree, AreAddresses, ChipAgrees, CountAgrees, HalvesAgree, IsCounted, no_halves, no_marks}
 use Rattle.data_bus.specs.PageIndex.{IsIndexOf, StandsFor, seats}
 use Rattle.data_bus.specs.Racks.{NumberedZip, views}
-use Rattle.bus_rows.specs.Indexed.{Fits, HasAddresses}
+use Rattle.bus_rows.specs.Indexed.{FitsIndexed, HasAddresses}
 
 -- ---- after power-on
 
@@ -115,12 +115,12 @@ stands_set index probe states i d new within takes stands =
     }
 
 fits_by : (index : Option Index) (probe : ProbeState) (states : List ChipState) (i : ℕ) (d new : ChipState) → i < length states →
-    TakesPulse (get_or states i d) new → Fits index probe states → Fits index probe (set states i new)
+    TakesPulse (get_or states i d) new → FitsIndexed index probe states → FitsIndexed index probe (set states i new)
 fits_by None probe states i d new within takes fits = tt
 fits_by (Some index) probe states i d new within takes fits = stands_set index probe states i d new within takes fits
 
 pub fits_pulsed : {X : Type 0} (V : X → ChipState) (index : Option Index) (probe : ProbeState) (xs : List X) (i : ℕ) (x y : X) → i < length xs →
-    TakesPulse (V (get_or xs i x)) (V y) → Fits index probe (map V xs) → Fits index probe (map V (set xs i y))
+    TakesPulse (V (get_or xs i x)) (V y) → FitsIndexed index probe (map V xs) → FitsIndexed index probe (map V (set xs i y))
 fits_pulsed V index probe xs i x y within takes fits =
     let inside : i < length (map V xs) = omega (arith, length-map xs V) in
     rw (map-set V xs i y) (fits_by index probe (map V xs) i (V x) (V y) inside

@@ -7,9 +7,9 @@ use Rattle.data_bus.specs.PageIndex.{StandsFor}
 use Rattle.data_bus.specs.declared.index.Index.{Index}
 
 -- where there is an index, it stands for the rack and the probe
-abbrev pub Fits : Option Index → ProbeState → List ChipState → Type 0
-Fits None probe states = Unit {0}
-Fits (Some index) probe states = StandsFor index probe states
+abbrev pub FitsIndexed : Option Index → ProbeState → List ChipState → Type 0
+FitsIndexed None probe states = Unit {0}
+FitsIndexed (Some index) probe states = StandsFor index probe states
 
 -- a chip's counters are addresses from now on, and it holds no page where it has none
 abbrev pub HasAddresses : ℕ → ChipState → ChipState → Type 0

@@ -1,6 +1,6 @@
 //! Acknowledgements of an interrupt, in which the named chip alone drives, wherever the counters are.
 ghost use Rattle.std.specs.Prelude.{map, IfOk};
-ghost use Rattle.bus_rows.specs.Indexed.{Fits};
+ghost use Rattle.bus_rows.specs.Indexed.{FitsIndexed};
 
 use super::bus::{Bus, WAYS, Way, pulse};
 use super::cart::{Cart, empty, psu_at, smi_at};
@@ -23,8 +23,8 @@ fn asks(rack: &Rack, socket: usize) -> bool {
 
 /// A pulse to a chip, which asks from then on.
 fn pulse_one(rt: &impl Abort, rack: &mut Rack, bus: &Bus, socket: usize) -> Result<(), Fail>
-    requires fits { Fits bus.now.index bus.now.probe (map state rack.old.items) }
-    ensures fits { IfOk result (λ done. Fits bus.now.index bus.now.probe (map state rack.new.items)) }
+    requires fits { FitsIndexed bus.now.index bus.now.probe (map state rack.old.items) }
+    ensures fits { IfOk result (λ done. FitsIndexed bus.now.index bus.now.probe (map state rack.new.items)) }
 {
     assert_eq!(rt; asks(rack, socket), false, "socket {socket}");
     if socket >= rack.len() {
@@ -44,8 +44,8 @@ fn acknowledge(
     socket: u8,
     halves: [&str; 2],
 ) -> Result<(), Fail>
-    requires fits { Fits bus.old.index bus.old.probe (map state rack.old.items) }
-    ensures fits { IfOk result (λ done. Fits bus.new.index bus.new.probe (map state rack.new.items)) }
+    requires fits { FitsIndexed bus.old.index bus.old.probe (map state rack.old.items) }
+    ensures fits { IfOk result (λ done. FitsIndexed bus.new.index bus.new.probe (map state rack.new.items)) }
 {
     let rows = [
         (Romc::ACKNOWLEDGE, 0x77, "served 00"),
@@ -60,7 +60,7 @@ fn acknowledge(
 /// Two 3851s at 0000 with the vectors 1234 and 5678, and a 3853 that stands by there with the vector 9A3C. All let pulses in. A fetch is
 /// a conflict.
 fn seat_three(rt: &impl Abort, alloc: Global, rack: &mut Rack, way: Way) -> Result<Bus, Fail>
-    ensures fits { IfOk result (λ bus. Fits bus.index bus.probe (map state rack.new.items)) }
+    ensures fits { IfOk result (λ bus. FitsIndexed bus.index bus.probe (map state rack.new.items)) }
 {
     let cart = Cart {
         psus: &[

@@ -2,7 +2,7 @@
 ghost use Rattle.std.specs.Prelude.{◌≡◌, ◌≤◌, ◌<◌, length, map};
 ghost use Rattle.f8_spec.specs.ChipState.{TakesPulse};
 ghost use Rattle.data_bus.specs.Racks.{ChosenAsks, NumberedZip};
-ghost use Rattle.bus_rows.specs.Indexed.{Fits, HasAddresses};
+ghost use Rattle.bus_rows.specs.Indexed.{FitsIndexed, HasAddresses};
 
 use super::cart::Cart;
 use chip_face::{Chip, MOST_CHIPS};
@@ -53,7 +53,7 @@ impl Bus {
     /// The bus of a rack, whose chips are powered on.
     pub(crate) fn of(rack: &mut Rack, cart: &Cart, way: Way) -> Bus
         requires few { length rack.old.items ≤ MOST_CHIPS }
-        ensures fits { Fits result.index result.probe (map state rack.new.items) }
+        ensures fits { FitsIndexed result.index result.probe (map state rack.new.items) }
     {
         power_all(rack, cart);
         let probe = Probe::new();
@@ -73,8 +73,8 @@ impl Bus {
     pub(crate) fn step(&mut self, rack: &mut Rack, cycle: Cycle) -> Result<Served, BusFault>
         requires few { length rack.old.items ≤ MOST_CHIPS }
         requires chosen { ChosenAsks cycle.romc cycle.first (map state rack.old.items) }
-        requires fits { Fits self.old.index self.old.probe (map state rack.old.items) }
-        ensures fits { Fits self.new.index self.new.probe (map state rack.new.items) }
+        requires fits { FitsIndexed self.old.index self.old.probe (map state rack.old.items) }
+        ensures fits { FitsIndexed self.new.index self.new.probe (map state rack.new.items) }
     {
         match &mut self.index {
             Some(index) => step_by(rack, &mut self.probe, index, cycle),
@@ -93,8 +93,8 @@ fn pulse_at(chip: &mut Box<dyn Chip>)
 /// A pulse to the chip in a socket.
 pub(crate) fn pulse(rack: &mut Rack, bus: &Bus, socket: usize)
     requires seated { socket < length rack.old.items }
-    requires fits { Fits bus.now.index bus.now.probe (map state rack.old.items) }
-    ensures fits { Fits bus.now.index bus.now.probe (map state rack.new.items) }
+    requires fits { FitsIndexed bus.now.index bus.now.probe (map state rack.old.items) }
+    ensures fits { FitsIndexed bus.now.index bus.now.probe (map state rack.new.items) }
 {
     pulse_at(&mut rack[socket]);
 }

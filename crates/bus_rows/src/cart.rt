@@ -1,6 +1,6 @@
 // Worked bus steps on the chips of a small cartridge, one step after another.
 ghost use Rattle.std.specs.Prelude.{map, IfOk};
-ghost use Rattle.bus_rows.specs.Indexed.{Fits};
+ghost use Rattle.bus_rows.specs.Indexed.{FitsIndexed};
 
 use super::bus::{Bus, WAYS, Way};
 use super::seats::{PsuSeat, SmiSeat, clear, rom_of, seat_psu, seat_smi};
@@ -100,7 +100,7 @@ impl Cart<'_> {
 
     /// Seats the chips and powers them on.
     pub(crate) fn seat(&self, alloc: Global, rack: &mut Rack, way: Way) -> Result<Bus, Fail>
-        ensures fits { IfOk result (λ bus. Fits bus.index bus.probe (map state rack.new.items)) }
+        ensures fits { IfOk result (λ bus. FitsIndexed bus.index bus.probe (map state rack.new.items)) }
     {
         clear(alloc, rack)?;
         let rom = rom_of(self.program, self.last)?;

@@ -2,7 +2,7 @@
 ghost use Rattle.std.specs.Prelude.{◌≡◌, true, map, IfOk};
 ghost use Rattle.f8_spec.specs.ChipState.{is_asking};
 ghost use Rattle.data_bus.specs.Racks.{NamesAsking};
-ghost use Rattle.bus_rows.specs.Indexed.{Fits};
+ghost use Rattle.bus_rows.specs.Indexed.{FitsIndexed};
 
 use super::bus::Bus;
 use chip_face::Chip;
@@ -84,8 +84,8 @@ fn told_fault(alloc: Global, fault: &BusFault) -> Result<String, Fail> {
 
 /// One bus step, and what is told of it. `Err` where it may not be asked for.
 fn one_step(alloc: Global, rack: &mut Rack, bus: &mut Bus, cycle: Cycle) -> Result<String, Fail>
-    requires fits { Fits bus.old.index bus.old.probe (map state rack.old.items) }
-    ensures fits { IfOk result (λ text. Fits bus.new.index bus.new.probe (map state rack.new.items)) }
+    requires fits { FitsIndexed bus.old.index bus.old.probe (map state rack.old.items) }
+    ensures fits { IfOk result (λ text. FitsIndexed bus.new.index bus.new.probe (map state rack.new.items)) }
 {
     if rack.len() > 16 {
         return Err("more than 16 chips".into());
@@ -108,8 +108,8 @@ pub(crate) fn walk(
     first: Option<u8>,
     rows: &[Row],
 ) -> Result<(), Fail>
-    requires fits { Fits bus.old.index bus.old.probe (map state rack.old.items) }
-    ensures fits { IfOk result (λ done. Fits bus.new.index bus.new.probe (map state rack.new.items)) }
+    requires fits { FitsIndexed bus.old.index bus.old.probe (map state rack.old.items) }
+    ensures fits { IfOk result (λ done. FitsIndexed bus.new.index bus.new.probe (map state rack.new.items)) }
 {
     for (place, (romc, byte, want)) in rows.iter().enumerate() {
         let cycle = Cycle {

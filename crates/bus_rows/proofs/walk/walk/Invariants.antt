@@ -1,7 +1,7 @@
 -- After each step the index stands for the rack and the probe.
 use Rattle.std.proofs.Common.{map}
-use Rattle.bus_rows.specs.Indexed.{Fits}
+use Rattle.bus_rows.specs.Indexed.{FitsIndexed}
 use Rattle.bus_rows.proofs.walk.walk.Given as goal
 
 abbrev pub invariant-loop-place : goal.invariant-loop-place
-invariant-loop-place g l = Fits l.bus.index l.bus.probe (map (λ b. (goal.Chip-dyn g (b.vtable, b.value)).state b.value) l.rack.items)
+invariant-loop-place g l = FitsIndexed l.bus.index l.bus.probe (map (λ b. (goal.Chip-dyn g (b.vtable, b.value)).state b.value) l.rack.items)
