@@ -1,3 +1,5 @@
 pub mod WordLaws
 pub mod NumberLaws
+pub mod LineSteps
+pub mod FirstFault
 mod WorkedNumbers

@@ -2,11 +2,15 @@
 //! own): single blanks part words, and blank lines and comments are skipped.
 #![tactic(auto)]
 
+mod line_draft;
 mod numbers;
+mod text_fault;
 mod words;
 
-pub use numbers::{address_of, byte_of, number_of};
-pub use words::{first_word, is_skipped, only_word};
+pub use line_draft::{LineDraft, read_lines};
+pub use numbers::{NumberFault, address_of, byte_of, number_of, number_within};
+pub use text_fault::TextFault;
+pub use words::{first_word, is_skipped, is_word, only_word};
 
 #[cfg(test)]
 mod tests;

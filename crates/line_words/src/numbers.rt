@@ -1,11 +1,23 @@
 // Bytes, addresses and numbers that words spell.
-ghost use Rattle.std.specs.Prelude.{◌≡◌, ◌≤◌, length};
-ghost use Rattle.line_words.specs.Numbers.{byte_of as spelled_byte, address_of as spelled_address, decimal_on, number_of as spelled_number};
+ghost use Rattle.std.specs.Prelude.{◌≡◌, ◌≤◌, IfOk, length};
+ghost use Rattle.line_words.specs.Numbers.{byte_of as spelled_byte, address_of as spelled_address, decimal_on, number_of as spelled_number, within};
 
 use hex::FromHex;
+use thiserror::Error;
 
 /// The most digits of a decimal number.
 const MOST_DIGITS: usize = 7;
+
+/// Why a word is no number within limits.
+#[derive(Clone, Copy, Debug, PartialEq, Eq, Error)]
+pub enum NumberFault {
+    /// The digits are out of form.
+    #[error("not a number")]
+    NotNumber,
+    /// The number is too small or too large.
+    #[error("out of range")]
+    OutOfRange,
+}
 
 /// The byte of two hexadecimal digits of either case, and `None` where the word isn't two such digits.
 pub fn byte_of(word: &[u8]) -> Option<u8>
@@ -47,4 +59,18 @@ pub fn number_of(word: &[u8]) -> Option<u32>
         return None;
     }
     value_of(word)
+}
+
+/// The number of one to seven decimal digits, which lies between two others, both of them allowed.
+pub fn number_within(word: &[u8], first: u32, last: u32) -> Result<u32, NumberFault>
+    ensures value { result ≡ within first last (spelled_number word.now) }
+    ensures range { IfOk result (λ n. (first ≤ n) × (n ≤ last)) }
+{
+    let Some(number) = number_of(word) else {
+        return Err(NumberFault::NotNumber);
+    };
+    if number < first || number > last {
+        return Err(NumberFault::OutOfRange);
+    }
+    Ok(number)
 }

@@ -1,5 +1,5 @@
 // The words of a line, and lines that are skipped.
-ghost use Rattle.std.specs.Prelude.{◌≡◌, ◌∷◌, [], option_map, unwrap_or};
+ghost use Rattle.std.specs.Prelude.{◌≡◌, ◌∷◌, [], bytes_eq, option_map, unwrap_or};
 ghost use Rattle.line_words.specs.Words.{is_skipped as is_not_read, is_space, lone, words};
 ghost use Rattle.std.specs.List.{list_all};
 
@@ -38,4 +38,11 @@ pub fn is_skipped(line: &[u8]) -> bool
     ensures { result ≡ is_not_read line.now }
 {
     matches!(line, [b'#', ..]) || is_blank(line)
+}
+
+/// A text is a word.
+pub fn is_word(text: &[u8], word: &[u8]) -> bool
+    ensures { result ≡ bytes_eq text.now word.now }
+{
+    text == word
 }

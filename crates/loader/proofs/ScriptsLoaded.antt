@@ -3,7 +3,7 @@ use Rattle.std.proofs.Common.{◌≡◌, ℕ, List, None, Result, Ok, Err, arith
 use Rattle.outside.specs.StoreRules.{Input}
 use Rattle.console_spec.specs.Scripts.{Script as RunScript}
 use Rattle.f8_asm.specs.Image.{Picture, everywhere}
-use Rattle.pad_script.specs.declared.answers.ScriptFault.{ScriptFault}
+use Rattle.pad_script.specs.Answers.{ScriptFault}
 use Rattle.pad_script.specs.Reading.{script_of}
 use Rattle.loader.specs.declared.purposes.Purpose.TheVariants.{Script, File}
 use Rattle.loader.specs.declared.refusals.Refusal.{Refusal}

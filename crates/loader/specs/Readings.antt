@@ -15,7 +15,7 @@ use Rattle.chip_debug.specs.declared.command.Command.{Command}
 use Rattle.f8_asm.specs.declared.answers.AsmFault.{AsmFault}
 use Rattle.f8_asm.specs.declared.answers.Room.{Room}
 use Rattle.f8_asm.specs.Image.{Picture, image_of}
-use Rattle.pad_script.specs.declared.answers.ScriptFault.{ScriptFault}
+use Rattle.pad_script.specs.Answers.{ScriptFault}
 use Rattle.console_spec.specs.Scripts.{Script}
 use Rattle.pad_script.specs.Reading.{script_of}
 use Rattle.hex_file.specs.DigitText.{HexFault, bytes_of_text}

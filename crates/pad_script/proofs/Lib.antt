@@ -1,5 +1,3 @@
-pub mod LineSteps
+pub mod Drafts
 pub mod Told
-pub mod FirstFault
-pub mod Limits
 mod WorkedScripts

@@ -6,16 +6,17 @@ use Rattle.pad_script.specs.declared.answers.ScriptCause.TheVariants.{Number, No
 use Rattle.console_spec.specs.declared.Event.TheVariants.{Keys}
 use Rattle.console_spec.specs.declared.End.TheVariants.{Frames}
 use Rattle.line_words.specs.Numbers.{decimal_on}
-use Rattle.pad_script.specs.Reading.{script_at_end, no_draft, read_line, read_lines, draft_after, script_of}
+use Rattle.line_words.specs.Drafts.{after_lines}
+use Rattle.pad_script.specs.Reading.{no_draft, read_line, said_with, script_in, script_of}
 use Rattle.pad_script.specs.Statements.{frames, line_of, power, show, steps}
 
 power_of_one_digit : script_of (codes "power 0\n") ≡ Err (record { line = 1; cause = Number })
-unfolding decode_pairs decimal_on script_at_end no_draft read_line read_lines draft_after frames line_of power show
+unfolding decode_pairs decimal_on after_lines no_draft read_line said_with script_in frames line_of power show
     steps
 power_of_one_digit = refl
 
 no_text : script_of [] ≡ Err (record { line = 1; cause = NoEnd })
-unfolding script_at_end no_draft read_lines
+unfolding after_lines no_draft script_in
 no_text = refl
 
 -- key bytes at two frames, and both of the frames behind them shown
@@ -25,6 +26,6 @@ two_keys : script_of (codes "power 00\nat 0 keys 04 05\nat 1 keys 04 06\nshow 1\
   events = record { frame = 0; event = Keys 4 5 } ∷ record { frame = 1; event = Keys 4 6 } ∷ [];
   shows = 1 ∷ 2 ∷ [];
 })
-unfolding decode_pairs decimal_on script_at_end no_draft read_line read_lines draft_after frames line_of power show
+unfolding decode_pairs decimal_on after_lines no_draft read_line said_with script_in frames line_of power show
     steps
 two_keys = refl

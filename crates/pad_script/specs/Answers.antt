@@ -1,10 +1,11 @@
--- The causes by number, what follows where there is none, and answers.
-use Rattle.std.specs.Prelude.{ℕ, Result, Ok, Err}
-use Rattle.text_lines.specs.declared.read_error.ReadError.{ReadError}
-use Rattle.text_lines.specs.declared.read_error.ReadError.TheVariants as answer
+-- The causes by number, and those of numbers.
+use Rattle.std.specs.Prelude.{ℕ, Result}
+use Rattle.std.specs.Result.{result_map_both}
+use Rattle.line_words.specs.declared.numbers.NumberFault.{NumberFault}
+use Rattle.line_words.specs.declared.numbers.NumberFault.TheVariants.{NotNumber, OutOfRange}
+use Rattle.line_words.specs.declared.text_fault.TextFault.{TextFault}
 use Rattle.pad_script.specs.declared.answers.ScriptCause.{ScriptCause}
 use Rattle.pad_script.specs.declared.answers.ScriptCause.TheVariants.{Word, Number, Range, TooMany, Twice, NoEnd}
-use Rattle.pad_script.specs.declared.answers.ScriptFault.{ScriptFault}
 
 -- the number of a cause
 abbrev pub cause_number : ScriptCause → ℕ
@@ -15,14 +16,15 @@ cause_number TooMany = 4
 cause_number Twice = 5
 cause_number NoEnd = 6
 
--- what is made of a value, where there is no fault
-abbrev pub made_of : {A B : Type 0} → (A → B) → Result A ScriptCause → Result B ScriptCause
-made_of f (Ok x) = Ok (f x)
-made_of f (Err cause) = Err cause
+-- the cause where a word isn't a number within its limits
+abbrev pub cause_of : NumberFault → ScriptCause
+cause_of NotNumber = Number
+cause_of OutOfRange = Range
 
--- ---- answers
+-- what is made of a number, where it is within its limits
+abbrev pub made_of : {A : Type 0} → (ℕ → A) → Result ℕ NumberFault → Result A ScriptCause
+made_of f number = result_map_both f cause_of number
 
--- a fault as an answer
-abbrev pub answer_as : {A : Type 0} → Result A ScriptFault → Result A (ReadError ScriptFault)
-answer_as (Ok x) = Ok x
-answer_as (Err fault) = Err (answer.Fault fault)
+-- the first fault of a script, at its line
+abbrev pub ScriptFault : Type 0
+ScriptFault = TextFault ScriptCause

@@ -1,5 +1,4 @@
 pub mod Answers
-pub mod Numbers
 pub mod Statements
 pub mod Reading
 pub mod Telling

@@ -1,7 +1,6 @@
 -- What a line says: one of the six forms, or its first fault in the order Word, Number, Range.
 use Rattle.std.specs.Prelude.{ℕ, ◌&&◌, nat_le, if◌then◌else◌, List, [], ◌∷◌, codes, bytes_eq, Option, Some, None}
 use Rattle.std.specs.Prelude.{Result, Ok, Err}
-use Rattle.std.specs.List.{list_all}
 use Rattle.pad_script.specs.declared.answers.ScriptCause.{ScriptCause}
 use Rattle.pad_script.specs.declared.answers.ScriptCause.TheVariants.{Word, Number, Range}
 use Rattle.console_spec.specs.declared.Event.TheVariants.{Keys, Pulse}
@@ -9,10 +8,9 @@ use Rattle.console_spec.specs.declared.End.TheVariants.{Frames, Steps}
 use Rattle.pad_script.specs.declared.statement.Statement.{Statement}
 use Rattle.pad_script.specs.declared.statement.Statement.TheVariants.{Power, Ends, Comes, Shows}
 use Rattle.pad_script.specs.Answers.{made_of}
-use Rattle.line_words.specs.Words.{is_skipped, words, lone}
-use Rattle.text_lines.specs.Printable.{is_printable}
-use Rattle.line_words.specs.Numbers.{byte_of, number_of}
-use Rattle.pad_script.specs.Numbers.{within}
+use Rattle.line_words.specs.Drafts.{line_by}
+use Rattle.line_words.specs.Words.{lone}
+use Rattle.line_words.specs.Numbers.{byte_of, number_of, spelled, within}
 
 -- ---- events
 
@@ -59,13 +57,9 @@ at_frame (frame ∷ ws) = event_of frame ws
 
 -- ---- settings
 
-abbrev pub with_byte : Option ℕ → Result Statement ScriptCause
-with_byte None = Err Number
-with_byte (Some byte) = Ok (Power byte)
-
 -- `power HH`
 unfoldable pub power : List ℕ → Result Statement ScriptCause
-power byte = with_byte (byte_of byte)
+power byte = made_of Power (spelled (byte_of byte))
 
 -- `frames N`
 unfoldable pub frames : List ℕ → Result Statement ScriptCause
@@ -102,7 +96,4 @@ statement_of (name ∷ ws) = if bytes_eq name (codes "at") then at_frame ws else
 
 -- a line, which says nothing where it is skipped
 unfoldable pub line_of : List ℕ → Result (Option Statement) ScriptCause
-line_of line =
-    if is_skipped line then Ok None else
-    if list_all is_printable line then made_of Some (statement_of (words line)) else
-    Err Word
+line_of line = line_by Word statement_of line

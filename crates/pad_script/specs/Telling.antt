@@ -1,6 +1,7 @@
 -- What a script has is what the lines of its text say, in their order. This is a law over the reading, and knows nothing of how it goes.
-use Rattle.std.specs.Prelude.{◌≡◌, ℕ, List, [], ◌∷◌, ◌++◌, Option, Some, None, Result, Ok, Err}
-use Rattle.pad_script.specs.declared.answers.ScriptCause.{ScriptCause}
+use Rattle.std.specs.Prelude.{◌≡◌, ℕ, List, [], ◌∷◌, Option, Some, None}
+use Rattle.std.specs.List.{filter_map}
+use Rattle.line_words.specs.Drafts.{statements_by}
 use Rattle.console_spec.specs.declared.At.{At}
 use Rattle.console_spec.specs.declared.End.{End}
 use Rattle.pad_script.specs.declared.statement.Statement.{Statement}
@@ -8,48 +9,41 @@ use Rattle.pad_script.specs.declared.statement.Statement.TheVariants.{Power, End
 use Rattle.pad_script.specs.Reading.{Script}
 use Rattle.pad_script.specs.Statements.{line_of}
 
--- what a line says, if anything
-abbrev pub said_in : Result (Option Statement) ScriptCause → List Statement
-said_in (Ok (Some statement)) = statement ∷ []
-said_in (Ok None) = []
-said_in (Err cause) = []
-
 -- what lines say
 abbrev pub statements : List (List ℕ) → List Statement
-statements [] = []
-statements (l ∷ ls) = said_in (line_of l) ++ statements ls
+statements ls = statements_by line_of ls
 
 -- the power-on bytes
+abbrev pub power_in : Statement → Option ℕ
+power_in (Power byte) = Some byte
+power_in statement = None
+
 abbrev pub powers : List Statement → List ℕ
-powers [] = []
-powers (Power byte ∷ ss) = byte ∷ powers ss
-powers (Ends end ∷ ss) = powers ss
-powers (Comes at ∷ ss) = powers ss
-powers (Shows frame ∷ ss) = powers ss
+powers ss = filter_map power_in ss
 
 -- the ends of the run
+abbrev pub end_in : Statement → Option End
+end_in (Ends end) = Some end
+end_in statement = None
+
 abbrev pub ends : List Statement → List End
-ends [] = []
-ends (Power byte ∷ ss) = ends ss
-ends (Ends end ∷ ss) = end ∷ ends ss
-ends (Comes at ∷ ss) = ends ss
-ends (Shows frame ∷ ss) = ends ss
+ends ss = filter_map end_in ss
 
 -- the events
+abbrev pub event_in : Statement → Option At
+event_in (Comes at) = Some at
+event_in statement = None
+
 abbrev pub events : List Statement → List At
-events [] = []
-events (Power byte ∷ ss) = events ss
-events (Ends end ∷ ss) = events ss
-events (Comes at ∷ ss) = at ∷ events ss
-events (Shows frame ∷ ss) = events ss
+events ss = filter_map event_in ss
 
 -- the shown frames
+abbrev pub show_in : Statement → Option ℕ
+show_in (Shows frame) = Some frame
+show_in statement = None
+
 abbrev pub shows : List Statement → List ℕ
-shows [] = []
-shows (Power byte ∷ ss) = shows ss
-shows (Ends end ∷ ss) = shows ss
-shows (Comes at ∷ ss) = shows ss
-shows (Shows frame ∷ ss) = frame ∷ shows ss
+shows ss = filter_map show_in ss
 
 -- the power-on byte is the only one, or 00 where there is none
 abbrev pub IsPower : List ℕ → ℕ → Type 0

@@ -1,8 +1,8 @@
 // What is wrong with a script.
 ghost use Rattle.std.specs.Prelude.{◌≡◌};
 ghost use Rattle.pad_script.specs.Answers.{cause_number};
-ghost use Rattle.text_lines.specs.declared.read_error.ReadError.TheVariants.{Fault};
 
+use line_words::{NumberFault, TextFault};
 use text_lines::ReadError;
 use thiserror::Error;
 
@@ -45,20 +45,22 @@ impl ScriptCause {
     }
 }
 
-/// The first fault of a text. Lines are counted from 1, blank lines and comments too.
-#[derive(Clone, Copy, Debug, PartialEq, Eq, Error)]
-#[error("line {line}: {cause}")]
-pub struct ScriptFault {
-    pub line: u32,
-    pub cause: ScriptCause,
+impl From<NumberFault> for ScriptCause {
+    ghost use Rattle.std.specs.Prelude.{◌≡◌};
+    ghost use Rattle.pad_script.specs.Answers.{cause_of};
+
+    ghost from_gives = { λ fault cause. cause ≡ cause_of fault };
+
+    fn from(fault: NumberFault) -> ScriptCause {
+        match fault {
+            NumberFault::NotNumber => ScriptCause::Number,
+            NumberFault::OutOfRange => ScriptCause::Range,
+        }
+    }
 }
+
+/// The first fault of a script, at its line.
+pub type ScriptFault = TextFault<ScriptCause>;
 
 /// Why a text is no script: its first fault, or that memory is missing, at a line of an event or a shown frame.
 pub type ScriptAnswer = ReadError<ScriptFault>;
-
-/// A fault of a line.
-pub fn fault(line: u32, cause: ScriptCause) -> ScriptAnswer
-    ensures { result ≡ Fault (record { line = line; cause = cause }) }
-{
-    ScriptAnswer::Fault(ScriptFault { line, cause })
-}

@@ -5,7 +5,6 @@
 mod answers;
 mod draft;
 mod event_list;
-mod numbers;
 mod read;
 mod script;
 mod show_list;

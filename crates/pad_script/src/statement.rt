@@ -1,12 +1,12 @@
 // The six forms of a line.
-ghost use Rattle.std.specs.Prelude.{◌≡◌, bytes_eq};
+ghost use Rattle.std.specs.Prelude.{◌≡◌, IfOk, IfSome};
 ghost use Rattle.line_words.specs.Words.{words};
+ghost use Rattle.pad_script.specs.Limits.{IsLimited};
 ghost use Rattle.pad_script.specs.Statements.{keys_at, pulse_at, power, frames, steps, show, event_of as spelled_event, setting as spelled_setting, statement_of as spelled_statement, line_of as spelled_line};
 
 use super::answers::ScriptCause;
-use super::numbers::number_within;
 use super::script::{At, End, Event};
-use line_words::{byte_of, first_word, is_skipped, number_of, only_word};
+use line_words::{byte_of, first_word, is_skipped, is_word, number_of, number_within, only_word};
 use text_lines::all_printable;
 
 /// The last frame at which a run ends or that is shown.
@@ -36,7 +36,8 @@ pub enum Statement {
 
 /// `at F keys PP HH`, with the words of the three numbers.
 fn keys_at(frame: &[u8], port: &[u8], byte: &[u8]) -> Result<Statement, ScriptCause>
-    ensures { result ≡ keys_at frame.now port.now byte.now }
+    ensures value { result ≡ keys_at frame.now port.now byte.now }
+    ensures limited { IfOk result IsLimited }
 {
     let (Some(frame), Some(port), Some(byte)) = (number_of(frame), byte_of(port), byte_of(byte))
     else {
@@ -51,7 +52,8 @@ fn keys_at(frame: &[u8], port: &[u8], byte: &[u8]) -> Result<Statement, ScriptCa
 
 /// `at F pulse C`, with the words of the two numbers.
 fn pulse_at(frame: &[u8], chip: &[u8]) -> Result<Statement, ScriptCause>
-    ensures { result ≡ pulse_at frame.now chip.now }
+    ensures value { result ≡ pulse_at frame.now chip.now }
+    ensures limited { IfOk result IsLimited }
 {
     let (Some(frame), Some(chip)) = (number_of(frame), number_of(chip)) else {
         return Err(ScriptCause::Number);
@@ -65,7 +67,8 @@ fn pulse_at(frame: &[u8], chip: &[u8]) -> Result<Statement, ScriptCause>
 
 /// `keys PP HH` or `pulse C`, behind `at` and the word of a frame.
 fn event_at(frame: &[u8], text: &[u8]) -> Result<Statement, ScriptCause>
-    ensures { result ≡ spelled_event frame.now (words text.now) }
+    ensures value { result ≡ spelled_event frame.now (words text.now) }
+    ensures limited { IfOk result IsLimited }
 {
     let (kind, Some(rest)) = first_word(text) else {
         return Err(ScriptCause::Word);
@@ -93,7 +96,8 @@ fn event_at(frame: &[u8], text: &[u8]) -> Result<Statement, ScriptCause>
 /// `power HH`.
 #[tactic(auto, unfolding(crate::specs::Statements::power))]
 fn power(byte: &[u8]) -> Result<Statement, ScriptCause>
-    ensures { result ≡ power byte.now }
+    ensures value { result ≡ power byte.now }
+    ensures limited { IfOk result IsLimited }
 {
     match byte_of(byte) {
         Some(byte) => Ok(Statement::Power(byte)),
@@ -104,7 +108,8 @@ fn power(byte: &[u8]) -> Result<Statement, ScriptCause>
 /// `frames N`.
 #[tactic(auto, unfolding(crate::specs::Statements::frames))]
 fn frames(count: &[u8]) -> Result<Statement, ScriptCause>
-    ensures { result ≡ frames count.now }
+    ensures value { result ≡ frames count.now }
+    ensures limited { IfOk result IsLimited }
 {
     let count = number_within(count, 1, LAST_FRAME)?;
     Ok(Statement::Ends(End::Frames(count)))
@@ -113,7 +118,8 @@ fn frames(count: &[u8]) -> Result<Statement, ScriptCause>
 /// `steps N`.
 #[tactic(auto, unfolding(crate::specs::Statements::steps))]
 fn steps(count: &[u8]) -> Result<Statement, ScriptCause>
-    ensures { result ≡ steps count.now }
+    ensures value { result ≡ steps count.now }
+    ensures limited { IfOk result IsLimited }
 {
     let count = number_within(count, 0, MOST_INSTRUCTIONS)?;
     Ok(Statement::Ends(End::Steps(count)))
@@ -122,22 +128,17 @@ fn steps(count: &[u8]) -> Result<Statement, ScriptCause>
 /// `show F`.
 #[tactic(auto, unfolding(crate::specs::Statements::show))]
 fn show(frame: &[u8]) -> Result<Statement, ScriptCause>
-    ensures { result ≡ show frame.now }
+    ensures value { result ≡ show frame.now }
+    ensures limited { IfOk result IsLimited }
 {
     let frame = number_within(frame, 1, LAST_FRAME)?;
     Ok(Statement::Shows(frame))
 }
 
-/// A text is a word.
-fn is_word(text: &[u8], word: &[u8]) -> bool
-    ensures { result ≡ bytes_eq text.now word.now }
-{
-    text == word
-}
-
 /// A line of a name and one word.
 fn setting(name: &[u8], value: &[u8]) -> Result<Statement, ScriptCause>
-    ensures { result ≡ spelled_setting name.now value.now }
+    ensures value { result ≡ spelled_setting name.now value.now }
+    ensures limited { IfOk result IsLimited }
 {
     if is_word(name, b"power") {
         return power(value);
@@ -156,7 +157,8 @@ fn setting(name: &[u8], value: &[u8]) -> Result<Statement, ScriptCause>
 
 /// What the words of a line say.
 fn statement_of(line: &[u8]) -> Result<Statement, ScriptCause>
-    ensures { result ≡ spelled_statement (words line.now) }
+    ensures value { result ≡ spelled_statement (words line.now) }
+    ensures limited { IfOk result IsLimited }
 {
     let (name, Some(rest)) = first_word(line) else {
         return Err(ScriptCause::Word);
@@ -176,7 +178,8 @@ fn statement_of(line: &[u8]) -> Result<Statement, ScriptCause>
 /// What a line says, and `None` where it is skipped.
 #[tactic(auto, unfolding(crate::specs::Statements::line_of))]
 pub fn line_of(line: &[u8]) -> Result<Option<Statement>, ScriptCause>
-    ensures { result ≡ spelled_line line.now }
+    ensures value { result ≡ spelled_line line.now }
+    ensures limited { IfOk result (λ said. IfSome said IsLimited) }
 {
     if is_skipped(line) {
         return Ok(None);

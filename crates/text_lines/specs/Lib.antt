@@ -1,3 +1,4 @@
 pub mod Lines
 pub mod Printable
 pub mod ReadErrors
+pub mod Steps
