@@ -1,5 +1,9 @@
--- The causes by number, and what follows where there is none.
-use Rattle.std.specs.Prelude.{ℕ, Result, Ok, Err}
+-- The causes by number, and those of numbers.
+use Rattle.std.specs.Prelude.{ℕ, Result}
+use Rattle.std.specs.Result.{result_map_both}
+use Rattle.line_words.specs.declared.numbers.NumberFault.{NumberFault}
+use Rattle.line_words.specs.declared.numbers.NumberFault.TheVariants.{NotNumber, OutOfRange}
+use Rattle.line_words.specs.declared.text_fault.TextFault.{TextFault}
 use Rattle.chip_debug.specs.declared.answers.DebugCause.{DebugCause}
 use Rattle.chip_debug.specs.declared.answers.DebugCause.TheVariants.{Word, Number, Range, Total}
 
@@ -10,7 +14,15 @@ cause_number Number = 2
 cause_number Range = 3
 cause_number Total = 4
 
--- what is made of a value, where there is no fault
-abbrev pub made_of : {A B : Type 0} → (A → B) → Result A DebugCause → Result B DebugCause
-made_of f (Ok x) = Ok (f x)
-made_of f (Err cause) = Err cause
+-- the cause where a word isn't a number within its limits
+abbrev pub cause_of : NumberFault → DebugCause
+cause_of NotNumber = Number
+cause_of OutOfRange = Range
+
+-- what is made of a number, where it is within its limits
+abbrev pub made_of : {A : Type 0} → (ℕ → A) → Result ℕ NumberFault → Result A DebugCause
+made_of f number = result_map_both f cause_of number
+
+-- the first fault of a command file, at its line
+abbrev pub DebugFault : Type 0
+DebugFault = TextFault DebugCause

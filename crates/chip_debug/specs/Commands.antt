@@ -1,21 +1,13 @@
 -- What a line of a command file says: one of the commands, or its first fault in the order Word, Number, Range.
 use Rattle.std.specs.Prelude.{ℕ, if◌then◌else◌, List, [], ◌∷◌, codes, bytes_eq, Option, Some, None, Result, Ok, Err}
-use Rattle.std.specs.List.{list_all}
-use Rattle.text_lines.specs.Printable.{is_printable}
-use Rattle.line_words.specs.Words.{is_skipped, words}
-use Rattle.line_words.specs.Numbers.{address_of, byte_of, number_of}
+use Rattle.line_words.specs.Drafts.{line_by}
+use Rattle.line_words.specs.Numbers.{address_of, byte_of, number_of, spelled, within}
 use Rattle.chip_debug.specs.declared.answers.DebugCause.{DebugCause}
 use Rattle.chip_debug.specs.declared.answers.DebugCause.TheVariants.{Word, Number}
 use Rattle.chip_debug.specs.declared.command.Command.{Command}
 use Rattle.chip_debug.specs.declared.command.Command.TheVariants.{Power, Keys, Pulse, Step, Run, BreakAt, BreakRomc}
 use Rattle.chip_debug.specs.declared.command.Command.TheVariants.{BreakChip, BreakApart, Clear, ShowRegs, ShowChips, Mem}
 use Rattle.chip_debug.specs.Answers.{made_of}
-use Rattle.chip_debug.specs.Numbers.{within}
-
--- a number that is spelled, or Number
-abbrev pub spelled : Option ℕ → Result ℕ DebugCause
-spelled None = Err Number
-spelled (Some n) = Ok n
 
 -- ---- two words
 
@@ -119,7 +111,4 @@ command_of (name ∷ (word ∷ (other ∷ (more ∷ ws)))) = Err Word
 
 -- a line, which says nothing where it is skipped
 unfoldable pub line_of : List ℕ → Result (Option Command) DebugCause
-line_of line =
-    if is_skipped line then Ok None else
-    if list_all is_printable line then made_of Some (command_of (words line)) else
-    Err Word
+line_of line = line_by Word command_of line

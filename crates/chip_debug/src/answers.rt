@@ -1,8 +1,8 @@
 // What is wrong with a command file.
 ghost use Rattle.std.specs.Prelude.{◌≡◌};
 ghost use Rattle.chip_debug.specs.Answers.{cause_number};
-ghost use Rattle.text_lines.specs.declared.read_error.ReadError.TheVariants.{Fault};
 
+use line_words::{NumberFault, TextFault};
 use text_lines::ReadError;
 use thiserror::Error;
 
@@ -37,20 +37,22 @@ impl DebugCause {
     }
 }
 
-/// The first fault of a text. Lines are counted from 1, blank lines and comments too.
-#[derive(Clone, Copy, Debug, PartialEq, Eq, Error)]
-#[error("line {line}: {cause}")]
-pub struct DebugFault {
-    pub line: u32,
-    pub cause: DebugCause,
+impl From<NumberFault> for DebugCause {
+    ghost use Rattle.std.specs.Prelude.{◌≡◌};
+    ghost use Rattle.chip_debug.specs.Answers.{cause_of};
+
+    ghost from_gives = { λ fault cause. cause ≡ cause_of fault };
+
+    fn from(fault: NumberFault) -> DebugCause {
+        match fault {
+            NumberFault::NotNumber => DebugCause::Number,
+            NumberFault::OutOfRange => DebugCause::Range,
+        }
+    }
 }
+
+/// The first fault of a command file, at its line.
+pub type DebugFault = TextFault<DebugCause>;
 
 /// Why a text is no list of commands: its first fault, or that memory is missing, at a line that has a command.
 pub type DebugAnswer = ReadError<DebugFault>;
-
-/// A fault of a line.
-pub(crate) fn fault(line: u32, cause: DebugCause) -> DebugAnswer
-    ensures { result ≡ Fault (record { line = line; cause = cause }) }
-{
-    DebugAnswer::Fault(DebugFault { line, cause })
-}

@@ -1,13 +1,14 @@
 // The command of a line.
-ghost use Rattle.std.specs.Prelude.{◌≡◌, ◌∷◌, IfOk, IfSome, bytes_eq};
+ghost use Rattle.std.specs.Prelude.{◌≡◌, ◌∷◌, IfOk, IfSome};
 ghost use Rattle.line_words.specs.Words.{words};
 ghost use Rattle.chip_debug.specs.Limits.{IsCommand};
 ghost use Rattle.chip_debug.specs.Commands.{power_of as spelled_power, pulse_of as spelled_pulse, step_of as spelled_step, run_of as spelled_run, bare_break as spelled_bare, shown_of as spelled_shown, keys_of as spelled_keys, break_at as spelled_at, break_romc as spelled_romc, break_chip as spelled_chip, break_of as spelled_break, mem_of as spelled_mem, alone as spelled_alone, with_one as spelled_one, with_two as spelled_two, command_of as spelled_command, line_of as spelled_line};
 
 use super::answers::DebugCause;
 use super::command::Command;
-use super::numbers::{byte_up_to, number_up_to};
-use line_words::{address_of, byte_of, first_word, is_skipped, number_of, only_word};
+use line_words::{
+    address_of, byte_of, first_word, is_skipped, is_word, number_within, only_word,
+};
 use text_lines::all_printable;
 
 /// The most instructions of one command.
@@ -21,13 +22,6 @@ const LAST_CODE: u8 = 0x1F;
 
 /// The most bytes that one command shows.
 const MOST_BYTES: u32 = 16;
-
-/// A text is a word.
-fn is_word(text: &[u8], word: &[u8]) -> bool
-    ensures { result ≡ bytes_eq text.now word.now }
-{
-    text == word
-}
 
 /// `power HH`.
 #[tactic(auto, unfolding(crate::specs::Commands::power_of))]
@@ -47,7 +41,7 @@ fn pulse_of(chip: &[u8]) -> Result<Command, DebugCause>
     ensures value { result ≡ spelled_pulse chip.now }
     ensures within { IfOk result IsCommand }
 {
-    let chip = number_up_to(chip, LAST_CHIP)?;
+    let chip = number_within(chip, 0, LAST_CHIP)?;
     Ok(Command::Pulse { chip: chip as u8 })
 }
 
@@ -57,7 +51,7 @@ fn step_of(count: &[u8]) -> Result<Command, DebugCause>
     ensures value { result ≡ spelled_step count.now }
     ensures within { IfOk result IsCommand }
 {
-    let count = number_up_to(count, MOST_AT_ONCE)?;
+    let count = number_within(count, 0, MOST_AT_ONCE)?;
     Ok(Command::Step { count })
 }
 
@@ -67,7 +61,7 @@ fn run_of(count: &[u8]) -> Result<Command, DebugCause>
     ensures value { result ≡ spelled_run count.now }
     ensures within { IfOk result IsCommand }
 {
-    let count = number_up_to(count, MOST_AT_ONCE)?;
+    let count = number_within(count, 0, MOST_AT_ONCE)?;
     Ok(Command::Run { count })
 }
 
@@ -126,8 +120,11 @@ fn break_romc(romc: &[u8]) -> Result<Command, DebugCause>
     ensures value { result ≡ spelled_romc romc.now }
     ensures within { IfOk result IsCommand }
 {
-    let romc = byte_up_to(romc, LAST_CODE)?;
-    Ok(Command::BreakRomc { romc })
+    match byte_of(romc) {
+        Some(romc) if romc <= LAST_CODE => Ok(Command::BreakRomc { romc }),
+        Some(_) => Err(DebugCause::Range),
+        None => Err(DebugCause::Number),
+    }
 }
 
 /// `break chip S`.
@@ -136,7 +133,7 @@ fn break_chip(socket: &[u8]) -> Result<Command, DebugCause>
     ensures value { result ≡ spelled_chip socket.now }
     ensures within { IfOk result IsCommand }
 {
-    let socket = number_up_to(socket, LAST_CHIP)?;
+    let socket = number_within(socket, 0, LAST_CHIP)?;
     Ok(Command::BreakChip {
         socket: socket as u8,
     })
@@ -165,12 +162,10 @@ fn mem_of(at: &[u8], count: &[u8]) -> Result<Command, DebugCause>
     ensures value { result ≡ spelled_mem at.now count.now }
     ensures within { IfOk result IsCommand }
 {
-    let (Some(at), Some(count)) = (address_of(at), number_of(count)) else {
+    let Some(at) = address_of(at) else {
         return Err(DebugCause::Number);
     };
-    if count < 1 || count > MOST_BYTES {
-        return Err(DebugCause::Range);
-    }
+    let count = number_within(count, 1, MOST_BYTES)?;
     Ok(Command::Mem {
         at,
         count: count as u8,

@@ -1,16 +1,17 @@
 // The commands of some lines.
-ghost use Rattle.std.specs.Prelude.{◌≡◌, ◌<◌, ◌≤◌, [], length};
-ghost use Rattle.text_lines.specs.ReadErrors.{OnMemory, StepsTo};
-ghost use Rattle.chip_debug.specs.Commands.{line_of as spelled_line};
+ghost use Rattle.std.specs.Prelude.{◌≡◌, []};
+ghost use Rattle.text_lines.specs.ReadErrors.{StepsTo};
 ghost use Rattle.chip_debug.specs.Limits.{IsCommand};
-ghost use Rattle.chip_debug.specs.Reading.{said_in, said_with, read_line};
+ghost use Rattle.chip_debug.specs.Reading.{said_with};
 
-use super::answers::{DebugAnswer, DebugCause, fault};
+use super::answers::DebugCause;
 use super::command::Command;
 use super::command_line::line_of;
 use super::command_list::CommandList;
+use line_words::LineDraft;
 use std::alloc::Global;
 use std::marker::Model;
+use text_lines::ReadError;
 
 /// The most instructions that the commands of a file ask for.
 const MOST_INSTRUCTIONS: u32 = 10_000_000;
@@ -49,30 +50,17 @@ impl Draft {
     }
 
     /// One command more.
-    fn say(&mut self, line: u32, command: Command) -> Result<(), DebugAnswer>
+    fn say(&mut self, command: Command) -> Result<(), ReadError<DebugCause>>
         requires within { IsCommand command }
-        ensures steps { StepsTo result self.new (said_with line self.old command) }
+        ensures steps { StepsTo result self.new (said_with self.old command) }
     {
         let total = self.total + command.count();
         if total > MOST_INSTRUCTIONS {
-            return Err(fault(line, DebugCause::Total));
+            return Err(ReadError::Fault(DebugCause::Total));
         }
         self.commands.push(command)?;
         self.total = total;
         Ok(())
-    }
-
-    /// Reads one line more. Memory is wanting only where it has a command, so never at one that is skipped.
-    #[tactic(auto, unfolding(crate::specs::Reading::read_line))]
-    pub(crate) fn read_line(&mut self, number: u32, line: &[u8]) -> Result<(), DebugAnswer>
-        ensures steps { StepsTo result self.new (read_line number self.old line.now) }
-        ensures memory { OnMemory result (0 < length (said_in (spelled_line line.now))) }
-    {
-        match line_of(line) {
-            Ok(Some(command)) => self.say(number, command),
-            Ok(None) => Ok(()),
-            Err(cause) => Err(fault(number, cause)),
-        }
     }
 
     /// All of the commands. This takes no memory.
@@ -80,5 +68,25 @@ impl Draft {
         ensures { result ≡ self }
     {
         CommandList::from_vec(self.commands)
+    }
+}
+
+impl LineDraft for Draft {
+    ghost use Rattle.chip_debug.specs.FirstFault.{HasCommand};
+    ghost use Rattle.chip_debug.specs.Reading.{read_line};
+
+    type Cause = DebugCause;
+
+    ghost after_line = { read_line };
+
+    ghost takes_memory = { HasCommand };
+
+    #[tactic(auto, unfolding(crate::specs::Reading::read_line))]
+    fn read_line(&mut self, line: &[u8]) -> Result<(), ReadError<DebugCause>> {
+        match line_of(line) {
+            Ok(Some(command)) => self.say(command),
+            Ok(None) => Ok(()),
+            Err(cause) => Err(ReadError::Fault(cause)),
+        }
     }
 }

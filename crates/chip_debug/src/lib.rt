@@ -7,7 +7,6 @@ mod command;
 mod command_line;
 mod command_list;
 mod draft;
-mod numbers;
 mod read;
 mod session;
 mod session_lines;

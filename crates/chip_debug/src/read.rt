@@ -8,8 +8,8 @@ ghost use Rattle.text_lines.specs.ReadErrors.{Says};
 use super::answers::DebugAnswer;
 use super::command_list::CommandList;
 use super::draft::Draft;
+use line_words::read_lines;
 use std::alloc::Global;
-use text_lines::first_line;
 
 /// The commands of a text, or the text's first fault: that of the first line that has one, and of such a line's faults the first in the
 /// order Word, Number, Range, Total. `Memory`: memory is missing, at a line with a command, before which no line is at fault.
@@ -19,13 +19,6 @@ pub fn read_commands(alloc: Global, text: &[u8]) -> Result<CommandList, DebugAns
     ensures lines { TellsLines result (lines text.now) }
 {
     let mut draft = Draft::new(alloc);
-    let mut rest = text;
-    let mut number = 1u32;
-    while !rest.is_empty() {
-        let (line, behind) = first_line(rest);
-        draft.read_line(number, line)?;
-        rest = behind;
-        number += 1;
-    }
+    read_lines(&mut draft, text)?;
     Ok(draft.finish())
 }

@@ -4,7 +4,7 @@ use Rattle.chip_face.specs.declared.sizes.TheConstants.{MOST_CHIPS}
 use Rattle.outside.specs.StoreRules.{Input}
 use Rattle.cartridge.specs.declared.finish.Cart.{Cart}
 use Rattle.chip_debug.specs.Reading.{commands_of}
-use Rattle.chip_debug.specs.declared.answers.DebugFault.{DebugFault}
+use Rattle.chip_debug.specs.Answers.{DebugFault}
 use Rattle.chip_debug.specs.declared.command.Command.{Command}
 use Rattle.loader.specs.declared.games.Debugging.{Debugging}
 use Rattle.loader.specs.declared.purposes.Purpose.TheVariants.{Commands}

@@ -10,7 +10,7 @@ use Rattle.certificate.specs.declared.answers.CertFault.{CertFault}
 use Rattle.cartridge.specs.declared.refusal.CartFault.{CartFault}
 use Rattle.cartridge.specs.Filling.{Planned, plan_of}
 use Rattle.chip_debug.specs.Reading.{commands_of}
-use Rattle.chip_debug.specs.declared.answers.DebugFault.{DebugFault}
+use Rattle.chip_debug.specs.Answers.{DebugFault}
 use Rattle.chip_debug.specs.declared.command.Command.{Command}
 use Rattle.f8_asm.specs.declared.answers.AsmFault.{AsmFault}
 use Rattle.f8_asm.specs.declared.answers.Room.{Room}
