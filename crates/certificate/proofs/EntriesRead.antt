@@ -19,7 +19,8 @@ use Rattle.certificate.specs.declared.answers.CertFault.{CertFault}
 use Rattle.certificate.specs.declared.answers.CertCause.{CertCause}
 use Rattle.certificate.specs.declared.answers.CertCause.TheVariants.{Order, SplitField}
 use Rattle.certificate.specs.Entries.{entry_of}
-use Rattle.certificate.specs.CertificateText.{◌>>=◌, at_line, line_at, end_at, has_split, is_behind, entry_by, entry_in, entries_at}
+use Rattle.text_lines.specs.Steps.{◌>>=◌}
+use Rattle.certificate.specs.CertificateText.{at_line, line_at, end_at, has_split, is_behind, entry_by, entry_in, entries_at}
 
 abbrev pub Notes : Type 0
 Notes = List (Point × AbstractState)

@@ -1,5 +1,4 @@
 mod Marks
-mod NumberLaws
 mod BytesRead
 mod ValuesRead
 mod ScratchpadReads

@@ -1,23 +1,25 @@
 -- What is read of the text of an invariant map is the map.
-use Rattle.std.proofs.Common.{◌≡◌, ℕ, zero, suc, ◌+◌, ◌*◌, ◌<◌, ◌≤◌, true, List, [], ◌∷◌}
+use Rattle.std.proofs.Common.{◌≡◌, ℕ, zero, suc, ◌+◌, ◌-◌, ◌*◌, ◌<◌, ◌≤◌, true, List, [], ◌∷◌}
 use Rattle.std.proofs.Common.{length, map, refl, ap, ◌∙◌, arith}
 use Rattle.std.specs.Prelude.{Option, Some, None, Ok, codes, decimal, nat_eq, nat_le, nat_lt, slice_index_or}
 use Rattle.std.specs.List.{AllByRecursion, list_all, range_with_len}
 use Rattle.std.specs.List.Sorted.{IsStrictlySortedBy}
 use Rattle.std.specs.Map.{keys_of}
 use Rattle.std.specs.Option.{option_eq}
-use Rattle.std.specs.Char.{digit_value}
+use Rattle.std.specs.Char.{digit_value, is_ascii_digit}
 use Rattle.std.specs.Str.Parse.{AllDigits, digits_value_after}
 use Rattle.std.specs.declared.cmp.Ordering.TheVariants.{Less}
 use Rattle.std.proofs.lemmas.Bool.Decides.{nat_tests}
+use Rattle.std.proofs.lemmas.Str.{digit_value_digit}
+use Rattle.std.proofs.lemmas.Str.Parse.{digit_from_value}
 use Rattle.std.proofs.lemmas.Fmt.{decimal_is_IsNumeral, length-decimal-le}
 use Rattle.abs_domain.specs.AbstractState.{AbstractState}
 use Rattle.abs_domain.specs.PointOrder.{point_cmp}
 use Rattle.abs_domain.specs.declared.points.Point.{Point}
 use Rattle.abs_step.specs.Successors.{tracked_byte, tracked_bytes}
-use Rattle.certificate.specs.Parts.{digit_in}
+use Rattle.line_words.specs.Numbers.{decimal_on}
 use Rattle.certificate.specs.Entries.{entry_text}
-use Rattle.certificate.specs.CertificateText.{decimal_on, count_of, header_at, has_split, is_behind, entry_in, entries_at, certificate_of}
+use Rattle.certificate.specs.CertificateText.{count_of, header_at, has_split, is_behind, entry_in, entries_at, certificate_of}
 use Rattle.certificate.specs.CertificateText.{header_text, entries_text, certificate_text}
 use Rattle.certificate.specs.CertificateLaws.{HaveSplit, AllFit, AllInRange, RoundTripLaw}
 use Rattle.certificate.proofs.Marks.{behind_again}
@@ -27,11 +29,14 @@ use Rattle.certificate.proofs.LineEnds.{first_again, entry_inside, header_inside
 -- ---- the first line
 
 value_again : (n : ℕ) (ds : List ℕ) → AllDigits 10 ds → decimal_on n ds ≡ Some (digits_value_after 10 n ds)
-unfolding decimal_on digit_in
+unfolding decimal_on
 value_again n [] all = refl
 value_again n (c ∷ cs) all =
-    let small : nat_lt (digit_value c) 10 ≡ true = grind (arith, nat_tests, all.0) in
-    rw small (value_again (n * 10 + digit_value c) cs all.1)
+    let range = digit_from_value c all.0 in
+    let digit : is_ascii_digit c ≡ true = grind (arith, nat_tests, range) in
+    let value = digit_value_digit c range in
+    let same : 10 * n + (c - 48) ≡ n * 10 + digit_value c = omega (arith, value) in
+    rw (digit, same) (value_again (n * 10 + digit_value c) cs all.1)
 
 number_again : (n : ℕ) → n ≤ 65536 → decimal_on 0 (decimal n) ≡ Some n
 number_again n few =

@@ -22,10 +22,10 @@ abbrev pub Gives : {X Y : Type 0} → (X → Y) → Option X → Option Y → Ty
 Gives view None said = said ≡ None
 Gives view (Some x) said = said ≡ Some (view x)
 
--- a step tells what is said of a text, or its fault
-abbrev pub Tells : {X Y : Type 0} → (X → Y) → Result X CertFault → Result Y CertFault → Type 0
-Tells view (Ok x) said = said ≡ Ok (view x)
-Tells view (Err fault) said = said ≡ Err fault
+-- what is read is, as it is seen, what is said of a text, or the fault is
+abbrev pub ReadsAs : {X Y : Type 0} → (X → Y) → Result X CertFault → Result Y CertFault → Type 0
+ReadsAs view (Ok x) said = said ≡ Ok (view x)
+ReadsAs view (Err fault) said = said ≡ Err fault
 
 -- an entry as it is read of a line
 abbrev pub entry_as : Result (Point × Abs) CertCause → Result (Point × AbstractState) CertCause

@@ -1,5 +1,5 @@
 -- The text of a certificate, both ways: an invariant map as lines, and the first fault of a text that is none.
-use Rattle.std.specs.Prelude.{ℕ, zero, suc, ◌+◌, ◌*◌, ◌==◌, nat_le, nat_eq, Bool, true, ◌&&◌, if◌then◌else◌, List, [], ◌∷◌, ◌++◌}
+use Rattle.std.specs.Prelude.{ℕ, zero, suc, ◌+◌, ◌==◌, nat_le, nat_eq, Bool, true, ◌&&◌, if◌then◌else◌, List, [], ◌∷◌, ◌++◌}
 use Rattle.std.specs.Prelude.{length, take, drop, position, codes, decimal, flat_map, slice_index_or, Option, Some, None, option_map, Result, Ok, Err}
 use Rattle.std.specs.List.{list_all, range_with_len}
 use Rattle.std.specs.Option.{option_eq}
@@ -8,7 +8,9 @@ use Rattle.abs_domain.specs.AbstractState.{AbstractState}
 use Rattle.abs_domain.specs.PointOrder.{point_cmp}
 use Rattle.abs_domain.specs.declared.points.Point.{Point}
 use Rattle.abs_step.specs.Successors.{tracked_byte}
-use Rattle.certificate.specs.Parts.{◌>>=◌ as ◌>>?◌, behind, digit_in}
+use Rattle.text_lines.specs.Steps.{◌>>=◌}
+use Rattle.line_words.specs.Numbers.{number_of}
+use Rattle.certificate.specs.Parts.{◌>>=◌ as ◌>>?◌, behind}
 use Rattle.certificate.specs.Entries.{entry_of, entry_text}
 use Rattle.certificate.specs.declared.answers.CertCause.{CertCause}
 use Rattle.certificate.specs.declared.answers.CertCause.TheVariants.{Header, Count, Field, Order, End, SplitField}
@@ -21,12 +23,6 @@ fault_at number cause = Err (record { line = number; cause = cause })
 abbrev pub at_line : {A : Type 0} → ℕ → Result A CertCause → Result A CertFault
 at_line number (Ok x) = Ok x
 at_line number (Err cause) = fault_at number cause
-
--- the next step, where there is no fault
-infixl 10 ◌>>=◌
-abbrev pub ◌>>=◌ : {A B : Type 0} → Result A CertFault → (A → Result B CertFault) → Result B CertFault
-Ok x >>= f = f x
-Err fault >>= f = Err fault
 
 -- ---- lines
 
@@ -42,15 +38,6 @@ abbrev pub line_at : ℕ → List ℕ → Result (List ℕ × List ℕ) CertFaul
 line_at number text = line_by number (first_line text)
 
 -- ---- the first line: `F8CERT 1 N`, with the number of points
-
--- the number that decimal digits make behind the number n
-unfoldable pub decimal_on : ℕ → List ℕ → Option ℕ
-decimal_on n [] = Some n
-decimal_on n (c ∷ cs) = digit_in 10 c >>? (λ digit. decimal_on (n * 10 + digit) cs)
-
--- a number of one to seven decimal digits
-abbrev pub number_of : List ℕ → Option ℕ
-number_of text = if nat_le 1 (length text) && nat_le (length text) 7 then decimal_on 0 text else None
 
 abbrev pub count_by : Option ℕ → Result ℕ CertCause
 count_by None = Err Header

@@ -17,7 +17,7 @@ pub fn behind<'a>(mark: &[u8], text: &'a [u8]) -> Option<&'a [u8]>
 
 /// The value of a digit in a radix, 2 to 16. Letters may be of either case.
 #[tactic(auto, unfolding(crate::specs::Parts::digit_in))]
-pub fn digit_in(radix: u32, byte: u8) -> Option<u8>
+fn digit_in(radix: u32, byte: u8) -> Option<u8>
     requires least { 2 ≤ radix }
     requires most { radix ≤ 16 }
     ensures value { result ≡ spelled_digit radix byte }

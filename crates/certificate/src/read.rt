@@ -3,26 +3,25 @@ ghost use Rattle.std.specs.Prelude.{◌≡◌, ◌==◌, ◌<◌, ◌≤◌, ◌
 ghost use Rattle.abs_domain.specs.StateView.{state_of};
 ghost use Rattle.cartridge.specs.Splits.{IsSplit};
 ghost use Rattle.abs_step.specs.StatesAtPoints.{state_in, states_of};
-ghost use Rattle.certificate.specs.Answers.{Tells, entry_as};
+ghost use Rattle.certificate.specs.Answers.{ReadsAs, entry_as};
 ghost use Rattle.text_lines.specs.ReadErrors.{SaysSeen, OnMemory};
 ghost use Rattle.certificate.specs.CertificateLaws.{AllFit};
-ghost use Rattle.certificate.specs.CertificateText.{line_at as spelled_line, decimal_on, number_of as spelled_number};
+ghost use Rattle.certificate.specs.CertificateText.{line_at as spelled_line};
 ghost use Rattle.certificate.specs.CertificateText.{count_of as spelled_count, has_split as spelled_split, is_behind as spelled_behind};
 ghost use Rattle.certificate.specs.CertificateText.{at_line, header_at as spelled_header, end_at as spelled_end};
 ghost use Rattle.certificate.specs.CertificateText.{entry_in as spelled_entry, entries_at, certificate_of};
 
 use super::answers::{CertAnswer, CertCause, CertFault};
 use super::entry::entry_of;
-use super::parts::{behind as after_mark, digit_in};
+use super::parts::behind as after_mark;
 use abs_domain::{Abs, Point};
 use abs_step::{Annotation, MOST_POINTS};
 use cartridge::Split;
+use line_words::number_of;
 use std::alloc::Global;
 use std::collections::BTreeMap;
 
-/// The most digits of the number of points, and the most points.
-const MOST_DIGITS: usize = 7;
-
+/// The most points.
 const MOST_COUNT: u32 = MOST_POINTS as u32;
 
 /// Where the first line feed stands.
@@ -36,7 +35,7 @@ fn line_feed(text: &[u8]) -> Option<usize>
 /// The first line of a text, and what is behind it. A line feed ends every line.
 #[tactic(auto, unfolding(crate::specs::CertificateText::first_line))]
 fn line_at(number: u32, text: &[u8]) -> Result<(&[u8], &[u8]), CertFault>
-    ensures { Tells (λ x. (x.0.now, x.1.now)) result (spelled_line number text.now) }
+    ensures { ReadsAs (λ x. (x.0.now, x.1.now)) result (spelled_line number text.now) }
 {
     match line_feed(text) {
         Some(at) => Ok((&text[..at], &text[at + 1..])),
@@ -45,29 +44,6 @@ fn line_at(number: u32, text: &[u8]) -> Result<(&[u8], &[u8]), CertFault>
             cause: CertCause::End,
         }),
     }
-}
-
-/// The number of at most seven decimal digits.
-#[tactic(auto, unfolding(crate::specs::CertificateText::decimal_on))]
-fn value_of(digits: &[u8]) -> Option<u32>
-    requires { length digits.now ≤ 7 }
-    ensures { result ≡ decimal_on 0 digits.now }
-{
-    let mut value = 0u32;
-    for digit in digits {
-        value = value * 10 + u32::from(digit_in(10, *digit)?);
-    }
-    Some(value)
-}
-
-/// A number of one to seven decimal digits.
-fn number_of(text: &[u8]) -> Option<u32>
-    ensures { result ≡ spelled_number text.now }
-{
-    if text.is_empty() || text.len() > MOST_DIGITS {
-        return None;
-    }
-    value_of(text)
 }
 
 /// The number of points by the first line.
@@ -91,7 +67,7 @@ fn count_of(line: &[u8]) -> Result<u32, CertCause>
 /// The number of points by the first line of a text, and what is behind that line.
 #[tactic(auto, unfolding(crate::specs::CertificateText::header_at))]
 fn header_at(text: &[u8]) -> Result<(u32, &[u8]), CertFault>
-    ensures value { Tells (λ x. (x.0, x.1.now)) result (spelled_header text.now) }
+    ensures value { ReadsAs (λ x. (x.0, x.1.now)) result (spelled_header text.now) }
     ensures few { IfOk result (λ x. x.0 ≤ 65536) }
 {
     let (line, rest) = line_at(1, text)?;
@@ -150,7 +126,7 @@ fn entry_at(
     line: &[u8],
 ) -> Result<(Point, Abs), CertFault>
     requires { IsSplit tracked.now }
-    ensures { Tells state_in result (at_line number (spelled_entry tracked.now before line.now)) }
+    ensures { ReadsAs state_in result (at_line number (spelled_entry tracked.now before line.now)) }
 {
     match entry_in(tracked, before, line) {
         Ok(entry) => Ok(entry),
@@ -163,7 +139,7 @@ fn entry_at(
 
 /// No line of this number may stand here.
 fn ended(number: u32, rest: &[u8]) -> Result<(), CertFault>
-    ensures { Tells (λ _. tt) result (spelled_end number rest.now) }
+    ensures { ReadsAs (λ _. tt) result (spelled_end number rest.now) }
 {
     if rest.is_empty() {
         Ok(())
