@@ -2,7 +2,7 @@
 use Rattle.std.proofs.Common.{◌≡◌, ◌<◌, ℕ, [], ◌∷◌, ◌++◌, Ok, Err, refl}
 use Rattle.std.specs.Prelude.{codes, replicate}
 use Rattle.asm_text.specs.Bytes.{value, narrow}
-use Rattle.asm_text.specs.Lexemes.{name_of, name_lexeme, number_of, number_lexeme, quoted_lexeme, lexeme}
+use Rattle.asm_text.specs.Lexemes.{name_of, name_lexeme, digits_lexeme, number_lexeme, quoted_lexeme, lexeme}
 use Rattle.asm_text.specs.Tokens.{tokens_at, tokens_of}
 use Rattle.f8_spec.specs.Spelling.{hex2, hex4}
 use Rattle.asm_text.proofs.Spelled.{hex2_read, hex4_read}
@@ -24,17 +24,17 @@ label = refl
 numbers : tokens_of (codes " BT 1,$2aF") ≡ Ok
     (token 2 4 (kind.Name (codes "BT")) ∷ token 5 6 (kind.Number 1) ∷ token 6 7 (kind.Mark 44) ∷
     token 7 11 (kind.Number 687) ∷ [])
-unfolding tokens_at lexeme name_lexeme name_of number_lexeme number_of value narrow
+unfolding tokens_at lexeme name_lexeme name_of number_lexeme digits_lexeme value narrow
 numbers = refl
 
 -- the longest number, then the longest name: nothing need part tokens
 together : tokens_of (codes "123abc") ≡ Ok (token 1 4 (kind.Number 123) ∷ token 4 7 (kind.Name (codes "abc")) ∷ [])
-unfolding tokens_at lexeme name_lexeme name_of number_lexeme number_of value narrow
+unfolding tokens_at lexeme name_lexeme name_of number_lexeme digits_lexeme value narrow
 together = refl
 
 -- binary digits end where another digit stands
 binary : tokens_of (codes "%102") ≡ Ok (token 1 4 (kind.Number 2) ∷ token 4 5 (kind.Number 2) ∷ [])
-unfolding tokens_at lexeme number_lexeme number_of value narrow
+unfolding tokens_at lexeme number_lexeme digits_lexeme value narrow
 binary = refl
 
 -- in quotes stand a quote, a semicolon and a blank too
@@ -58,29 +58,29 @@ tab_quoted = refl
 
 -- `$` with no digit, and `%` with no binary digit
 no_digit : tokens_of (codes " LI $G") ≡ Err (fault.Bad 5)
-unfolding tokens_at lexeme name_lexeme name_of number_lexeme number_of
+unfolding tokens_at lexeme name_lexeme name_of number_lexeme digits_lexeme
 no_digit = refl
 
 no_binary_digit : tokens_of (codes "%2") ≡ Err (fault.Bad 1)
-unfolding tokens_at lexeme number_lexeme number_of
+unfolding tokens_at lexeme number_lexeme digits_lexeme
 no_binary_digit = refl
 
 -- the greatest number, and one more in each base
 greatest : tokens_of (codes "4294967295") ≡ Ok (token 1 11 (kind.Number 4294967295) ∷ [])
-unfolding tokens_at lexeme number_lexeme number_of value narrow
+unfolding tokens_at lexeme number_lexeme digits_lexeme value narrow
 greatest = refl
 
 wide : tokens_of (codes "X: EQU $100000000") ≡ Err (fault.Wide 8)
-unfolding tokens_at lexeme name_lexeme name_of number_lexeme number_of value narrow
+unfolding tokens_at lexeme name_lexeme name_of number_lexeme digits_lexeme value narrow
 wide = refl
 
 wide_decimal : tokens_of (codes "4294967296") ≡ Err (fault.Wide 1)
-unfolding tokens_at lexeme number_lexeme number_of value narrow
+unfolding tokens_at lexeme number_lexeme digits_lexeme value narrow
 wide_decimal = refl
 
 -- zeros in front make no number wide
 zeros : tokens_of (codes "$00000000001") ≡ Ok (token 1 13 (kind.Number 1) ∷ [])
-unfolding tokens_at lexeme number_lexeme number_of value narrow
+unfolding tokens_at lexeme number_lexeme digits_lexeme value narrow
 zeros = refl
 
 -- a name of 32 bytes, and one of 33

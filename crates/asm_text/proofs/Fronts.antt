@@ -13,7 +13,7 @@ use Rattle.std.specs.Char.{is_digit}
 use Rattle.std.proofs.lemmas.Bool.Decides.{nat_tests}
 use Rattle.std.proofs.lemmas.Grind.{common_steps}
 use Rattle.asm_text.specs.Bytes.{is_blank, is_letter, is_name_byte, is_name, is_mark, value, narrow, stops}
-use Rattle.asm_text.specs.Lexemes.{name_of, name_lexeme, number_of, sized_number, number_lexeme, quoted_lexeme, lexeme}
+use Rattle.asm_text.specs.Lexemes.{name_of, name_lexeme, digits_lexeme, sized_number, number_lexeme, quoted_lexeme, lexeme}
 use Rattle.asm_text.specs.Grammar.{AreDigits, Spells, spells_name, spells_decimal, spells_hexadecimal, spells_binary}
 use Rattle.asm_text.specs.Grammar.{spells_quoted, spells_mark, BeginsWide, wide_decimal, wide_hexadecimal, wide_binary}
 use Rattle.asm_text.specs.Grammar.{BeginsNothing}
@@ -135,7 +135,7 @@ number_front : (P : Lexeme → Type 0) (base before : ℕ) (bytes : List ℕ) �
     let n = prefix_len (λ b. is_digit b base) bytes in P Bad → (0 < n → 2 ^ 32 ≤ value base (take n bytes) → P Wide) →
     (0 < n → value base (take n bytes) < 2 ^ 32 → P (Lexed (kind.Number (value base (take n bytes))) (before + n))) →
     P (number_lexeme base before bytes)
-unfolding number_lexeme number_of narrow
+unfolding number_lexeme digits_lexeme narrow
 number_front P base before bytes bad wide fits =
     let n = prefix_len (λ b. is_digit b base) bytes in
     let v = value base (take n bytes) in

@@ -6,7 +6,7 @@ use Rattle.std.proofs.Math.Seq.{take-append_seam}
 use Rattle.std.proofs.lemmas.Bool.Decides.{nat_tests}
 use Rattle.std.proofs.lemmas.Grind.{common_steps}
 use Rattle.asm_text.specs.Bytes.{is_name_byte, is_name, value, narrow, stops}
-use Rattle.asm_text.specs.Lexemes.{name_of, name_lexeme, number_of, number_lexeme}
+use Rattle.asm_text.specs.Lexemes.{name_of, name_lexeme, digits_lexeme, number_lexeme}
 use Rattle.f8_spec.specs.Spelling.{hex_digit, hex2, hex4}
 use Rattle.asm_text.specs.declared.front.Lexeme.TheVariants.{Wide, Lexed}
 use Rattle.asm_text.specs.declared.answers.TokenKind.TheVariants as kind
@@ -26,8 +26,8 @@ narrow_holds n fits = grind (arith, nat_tests)
 
 -- some digits whose number 32 bits hold
 number_of_digits : (base before n : ℕ) (bytes : List ℕ) (k : ℕ) → 0 < k → narrow (value base (take k bytes)) ≡ Some n →
-    number_of base before bytes k ≡ Lexed (kind.Number n) (before + k)
-unfolding number_of
+    digits_lexeme base before bytes k ≡ Lexed (kind.Number n) (before + k)
+unfolding digits_lexeme
 number_of_digits base before n bytes k some held = rw held (grind (arith, nat_tests))
 
 -- digits that spell a number of 32 bits are read as it
@@ -39,11 +39,11 @@ unfolding number_lexeme
 number_read base before n digits rest some all spelled fits stop =
     let run = run_stops (λ b. is_digit b base) digits rest all stop in
     let held : narrow (value base (take (length digits) (digits ++ rest))) ≡ Some n = rw (take-append_seam digits rest, spelled) (narrow_holds n fits) in
-    ap (number_of base before (digits ++ rest)) run ∙ number_of_digits base before n (digits ++ rest) (length digits) some held
+    ap (digits_lexeme base before (digits ++ rest)) run ∙ number_of_digits base before n (digits ++ rest) (length digits) some held
 
 -- some digits whose number 32 bits don't hold
-number_of_wide : (base before : ℕ) (bytes : List ℕ) (k : ℕ) → 0 < k → narrow (value base (take k bytes)) ≡ None → number_of base before bytes k ≡ Wide
-unfolding number_of
+number_of_wide : (base before : ℕ) (bytes : List ℕ) (k : ℕ) → 0 < k → narrow (value base (take k bytes)) ≡ None → digits_lexeme base before bytes k ≡ Wide
+unfolding digits_lexeme
 number_of_wide base before bytes k some wide = rw wide (grind (arith, nat_tests))
 
 -- 32 bits hold no number from 2 ^ 32 on
@@ -59,7 +59,7 @@ unfolding number_lexeme
 wide_read base before digits rest some all wide stop =
     let run = run_stops (λ b. is_digit b base) digits rest all stop in
     let none : narrow (value base (take (length digits) (digits ++ rest))) ≡ None = rw (take-append_seam digits rest) (narrow_wide (value base digits) wide) in
-    ap (number_of base before (digits ++ rest)) run ∙ number_of_wide base before (digits ++ rest) (length digits) some none
+    ap (digits_lexeme base before (digits ++ rest)) run ∙ number_of_wide base before (digits ++ rest) (length digits) some none
 
 -- bytes that aren't too many for a name
 name_of_bytes : (bytes : List ℕ) (k : ℕ) → k ≤ 32 → name_of bytes k ≡ Lexed (kind.Name (take k bytes)) k

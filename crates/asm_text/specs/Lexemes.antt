@@ -22,12 +22,12 @@ sized_number (Some n) len = Lexed (kind.Number n) len
 sized_number None len = Wide
 
 -- n digits, which stand behind `before` bytes that show the base
-unfoldable pub number_of : ℕ → ℕ → List ℕ → ℕ → Lexeme
-number_of base before bytes n = if n == 0 then Bad else sized_number (narrow (value base (take n bytes))) (before + n)
+unfoldable pub digits_lexeme : ℕ → ℕ → List ℕ → ℕ → Lexeme
+digits_lexeme base before bytes n = if n == 0 then Bad else sized_number (narrow (value base (take n bytes))) (before + n)
 
 -- the longest number at the front of bytes, which stand behind `before` bytes that show the base
 unfoldable pub number_lexeme : ℕ → ℕ → List ℕ → Lexeme
-number_lexeme base before bytes = number_of base before bytes (prefix_len (λ b. is_digit b base) bytes)
+number_lexeme base before bytes = digits_lexeme base before bytes (prefix_len (λ b. is_digit b base) bytes)
 
 -- behind a quote: one printable character, which may be a quote, and a quote
 unfoldable pub quoted_lexeme : List ℕ → Lexeme

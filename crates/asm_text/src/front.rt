@@ -44,7 +44,7 @@ fn name_lexeme(alloc: Global, bytes: &[u8]) -> Result<Lexeme, AllocError>
 }
 
 /// The longest number at the front of bytes that stand behind `before` bytes which show its base.
-#[tactic(auto, using(crate::proofs::Runs::all_in_run), unfolding(crate::specs::Lexemes::number_lexeme, crate::specs::Lexemes::number_of))]
+#[tactic(auto, using(crate::proofs::Runs::all_in_run), unfolding(crate::specs::Lexemes::number_lexeme, crate::specs::Lexemes::digits_lexeme))]
 fn number_lexeme(base: u32, before: usize, bytes: &[u8]) -> Lexeme
     requires base_low { 2 ≤ base }
     requires base_high { base ≤ 16 }

@@ -7,6 +7,7 @@ use Rattle.cartridge.specs.declared.refusal.KeyFault.{KeyFault}
 use Rattle.cartridge.specs.declared.refusal.CartFault.{CartFault}
 use Rattle.text_lines.specs.declared.read_error.ReadError.{ReadError}
 use Rattle.text_lines.specs.declared.read_error.ReadError.TheVariants as answer
+pub use Rattle.text_lines.specs.Steps.{◌>>=◌}
 
 abbrev pub cause_number : CartCause → ℕ
 cause_number Missing = 1
@@ -17,12 +18,6 @@ cause_number Boundary = 5
 cause_number TooMany = 6
 cause_number BadHex = 7
 cause_number Both = 8
-
--- what follows where something was read; a fault stays the first
-infixl 1 ◌>>=◌
-abbrev pub ◌>>=◌ : {A B E : Type 0} → Result A E → (A → Result B E) → Result B E
-Ok x >>= f = f x
-Err e >>= f = Err e
 
 -- a fault of the value at a key
 abbrev pub at_key : {A : Type 0} → Key → Result A CartCause → Result A KeyFault

@@ -1,5 +1,5 @@
 // The tracked registers of a cartridge.
-ghost use Rattle.std.specs.Prelude.{◌≡◌, ◌<◌, ◌++◌, [], ◌∷◌, length, false};
+ghost use Rattle.std.specs.Prelude.{◌≡◌, ◌<◌, ◌≤◌, ◌++◌, [], ◌∷◌, length, false};
 ghost use Rattle.cartridge.specs.Values.{is_among};
 ghost use Rattle.cartridge.specs.Splits.{IsSplit};
 
@@ -45,7 +45,8 @@ impl Split {
 
     /// How many registers there are.
     pub fn len(&self) -> usize
-        ensures { result ≡ length self.now }
+        ensures count { result ≡ length self.now }
+        ensures limit { result ≤ 8 }
     {
         self.len
     }

@@ -257,7 +257,7 @@ pub fn write_cert(alloc: Global, notes: &Annotation, split: &Split) -> Result<Te
     ensures round_trip { IfOk result (λ text. HaveSplit split.now notes.now → 1 ≤ length notes.now
         → certificate_of split.now text ≡ Ok notes.now) }
 {
-    let tracked = split.as_slice().len();
+    let tracked = split.len();
     // That points ascend, and that there aren't too many, is known by the count.
     let _count = notes.len();
     match text_of(alloc, tracked, notes) {

@@ -2,7 +2,7 @@
 use Rattle.std.proofs.Common.{◌≡◌, ℕ, List, [], ◌∷◌, ◌++◌, Result, Ok, Err, Some, None, refl}
 use Rattle.std.specs.Prelude.{codes}
 use Rattle.asm_text.specs.Bytes.{value, narrow}
-use Rattle.asm_text.specs.Lexemes.{name_of, name_lexeme, number_of, number_lexeme, quoted_lexeme, lexeme}
+use Rattle.asm_text.specs.Lexemes.{name_of, name_lexeme, digits_lexeme, number_lexeme, quoted_lexeme, lexeme}
 use Rattle.asm_text.specs.Tokens.{tokens_at, tokens_of}
 use Rattle.f8_spec.specs.Instructions.{decoded, mnemonic_of}
 use Rattle.f8_asm.specs.declared.answers.AsmCause.TheVariants.{Unknown, Undefined, Range, BranchRange}
@@ -20,7 +20,7 @@ use Rattle.f8_asm.specs.Words.{plain_ops, aliases, field_words, directives, op_o
 
 -- what the proofs below compute with
 assembling : Unit {0}
-unfolding tokens_at lexeme name_lexeme name_of number_lexeme number_of quoted_lexeme value narrow line_bytes statement
+unfolding tokens_at lexeme name_lexeme name_of number_lexeme digits_lexeme quoted_lexeme value narrow line_bytes statement
     label_of operands items chain level parenthesis_expression mark_operand operand_of operand expression same_word
     register_words register_of pair_op mnemonic_of plain_ops aliases field_words directives op_of shape_of is_reserved list_bytes
 assembling = tt

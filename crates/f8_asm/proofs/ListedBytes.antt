@@ -5,7 +5,7 @@ use Rattle.std.specs.Prelude.{nat_lt}
 use Rattle.std.specs.List.{list_all}
 use Rattle.std.proofs.lemmas.Bool.Decides.{nat_tests}
 use Rattle.asm_text.specs.Bytes.{value, narrow}
-use Rattle.asm_text.specs.Lexemes.{name_of, name_lexeme, number_of, number_lexeme, lexeme}
+use Rattle.asm_text.specs.Lexemes.{name_of, name_lexeme, digits_lexeme, number_lexeme, lexeme}
 use Rattle.f8_spec.specs.Spelling.{hex_digit, hex2, hex4}
 use Rattle.asm_text.specs.Tokens.{tokens_at, tokens_of}
 use Rattle.asm_text.specs.declared.answers.Token.{Token}
@@ -46,7 +46,7 @@ unfolding values_below tokens_at lexeme name_lexeme name_of statement label_of o
 all_open = tt
 
 unfoldable pub numbers_open : Unit {0}
-unfolding all_open number_lexeme number_of value narrow
+unfolding all_open number_lexeme digits_lexeme value narrow
 numbers_open = tt
 
 -- lines that a number below a bound tells, computed at each

@@ -1,5 +1,5 @@
 -- Faults of a text, of one of its lines, and by number.
-use Rattle.std.specs.Prelude.{ℕ, List, Vec, Option, Result, Ok, Err}
+use Rattle.std.specs.Prelude.{ℕ, List, Vec, Option, Result}
 use Rattle.std.specs.Borrow.{Bor}
 use Rattle.std.specs.Global.{Global}
 use Rattle.f8_asm.specs.declared.answers.AsmCause.{AsmCause}
@@ -7,6 +7,7 @@ use Rattle.f8_asm.specs.declared.answers.AsmCause.TheVariants.{Utf8, Token, Unkn
 use Rattle.text_lines.specs.declared.read_error.ReadError.{ReadError}
 use Rattle.f8_asm.specs.declared.faults.LineFault.{LineFault}
 use Rattle.text_lines.specs.ReadErrors.{SaysSeen}
+pub use Rattle.text_lines.specs.Steps.{◌>>=◌}
 
 -- the number of a cause; 10 is none
 abbrev pub cause_number : AsmCause → ℕ
@@ -24,12 +25,6 @@ cause_number Form = 11
 -- a token that fits nothing, or the end of the line where something is missing
 abbrev pub form : Option ℕ → LineFault
 form column = record { column = column; cause = Form }
-
--- what follows where something was read
-infixl 1 ◌>>=◌
-abbrev pub ◌>>=◌ : {A B E : Type 0} → Result A E → (A → Result B E) → Result B E
-Ok x >>= f = f x
-Err e >>= f = Err e
 
 -- what is read, and what is left behind it, are what is said of them
 abbrev pub SaysOfRead : {A B : Type 0} → Result (A × Bor B) (ReadError LineFault) → Result (A × B) LineFault → Type 0

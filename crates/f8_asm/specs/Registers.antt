@@ -28,14 +28,14 @@ unfoldable pub register_of : List ℕ → Option Register
 register_of name = at_word name register_words
 
 -- the scratchpad register that a word stands for as an operand r
-abbrev pub number_of : Register → Option ℕ
-number_of J = Some 9
-number_of Hu = Some 10
-number_of Hl = Some 11
-number_of S = Some 12
-number_of I = Some 13
-number_of D = Some 14
-number_of register = None
+abbrev pub register_number : Register → Option ℕ
+register_number J = Some 9
+register_number Hu = Some 10
+register_number Hl = Some 11
+register_number S = Some 12
+register_number I = Some 13
+register_number D = Some 14
+register_number register = None
 
 abbrev pub is_accumulator : Register → Bool
 is_accumulator A = true
@@ -48,7 +48,7 @@ load_op Kl = Some op.LrAKl
 load_op Qu = Some op.LrAQu
 load_op Ql = Some op.LrAQl
 load_op Is = Some op.LrAIs
-load_op from = option_map (λ r. op.LrAR r) (number_of from)
+load_op from = option_map (λ r. op.LrAR r) (register_number from)
 
 -- LR to,A
 abbrev pub store_op : Register → Option Op
@@ -57,7 +57,7 @@ store_op Kl = Some op.LrKlA
 store_op Qu = Some op.LrQuA
 store_op Ql = Some op.LrQlA
 store_op Is = Some op.LrIsA
-store_op to = option_map (λ r. op.LrRA r) (number_of to)
+store_op to = option_map (λ r. op.LrRA r) (register_number to)
 
 -- LR to,from past the accumulator
 abbrev pub move_op : Register → Register → Option Op

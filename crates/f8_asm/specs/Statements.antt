@@ -27,7 +27,7 @@ use Rattle.f8_asm.specs.declared.operands.Statement.TheVariants.{Nothing, Fixed,
 use Rattle.f8_asm.specs.Answers.{form, ◌>>=◌}
 use Rattle.f8_asm.specs.Fields.{op_with}
 use Rattle.f8_asm.specs.Grammar.{Actions, column_of, expression}
-use Rattle.f8_asm.specs.Registers.{register_of, number_of, is_accumulator, pair_op}
+use Rattle.f8_asm.specs.Registers.{register_of, register_number, is_accumulator, pair_op}
 use Rattle.f8_asm.specs.Words.{shape_of, is_reserved}
 
 -- ---- parts
@@ -87,7 +87,7 @@ register_operand acts field ts (Some r) = instruction_of (op_with field r) ts
 register_operand acts field ts None = one acts (single.Small field) ts
 
 abbrev pub register_number_at : List Token → Option ℕ
-register_number_at ts = option_and_then number_of (register_at ts)
+register_number_at ts = option_and_then register_number (register_at ts)
 
 -- `A` behind the comma of LR
 abbrev pub accumulator_in : Option Register → List Token → Result (List Token) LineFault

@@ -1,7 +1,7 @@
 // Register words, and the instruction LR between two of them.
 ghost use Rattle.std.specs.Prelude.{◌≡◌, ◌<◌, map, IfSome};
 ghost use Rattle.f8_spec.specs.Instructions.{InRange};
-ghost use Rattle.f8_asm.specs.Registers.{same_word, at_word, register_of, number_of, is_accumulator, load_op, store_op, move_op, pair_op};
+ghost use Rattle.f8_asm.specs.Registers.{same_word, at_word, register_of, register_number, is_accumulator, load_op, store_op, move_op, pair_op};
 
 use asm_text::Name;
 use f8_spec::Op;
@@ -89,8 +89,8 @@ pub fn register_of(name: &[u8]) -> Option<Register>
 }
 
 /// The scratchpad register that a word stands for as an operand.
-pub fn number_of(register: Register) -> Option<u8>
-    ensures value { result ≡ number_of register }
+pub fn register_number(register: Register) -> Option<u8>
+    ensures value { result ≡ register_number register }
     ensures below { IfSome result (λ r. r < 15) }
 {
     match register {
@@ -123,7 +123,7 @@ fn load_op(from: Register) -> Option<Op>
         Register::Ql => Some(Op::LrAQl),
         Register::Is => Some(Op::LrAIs),
         _ => Some(Op::LrAR {
-            r: number_of(from)?,
+            r: register_number(from)?,
         }),
     }
 }
@@ -139,7 +139,7 @@ fn store_op(to: Register) -> Option<Op>
         Register::Qu => Some(Op::LrQuA),
         Register::Ql => Some(Op::LrQlA),
         Register::Is => Some(Op::LrIsA),
-        _ => Some(Op::LrRA { r: number_of(to)? }),
+        _ => Some(Op::LrRA { r: register_number(to)? }),
     }
 }
 

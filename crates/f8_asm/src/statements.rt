@@ -15,7 +15,7 @@ use crate::fields::{Field, op_with};
 use crate::formulas::Formula;
 use crate::grammar::{column_of, expression};
 use crate::operands::{Operand, OperandList, Statement};
-use crate::registers::{Register, is_accumulator, number_of, pair_op, register_of};
+use crate::registers::{Register, is_accumulator, register_number, pair_op, register_of};
 use crate::words::{ItemSize, Shape, Single, is_reserved, shape_of};
 use asm_text::{Name, Token, TokenKind};
 use f8_ops::encode;
@@ -123,7 +123,7 @@ fn register_number_at(tokens: &[Token]) -> Option<u8>
     ensures value { result ≡ register_number_at tokens.now }
     ensures below { IfSome result (λ r. r < 15) }
 {
-    number_of(register_at(tokens)?)
+    register_number(register_at(tokens)?)
 }
 
 /// A register, by a word or by an expression.

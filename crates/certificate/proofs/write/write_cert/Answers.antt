@@ -11,8 +11,8 @@ unfolding certificate_text
 returns-in-Ok-clause-round_trip c =
     let tracked = c.args.split.now in
     let notes = c.args.notes.now in
-    let same = c.as_slice-tracked.ensures.value in
-    let few : length tracked ≤ 8 = rw same at c.as_slice-tracked.ensures.limits.few in
+    let same = c.len-tracked.ensures.count in
+    let few : length tracked ≤ 8 = omega (arith, same, c.len-tracked.ensures.limit) in
     let most : length notes ≤ 65536 = omega (arith, c.len-count.ensures.few, c.len-count.ensures.count) in
     let ranges : AllInRange notes = c.in-Ok.ensures.ranges in
     let written : c.from_vec.result ≡ certificate_text tracked notes = c.from_vec.ensures ∙ rw same at c.in-Ok.ensures.text in
@@ -23,8 +23,8 @@ unfolding certificate_text
 returns-in-Ok-clause-size c =
     let tracked = c.args.split.now in
     let notes = c.args.notes.now in
-    let same = c.as_slice-tracked.ensures.value in
-    let few : length tracked ≤ 8 = rw same at c.as_slice-tracked.ensures.limits.few in
+    let same = c.len-tracked.ensures.count in
+    let few : length tracked ≤ 8 = omega (arith, same, c.len-tracked.ensures.limit) in
     let most : length notes ≤ 65536 = omega (arith, c.len-count.ensures.few, c.len-count.ensures.count) in
     let ranges : AllInRange notes = c.in-Ok.ensures.ranges in
     let written : c.from_vec.result ≡ certificate_text tracked notes = c.from_vec.ensures ∙ rw same at c.in-Ok.ensures.text in
