@@ -6,9 +6,7 @@ ghost use Rattle.chip_debug.specs.Commands.{power_of as spelled_power, pulse_of 
 
 use super::answers::DebugCause;
 use super::command::Command;
-use line_words::{
-    address_of, byte_of, first_word, is_skipped, is_word, number_within, only_word,
-};
+use line_words::{address_of, byte_of, first_word, is_skipped, is_word, number_within, only_word};
 use text_lines::all_printable;
 
 /// The most instructions of one command.

@@ -139,7 +139,9 @@ fn store_op(to: Register) -> Option<Op>
         Register::Qu => Some(Op::LrQuA),
         Register::Ql => Some(Op::LrQlA),
         Register::Is => Some(Op::LrIsA),
-        _ => Some(Op::LrRA { r: register_number(to)? }),
+        _ => Some(Op::LrRA {
+            r: register_number(to)?,
+        }),
     }
 }
 

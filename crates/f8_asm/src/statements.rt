@@ -15,7 +15,7 @@ use crate::fields::{Field, op_with};
 use crate::formulas::Formula;
 use crate::grammar::{column_of, expression};
 use crate::operands::{Operand, OperandList, Statement};
-use crate::registers::{Register, is_accumulator, register_number, pair_op, register_of};
+use crate::registers::{Register, is_accumulator, pair_op, register_number, register_of};
 use crate::words::{ItemSize, Shape, Single, is_reserved, shape_of};
 use asm_text::{Name, Token, TokenKind};
 use f8_ops::encode;
