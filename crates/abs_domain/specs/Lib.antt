@@ -4,4 +4,5 @@ pub mod Joins
 pub mod KnownParts
 pub mod StateView
 pub mod PointOrder
+pub mod Reasons
 pub mod DomainLaws

@@ -11,6 +11,7 @@ use Rattle.abs_domain.proofs.Orders.{order_laws}
 use Rattle.abs_domain.proofs.Bounds.{join_laws}
 use Rattle.abs_domain.proofs.Ranks.{rank_laws}
 use Rattle.abs_domain.proofs.PointOrders.{point_laws}
+use Rattle.abs_domain.specs.declared.reason.Reason.{Reason}
 use Rattle.abs_step.specs.MapView.{MapView, IsViewOf}
 use Rattle.abs_step.specs.Successors.{Invariant, successors}
 use Rattle.abs_step.specs.Safety.{unsafe_reason}
@@ -51,7 +52,7 @@ pub next_is : (m : MapView) (tracked : List ℕ) (x : Invariant) (ways : List (P
     IsNext m tracked x ways
 next_is m tracked x ways e = by (unsafe_reason m tracked x) refl (op_at m x) refl e
   where
-    by : (reason : Option ℕ) → unsafe_reason m tracked x ≡ reason → (o : Option Op) → op_at m x ≡ o → answer_by reason o m tracked x ≡ Ok ways →
+    by : (reason : Option Reason) → unsafe_reason m tracked x ≡ reason → (o : Option Op) → op_at m x ≡ o → answer_by reason o m tracked x ≡ Ok ways →
         IsNext m tracked x ways
     by (Some reason) r o q e = absurd (cc)
     by None r None q e = let safe = safe_state m tracked x r in let has = safe.1.is in absurd (cc)

@@ -12,6 +12,7 @@ use Rattle.std.proofs.lemmas.Map.Steps.{length-le_from_keys}
 use Rattle.std.proofs.lemmas.Map.Views.{Contains-from_any}
 use Rattle.std.proofs.lemmas.List.Elements.{All-contains}
 use Rattle.std.proofs.lemmas.Cmp.{eq_by_cmp_equiv}
+use Rattle.abs_domain.specs.declared.reason.Reason.{Reason}
 use Rattle.abs_step.specs.Analysis.{Analysis, AnalysisLaws}
 use Rattle.abs_step.specs.ReachedStates.{Reached, start, joined, next, CoversAt, IsSafelyClosed, HoldsFaultFreeStates, IsLeastMap, IsLowestMap}
 use Rattle.abs_step.specs.ReachedStates.{SomeIsSafe, SomeIsFaultFree, ReachesUnsafe, ReachesTooMany}
@@ -53,7 +54,7 @@ module _ {P S : Type 0} (an : Analysis P S) (laws : AnalysisLaws an) where
 
   -- ---- what shows that there is no such map
 
-  pub none_past_unsafe : (p : P) (s : S) (reason : ℕ) → ReachesUnsafe an p s reason → SomeIsSafe an → ⊥
+  pub none_past_unsafe : (p : P) (s : S) (reason : Reason) → ReachesUnsafe an p s reason → SomeIsSafe an → ⊥
   none_past_unsafe p s reason unsafe some =
       let here = reached_covered some.0 some.1 unsafe.reached in
       let fitting = some.1.is_map.fits p here.upper here.noted in

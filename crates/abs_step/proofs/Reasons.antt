@@ -5,6 +5,7 @@ use Rattle.f8_spec.specs.Instructions.{row_of, row_length}
 use Rattle.f8_spec.specs.declared.instructions.Op.{Op}
 use Rattle.console_spec.specs.FlatMemory.{is_ram_sort}
 use Rattle.memory_map.specs.MapKinds.{is_held_once}
+use Rattle.abs_domain.specs.declared.reason.Reason.{Reason}
 use Rattle.abs_step.specs.MapView.{MapView}
 use Rattle.abs_step.specs.Successors.{Invariant}
 use Rattle.abs_step.specs.Safety.{first_reason, code_reasons, operand_reasons, later_reasons, reasons, instruction_reason, reason_behind, unsafe_reason}
@@ -12,7 +13,7 @@ use Rattle.abs_step.specs.Soundness.{op_at}
 use Rattle.abs_step.proofs.Knowing.{is_not}
 use Rattle.abs_step.proofs.SafeRows.{NoneHold}
 
-none_of : (rs : List (Bool × ℕ)) → first_reason rs ≡ None → NoneHold rs
+none_of : (rs : List (Bool × Reason)) → first_reason rs ≡ None → NoneHold rs
 none_of [] none = tt
 none_of (r ∷ rs) none = by r.0 refl (none_of rs)
   where
@@ -20,7 +21,7 @@ none_of (r ∷ rs) none = by r.0 refl (none_of rs)
     by true e later = absurd (cc (rw e at none))
     by false e later = (e, later (rw e at none))
 
-none_of_both : (rs ss : List (Bool × ℕ)) → NoneHold (rs ++ ss) → NoneHold rs × NoneHold ss
+none_of_both : (rs ss : List (Bool × Reason)) → NoneHold (rs ++ ss) → NoneHold rs × NoneHold ss
 none_of_both [] ss h = (tt, h)
 none_of_both (r ∷ rs) ss h = let rest = none_of_both rs ss h.1 in ((h.0, rest.0), rest.1)
 
@@ -39,10 +40,10 @@ pub record IsSafeState (m : MapView) (tracked : List ℕ) (x : Invariant) (op : 
   pub operands : NoneHold (operand_reasons (row_length (row_of op)) m x.point.at)
   pub later : NoneHold (later_reasons op m tracked x)
 
-behind : (m : MapView) (tracked : List ℕ) (x : Invariant) (o : Option ℕ) → reason_behind o m tracked x ≡ None →
+behind : (m : MapView) (tracked : List ℕ) (x : Invariant) (o : Option Reason) → reason_behind o m tracked x ≡ None →
     (o ≡ None) × (instruction_reason (op_at m x) m tracked x ≡ None)
 behind m tracked x None none = (refl, none)
-behind m tracked x (Some n) none = absurd (cc)
+behind m tracked x (Some reason) none = absurd (cc)
 
 pub no_reason : (op : Op) (m : MapView) (tracked : List ℕ) (x : Invariant) → first_reason (reasons op m tracked x) ≡ None →
     NoneHold (operand_reasons (row_length (row_of op)) m x.point.at) × NoneHold (later_reasons op m tracked x)

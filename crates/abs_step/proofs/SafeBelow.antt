@@ -18,6 +18,7 @@ use Rattle.abs_domain.specs.Lattice.{Below, FactBelow}
 use Rattle.abs_domain.specs.AbstractState.{KnownRegisters, KnownCounters, AbstractState, RegistersBelow, StateBelow, CountersBelow}
 use Rattle.abs_domain.specs.declared.points.Point.{Point}
 use Rattle.abs_domain.proofs.Orders.{below_refl}
+use Rattle.abs_domain.specs.declared.reason.Reason.{Reason}
 use Rattle.abs_step.specs.Known.{is_known_false}
 use Rattle.abs_step.specs.MapView.{MapView, IsViewOf, is_shared, holds_every_address}
 use Rattle.abs_step.specs.Successors.{Invariant, inputs_at, state_after}
@@ -140,11 +141,11 @@ interrupted_falls op m s t h = and_falls _ m.wired _ m.wired
 
 -- ---- safety
 
-first_none : (rs : List (Bool × ℕ)) → NoneHold rs → first_reason rs ≡ None
+first_none : (rs : List (Bool × Reason)) → NoneHold rs → first_reason rs ≡ None
 first_none [] h = refl
 first_none (r ∷ rs) h = rw h.0 (first_none rs h.1)
 
-none_both : (rs ss : List (Bool × ℕ)) → NoneHold rs → NoneHold ss → NoneHold (rs ++ ss)
+none_both : (rs ss : List (Bool × Reason)) → NoneHold rs → NoneHold ss → NoneHold (rs ++ ss)
 none_both [] ss p q = q
 none_both (r ∷ rs) ss p q = (p.0, none_both rs ss p.1 q)
 

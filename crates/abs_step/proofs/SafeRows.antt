@@ -20,6 +20,7 @@ use Rattle.console_spec.specs.declared.Sort.TheVariants.{Shared}
 use Rattle.memory_map.specs.MapKinds.{is_held_once}
 use Rattle.abs_domain.specs.Lattice.{Below}
 use Rattle.abs_domain.specs.AbstractState.{KnownCounters}
+use Rattle.abs_domain.specs.declared.reason.Reason.{Reason}
 use Rattle.abs_step.specs.MapView.{MapView, IsViewOf}
 use Rattle.abs_step.specs.Safety.{operand_reasons, return_is_unset, return_is_unheld, port_is_bad, reads_at_data, goes_by_data}
 use Rattle.abs_step.specs.Concretization.{Holds}
@@ -32,7 +33,7 @@ use Rattle.abs_step.proofs.Services.{IsTold, StoresAlike, all_at_served, data_st
 
 -- ---- no reason holds
 
-abbrev pub NoneHold : List (Bool × ℕ) → Type 0
+abbrev pub NoneHold : List (Bool × Reason) → Type 0
 NoneHold [] = Unit {0}
 NoneHold (r ∷ rs) = (r.0 ≡ false) × NoneHold rs
 

@@ -6,6 +6,7 @@ use Rattle.f8_spec.specs.Instructions.{row_of, length_of}
 use Rattle.f8_spec.specs.declared.instructions.Op.{Op}
 use Rattle.f8_spec.specs.declared.instructions.Row.{Row}
 use Rattle.abs_domain.specs.AbstractState.{KnownRegisters, KnownCounters}
+use Rattle.abs_domain.specs.declared.reason.Reason.{Reason}
 use Rattle.abs_step.specs.RegisterWrites.{RegisterWrite, written_all}
 use Rattle.abs_step.specs.KnownResults.{known_effect, register_writes}
 use Rattle.abs_step.specs.KnownFlow.{KnownInputs, Exit, known_inputs, known_used_byte, known_counters, exits}
@@ -14,16 +15,16 @@ use Rattle.abs_step.specs.Successors.{Invariant, inputs_at, state_after, success
 use Rattle.abs_step.specs.Safety.{first_reason, operand_reasons, later_reasons, writes_of, reasons}
 use Rattle.abs_step.specs.StepView.{reasons_before, reasons_after, joined_along}
 
-first_left : (rs ss : List (Bool × ℕ)) (n : ℕ) → first_reason rs ≡ Some n → first_reason (rs ++ ss) ≡ Some n
-first_left [] ss n is = absurd (cc)
-first_left (r ∷ rs) ss n is = by r.0 is (first_left rs ss n)
+first_left : (rs ss : List (Bool × Reason)) (reason : Reason) → first_reason rs ≡ Some reason → first_reason (rs ++ ss) ≡ Some reason
+first_left [] ss reason is = absurd (cc)
+first_left (r ∷ rs) ss reason is = by r.0 is (first_left rs ss reason)
   where
-    by : (b : Bool) → (if b then Some r.1 else first_reason rs) ≡ Some n → (first_reason rs ≡ Some n → first_reason (rs ++ ss) ≡ Some n) →
-        (if b then Some r.1 else first_reason (rs ++ ss)) ≡ Some n
+    by : (b : Bool) → (if b then Some r.1 else first_reason rs) ≡ Some reason → (first_reason rs ≡ Some reason → first_reason (rs ++ ss) ≡ Some reason) →
+        (if b then Some r.1 else first_reason (rs ++ ss)) ≡ Some reason
     by true here later = here
     by false here later = later here
 
-first_right : (rs ss : List (Bool × ℕ)) → first_reason rs ≡ None → first_reason (rs ++ ss) ≡ first_reason ss
+first_right : (rs ss : List (Bool × Reason)) → first_reason rs ≡ None → first_reason (rs ++ ss) ≡ first_reason ss
 first_right [] ss none = refl
 first_right (r ∷ rs) ss none = by r.0 none (first_right rs ss)
   where
@@ -55,15 +56,15 @@ stepped_to op i k ws r row byte writes row_is byte_is registers =
     record { writes = writes; registers = registers ∙ rw (byte_is, row_is) refl }
 
 module _ (op : Op) (m : MapView) (tracked : List ℕ) (x : Invariant) where
-  abbrev before : List (Bool × ℕ)
+  abbrev before : List (Bool × Reason)
   before = reasons_before op m x.point.ret (m.byte (places_on x.point.at 1)) x.state.registers x.state.counters
 
-  abbrev behind : List (Bool × ℕ)
+  abbrev behind : List (Bool × Reason)
   behind = reasons_after op m tracked (state_after op m x).registers.status.icb x.state.counters.d0 (writes_of op m x)
 
-  pub by_operands : (n : ℕ) → first_reason (operand_reasons (length_of op) m x.point.at) ≡ Some n → first_reason (reasons op m tracked x) ≡ Some n
+  pub by_operands : (reason : Reason) → first_reason (operand_reasons (length_of op) m x.point.at) ≡ Some reason → first_reason (reasons op m tracked x) ≡ Some reason
   unfolding reasons
-  by_operands n is = first_left (operand_reasons (length_of op) m x.point.at) (later_reasons op m tracked x) n is
+  by_operands reason is = first_left (operand_reasons (length_of op) m x.point.at) (later_reasons op m tracked x) reason is
 
   later : first_reason (operand_reasons (length_of op) m x.point.at) ≡ None →
       first_reason (reasons op m tracked x) ≡ first_reason (later_reasons op m tracked x)
@@ -75,9 +76,9 @@ module _ (op : Op) (m : MapView) (tracked : List ℕ) (x : Invariant) where
     same_before : first_reason (reasons_before op m x.point.ret i.operand k l) ≡ first_reason before
     same_before = rw (known.inputs, known.registers, known.counters) refl
 
-    pub by_before : (n : ℕ) → first_reason (reasons_before op m x.point.ret i.operand k l) ≡ Some n →
-        first_reason (reasons op m tracked x) ≡ Some n
-    by_before n is = later none ∙ first_left before behind n (sym same_before ∙ is)
+    pub by_before : (reason : Reason) → first_reason (reasons_before op m x.point.ret i.operand k l) ≡ Some reason →
+        first_reason (reasons op m tracked x) ≡ Some reason
+    by_before reason is = later none ∙ first_left before behind reason (sym same_before ∙ is)
 
     module _ (ws : List RegisterWrite) (r : KnownRegisters) (stepped : SteppedTo op i k ws r)
         (none_before : first_reason (reasons_before op m x.point.ret i.operand k l) ≡ None) where
@@ -87,7 +88,7 @@ module _ (op : Op) (m : MapView) (tracked : List ℕ) (x : Invariant) where
       registers_are : r ≡ (state_after op m x).registers
       registers_are = stepped.registers ∙ rw (writes_are, known.inputs, known.registers) refl
 
-      pub by_after : (icb : Option Bool) (o : Option ℕ) → icb ≡ r.status.icb →
+      pub by_after : (icb : Option Bool) (o : Option Reason) → icb ≡ r.status.icb →
           first_reason (reasons_after op m tracked icb l.d0 ws) ≡ o → first_reason (reasons op m tracked x) ≡ o
       by_after icb o icb_is is =
           let same : first_reason (reasons_after op m tracked icb l.d0 ws) ≡ first_reason behind =

@@ -3,6 +3,7 @@ use Rattle.std.proofs.Common.{◌≡◌, [], ◌∷◌, refl, arith}
 use Rattle.std.specs.Prelude.{Ok}
 use Rattle.f8_spec.specs.Instructions.{decoded}
 use Rattle.abs_domain.specs.declared.points.Point.{Point}
+use Rattle.abs_domain.specs.declared.reason.Reason.TheVariants.{CodeNotHeldOnce}
 use Rattle.abs_step.specs.KnownResults.{known_effect, register_writes}
 use Rattle.abs_step.specs.Successors.{start_point, start_state, successors}
 use Rattle.abs_step.specs.Safety.{unsafe_reason, reasons}
@@ -12,7 +13,7 @@ use Rattle.abs_step.proofs.WorkedSteps.{psu, map_of}
 
 -- ---- without chips the start is unsafe, since nobody holds the address 0
 
-no_chips : ReachesUnsafe (analysis (map_of []) []) start_point start_state 1
+no_chips : ReachesUnsafe (analysis (map_of []) []) start_point start_state CodeNotHeldOnce
 unfolding decoded known_effect register_writes successors unsafe_reason reasons
 no_chips = record { reached = start; unsafe = refl }
 

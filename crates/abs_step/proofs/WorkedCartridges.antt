@@ -4,6 +4,8 @@ use Rattle.std.specs.Prelude.{None}
 use Rattle.f8_spec.specs.Instructions.{decoded}
 use Rattle.chip_face.specs.declared.specification.ChipSpec.{ChipSpec}
 use Rattle.chip_face.specs.declared.specification.ChipSpec.TheVariants.{Psu}
+use Rattle.abs_domain.specs.declared.reason.Reason.TheVariants.{CodeNotHeldOnce, ReservedOpcode, UnsetReturn, DataCountersApart, BadPort}
+use Rattle.abs_domain.specs.declared.reason.Reason.TheVariants.{InterruptPossible}
 use Rattle.abs_step.specs.KnownResults.{known_effect, register_writes}
 use Rattle.abs_step.specs.MapView.{chips_view, holds_every_address}
 use Rattle.abs_step.specs.Successors.{successors}
@@ -16,33 +18,33 @@ described base ports bytes = Psu base (bytes ++ replicate (1024 - length bytes) 
 
 -- ---- no chip, and two at one address, whose bytes are the same
 
-no_chip : check (chips_view []) [] 5 ≡ Unsafe 0 None 1
+no_chip : check (chips_view []) [] 5 ≡ Unsafe 0 None CodeNotHeldOnce
 unfolding decoded known_effect register_writes successors unsafe_reason reasons is_fault_free holds_every_address chips_view
 no_chip = refl
 
-two_at_one_address : check (chips_view (described 0 4 (0x2B ∷ []) ∷ described 0 8 (0x2B ∷ []) ∷ [])) [] 5 ≡ Unsafe 0 None 1
+two_at_one_address : check (chips_view (described 0 4 (0x2B ∷ []) ∷ described 0 8 (0x2B ∷ []) ∷ [])) [] 5 ≡ Unsafe 0 None CodeNotHeldOnce
 unfolding decoded known_effect register_writes successors unsafe_reason reasons is_fault_free holds_every_address chips_view
 two_at_one_address = refl
 
 -- ---- a jump whose last byte lies behind the chip, and an opcode that no instruction has
 
-jump_cut_off : check (chips_view (described 0 4 (0x29 ∷ 0x03 ∷ 0xFE ∷ replicate 1019 255 ++ 0x29 ∷ 0x08 ∷ []) ∷ [])) [] 5 ≡ Unsafe 0x03FE None 1
+jump_cut_off : check (chips_view (described 0 4 (0x29 ∷ 0x03 ∷ 0xFE ∷ replicate 1019 255 ++ 0x29 ∷ 0x08 ∷ []) ∷ [])) [] 5 ≡ Unsafe 0x03FE None CodeNotHeldOnce
 unfolding decoded known_effect register_writes successors unsafe_reason reasons is_fault_free holds_every_address chips_view
 jump_cut_off = refl
 
-reserved : check (chips_view (described 0 4 (0x2D ∷ []) ∷ [])) [] 5 ≡ Unsafe 0 None 3
+reserved : check (chips_view (described 0 4 (0x2D ∷ []) ∷ [])) [] 5 ≡ Unsafe 0 None ReservedOpcode
 unfolding decoded known_effect register_writes successors unsafe_reason reasons is_fault_free holds_every_address chips_view
 reserved = refl
 
 -- ---- a return before any call, on two chips
 
-return_at_once : check (chips_view (described 0 4 (0x1C ∷ []) ∷ described 0x400 8 [] ∷ [])) [] 5 ≡ Unsafe 0 None 6
+return_at_once : check (chips_view (described 0 4 (0x1C ∷ []) ∷ described 0x400 8 [] ∷ [])) [] 5 ≡ Unsafe 0 None UnsetReturn
 unfolding decoded known_effect register_writes successors unsafe_reason reasons is_fault_free holds_every_address chips_view
 return_at_once = refl
 
 -- ---- a read behind XDC, by the 3851's own counter
 
-read_apart : check (chips_view (described 0 4 (0x2A ∷ 0x00 ∷ 0x05 ∷ 0x2C ∷ 0x16 ∷ []) ∷ [])) [] 10 ≡ Unsafe 4 None 7
+read_apart : check (chips_view (described 0 4 (0x2A ∷ 0x00 ∷ 0x05 ∷ 0x2C ∷ 0x16 ∷ []) ∷ [])) [] 10 ≡ Unsafe 4 None DataCountersApart
 unfolding decoded known_effect register_writes successors unsafe_reason reasons is_fault_free holds_every_address chips_view
 read_apart = refl
 
@@ -66,11 +68,11 @@ four_and_five = refl
 
 -- ---- ports: a write to port 4 and a read of it, and then a read of a port that no chip has; and writes that draw pixels
 
-missing_port : check (chips_view (described 0 4 (0x20 ∷ 0x0F ∷ 0xB4 ∷ 0xA4 ∷ 0x26 ∷ 0x02 ∷ []) ∷ [])) [] 20 ≡ Unsafe 4 None 9
+missing_port : check (chips_view (described 0 4 (0x20 ∷ 0x0F ∷ 0xB4 ∷ 0xA4 ∷ 0x26 ∷ 0x02 ∷ []) ∷ [])) [] 20 ≡ Unsafe 4 None BadPort
 unfolding decoded known_effect register_writes successors unsafe_reason reasons is_fault_free holds_every_address chips_view
 missing_port = refl
 
-missing_port_at_once : check (chips_view (described 0 4 (0x26 ∷ 0x02 ∷ []) ∷ [])) [] 20 ≡ Unsafe 0 None 9
+missing_port_at_once : check (chips_view (described 0 4 (0x26 ∷ 0x02 ∷ []) ∷ [])) [] 20 ≡ Unsafe 0 None BadPort
 unfolding decoded known_effect register_writes successors unsafe_reason reasons is_fault_free holds_every_address chips_view
 missing_port_at_once = refl
 
@@ -82,6 +84,6 @@ pixels = refl
 -- ---- a timer that may interrupt: control 3 and a load, and then EI, behind which a NOP doesn't shield its end
 
 timer : check (chips_view (Psu 0 (0x73 ∷ 0xB6 ∷ 0x20 ∷ 0x7F ∷ 0xB7 ∷ replicate 7 0x2B ++ 0x1B ∷ 0x2B ∷ replicate 1010 255) 4 0x0180 true ∷ [])) [] 30
-    ≡ Unsafe 0x0D None 10
+    ≡ Unsafe 0x0D None InterruptPossible
 unfolding decoded known_effect register_writes successors unsafe_reason reasons is_fault_free holds_every_address chips_view
 timer = refl

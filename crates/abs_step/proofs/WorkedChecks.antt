@@ -8,6 +8,8 @@ use Rattle.f8_spec.specs.ChipState.{ChipView}
 use Rattle.f8_spec.specs.declared.chips.PageSort.TheVariants.{Rom, Ram}
 use Rattle.abs_domain.specs.Joins.{joined_state, is_state_below}
 use Rattle.abs_domain.specs.declared.points.Point.{Point}
+use Rattle.abs_domain.specs.declared.reason.Reason.{Reason}
+use Rattle.abs_domain.specs.declared.reason.Reason.TheVariants.{UnknownJump, DataCountersApart, InterruptPossible}
 use Rattle.abs_step.specs.KnownResults.{known_effect, register_writes}
 use Rattle.abs_step.specs.MapView.{MapView, holds_every_address}
 use Rattle.abs_step.specs.Successors.{Invariant, same_point, start_point, start_invariant, successors}
@@ -21,7 +23,7 @@ use Rattle.abs_step.specs.StepView.{next_at}
 pub record Search : Type 0 where
   pub notes : List Invariant
   pub due : List Point
-  pub unsafe : Option (Point × ℕ)
+  pub unsafe : Option (Point × Reason)
 
 abbrev pub note_at : Point → List Invariant → Option Invariant
 note_at p [] = None
@@ -40,8 +42,8 @@ risen x (Some y) s =
 abbrev pub with_next : Search → Invariant → Search
 with_next s x = risen x (note_at x.point s.notes) s
 
-abbrev pub stepped_on : MapView → List ℕ → Invariant → Option ℕ → Search → Search
-stepped_on m tracked x (Some number) s = record s { unsafe = Some (x.point, number) }
+abbrev pub stepped_on : MapView → List ℕ → Invariant → Option Reason → Search → Search
+stepped_on m tracked x (Some reason) s = record s { unsafe = Some (x.point, reason) }
 stepped_on m tracked x None s = fold with_next s (next_at m tracked x)
 
 abbrev pub stepped_at : MapView → List ℕ → Option Invariant → Search → Search
@@ -49,7 +51,7 @@ stepped_at m tracked None s = s
 stepped_at m tracked (Some x) s = stepped_on m tracked x (unsafe_reason m tracked x) s
 
 -- so many steps at most, up to the first unsafe invariant
-abbrev pub searched : MapView → List ℕ → ℕ → Option (Point × ℕ) → List Point → Search → Search
+abbrev pub searched : MapView → List ℕ → ℕ → Option (Point × Reason) → List Point → Search → Search
 searched m tracked zero unsafe due s = s
 searched m tracked (suc n) (Some u) due s = s
 searched m tracked (suc n) None [] s = s
@@ -63,10 +65,10 @@ from_start m tracked n = searched m tracked n None (start_point ∷ []) (record 
 -- what is told of it: the points and whether all are free of faults, where nothing is left to do; or the unsafe point
 pub data Told : Type 0 where
   Safe : ℕ → Bool → Told
-  Unsafe : ℕ → Option ℕ → ℕ → Told
+  Unsafe : ℕ → Option ℕ → Reason → Told
   Unfinished : Told
 
-abbrev pub told_of : MapView → Search → Option (Point × ℕ) → List Point → Told
+abbrev pub told_of : MapView → Search → Option (Point × Reason) → List Point → Told
 told_of m s (Some u) due = Unsafe u.0.at u.0.ret u.1
 told_of m s None [] = Safe (length s.notes) (list_all (is_fault_free m) s.notes)
 told_of m s None (p ∷ due) = Unfinished
@@ -93,7 +95,7 @@ only_ram = refl
 nested_unsplit : check (map_of (
     psu 0 4 (0x28 ∷ 0x00 ∷ 0x10 ∷ 0x28 ∷ 0x00 ∷ 0x10 ∷ 0x90 ∷ 0xFF ∷ 0xFF ∷ 0xFF ∷ 0xFF ∷ 0xFF ∷ 0xFF ∷ 0xFF ∷ 0xFF ∷ 0xFF ∷ 0x08 ∷ 0x28 ∷ 0x00 ∷ 0x20
     ∷ 0x0C ∷ 0xFF ∷ 0xFF ∷ 0xFF ∷ 0xFF ∷ 0xFF ∷ 0xFF ∷ 0xFF ∷ 0xFF ∷ 0xFF ∷ 0xFF ∷ 0xFF ∷ 0x1C ∷ []) ∷ []
-    )) [] 60 ≡ Unsafe 0x14 (Some 0x14) 4
+    )) [] 60 ≡ Unsafe 0x14 (Some 0x14) UnknownJump
 unfolding decoded known_effect register_writes successors unsafe_reason reasons is_fault_free holds_every_address
 nested_unsplit = refl
 
@@ -109,7 +111,7 @@ nested_split = refl
 copy_unsplit : check (map_of (
     psu 0 4 (0x2A ∷ 0x28 ∷ 0x00 ∷ 0x2C ∷ 0x2A ∷ 0x20 ∷ 0x00 ∷ 0x20 ∷ 0x10 ∷ 0x50 ∷ 0x16 ∷ 0x2C ∷ 0x17 ∷ 0x2C ∷ 0x30 ∷ 0x94 ∷ 0xFA ∷ 0x90 ∷ 0xFF ∷ [])
     ∷ smi (page Rom 0x20 ∷ page Ram 0x28 ∷ []) ∷ []
-    )) [] 200 ≡ Unsafe 0x0A None 7
+    )) [] 200 ≡ Unsafe 0x0A None DataCountersApart
 unfolding decoded known_effect register_writes successors unsafe_reason reasons is_fault_free holds_every_address
 copy_unsplit = refl
 
@@ -143,6 +145,6 @@ ordinary = refl
 abbrev wired_psu : ℕ → ℕ → List ℕ → ChipView
 wired_psu base ports bytes = record (psu base ports bytes) { wired = true }
 
-interrupts_on : check (map_of (wired_psu 0 4 (0x71 ∷ 0xB6 ∷ 0xBA ∷ 0x1B ∷ 0x90 ∷ 0xFF ∷ []) ∷ wired_psu 0x400 8 [] ∷ [])) [] 30 ≡ Unsafe 4 None 10
+interrupts_on : check (map_of (wired_psu 0 4 (0x71 ∷ 0xB6 ∷ 0xBA ∷ 0x1B ∷ 0x90 ∷ 0xFF ∷ []) ∷ wired_psu 0x400 8 [] ∷ [])) [] 30 ≡ Unsafe 4 None InterruptPossible
 unfolding decoded known_effect register_writes successors unsafe_reason reasons is_fault_free holds_every_address
 interrupts_on = refl

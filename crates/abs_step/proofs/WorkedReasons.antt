@@ -8,6 +8,10 @@ use Rattle.f8_spec.specs.declared.chips.PageSort.TheVariants.{Rom, Ram, Void}
 use Rattle.chip_face.specs.declared.specification.ChipSpec.{ChipSpec}
 use Rattle.chip_face.specs.declared.specification.ChipSpec.TheVariants.{Psu, Smi}
 use Rattle.abs_domain.specs.AbstractState.{KnownRegisters, KnownCounters}
+use Rattle.abs_domain.specs.declared.reason.Reason.{Reason}
+use Rattle.abs_domain.specs.declared.reason.Reason.TheVariants.{CodeNotHeldOnce, CodeInRam, ReservedOpcode, UnknownJump, UnknownReturn}
+use Rattle.abs_domain.specs.declared.reason.Reason.TheVariants.{UnsetReturn, DataCountersApart, ReturnNotHeldOnce, BadPort}
+use Rattle.abs_domain.specs.declared.reason.Reason.TheVariants.{InterruptPossible, SharedDataAddress, TrackedRegisterBlurred}
 use Rattle.abs_step.specs.KnownResults.{known_effect, register_writes}
 use Rattle.abs_step.specs.MapView.{chips_view, holds_every_address}
 use Rattle.abs_step.specs.Successors.{Invariant, start_point, start_state}
@@ -41,7 +45,7 @@ abbrev perhaps_on : KnownRegisters
 perhaps_on = record registers { status = record registers.status { icb = None } }
 
 -- the reason by a 3851 at 0 with these bytes and some more chips
-abbrev reason : List ℕ → List ChipSpec → List ℕ → Invariant → Option ℕ
+abbrev reason : List ℕ → List ChipSpec → List ℕ → Invariant → Option Reason
 reason bytes more tracked x = unsafe_reason (chips_view (described 0 4 bytes ∷ more)) tracked x
 
 abbrev ram : ChipSpec
@@ -55,12 +59,12 @@ wired bytes = Psu 0 (bytes ++ replicate (1024 - length bytes) 255) 4 0 true ∷ 
 
 -- the operand of LI lies behind the chip, and in RAM
 operand_nowhere : unsafe_reason (chips_view (described 0x2400 4 (replicate 1023 0 ++ 0x20 ∷ []) ∷ [])) []
-    (at 0x27FF None registers (counters None None false false)) ≡ Some 1
+    (at 0x27FF None registers (counters None None false false)) ≡ Some CodeNotHeldOnce
 unfolding decoded known_effect register_writes unsafe_reason reasons chips_view
 operand_nowhere = refl
 
 operand_in_ram : unsafe_reason (chips_view (described 0x2400 4 (replicate 1023 0 ++ 0x20 ∷ []) ∷ ram ∷ [])) []
-    (at 0x27FF None registers (counters None None false false)) ≡ Some 2
+    (at 0x27FF None registers (counters None None false false)) ≡ Some CodeInRam
 unfolding decoded known_effect register_writes unsafe_reason reasons chips_view
 operand_in_ram = refl
 
@@ -71,7 +75,7 @@ unfolding decoded known_effect register_writes unsafe_reason reasons chips_view
 operand_at_zero = refl
 
 -- a void page reads as FF, which is no opcode, and may be an operand
-opcode_in_void : unsafe_reason (chips_view (Smi (page Void 0 ∷ []) [] false ∷ [])) [] at_start ≡ Some 3
+opcode_in_void : unsafe_reason (chips_view (Smi (page Void 0 ∷ []) [] false ∷ [])) [] at_start ≡ Some ReservedOpcode
 unfolding decoded known_effect register_writes unsafe_reason reasons chips_view
 opcode_in_void = refl
 
@@ -82,7 +86,7 @@ operand_in_void = refl
 
 -- ---- 4 and 5: a jump by K or Q, and a return from K
 
-jump_by_half_of_q : reason (0x0D ∷ []) [] [] (at 0 None (with_bytes 14 (Some 1) None) (counters None None false false)) ≡ Some 4
+jump_by_half_of_q : reason (0x0D ∷ []) [] [] (at 0 None (with_bytes 14 (Some 1) None) (counters None None false false)) ≡ Some UnknownJump
 unfolding decoded known_effect register_writes unsafe_reason reasons chips_view
 jump_by_half_of_q = refl
 
@@ -91,11 +95,11 @@ unfolding decoded known_effect register_writes unsafe_reason reasons chips_view
 jump_by_q = refl
 
 -- PK goes by K and not by Q
-call_by_k_unknown : reason (0x0C ∷ []) [] [] (at 0 None (with_bytes 14 (Some 1) (Some 2)) (counters None None false false)) ≡ Some 4
+call_by_k_unknown : reason (0x0C ∷ []) [] [] (at 0 None (with_bytes 14 (Some 1) (Some 2)) (counters None None false false)) ≡ Some UnknownJump
 unfolding decoded known_effect register_writes unsafe_reason reasons chips_view
 call_by_k_unknown = refl
 
-return_from_half_of_k : reason (0x09 ∷ []) [] [] (at 0 None (with_bytes 12 None (Some 2)) (counters None None false false)) ≡ Some 5
+return_from_half_of_k : reason (0x09 ∷ []) [] [] (at 0 None (with_bytes 12 None (Some 2)) (counters None None false false)) ≡ Some UnknownReturn
 unfolding decoded known_effect register_writes unsafe_reason reasons chips_view
 return_from_half_of_k = refl
 
@@ -105,11 +109,11 @@ return_from_k = refl
 
 -- ---- 6 and 8: the return that LR K,P reads
 
-return_unset : reason (0x08 ∷ []) [] [] at_start ≡ Some 6
+return_unset : reason (0x08 ∷ []) [] [] at_start ≡ Some UnsetReturn
 unfolding decoded known_effect register_writes unsafe_reason reasons chips_view
 return_unset = refl
 
-return_nowhere : reason (0x08 ∷ []) [] [] (at 0 (Some 0x0400) registers (counters None None false false)) ≡ Some 8
+return_nowhere : reason (0x08 ∷ []) [] [] (at 0 (Some 0x0400) registers (counters None None false false)) ≡ Some ReturnNotHeldOnce
 unfolding decoded known_effect register_writes unsafe_reason reasons chips_view
 return_nowhere = refl
 
@@ -125,7 +129,7 @@ pop_to_nowhere = refl
 -- ---- 7: data counters of the chips
 
 -- with a 3853 that has a page a store needs s0, and nothing else; without one it needs nothing
-store_apart : reason (0x17 ∷ []) (ram ∷ []) [] (at 0 None registers (counters (Some 0x2800) None false true)) ≡ Some 7
+store_apart : reason (0x17 ∷ []) (ram ∷ []) [] (at 0 None registers (counters (Some 0x2800) None false true)) ≡ Some DataCountersApart
 unfolding decoded known_effect register_writes unsafe_reason reasons chips_view
 store_apart = refl
 
@@ -142,11 +146,11 @@ unfolding decoded known_effect register_writes unsafe_reason reasons chips_view
 store_by_no_page = refl
 
 -- a read needs that each 3851 is at D0, or is where no 3851 holds the address
-read_by_unknown : reason (0x16 ∷ []) [] [] at_start ≡ Some 7
+read_by_unknown : reason (0x16 ∷ []) [] [] at_start ≡ Some DataCountersApart
 unfolding decoded known_effect register_writes unsafe_reason reasons chips_view
 read_by_unknown = refl
 
-read_by_another : reason (0x16 ∷ []) (ram ∷ []) [] (at 0 None registers (counters (Some 0x2800) (Some 0x03FF) true false)) ≡ Some 7
+read_by_another : reason (0x16 ∷ []) (ram ∷ []) [] (at 0 None registers (counters (Some 0x2800) (Some 0x03FF) true false)) ≡ Some DataCountersApart
 unfolding decoded known_effect register_writes unsafe_reason reasons chips_view
 read_by_another = refl
 
@@ -159,7 +163,7 @@ unfolding decoded known_effect register_writes unsafe_reason reasons chips_view
 read_by_the_same = refl
 
 -- so do the bytes of D0; a sum to D0 and XDC need nothing
-bytes_by_unknown : reason (0x0E ∷ []) [] [] at_start ≡ Some 7
+bytes_by_unknown : reason (0x0E ∷ []) [] [] at_start ≡ Some DataCountersApart
 unfolding decoded known_effect register_writes unsafe_reason reasons chips_view
 bytes_by_unknown = refl
 
@@ -174,11 +178,11 @@ read_of_data_port : reason (0xA5 ∷ []) [] [] at_start ≡ None
 unfolding decoded known_effect register_writes unsafe_reason reasons chips_view
 read_of_data_port = refl
 
-read_of_control : reason (0xA6 ∷ []) [] [] at_start ≡ Some 9
+read_of_control : reason (0xA6 ∷ []) [] [] at_start ≡ Some BadPort
 unfolding decoded known_effect register_writes unsafe_reason reasons chips_view
 read_of_control = refl
 
-read_of_two : reason (0x26 ∷ 0x04 ∷ []) (described 0x400 4 [] ∷ []) [] at_start ≡ Some 9
+read_of_two : reason (0x26 ∷ 0x04 ∷ []) (described 0x400 4 [] ∷ []) [] at_start ≡ Some BadPort
 unfolding decoded known_effect register_writes unsafe_reason reasons chips_view
 read_of_two = refl
 
@@ -186,7 +190,7 @@ write_of_nobody : reason (0x27 ∷ 0x20 ∷ []) [] [] at_start ≡ None
 unfolding decoded known_effect register_writes unsafe_reason reasons chips_view
 write_of_nobody = refl
 
-write_of_timers : reason (0x27 ∷ 0x07 ∷ []) (described 0x400 4 [] ∷ []) [] at_start ≡ Some 9
+write_of_timers : reason (0x27 ∷ 0x07 ∷ []) (described 0x400 4 [] ∷ []) [] at_start ≡ Some BadPort
 unfolding decoded known_effect register_writes unsafe_reason reasons chips_view
 write_of_timers = refl
 
@@ -195,7 +199,7 @@ read_of_own : reason (0xA1 ∷ []) [] [] at_start ≡ None
 unfolding decoded known_effect register_writes unsafe_reason reasons chips_view
 read_of_own = refl
 
-long_read_of_own : reason (0x26 ∷ 0x01 ∷ []) [] [] at_start ≡ Some 9
+long_read_of_own : reason (0x26 ∷ 0x01 ∷ []) [] [] at_start ≡ Some BadPort
 unfolding decoded known_effect register_writes unsafe_reason reasons chips_view
 long_read_of_own = refl
 
@@ -209,7 +213,7 @@ plain_when_off : unsafe_reason (chips_view (wired (0x2B ∷ []))) [] at_start �
 unfolding decoded known_effect register_writes unsafe_reason reasons chips_view
 plain_when_off = refl
 
-plain_perhaps_on : unsafe_reason (chips_view (wired (0x2B ∷ []))) [] (at 0 None perhaps_on (counters None None false false)) ≡ Some 10
+plain_perhaps_on : unsafe_reason (chips_view (wired (0x2B ∷ []))) [] (at 0 None perhaps_on (counters None None false false)) ≡ Some InterruptPossible
 unfolding decoded known_effect register_writes unsafe_reason reasons chips_view
 plain_perhaps_on = refl
 
@@ -226,7 +230,7 @@ long_write_shields : unsafe_reason (chips_view (wired (0xB4 ∷ []))) [] (at 0 N
 unfolding decoded known_effect register_writes unsafe_reason reasons chips_view
 long_write_shields = refl
 
-short_write_does_not : unsafe_reason (chips_view (wired (0xB0 ∷ []))) [] (at 0 None perhaps_on (counters None None false false)) ≡ Some 10
+short_write_does_not : unsafe_reason (chips_view (wired (0xB0 ∷ []))) [] (at 0 None perhaps_on (counters None None false false)) ≡ Some InterruptPossible
 unfolding decoded known_effect register_writes unsafe_reason reasons chips_view
 short_write_does_not = refl
 
@@ -236,7 +240,7 @@ short_write_does_not = refl
 abbrev over : List ChipSpec
 over = Smi (page Rom 1 ∷ []) (replicate 256 0) false ∷ []
 
-read_of_shared : reason (0x16 ∷ []) over [] (at 0 None registers (counters (Some 0x01FF) (Some 0x01FF) true true)) ≡ Some 11
+read_of_shared : reason (0x16 ∷ []) over [] (at 0 None registers (counters (Some 0x01FF) (Some 0x01FF) true true)) ≡ Some SharedDataAddress
 unfolding decoded known_effect register_writes unsafe_reason reasons chips_view
 read_of_shared = refl
 
@@ -244,18 +248,18 @@ read_of_one : reason (0x16 ∷ []) over [] (at 0 None registers (counters (Some 
 unfolding decoded known_effect register_writes unsafe_reason reasons chips_view
 read_of_one = refl
 
-read_of_perhaps_shared : reason (0x16 ∷ []) over [] (at 0 None registers (counters None None true true)) ≡ Some 11
+read_of_perhaps_shared : reason (0x16 ∷ []) over [] (at 0 None registers (counters None None true true)) ≡ Some SharedDataAddress
 unfolding decoded known_effect register_writes unsafe_reason reasons chips_view
 read_of_perhaps_shared = refl
 
-store_at_shared : reason (0x17 ∷ []) over [] (at 0 None registers (counters (Some 0x0100) None true false)) ≡ Some 11
+store_at_shared : reason (0x17 ∷ []) over [] (at 0 None registers (counters (Some 0x0100) None true false)) ≡ Some SharedDataAddress
 unfolding decoded known_effect register_writes unsafe_reason reasons chips_view
 store_at_shared = refl
 
 -- ---- 12: tracked registers
 
 -- by an ISAR of which a digit isn't known: the register 16 may be written where the high digit is 2, and 8 may not
-perhaps_written : reason (0x5C ∷ []) [] (16 ∷ []) (at 0 None (with_isar (Some 2) None) (counters None None false false)) ≡ Some 12
+perhaps_written : reason (0x5C ∷ []) [] (16 ∷ []) (at 0 None (with_isar (Some 2) None) (counters None None false false)) ≡ Some TrackedRegisterBlurred
 unfolding decoded known_effect register_writes unsafe_reason reasons chips_view
 perhaps_written = refl
 
@@ -274,12 +278,12 @@ perhaps_written_again : reason (0x5C ∷ []) [] (16 ∷ []) (record {
     registers = record (with_isar (Some 2) None) { scratchpad = slice_set registers.scratchpad 16 (Some 5) };
     counters = counters None None false false;
   };
-}) ≡ Some 12
+}) ≡ Some TrackedRegisterBlurred
 unfolding decoded known_effect register_writes unsafe_reason reasons chips_view
 perhaps_written_again = refl
 
 -- the low byte of an unknown D0, where r15 is tracked, and where r13 is
-unknown_low_byte : reason (0x0E ∷ []) [] (15 ∷ []) (at 0 None registers (counters None None true true)) ≡ Some 12
+unknown_low_byte : reason (0x0E ∷ []) [] (15 ∷ []) (at 0 None registers (counters None None true true)) ≡ Some TrackedRegisterBlurred
 unfolding decoded known_effect register_writes unsafe_reason reasons chips_view
 unknown_low_byte = refl
 
@@ -288,33 +292,33 @@ unfolding decoded known_effect register_writes unsafe_reason reasons chips_view
 another_pair = refl
 
 -- an unknown register less 1
-unknown_decrement : reason (0x33 ∷ []) [] (4 ∷ 3 ∷ []) at_start ≡ Some 12
+unknown_decrement : reason (0x33 ∷ []) [] (4 ∷ 3 ∷ []) at_start ≡ Some TrackedRegisterBlurred
 unfolding decoded known_effect register_writes unsafe_reason reasons chips_view
 unknown_decrement = refl
 
 -- ---- of several the first
 
 -- LR P0,Q by an unknown Q, and an interrupt: 4 and 10
-jump_and_interrupt : unsafe_reason (chips_view (wired (0x0D ∷ []))) [] (at 0 None perhaps_on (counters None None false false)) ≡ Some 4
+jump_and_interrupt : unsafe_reason (chips_view (wired (0x0D ∷ []))) [] (at 0 None perhaps_on (counters None None false false)) ≡ Some UnknownJump
 unfolding decoded known_effect register_writes unsafe_reason reasons chips_view
 jump_and_interrupt = refl
 
 -- LR Q,DC away from each chip, with an interrupt, on shared addresses, to a tracked register: 7, 10, 11 and 12; and less and less of them
-all_four : unsafe_reason (chips_view (wired (0x0E ∷ []) ++ over)) (14 ∷ []) (at 0 None perhaps_on (counters None None false false)) ≡ Some 7
+all_four : unsafe_reason (chips_view (wired (0x0E ∷ []) ++ over)) (14 ∷ []) (at 0 None perhaps_on (counters None None false false)) ≡ Some DataCountersApart
 unfolding decoded known_effect register_writes unsafe_reason reasons chips_view
 all_four = refl
 
-last_three : unsafe_reason (chips_view (wired (0x0E ∷ []) ++ over)) (14 ∷ []) (at 0 None perhaps_on (counters None None true true)) ≡ Some 10
+last_three : unsafe_reason (chips_view (wired (0x0E ∷ []) ++ over)) (14 ∷ []) (at 0 None perhaps_on (counters None None true true)) ≡ Some InterruptPossible
 unfolding decoded known_effect register_writes unsafe_reason reasons chips_view
 last_three = refl
 
-last_two : reason (0x0E ∷ []) over (14 ∷ []) (at 0 None perhaps_on (counters None None true true)) ≡ Some 11
+last_two : reason (0x0E ∷ []) over (14 ∷ []) (at 0 None perhaps_on (counters None None true true)) ≡ Some SharedDataAddress
 unfolding decoded known_effect register_writes unsafe_reason reasons chips_view
 last_two = refl
 
 -- IN of port 2 with its operand behind the chip: 1 and 9
 port_behind_chip : unsafe_reason (chips_view (described 0x2400 4 (replicate 1023 0 ++ 0x26 ∷ []) ∷ [])) []
-    (at 0x27FF None registers (counters None None false false)) ≡ Some 1
+    (at 0x27FF None registers (counters None None false false)) ≡ Some CodeNotHeldOnce
 unfolding decoded known_effect register_writes unsafe_reason reasons chips_view
 port_behind_chip = refl
 

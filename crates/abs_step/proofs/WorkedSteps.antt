@@ -13,6 +13,9 @@ use Rattle.console_spec.specs.FlatMemory.{sort_of, fixed_byte}
 use Rattle.console_spec.specs.Writes.{readers, takers}
 use Rattle.memory_map.specs.MapKinds.{kind_holds, kind_has_pages}
 use Rattle.abs_domain.specs.declared.points.Point.{Point}
+use Rattle.abs_domain.specs.declared.reason.Reason.{Reason}
+use Rattle.abs_domain.specs.declared.reason.Reason.TheVariants.{CodeNotHeldOnce, CodeInRam, ReservedOpcode, UnsetReturn, DataCountersApart}
+use Rattle.abs_domain.specs.declared.reason.Reason.TheVariants.{BadPort, InterruptPossible, TrackedRegisterBlurred}
 use Rattle.abs_step.specs.KnownResults.{known_effect, register_writes}
 use Rattle.abs_step.specs.MapView.{MapView}
 use Rattle.abs_step.specs.StepView.{next_at}
@@ -59,7 +62,7 @@ walked m tracked zero = Some start_invariant
 walked m tracked (suc n) = option_and_then (λ x. slice_get (next_at m tracked x) 0) (walked m tracked n)
 
 -- the reason against the state there
-abbrev reason_after : MapView → List ℕ → ℕ → Option ℕ
+abbrev reason_after : MapView → List ℕ → ℕ → Option Reason
 reason_after m tracked n = option_and_then (unsafe_reason m tracked) (walked m tracked n)
 
 abbrev point_after : MapView → List ℕ → ℕ → Option Point
@@ -88,7 +91,7 @@ unfolding decoded known_effect register_writes successors
 load_at_start = refl
 
 -- the read after XDC, at which the 3851's own counter is away from D0
-read_after_exchange : reason_after exchange_alone [] 2 ≡ Some 7
+read_after_exchange : reason_after exchange_alone [] 2 ≡ Some DataCountersApart
 unfolding decoded known_effect register_writes successors unsafe_reason reasons
 read_after_exchange = refl
 
@@ -106,18 +109,18 @@ read_of_both : unsafe_reason rom_and_ram [] (record {
   state = record start_state {
     counters = record { d0 = Some 0x2800; d1 = Some 0x10; c = Some 0x10; s0 = true; s1 = true; p0 = false; p1 = true };
   };
-}) ≡ Some 7
+}) ≡ Some DataCountersApart
 unfolding decoded known_effect register_writes unsafe_reason reasons
 read_of_both = refl
 
-walk_to_both : reason_after rom_and_ram [] 4 ≡ Some 7
+walk_to_both : reason_after rom_and_ram [] 4 ≡ Some DataCountersApart
 unfolding decoded known_effect register_writes successors unsafe_reason reasons
 walk_to_both = refl
 
 -- ---- other reasons at once
 
 -- a return at which the copies may differ
-return_at_start : unsafe_reason (map_of (psu 0 4 (0x1C ∷ []) ∷ psu 0x400 8 [] ∷ [])) [] start_invariant ≡ Some 6
+return_at_start : unsafe_reason (map_of (psu 0 4 (0x1C ∷ []) ∷ psu 0x400 8 [] ∷ [])) [] start_invariant ≡ Some UnsetReturn
 unfolding decoded known_effect register_writes unsafe_reason reasons
 return_at_start = refl
 
@@ -125,20 +128,20 @@ return_at_start = refl
 abbrev shared_port : MapView
 shared_port = map_of (psu 0 4 (0x70 ∷ 0xB4 ∷ []) ∷ psu 0x400 4 [] ∷ [])
 
-write_to_shared_port : reason_after shared_port [] 1 ≡ Some 9
+write_to_shared_port : reason_after shared_port [] 1 ≡ Some BadPort
 unfolding decoded known_effect register_writes successors unsafe_reason reasons
 write_to_shared_port = refl
 
 -- no chip, an opcode in RAM, and one that no instruction has
-nothing_held : unsafe_reason (map_of []) [] start_invariant ≡ Some 1
+nothing_held : unsafe_reason (map_of []) [] start_invariant ≡ Some CodeNotHeldOnce
 unfolding decoded known_effect register_writes unsafe_reason reasons
 nothing_held = refl
 
-code_in_ram : unsafe_reason (map_of (smi (page Ram 0 ∷ []) ∷ [])) [] start_invariant ≡ Some 2
+code_in_ram : unsafe_reason (map_of (smi (page Ram 0 ∷ []) ∷ [])) [] start_invariant ≡ Some CodeInRam
 unfolding decoded known_effect register_writes unsafe_reason reasons
 code_in_ram = refl
 
-reserved_opcode : unsafe_reason (map_of (psu 0 4 [] ∷ [])) [] start_invariant ≡ Some 3
+reserved_opcode : unsafe_reason (map_of (psu 0 4 [] ∷ [])) [] start_invariant ≡ Some ReservedOpcode
 unfolding decoded known_effect register_writes unsafe_reason reasons
 reserved_opcode = refl
 
@@ -150,7 +153,7 @@ enabled : unsafe_reason (map_of (wired_psu ∷ [])) [] start_invariant ≡ None
 unfolding decoded known_effect register_writes unsafe_reason reasons
 enabled = refl
 
-interrupt_after_enable : reason_after (map_of (wired_psu ∷ [])) [] 1 ≡ Some 10
+interrupt_after_enable : reason_after (map_of (wired_psu ∷ [])) [] 1 ≡ Some InterruptPossible
 unfolding decoded known_effect register_writes successors unsafe_reason reasons
 interrupt_after_enable = refl
 
@@ -172,7 +175,7 @@ unfolding decoded known_effect register_writes successors
 point_of_tracked = refl
 
 -- what came in from a port is written to it
-tracked_is_blurred : reason_after load_tracked (0 ∷ []) 3 ≡ Some 12
+tracked_is_blurred : reason_after load_tracked (0 ∷ []) 3 ≡ Some TrackedRegisterBlurred
 unfolding decoded known_effect register_writes successors unsafe_reason reasons
 tracked_is_blurred = refl
 

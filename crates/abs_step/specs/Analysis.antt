@@ -4,9 +4,10 @@ use Rattle.std.specs.List.{Contains}
 use Rattle.std.specs.declared.cmp.Ordering.{Ordering}
 use Rattle.std.specs.declared.cmp.Ordering.TheVariants.{Equal}
 use Rattle.std.specs.Cmp.{IsTotalOrder}
+use Rattle.abs_domain.specs.declared.reason.Reason.{Reason}
 
 -- Points are in order. A state is below another where it says no less, and the join says what both say. The analysis starts at a point in a
--- state. What holds next is a list of states at points, in their order, or the number of the reason why the state isn't safe there. A safe
+-- state. What holds next is a list of states at points, in their order, or the reason why the state isn't safe there. A safe
 -- state may be free of faults besides. Only some states fit a point; and the rank of a state is how much it says.
 pub record Analysis (P S : Type 0) : Type 1 where
   pub order : P → P → Ordering
@@ -14,7 +15,7 @@ pub record Analysis (P S : Type 0) : Type 1 where
   pub join : S → S → S
   pub start_point : P
   pub start_state : S
-  pub next : P → S → Result (List (P × S)) ℕ
+  pub next : P → S → Result (List (P × S)) Reason
   pub is_fault_free : P → S → Bool
   pub fits : P → S → Type 0
   pub rank : S → ℕ

@@ -11,6 +11,7 @@ use Rattle.abs_domain.specs.AbstractState.{AbstractState, HasScratchpad}
 use Rattle.abs_domain.specs.Joins.{joined_state, is_state_below, rank}
 use Rattle.abs_domain.specs.PointOrder.{point_cmp}
 use Rattle.abs_domain.specs.declared.points.Point.{Point}
+use Rattle.abs_domain.specs.declared.reason.Reason.{Reason}
 use Rattle.abs_step.specs.RegisterWrites.{known_register}
 use Rattle.abs_step.specs.MapView.{MapView, IsViewOf, view_of}
 use Rattle.abs_step.specs.Successors.{Invariant, Fits, start_point, start_state, successors}
@@ -48,12 +49,12 @@ abbrev pub as_invariant : Point × AbstractState → Invariant
 as_invariant e = record { point = e.0; state = e.1 }
 
 -- what holds next, by the reason against a state and by its instruction; a safe state has one
-abbrev pub answer_by : Option ℕ → Option Op → MapView → List ℕ → Invariant → Result (List (Point × AbstractState)) ℕ
+abbrev pub answer_by : Option Reason → Option Op → MapView → List ℕ → Invariant → Result (List (Point × AbstractState)) Reason
 answer_by (Some reason) op m tracked x = Err reason
 answer_by None None m tracked x = Ok []
 answer_by None (Some op) m tracked x = Ok (map entry_of (successors op m tracked x))
 
-abbrev pub answer_at : MapView → List ℕ → Invariant → Result (List (Point × AbstractState)) ℕ
+abbrev pub answer_at : MapView → List ℕ → Invariant → Result (List (Point × AbstractState)) Reason
 answer_at m tracked x = answer_by (unsafe_reason m tracked x) (op_at m x) m tracked x
 
 abbrev pub analysis : MapView → List ℕ → Analysis Point AbstractState

@@ -5,6 +5,7 @@ use Rattle.std.specs.List.Sorted.{IsStrictlySortedBy}
 use Rattle.std.specs.Map.{lookup, keys_of}
 use Rattle.std.specs.BTreeMap.{is_at}
 use Rattle.std.specs.Ordering.{eq_by_cmp}
+use Rattle.abs_domain.specs.declared.reason.Reason.{Reason}
 use Rattle.abs_step.specs.Analysis.{Analysis}
 
 -- ---- reached states
@@ -73,7 +74,7 @@ module _ {P S : Type 0} (an : Analysis P S) where
   -- ---- what shows that there are none
 
   -- a state is reached that isn't safe at its point, for this reason
-  pub record ReachesUnsafe (p : P) (s : S) (reason : ℕ) : Type 0 where
+  pub record ReachesUnsafe (p : P) (s : S) (reason : Reason) : Type 0 where
     pub reached : Reached an p s
     pub unsafe : an.next p s ≡ Err reason
 

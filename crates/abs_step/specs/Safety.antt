@@ -15,24 +15,28 @@ use Rattle.console_spec.specs.FlatMemory.{is_ram_sort}
 use Rattle.console_spec.specs.Processor.{port_field}
 use Rattle.memory_map.specs.MapKinds.{is_held_once}
 use Rattle.abs_domain.specs.AbstractState.{KnownRegisters, KnownCounters, AbstractState}
+use Rattle.abs_domain.specs.declared.reason.Reason.{Reason}
+use Rattle.abs_domain.specs.declared.reason.Reason.TheVariants.{CodeNotHeldOnce, CodeInRam, ReservedOpcode, UnknownJump, UnknownReturn}
+use Rattle.abs_domain.specs.declared.reason.Reason.TheVariants.{UnsetReturn, DataCountersApart, ReturnNotHeldOnce, BadPort, InterruptPossible}
+use Rattle.abs_domain.specs.declared.reason.Reason.TheVariants.{SharedDataAddress, TrackedRegisterBlurred}
 use Rattle.abs_step.specs.Known.{known_word, is_known_false}
 use Rattle.abs_step.specs.RegisterWrites.{RegisterWrite, known_register, target_allows, is_exact}
 use Rattle.abs_step.specs.KnownResults.{register_writes}
 use Rattle.abs_step.specs.MapView.{MapView, is_shared, holds_every_address}
 use Rattle.abs_step.specs.Successors.{Invariant, inputs_at, state_after}
 
--- the number of the first reason whose test holds
-abbrev pub first_reason : List (Bool × ℕ) → Option ℕ
+-- the first reason whose test holds
+abbrev pub first_reason : List (Bool × Reason) → Option Reason
 first_reason [] = None
 first_reason (r ∷ rs) = if r.0 then Some r.1 else first_reason rs
 
 -- ---- bytes of code: one chip holds them, and no store changes them
 
-abbrev pub code_reasons : MapView → ℕ → List (Bool × ℕ)
-code_reasons m at = (not (is_held_once (m.sort at)), 1) ∷ (is_ram_sort (m.sort at), 2) ∷ []
+abbrev pub code_reasons : MapView → ℕ → List (Bool × Reason)
+code_reasons m at = (not (is_held_once (m.sort at)), CodeNotHeldOnce) ∷ (is_ram_sort (m.sort at), CodeInRam) ∷ []
 
 -- those of the bytes behind an opcode, by the instruction's length
-abbrev pub operand_reasons : ℕ → MapView → ℕ → List (Bool × ℕ)
+abbrev pub operand_reasons : ℕ → MapView → ℕ → List (Bool × Reason)
 operand_reasons length m at =
     (if nat_le 2 length then code_reasons m (places_on at 1) else []) ++ (if nat_le 3 length then code_reasons m (places_on at 2) else [])
 
@@ -122,33 +126,33 @@ writes_of op m x = let i = inputs_at op m x in register_writes op i.stack_bytes 
 
 -- ---- the reasons against an instruction, in their order
 
-abbrev pub later_reasons : Op → MapView → List ℕ → Invariant → List (Bool × ℕ)
+abbrev pub later_reasons : Op → MapView → List ℕ → Invariant → List (Bool × Reason)
 later_reasons op m tracked x =
-    (jump_is_lost (row_of op) x.state.registers, 4)
-    ∷ (return_is_lost (row_of op) x.state.registers, 5)
-    ∷ (return_is_unset (row_of op) x.point.ret, 6)
-    ∷ (may_part (row_of op) m x.state.counters, 7)
-    ∷ (return_is_unheld (row_of op) m x.point.ret, 8)
-    ∷ (port_is_bad (row_of op) m (m.byte (places_on x.point.at 1)) (port_field op), 9)
-    ∷ (may_be_interrupted op m (state_after op m x), 10)
-    ∷ (goes_by_data (row_of op) && may_be_shared m x.state.counters.d0, 11)
-    ∷ (any_blurred (writes_of op m x) tracked, 12)
+    (jump_is_lost (row_of op) x.state.registers, UnknownJump)
+    ∷ (return_is_lost (row_of op) x.state.registers, UnknownReturn)
+    ∷ (return_is_unset (row_of op) x.point.ret, UnsetReturn)
+    ∷ (may_part (row_of op) m x.state.counters, DataCountersApart)
+    ∷ (return_is_unheld (row_of op) m x.point.ret, ReturnNotHeldOnce)
+    ∷ (port_is_bad (row_of op) m (m.byte (places_on x.point.at 1)) (port_field op), BadPort)
+    ∷ (may_be_interrupted op m (state_after op m x), InterruptPossible)
+    ∷ (goes_by_data (row_of op) && may_be_shared m x.state.counters.d0, SharedDataAddress)
+    ∷ (any_blurred (writes_of op m x) tracked, TrackedRegisterBlurred)
     ∷ []
 
-unfoldable pub reasons : Op → MapView → List ℕ → Invariant → List (Bool × ℕ)
+unfoldable pub reasons : Op → MapView → List ℕ → Invariant → List (Bool × Reason)
 reasons op m tracked x = operand_reasons (row_length (row_of op)) m x.point.at ++ later_reasons op m tracked x
 
--- those of an opcode's byte, and then of its instruction; an opcode that no instruction has is the third
-abbrev pub instruction_reason : Option Op → MapView → List ℕ → Invariant → Option ℕ
-instruction_reason None m tracked x = Some 3
+-- those of an opcode's byte, and then of its instruction; an opcode that no instruction has is reserved
+abbrev pub instruction_reason : Option Op → MapView → List ℕ → Invariant → Option Reason
+instruction_reason None m tracked x = Some ReservedOpcode
 instruction_reason (Some op) m tracked x = first_reason (reasons op m tracked x)
 
-abbrev pub reason_behind : Option ℕ → MapView → List ℕ → Invariant → Option ℕ
+abbrev pub reason_behind : Option Reason → MapView → List ℕ → Invariant → Option Reason
 reason_behind None m tracked x = instruction_reason (option_and_then decoded (m.byte x.point.at)) m tracked x
-reason_behind (Some number) m tracked x = Some number
+reason_behind (Some reason) m tracked x = Some reason
 
 -- The first reason against a state at its point. It is safe where there is none.
-unfoldable pub unsafe_reason : MapView → List ℕ → Invariant → Option ℕ
+unfoldable pub unsafe_reason : MapView → List ℕ → Invariant → Option Reason
 unsafe_reason m tracked x = reason_behind (first_reason (code_reasons m x.point.at)) m tracked x
 
 -- ---- fault-free

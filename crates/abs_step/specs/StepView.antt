@@ -6,6 +6,9 @@ use Rattle.console_spec.specs.Processor.{port_field}
 use Rattle.abs_domain.specs.AbstractState.{KnownRegisters, KnownCounters, AbstractState}
 use Rattle.abs_domain.specs.StateView.{state_of}
 use Rattle.abs_domain.specs.declared.points.Point.{Point}
+use Rattle.abs_domain.specs.declared.reason.Reason.{Reason}
+use Rattle.abs_domain.specs.declared.reason.Reason.TheVariants.{UnknownJump, UnknownReturn, UnsetReturn, DataCountersApart, ReturnNotHeldOnce}
+use Rattle.abs_domain.specs.declared.reason.Reason.TheVariants.{BadPort, InterruptPossible, SharedDataAddress, TrackedRegisterBlurred}
 use Rattle.abs_domain.specs.declared.state.Abs.{Abs}
 use Rattle.abs_step.specs.MapView.{MapView}
 use Rattle.abs_step.specs.Successors.{Invariant, along, with_invariants, successors}
@@ -39,20 +42,20 @@ joined_along tracked k counters exits =
 -- ---- the reasons against an instruction behind those of its bytes
 
 -- by what holds before it: the return, the operand, the registers and the counters
-abbrev pub reasons_before : Op → MapView → Option ℕ → Option ℕ → KnownRegisters → KnownCounters → List (Bool × ℕ)
+abbrev pub reasons_before : Op → MapView → Option ℕ → Option ℕ → KnownRegisters → KnownCounters → List (Bool × Reason)
 reasons_before op m ret operand k counters =
-    (jump_is_lost (row_of op) k, 4)
-    ∷ (return_is_lost (row_of op) k, 5)
-    ∷ (return_is_unset (row_of op) ret, 6)
-    ∷ (may_part (row_of op) m counters, 7)
-    ∷ (return_is_unheld (row_of op) m ret, 8)
-    ∷ (port_is_bad (row_of op) m operand (port_field op), 9)
+    (jump_is_lost (row_of op) k, UnknownJump)
+    ∷ (return_is_lost (row_of op) k, UnknownReturn)
+    ∷ (return_is_unset (row_of op) ret, UnsetReturn)
+    ∷ (may_part (row_of op) m counters, DataCountersApart)
+    ∷ (return_is_unheld (row_of op) m ret, ReturnNotHeldOnce)
+    ∷ (port_is_bad (row_of op) m operand (port_field op), BadPort)
     ∷ []
 
 -- and by the interrupt control bit after it, D0 before it, and what it writes
-abbrev pub reasons_after : Op → MapView → List ℕ → Option Bool → Option ℕ → List RegisterWrite → List (Bool × ℕ)
+abbrev pub reasons_after : Op → MapView → List ℕ → Option Bool → Option ℕ → List RegisterWrite → List (Bool × Reason)
 reasons_after op m tracked icb d0 writes =
-    (not (is_shielding op) && not (is_known_false icb) && m.wired, 10)
-    ∷ (goes_by_data (row_of op) && may_be_shared m d0, 11)
-    ∷ (any_blurred writes tracked, 12)
+    (not (is_shielding op) && not (is_known_false icb) && m.wired, InterruptPossible)
+    ∷ (goes_by_data (row_of op) && may_be_shared m d0, SharedDataAddress)
+    ∷ (any_blurred writes tracked, TrackedRegisterBlurred)
     ∷ []

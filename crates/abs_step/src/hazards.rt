@@ -16,6 +16,7 @@ use super::counters::Counters;
 use super::inputs::ahead;
 use super::registers::Registers;
 use super::writes::Writes;
+use abs_domain::Reason;
 use cartridge::Split;
 use chip_face::ChipKind;
 use console_spec::Sort;
@@ -25,18 +26,18 @@ use memory_map::Map;
 
 /// A byte of code isn't held by one chip alone, or a store may change it.
 #[tactic(auto, unfolding(memory_map::specs::MapOf::mapped_sort))]
-pub fn code_reason(map: &Map, at: u16) -> Option<u8>
+pub fn code_reason(map: &Map, at: u16) -> Option<Reason>
     ensures { result ≡ first_reason (code_reasons (view_of map.now) at) }
 {
     match map.sort(at) {
-        Sort::Nothing | Sort::Shared => Some(1),
-        Sort::Ram => Some(2),
+        Sort::Nothing | Sort::Shared => Some(Reason::CodeNotHeldOnce),
+        Sort::Ram => Some(Reason::CodeInRam),
         Sort::Rom | Sort::Void => None,
     }
 }
 
 /// The first reason against the bytes behind an opcode.
-pub fn operand_reason(op: Op, map: &Map, at: u16) -> Option<u8>
+pub fn operand_reason(op: Op, map: &Map, at: u16) -> Option<Reason>
     ensures { result ≡ first_reason (operand_reasons (length_of op) (view_of map.now) at) }
 {
     match length(op) {

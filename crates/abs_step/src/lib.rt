@@ -24,5 +24,5 @@ pub use laws::{
     analysis_law, fit_law, map_view_law, script_run_law, seated_view_law, soundness_law,
     step_order_law,
 };
-pub use step::{Unsafe, after, start};
+pub use step::{after, start};
 pub use succs::Succs;

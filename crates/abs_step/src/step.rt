@@ -23,34 +23,10 @@ use super::registers::Registers;
 use super::succs::Succs;
 use super::tracked::tracked_bytes;
 use super::writes::Writes;
-use abs_domain::{Abs, Bit, Digit, MOST_TRACKED, Point, SCRATCHPAD_SIZE, Val, Word};
+use abs_domain::{Abs, Bit, Digit, MOST_TRACKED, Point, Reason, SCRATCHPAD_SIZE, Val, Word};
 use cartridge::Split;
 use f8_ops::{Op, decode, row_of};
 use memory_map::Map;
-
-/// Why a state isn't safe at its point (this project's own): the number of the first reason that holds, 1 to 12.
-///
-/// 1. The address of the opcode or of an operand byte isn't held by exactly one chip.
-/// 2. It is in RAM.
-/// 3. The opcode is reserved.
-/// 4. `PK` or `LR P0,Q`, and a byte of K or Q isn't known.
-/// 5. `LR P,K`, and a byte of K isn't known.
-/// 6. `POP` or `LR K,P`, and the copies of the stack register may differ.
-/// 7. The bus goes by D0, and a chip that may take part may have its DC0 elsewhere.
-/// 8. `LR K,P`, and the address in the stack register isn't held by exactly one chip.
-/// 9. A read of a port that isn't a data port of exactly one chip, or a write to a port of several.
-/// 10. An interrupt may be taken at the end.
-/// 11. The bus goes by D0, which several chips may hold.
-/// 12. A tracked register is written with an unknown byte, or may be written by an ISAR with an unknown digit.
-///
-/// The reasons 1 and 2 of an operand byte come before all others but those of the opcode.
-#[derive(Clone, Copy, Debug, PartialEq, Eq)]
-pub struct Unsafe {
-    pub reason: u8,
-}
-
-/// The reason of a reserved opcode.
-const RESERVED: u8 = 3;
 
 /// What is known as reset ends: the status word is clear, and both data counters are 0.
 const START: Abs = Abs {
@@ -95,23 +71,23 @@ pub(crate) fn instruction_at(map: &Map, at: u16) -> Option<Op>
 /// What holds after the instruction at a point, at each point to which it may lead, or why the state isn't safe there (this project's
 /// own). Of the chips it learns by the map.
 #[tactic(auto, unfolding(crate::specs::Safety::unsafe_reason))]
-pub fn after(abs: &Abs, point: &Point, split: &Split, map: &Map) -> Result<Succs, Unsafe>
+pub fn after(abs: &Abs, point: &Point, split: &Split, map: &Map) -> Result<Succs, Reason>
     requires { Fits split.now (invariant_at point.now abs.now) }
     ensures safe { IfOk result (λ _. unsafe_reason (view_of map.now) split.now
         (invariant_at point.now abs.now) ≡ None) }
-    ensures reason { IfErr result (λ error. unsafe_reason (view_of map.now) split.now
-        (invariant_at point.now abs.now) ≡ Some error.reason) }
+    ensures reason { IfErr result (λ reason. unsafe_reason (view_of map.now) split.now
+        (invariant_at point.now abs.now) ≡ Some reason) }
     ensures successors { IfOk result (λ succs. succs
         ≡ next_at (view_of map.now) split.now (invariant_at point.now abs.now)) }
     ensures some { IfOk result (λ succs. 0 < length succs) }
     ensures fits { IfOk result (λ succs. AllByRecursion (Fits split.now) succs) }
 {
     if let Some(reason) = code_reason(map, point.at) {
-        return Err(Unsafe { reason });
+        return Err(reason);
     }
     match instruction_at(map, point.at) {
         Some(op) => after_instruction(op, abs, point, split, map),
-        None => Err(Unsafe { reason: RESERVED }),
+        None => Err(Reason::ReservedOpcode),
     }
 }
 
@@ -122,12 +98,12 @@ fn after_instruction(
     point: &Point,
     split: &Split,
     map: &Map,
-) -> Result<Succs, Unsafe>
+) -> Result<Succs, Reason>
     requires { InRange op }
     ensures safe { IfOk result (λ _. first_reason (reasons op (view_of map.now) split.now
         (invariant_at point.now abs.now)) ≡ None) }
-    ensures reason { IfErr result (λ error. first_reason (reasons op (view_of map.now) split.now
-        (invariant_at point.now abs.now)) ≡ Some error.reason) }
+    ensures reason { IfErr result (λ reason. first_reason (reasons op (view_of map.now) split.now
+        (invariant_at point.now abs.now)) ≡ Some reason) }
     ensures successors { IfOk result (λ succs. succs
         ≡ successors op (view_of map.now) split.now (invariant_at point.now abs.now)) }
     ensures some { IfOk result (λ succs. 0 < length succs) }
@@ -138,14 +114,14 @@ fn after_instruction(
     let inputs = Inputs::at(op, map, point, counters.d0, &registers);
     let writes = registers.writes(op, inputs.stack, inputs.counter);
     if let Some(reason) = operand_reason(op, map, point.at) {
-        return Err(Unsafe { reason });
+        return Err(reason);
     }
     if let Some(reason) = reason_before(op, map, point.ret, inputs.operand, &registers, counters) {
-        return Err(Unsafe { reason });
+        return Err(reason);
     }
     registers.step(op, inputs.used_byte(row_of(op)), writes);
     if let Some(reason) = reason_after(op, map, split, registers.icb(), counters.d0, writes) {
-        return Err(Unsafe { reason });
+        return Err(reason);
     }
     let exits = Exits::of(op, &inputs, point.at, point.ret);
     let counters = counters.after(row_of(op), &inputs);
@@ -160,23 +136,23 @@ fn reason_before(
     operand: Option<u8>,
     registers: &Registers,
     counters: Counters,
-) -> Option<u8>
+) -> Option<Reason>
     ensures { result ≡ first_reason (reasons_before op (view_of map.now) ret operand
         registers.now (counters_view counters)) }
 {
     let row = row_of(op);
     if jump_is_lost(row, registers) {
-        Some(4)
+        Some(Reason::UnknownJump)
     } else if return_is_lost(row, registers) {
-        Some(5)
+        Some(Reason::UnknownReturn)
     } else if return_is_unset(row, ret) {
-        Some(6)
+        Some(Reason::UnsetReturn)
     } else if may_part(row, map, counters) {
-        Some(7)
+        Some(Reason::DataCountersApart)
     } else if return_is_unheld(row, map, ret) {
-        Some(8)
+        Some(Reason::ReturnNotHeldOnce)
     } else if port_is_bad(op, map, operand) {
-        Some(9)
+        Some(Reason::BadPort)
     } else {
         None
     }
@@ -190,16 +166,16 @@ fn reason_after(
     icb: Option<bool>,
     d0: Option<u16>,
     writes: Writes,
-) -> Option<u8>
+) -> Option<Reason>
     ensures { result ≡ first_reason (reasons_after op (view_of map.now) split.now icb d0
         (writes_view writes)) }
 {
     if may_be_interrupted(op, map, icb) {
-        Some(10)
+        Some(Reason::InterruptPossible)
     } else if goes_by_data(row_of(op)) && may_be_shared(map, d0) {
-        Some(11)
+        Some(Reason::SharedDataAddress)
     } else if any_blurred(writes, split) {
-        Some(12)
+        Some(Reason::TrackedRegisterBlurred)
     } else {
         None
     }

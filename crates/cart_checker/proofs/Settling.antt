@@ -12,6 +12,7 @@ use Rattle.abs_domain.specs.PointOrder.{point_cmp}
 use Rattle.abs_domain.specs.Joins.{is_state_below, joined_state}
 use Rattle.abs_domain.specs.declared.points.Point.{Point}
 use Rattle.abs_domain.specs.declared.state.Abs.{Abs}
+use Rattle.abs_domain.specs.declared.reason.Reason.{Reason}
 use Rattle.abs_step.specs.MapView.{MapView, view_of}
 use Rattle.abs_step.specs.Successors.{Invariant}
 use Rattle.abs_step.specs.Safety.{unsafe_reason}
@@ -46,16 +47,16 @@ pub next_ok : (m : MapTable) (tracked : List ℕ) (p : Point) (s : Abs) (ways : 
     answer_at (view_of m) tracked (invariant_at p s) ≡ Ok (states_of ways)
 next_ok m tracked p s ways answer =
     let x = invariant_at p s in
-    ap (λ (r : Option ℕ). answer_by r (op_at (view_of m) x) (view_of m) tracked x) answer.safe
+    ap (λ (r : Option Reason). answer_by r (op_at (view_of m) x) (view_of m) tracked x) answer.safe
     ∙ safe_answer (op_at (view_of m) x) (view_of m) tracked x
     ∙ ap (λ (xs : List Invariant). Ok (map entry_of xs)) (sym answer.leads)
     ∙ ap Ok (entries_as ways)
 
-pub next_err : (m : MapTable) (tracked : List ℕ) (p : Point) (s : Abs) (reason : ℕ) →
+pub next_err : (m : MapTable) (tracked : List ℕ) (p : Point) (s : Abs) (reason : Reason) →
     unsafe_reason (view_of m) tracked (invariant_at p s) ≡ Some reason → answer_at (view_of m) tracked (invariant_at p s) ≡ Err reason
 next_err m tracked p s reason is =
     let x = invariant_at p s in
-    ap (λ (r : Option ℕ). answer_by r (op_at (view_of m) x) (view_of m) tracked x) is
+    ap (λ (r : Option Reason). answer_by r (op_at (view_of m) x) (view_of m) tracked x) is
 
 -- ---- turn by turn
 

@@ -1,14 +1,14 @@
 // Why a search stops before its end.
-use abs_domain::{Abs, Point};
+use abs_domain::{Abs, Point, Reason};
 use std::alloc::AllocError;
 
 /// Why a search stops: for want of memory; a point more than an annotation may have; or a state that isn't safe at its point, with the
-/// number of the reason.
+/// reason.
 #[derive(Drop)]
 pub(crate) enum Halt {
     Memory,
     TooMany,
-    Refused(Point, Abs, u8),
+    Refused(Point, Abs, Reason),
 }
 
 impl From<AllocError> for Halt {

@@ -57,7 +57,7 @@ impl Worklist {
                 }
                 Ok(())
             },
-            Err(refusal) => Err(Halt::Refused(point, state, refusal.reason)),
+            Err(reason) => Err(Halt::Refused(point, state, reason)),
         }
     }
 

@@ -1,5 +1,5 @@
 // What the checker says of a cartridge.
-use abs_domain::{Abs, Point};
+use abs_domain::{Abs, Point, Reason};
 use abs_step::Annotation;
 use console_spec::VerdictWord;
 
@@ -12,11 +12,11 @@ pub enum Verdict {
     /// All that is known is safe, but at some point a read at the data counter may find no chip that answers.
     Agreed(Annotation),
 
-    /// A state is reached that isn't safe at its point, for the reason with this number, 1 to 12.
+    /// A state is reached that isn't safe at its point, for this reason.
     Refused {
         point: Point,
         state: Abs,
-        reason: u8,
+        reason: Reason,
     },
 
     /// States are reached at more than 65,536 points.

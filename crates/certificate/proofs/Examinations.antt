@@ -12,6 +12,7 @@ use Rattle.std.proofs.lemmas.Map.Keys.{IsDistinct-from_sorted}
 use Rattle.std.proofs.lemmas.Map.Views.{Contains-from_lookup, lookup-from_Contains, tells_apart}
 use Rattle.abs_domain.specs.AbstractState.{AbstractState}
 use Rattle.abs_domain.specs.declared.points.Point.{Point}
+use Rattle.abs_domain.specs.declared.reason.Reason.{Reason}
 use Rattle.abs_step.specs.Analysis.{Analysis}
 use Rattle.abs_step.specs.ReachedStates.{state_at, CoversAt, IsInvariantMap, IsSafelyClosed, HoldsFaultFreeStates}
 use Rattle.certificate.specs.Examination.{is_under, covers, first_open, safe_answer, failure_by, failure_at, first_failure, examined}
@@ -73,7 +74,7 @@ module _ (an : Analysis Point AbstractState) where
       by_open ways None safe is h = record { ways = ways; safe = safe; covered = none_open notes ways is }
       by_open ways (Some q) safe is h = absurd (cc)
 
-      by : (r : Result (List (Point × AbstractState)) ℕ) → an.next e.0 e.1 ≡ r → failure_by an notes e.0 r ≡ None → IsSettledAt notes e
+      by : (r : Result (List (Point × AbstractState)) Reason) → an.next e.0 e.1 ≡ r → failure_by an notes e.0 r ≡ None → IsSettledAt notes e
       by (Ok ways) safe h = by_open ways (first_open an.order an.below notes ways) safe refl h
       by (Err reason) unsafe h = absurd (cc)
 
@@ -122,7 +123,7 @@ module _ (an : Analysis Point AbstractState) where
   open_fails p None = tt
   open_fails p (Some q) = tt
 
-  failure_fails : (notes : List (Point × AbstractState)) (p : Point) (r : Result (List (Point × AbstractState)) ℕ) →
+  failure_fails : (notes : List (Point × AbstractState)) (p : Point) (r : Result (List (Point × AbstractState)) Reason) →
       FailsIfSome (failure_by an notes p r)
   failure_fails notes p (Ok ways) = open_fails p (first_open an.order an.below notes ways)
   failure_fails notes p (Err reason) = tt

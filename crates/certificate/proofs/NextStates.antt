@@ -13,6 +13,7 @@ use Rattle.abs_domain.specs.PointOrder.{point_cmp}
 use Rattle.abs_domain.specs.StateView.{state_of}
 use Rattle.abs_domain.specs.declared.points.Point.{Point}
 use Rattle.abs_domain.specs.declared.state.Abs.{Abs}
+use Rattle.abs_domain.specs.declared.reason.Reason.{Reason}
 use Rattle.abs_step.specs.MapView.{MapView}
 use Rattle.abs_step.specs.Successors.{Invariant}
 use Rattle.abs_step.specs.Safety.{unsafe_reason, is_fault_free}
@@ -45,14 +46,14 @@ safe_by (Some op) m tracked x = refl
 pub next_safe : (m : MapView) (tracked : List ℕ) (x : Invariant) (ways : List (Point × Abs)) → unsafe_reason m tracked x ≡ None →
     map invariant_of ways ≡ next_at m tracked x → answer_at m tracked x ≡ Ok (states_of ways)
 next_safe m tracked x ways safe leads =
-    ap (λ (r : Option ℕ). answer_by r (op_at m x) m tracked x) safe
+    ap (λ (r : Option Reason). answer_by r (op_at m x) m tracked x) safe
     ∙ safe_by (op_at m x) m tracked x
     ∙ ap (λ (xs : List Invariant). Ok (map entry_of xs)) (sym leads)
     ∙ ap Ok (states_as ways)
 
-pub next_unsafe : (m : MapView) (tracked : List ℕ) (x : Invariant) (reason : ℕ) → unsafe_reason m tracked x ≡ Some reason →
+pub next_unsafe : (m : MapView) (tracked : List ℕ) (x : Invariant) (reason : Reason) → unsafe_reason m tracked x ≡ Some reason →
     answer_at m tracked x ≡ Err reason
-next_unsafe m tracked x reason is = ap (λ (r : Option ℕ). answer_by r (op_at m x) m tracked x) is
+next_unsafe m tracked x reason is = ap (λ (r : Option Reason). answer_by r (op_at m x) m tracked x) is
 
 -- the failure of a safe state, by the first to which it leads that isn't covered
 pub failure_safe : (m : MapView) (tracked : List ℕ) (notes : List (Point × AbstractState)) (x : Invariant) (ways : List (Point × Abs))

@@ -6,6 +6,7 @@ use Rattle.f8_spec.specs.Instructions.{decoded}
 use Rattle.chip_face.specs.declared.specification.ChipSpec.TheVariants.{Psu}
 use Rattle.abs_domain.specs.AbstractState.{KnownCounters, AbstractState}
 use Rattle.abs_domain.specs.declared.points.Point.{Point}
+use Rattle.abs_domain.specs.declared.reason.Reason.TheVariants.{ReservedOpcode}
 use Rattle.abs_step.specs.KnownResults.{known_effect, register_writes}
 use Rattle.abs_step.specs.MapView.{chips_view, holds_every_address}
 use Rattle.abs_step.specs.Successors.{start_point, start_state, successors}
@@ -61,13 +62,13 @@ unfolding decoded known_effect register_writes successors unsafe_reason reasons 
 no_last = refl
 
 -- a point to which no run comes counts as well: FF stands there
-one_too_many : found loop ((at 0, start_state) ∷ (at 1, with_a (Some 1)) ∷ (at 2, with_a (Some 1)) ∷ (at 4, start_state) ∷ []) ≡ Unsafe (at 4) 3
+one_too_many : found loop ((at 0, start_state) ∷ (at 1, with_a (Some 1)) ∷ (at 2, with_a (Some 1)) ∷ (at 4, start_state) ∷ []) ≡ Unsafe (at 4) ReservedOpcode
 unfolding decoded known_effect register_writes successors unsafe_reason reasons is_fault_free holds_every_address chips_view
 one_too_many = refl
 
 -- ---- an opcode that no instruction has, and reads past the ROM
 
-reserved : found (0x2D ∷ []) ((at 0, start_state) ∷ []) ≡ Unsafe (at 0) 3
+reserved : found (0x2D ∷ []) ((at 0, start_state) ∷ []) ≡ Unsafe (at 0) ReservedOpcode
 unfolding decoded known_effect register_writes successors unsafe_reason reasons is_fault_free holds_every_address chips_view
 reserved = refl
 

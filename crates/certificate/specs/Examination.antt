@@ -7,6 +7,7 @@ use Rattle.std.specs.BTreeMap.{is_at}
 use Rattle.std.specs.declared.cmp.Ordering.{Ordering}
 use Rattle.abs_domain.specs.AbstractState.{AbstractState}
 use Rattle.abs_domain.specs.declared.points.Point.{Point}
+use Rattle.abs_domain.specs.declared.reason.Reason.{Reason}
 use Rattle.abs_step.specs.Analysis.{Analysis}
 use Rattle.certificate.specs.declared.examined.VerifyAnswer.{VerifyAnswer}
 use Rattle.certificate.specs.declared.examined.VerifyAnswer.TheVariants.{Whole, Agreed, NotClosed, Unsafe}
@@ -37,7 +38,7 @@ safe_answer false = Agreed
 
 module _ (an : Analysis Point AbstractState) where
   -- the failure at a point: its state isn't safe, or else it leads to one that isn't covered
-  abbrev pub failure_by : List (Point × AbstractState) → Point → Result (List (Point × AbstractState)) ℕ → Option VerifyAnswer
+  abbrev pub failure_by : List (Point × AbstractState) → Point → Result (List (Point × AbstractState)) Reason → Option VerifyAnswer
   failure_by notes p (Err reason) = Some (Unsafe p reason)
   failure_by notes p (Ok ways) = option_map (λ q. NotClosed (Some p) q) (first_open an.order an.below notes ways)
 

@@ -16,7 +16,7 @@ ghost use Rattle.certificate.specs.Examination.{covers as spelled_cover, first_o
 ghost use Rattle.certificate.specs.Examination.{first_failure as spelled_first, examined as spelled_answer};
 ghost use Rattle.certificate.specs.declared.examined.VerifyAnswer.TheVariants.{Whole, Agreed};
 
-use abs_domain::{Abs, Point};
+use abs_domain::{Abs, Point, Reason};
 use abs_step::{Annotation, after, analysis_law, map_view_law, start, whole};
 use cartridge::{Cart, Split};
 use f8_spec::Memory;
@@ -36,8 +36,8 @@ pub enum VerifyAnswer {
     /// The map doesn't cover what holds at the point `to`: at the start, or behind the state at the point `from`.
     NotClosed { from: Option<Point>, to: Point },
 
-    /// The state at a point isn't safe, for the reason with this number, 1 to 12.
-    Unsafe { point: Point, reason: u8 },
+    /// The state at a point isn't safe, for this reason.
+    Unsafe { point: Point, reason: Reason },
 }
 
 /// The map has a state at the point that says no more.
@@ -93,9 +93,9 @@ fn failure_at(
                 to,
             })
         },
-        Err(refusal) => Some(VerifyAnswer::Unsafe {
+        Err(reason) => Some(VerifyAnswer::Unsafe {
             point: *point,
-            reason: refusal.reason,
+            reason,
         }),
     }
 }

@@ -2,7 +2,7 @@
 ghost use Rattle.std.specs.Prelude.{◌≤◌, length};
 
 use super::chips::lone_cart;
-use abs_domain::{Abs, Bit, Digit, Point, Val, Word};
+use abs_domain::{Abs, Bit, Digit, Point, Reason, Val, Word};
 use abs_step::{Annotation, start};
 use cartridge::Split;
 use certificate::{CertAnswer, VerifyAnswer, read_cert, verify, write_cert};
@@ -157,7 +157,10 @@ fn tells_what_is_found(rt: HostRuntime) -> Result<(), Fail> {
         to: Point { at: 1, ..point },
     };
     assert_eq!(rt; found(rt.alloc(), code, &[start, claimed, last])?, wanted);
-    let wanted = VerifyAnswer::Unsafe { point, reason: 3 };
+    let wanted = VerifyAnswer::Unsafe {
+        point,
+        reason: Reason::ReservedOpcode,
+    };
     assert_eq!(rt; found(rt.alloc(), &[0x2D], &[start])?, wanted);
     Ok(())
 }

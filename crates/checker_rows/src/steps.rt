@@ -2,8 +2,8 @@
 ghost use Rattle.std.specs.Prelude.{◌≡◌, ◌≤◌, None, length, replicate};
 
 use super::chips::{lone_cart, psu, smi};
-use abs_domain::{Bit, Point, Word};
-use abs_step::{Unsafe, after, start, whole};
+use abs_domain::{Bit, Point, Reason, Word};
+use abs_step::{after, start, whole};
 use cartridge::Split;
 use chip_face::ChipList;
 use memory_map::Map;
@@ -69,7 +69,7 @@ fn refuses_a_read_that_two_chips_may_answer(rt: HostRuntime) -> Result<(), Fail>
     parted.s0 = true;
     parted.p0 = false;
     let refused = after(&parted, &point(0x0008), &split, &map);
-    assert_eq!(rt; refused.err(), Some(Unsafe { reason: 7 }));
+    assert_eq!(rt; refused.err(), Some(Reason::DataCountersApart));
     Ok(())
 }
 

@@ -2,6 +2,7 @@
 ghost use Rattle.std.specs.Prelude.{◌≤◌, length};
 
 use super::chips::lone_cart;
+use abs_domain::Reason;
 use cart_checker::{Verdict, check_cart};
 use console_spec::VerdictWord;
 use std::alloc::Global;
@@ -23,7 +24,7 @@ fn points_of(verdict: &Verdict) -> usize {
 }
 
 // where it is refused, and why
-fn refusal_of(verdict: &Verdict) -> Option<(u16, Option<u16>, u8)> {
+fn refusal_of(verdict: &Verdict) -> Option<(u16, Option<u16>, Reason)> {
     match verdict {
         Verdict::Refused { point, reason, .. } => Some((point.at, point.ret, *reason)),
         _ => None,
@@ -47,6 +48,6 @@ fn agrees_to_what_is_safe(rt: HostRuntime) -> Result<(), Fail> {
 fn refuses_what_is_not(rt: HostRuntime) -> Result<(), Fail> {
     let verdict = verdict_on(rt.alloc(), &[0x2A, 0x00, 0x05, 0x2C, 0x16])?;
     assert_eq!(rt; verdict.word(), VerdictWord::NoVerdict);
-    assert_eq!(rt; refusal_of(&verdict), Some((0x0004, None, 7)));
+    assert_eq!(rt; refusal_of(&verdict), Some((0x0004, None, Reason::DataCountersApart)));
     Ok(())
 }

@@ -3,6 +3,7 @@ use Rattle.std.proofs.Common.{◌≡◌, ℕ, Some, None, List, [], ◌∷◌, �
 use Rattle.std.specs.Prelude.{codes, Option}
 use Rattle.std.specs.Fmt.{digits}
 use Rattle.abs_domain.specs.declared.points.Point.{Point}
+use Rattle.abs_domain.specs.declared.reason.Reason.TheVariants.{ReservedOpcode, UnknownJump, DataCountersApart, TrackedRegisterBlurred}
 use Rattle.report.specs.CheckLines.{point_text, whole_line, agreed_line, refused_line, toomany_line, notclosed_line, unsafe_line}
 
 -- a point with these bytes of tracked registers, and nothing in the places past them
@@ -28,17 +29,17 @@ one_too_many : toomany_line ≡ codes "toomany\n"
 unfolding toomany_line
 one_too_many = refl
 
-read_after_exchange : refused_line [] (untracked 4 None) 7 ≡ codes "refused 0004 ---- . 7\n"
+read_after_exchange : refused_line [] (untracked 4 None) DataCountersApart ≡ codes "refused 0004 ---- . 7\n"
 unfolding refused_line point_text digits
 read_after_exchange = refl
 
 -- a return is set
-call_by_unknown_k : refused_line [] (untracked 0x14 (Some 0x14)) 4 ≡ codes "refused 0014 0014 . 4\n"
+call_by_unknown_k : refused_line [] (untracked 0x14 (Some 0x14)) UnknownJump ≡ codes "refused 0014 0014 . 4\n"
 unfolding refused_line point_text digits
 call_by_unknown_k = refl
 
 -- three registers are tracked, the byte of the second isn't known; a reason has two digits
-tracked_bytes : refused_line (9 ∷ 0 ∷ 63 ∷ []) (point 0xABCD None (Some 0 ∷ None ∷ Some 0xFE ∷ []) 5) 12 ≡ codes "refused ABCD ---- 00,--,FE 12\n"
+tracked_bytes : refused_line (9 ∷ 0 ∷ 63 ∷ []) (point 0xABCD None (Some 0 ∷ None ∷ Some 0xFE ∷ []) 5) TrackedRegisterBlurred ≡ codes "refused ABCD ---- 00,--,FE 12\n"
 unfolding refused_line point_text digits
 tracked_bytes = refl
 
@@ -50,6 +51,6 @@ second_open : notclosed_line [] (Some (untracked 0 None)) (untracked 1 None) ≡
 unfolding notclosed_line point_text
 second_open = refl
 
-reserved_at_start : unsafe_line [] (untracked 0 None) 3 ≡ codes "unsafe 0000 ---- . 3\n"
+reserved_at_start : unsafe_line [] (untracked 0 None) ReservedOpcode ≡ codes "unsafe 0000 ---- . 3\n"
 unfolding unsafe_line point_text digits
 reserved_at_start = refl

@@ -2,7 +2,9 @@
 use Rattle.std.specs.Prelude.{ℕ, List, [], ◌∷◌, ◌++◌, codes, decimal, flat_map, length, take, Option, Some, None, option_map}
 use Rattle.std.specs.Borrow.{Bor}
 use Rattle.f8_spec.specs.Spelling.{hex2, hex4}
+use Rattle.abs_domain.specs.Reasons.{reason_number}
 use Rattle.abs_domain.specs.declared.points.Point.{Point}
+use Rattle.abs_domain.specs.declared.reason.Reason.{Reason}
 
 -- ---- points
 
@@ -39,9 +41,9 @@ whole_line points = codes "whole " ++ decimal points ++ codes "\n"
 unfoldable pub agreed_line : ℕ → List ℕ
 agreed_line points = codes "agreed " ++ decimal points ++ codes "\n"
 
--- a state at a point is not safe, for the reason of a number
-unfoldable pub refused_line : List ℕ → Point → ℕ → List ℕ
-refused_line tracked point reason = codes "refused " ++ point_text tracked point ++ codes " " ++ decimal reason ++ codes "\n"
+-- a state at a point is not safe, for a reason, which is told by its number
+unfoldable pub refused_line : List ℕ → Point → Reason → List ℕ
+refused_line tracked point reason = codes "refused " ++ point_text tracked point ++ codes " " ++ decimal (reason_number reason) ++ codes "\n"
 
 -- too many points have a state
 unfoldable pub toomany_line : List ℕ
@@ -63,6 +65,6 @@ unfoldable pub notclosed_line : List ℕ → Option Point → Point → List ℕ
 notclosed_line tracked from to =
     codes "notclosed " ++ origin_text tracked from ++ codes " to " ++ point_text tracked to ++ codes "\n"
 
--- a state at a point is not safe, for the reason of a number
-unfoldable pub unsafe_line : List ℕ → Point → ℕ → List ℕ
-unsafe_line tracked point reason = codes "unsafe " ++ point_text tracked point ++ codes " " ++ decimal reason ++ codes "\n"
+-- a state at a point is not safe, for a reason, which is told by its number
+unfoldable pub unsafe_line : List ℕ → Point → Reason → List ℕ
+unsafe_line tracked point reason = codes "unsafe " ++ point_text tracked point ++ codes " " ++ decimal (reason_number reason) ++ codes "\n"

@@ -6,7 +6,7 @@ ghost use Rattle.report.specs.CheckLines.{refused_line as spelled_refused, tooma
 ghost use Rattle.report.specs.CheckLines.{origin_text, point_in, notclosed_line as spelled_notclosed, unsafe_line as spelled_unsafe};
 
 use super::line_buffer::Line;
-use abs_domain::Point;
+use abs_domain::{Point, Reason};
 use cartridge::Split;
 
 /// `whole`: every bus step of every run is served. So many points have a state.
@@ -91,16 +91,16 @@ fn write_point(line: &mut Line, point: &Point, split: &Split)
     write_values(line, &point.split[..tracked]);
 }
 
-/// `refused`: a state at this point isn't safe, for the reason of this number, 1 to 12. As many bytes of registers are told as `split` has.
+/// `refused`: a state at this point isn't safe, for this reason, told by its number. As many bytes of registers are told as `split` has.
 #[tactic(auto, unfolding(crate::specs::CheckLines::refused_line))]
-pub fn refused_line(point: &Point, split: &Split, reason: u8) -> Line
+pub fn refused_line(point: &Point, split: &Split, reason: Reason) -> Line
     ensures { result ≡ spelled_refused split.now point.now reason }
 {
     let mut line = Line::new();
     line.text(b"refused ");
     write_point(&mut line, point, split);
     line.text(b" ");
-    line.small(reason);
+    line.small(reason.number());
     line.text(b"\n");
     line
 }
@@ -142,17 +142,17 @@ pub fn notclosed_line(from: Option<&Point>, to: &Point, split: &Split) -> Line
     line
 }
 
-/// `unsafe`: the state of a certificate at this point isn't safe, for the reason of this number, 1 to 12. As many bytes of registers are told
-/// as `split` has.
+/// `unsafe`: the state of a certificate at this point isn't safe, for this reason, told by its number. As many bytes of registers are told as
+/// `split` has.
 #[tactic(auto, unfolding(crate::specs::CheckLines::unsafe_line))]
-pub fn unsafe_line(point: &Point, split: &Split, reason: u8) -> Line
+pub fn unsafe_line(point: &Point, split: &Split, reason: Reason) -> Line
     ensures { result ≡ spelled_unsafe split.now point.now reason }
 {
     let mut line = Line::new();
     line.text(b"unsafe ");
     write_point(&mut line, point, split);
     line.text(b" ");
-    line.small(reason);
+    line.small(reason.number());
     line.text(b"\n");
     line
 }

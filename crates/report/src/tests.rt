@@ -1,6 +1,6 @@
 // Each line by worked values.
 use super::*;
-use abs_domain::Point;
+use abs_domain::{Point, Reason};
 use cartridge::Split;
 use console_board::{PortWrite, Screen};
 use console_spec::{Regs, Who};
@@ -91,7 +91,7 @@ fn checks(rt: HostRuntime) {
         split: [None; 8],
     };
     let mut split = Split::new();
-    let untracked = refused_line(&point, &split, 7);
+    let untracked = refused_line(&point, &split, Reason::DataCountersApart);
     tells(&rt, &untracked, "refused 0004 ---- . 7\n");
     let start = notclosed_line(None, &point, &split);
     tells(&rt, &start, "notclosed start to 0004 ---- .\n");
@@ -101,9 +101,9 @@ fn checks(rt: HostRuntime) {
     split.push(8);
     split.push(11);
     split.push(63);
-    let tracked = refused_line(&point, &split, 255);
-    tells(&rt, &tracked, "refused 0004 0BCD 0A,--,FF 255\n");
-    let reason = unsafe_line(&point, &split, 12);
+    let tracked = refused_line(&point, &split, Reason::CodeNotHeldOnce);
+    tells(&rt, &tracked, "refused 0004 0BCD 0A,--,FF 1\n");
+    let reason = unsafe_line(&point, &split, Reason::TrackedRegisterBlurred);
     tells(&rt, &reason, "unsafe 0004 0BCD 0A,--,FF 12\n");
     let mut next = point;
     next.at = 0xFFFE;
