@@ -9,11 +9,11 @@ use Rattle.abs_domain.specs.AbstractState.{StatusBelow, RegistersBelow, Counters
 use Rattle.abs_domain.specs.Joins.{joined_status, joined_registers, joined_counters}
 use Rattle.abs_domain.specs.KnownParts.{known_byte}
 use Rattle.abs_domain.specs.DomainLaws.{JoinLaw}
-use Rattle.abs_domain.proofs.Orders.{Tells, numbers_tell, bits_tell}
+use Rattle.abs_domain.proofs.Orders.{DecidesEquality, numbers_tell, bits_tell}
 
 -- ---- parts
 
-module _ {A : Type 0} (same : A → A → Bool) (tells : Tells same) where
+module _ {A : Type 0} (same : A → A → Bool) (tells : DecidesEquality same) where
   pub common_first : (x y : Option A) → Below x (common same x y)
   common_first None y = tt
   common_first (Some x) None = tt

@@ -65,13 +65,13 @@ fact_same false false p q = refl
 -- ---- tests
 
 -- a test of two values for being the same, which answers right
-abbrev pub Tells : {A : Type 0} → (A → A → Bool) → Type 0
-Tells {A} same = (x y : A) → Decides (same x y) (x ≡ y)
+abbrev pub DecidesEquality : {A : Type 0} → (A → A → Bool) → Type 0
+DecidesEquality {A} same = (x y : A) → Decides (same x y) (x ≡ y)
 
-pub numbers_tell : Tells same_number
+pub numbers_tell : DecidesEquality same_number
 numbers_tell = unsigned_Decides
 
-pub bits_tell : Tells same_bool
+pub bits_tell : DecidesEquality same_bool
 bits_tell true true = (λ h. refl, λ h. refl)
 bits_tell true false = (λ h. cc, λ h. cc)
 bits_tell false true = (λ h. cc, λ h. cc)
@@ -83,7 +83,7 @@ both_decided true true p q = (λ h. (p.0 h, q.0 h), λ h. refl)
 both_decided true false p q = (λ h. absurd (cc), λ h. q.1 h.1)
 both_decided false b p q = (λ h. absurd (cc), λ h. p.1 h.0)
 
-module _ {A : Type 0} (same : A → A → Bool) (tells : Tells same) where
+module _ {A : Type 0} (same : A → A → Bool) (tells : DecidesEquality same) where
   pub below_decided : (x y : Option A) → Decides (is_below same x y) (Below x y)
   below_decided x None = (λ h. tt, λ h. refl)
   below_decided None (Some y) = (λ h. absurd (cc), λ h. absurd (cc))

@@ -8,7 +8,7 @@ use Rattle.abs_domain.specs.AbstractState.{StatusBelow, RegistersBelow, Counters
 use Rattle.abs_domain.specs.Joins.{joined_status, joined_registers, joined_counters, joined_state}
 use Rattle.abs_domain.specs.Joins.{status_rank, registers_rank, counters_rank, rank}
 use Rattle.abs_domain.specs.DomainLaws.{RankLaw}
-use Rattle.abs_domain.proofs.Orders.{Tells, numbers_tell, bits_tell}
+use Rattle.abs_domain.proofs.Orders.{DecidesEquality, numbers_tell, bits_tell}
 use Rattle.abs_domain.proofs.Bounds.{same_lengths}
 
 -- from one count to another: never up, and down where the fact fails
@@ -38,7 +38,7 @@ falls_by {P} {Q} a b follows p = record { most = p.most; unless = by p.unless }
 
 -- ---- parts
 
-module _ {A : Type 0} (same : A → A → Bool) (tells : Tells same) where
+module _ {A : Type 0} (same : A → A → Bool) (tells : DecidesEquality same) where
   pub part_falls : (x y : Option A) → Falls (Below y x) (known_count x) (known_count (common same x y))
   part_falls None y = record { most = omega arith; unless = inl tt }
   part_falls (Some x) None = record { most = omega arith; unless = inr (omega arith) }

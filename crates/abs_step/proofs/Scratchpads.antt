@@ -6,7 +6,7 @@ use Rattle.abs_domain.specs.Lattice.{Below, common, same_number}
 use Rattle.abs_domain.specs.AbstractState.{KnownRegisters, RegistersBelow}
 use Rattle.abs_domain.proofs.Orders.{below_trans, numbers_tell}
 use Rattle.abs_domain.proofs.Bounds.{common_first, common_second, common_least}
-use Rattle.abs_step.specs.RegisterWrites.{known_register, Target, exactly, target_of, number_of, read_target, known_field}
+use Rattle.abs_step.specs.RegisterWrites.{known_register, Target, exactly, target_of, target_number, read_target, known_field}
 use Rattle.abs_step.specs.RegisterWrites.{RegisterWrite, digit_allows, target_allows, is_exact, written_to, written_from, written_all}
 use Rattle.abs_step.proofs.Knowing.{Implies, left_of, right_of, both_of, below_lift2, below_and_then, below_at}
 
@@ -38,7 +38,7 @@ register_below number k l p = below_at number k.scratchpad l.scratchpad p.scratc
 
 pub read_below : (t u : Target) (xs ys : List (Option ℕ)) → TargetBelow t u → AllZip Below xs ys → Below (read_target t xs) (read_target u ys)
 read_below t u xs ys p q =
-    below_and_then (λ number. slice_index_or xs number None) (λ number. slice_index_or ys number None) (number_of t) (number_of u)
+    below_and_then (λ number. slice_index_or xs number None) (λ number. slice_index_or ys number None) (target_number t) (target_number u)
     (λ number. below_at number xs ys q) (below_lift2 _ t.high u.high t.low u.low p.high p.low)
 
 pub field_below : (field : ℕ) (k l : KnownRegisters) → RegistersBelow k l → Below (known_field field k) (known_field field l)

@@ -12,7 +12,7 @@ use Rattle.abs_domain.proofs.Bounds.{join_laws}
 use Rattle.abs_step.specs.RegisterWrites.{known_register}
 use Rattle.abs_step.specs.KnownFlow.{Exit}
 use Rattle.abs_step.specs.MapView.{MapView}
-use Rattle.abs_step.specs.Successors.{Invariant, Fits, tracked_byte, tracked_bytes, start_state, start_invariant, state_after, exits_of, along}
+use Rattle.abs_step.specs.Successors.{Invariant, HasTrackedBytes, tracked_byte, tracked_bytes, start_state, start_invariant, state_after, exits_of, along}
 use Rattle.abs_step.specs.Successors.{all_along, same_point, with_invariant, with_invariants, successors}
 use Rattle.abs_step.specs.FitLaws.{FitLaw}
 use Rattle.abs_step.proofs.Covering.{same_by, pad_after}
@@ -35,7 +35,7 @@ all_none : (f : ℕ → Option ℕ) (a n : ℕ) → ((x : ℕ) → f x ≡ None)
 all_none f a zero each = refl
 all_none f a (suc n) each = rw (each a, sym (all_none f (a + 1) n each)) refl
 
-start_fits : (tracked : List ℕ) → Fits tracked start_invariant
+start_fits : (tracked : List ℕ) → HasTrackedBytes tracked start_invariant
 start_fits tracked = all_none (tracked_byte tracked start_state.registers) 0 8 (nothing_tracked tracked)
 
 -- ---- joins
@@ -69,8 +69,8 @@ joined_byte tracked s t place whole full same = by (slice_get tracked place) sam
     by (Some n) e = common_at s.registers.scratchpad t.registers.scratchpad n (whole ∙ sym full) e
 
 joined_fits : (tracked : List ℕ) (p : Point) (s t : AbstractState) → HasScratchpad s → HasScratchpad t →
-    Fits tracked (record { point = p; state = s }) → Fits tracked (record { point = p; state = t }) →
-    Fits tracked (record { point = p; state = joined_state s t })
+    HasTrackedBytes tracked (record { point = p; state = s }) → HasTrackedBytes tracked (record { point = p; state = t }) →
+    HasTrackedBytes tracked (record { point = p; state = joined_state s t })
 joined_fits tracked p s t whole full first second =
     let same : tracked_bytes tracked s.registers ≡ tracked_bytes tracked t.registers = sym first ∙ second in
     first ∙ sym (joined_bytes (tracked_byte tracked s.registers) (tracked_byte tracked t.registers) (tracked_byte tracked (joined_state s t).registers)
@@ -79,7 +79,7 @@ joined_fits tracked p s t whole full first second =
 -- ---- what holds next
 
 abbrev IsWhole : List ℕ → Invariant → Type 0
-IsWhole tracked y = Fits tracked y × HasScratchpad y.state
+IsWhole tracked y = HasTrackedBytes tracked y × HasScratchpad y.state
 
 with_fits : (tracked : List ℕ) (x : Invariant) (done : List Invariant) → IsWhole tracked x → AllByRecursion (IsWhole tracked) done →
     AllByRecursion (IsWhole tracked) (with_invariant x done)
@@ -90,8 +90,8 @@ with_fits tracked x (d ∷ ds) h all = by (same_point x.point d.point) refl (wit
         AllByRecursion (IsWhole tracked) (if b then record d { state = joined_state d.state x.state } ∷ ds else d ∷ with_invariant x ds)
     by true e rest =
         let same : x.point ≡ d.point = same_by x.point d.point _ refl e in
-        let other : Fits tracked (record { point = d.point; state = x.state }) =
-        subst (λ (p : Point). Fits tracked (record { point = p; state = x.state })) same h.0 in
+        let other : HasTrackedBytes tracked (record { point = d.point; state = x.state }) =
+        subst (λ (p : Point). HasTrackedBytes tracked (record { point = p; state = x.state })) same h.0 in
         ((joined_fits tracked d.point d.state x.state all.0.1 h.1 all.0.0 other, join_laws.scratchpad d.state x.state all.0.1 h.1), all.1)
     by false e rest = (all.0, rest)
 

@@ -14,7 +14,7 @@ use Rattle.abs_domain.specs.declared.points.Point.{Point}
 use Rattle.abs_domain.specs.declared.reason.Reason.{Reason}
 use Rattle.abs_step.specs.RegisterWrites.{known_register}
 use Rattle.abs_step.specs.MapView.{MapView, IsViewOf, view_of}
-use Rattle.abs_step.specs.Successors.{Invariant, Fits, start_point, start_state, successors}
+use Rattle.abs_step.specs.Successors.{Invariant, HasTrackedBytes, start_point, start_state, successors}
 use Rattle.abs_step.specs.Safety.{unsafe_reason, is_fault_free}
 use Rattle.abs_step.specs.Soundness.{op_at, IsSafeMap, IsFaultFree}
 use Rattle.abs_step.specs.Analysis.{Analysis, AnalysisLaws}
@@ -34,7 +34,7 @@ pub record IsWithinRange (s : AbstractState) : Type 0 where
 
 -- The point has what the state knows of the tracked registers. The scratchpad is whole, and all is within its range.
 pub record FitsPoint (tracked : List ℕ) (p : Point) (s : AbstractState) : Type 0 where
-  pub split : Fits tracked (record { point = p; state = s })
+  pub split : HasTrackedBytes tracked (record { point = p; state = s })
   pub scratchpad : HasScratchpad s
   pub range : IsWithinRange s
   pub at : p.at < 65536

@@ -6,13 +6,13 @@ use Rattle.abs_domain.specs.AbstractState.{AbstractState, HasScratchpad}
 use Rattle.abs_domain.specs.Joins.{joined_state}
 use Rattle.abs_domain.specs.declared.points.Point.{Point}
 use Rattle.abs_step.specs.MapView.{MapView}
-use Rattle.abs_step.specs.Successors.{Invariant, Fits, start_invariant, successors}
+use Rattle.abs_step.specs.Successors.{Invariant, HasTrackedBytes, start_invariant, successors}
 
 -- It is so at the start, where two such states at one point are joined, and in all that holds next.
 pub record FitLaw : Type 0 where
-  pub start : (tracked : List ℕ) → Fits tracked start_invariant
+  pub start : (tracked : List ℕ) → HasTrackedBytes tracked start_invariant
   pub joined : (tracked : List ℕ) (p : Point) (s t : AbstractState) → HasScratchpad s → HasScratchpad t →
-      Fits tracked (record { point = p; state = s }) → Fits tracked (record { point = p; state = t }) →
-      Fits tracked (record { point = p; state = joined_state s t })
+      HasTrackedBytes tracked (record { point = p; state = s }) → HasTrackedBytes tracked (record { point = p; state = t }) →
+      HasTrackedBytes tracked (record { point = p; state = joined_state s t })
   pub successors : (op : Op) (m : MapView) (tracked : List ℕ) (x : Invariant) → HasScratchpad x.state →
-      AllByRecursion (λ (y : Invariant). Fits tracked y × HasScratchpad y.state) (successors op m tracked x)
+      AllByRecursion (λ (y : Invariant). HasTrackedBytes tracked y × HasScratchpad y.state) (successors op m tracked x)

@@ -24,12 +24,12 @@ abbrev pub target_of : ℕ → KnownRegisters → Target
 target_of field k = if nat_lt field pointed_field then exactly field else record { high = k.high; low = k.low }
 
 -- the number of a register whose digits are both known
-abbrev pub number_of : Target → Option ℕ
-number_of t = lift2 (λ high low. high * 8 + low) t.high t.low
+abbrev pub target_number : Target → Option ℕ
+target_number t = lift2 (λ high low. high * 8 + low) t.high t.low
 
 -- a read needs both digits
 abbrev pub read_target : Target → List (Option ℕ) → Option ℕ
-read_target t scratchpad = option_and_then (λ number. slice_index_or scratchpad number None) (number_of t)
+read_target t scratchpad = option_and_then (λ number. slice_index_or scratchpad number None) (target_number t)
 
 abbrev pub known_field : ℕ → KnownRegisters → Option ℕ
 known_field field k = read_target (target_of field k) k.scratchpad

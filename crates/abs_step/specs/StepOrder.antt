@@ -7,7 +7,7 @@ use Rattle.f8_spec.specs.declared.instructions.Op.{Op}
 use Rattle.abs_domain.specs.AbstractState.{AbstractState, HasScratchpad, StateBelow}
 use Rattle.abs_domain.specs.declared.points.Point.{Point}
 use Rattle.abs_step.specs.MapView.{MapView, IsViewOf}
-use Rattle.abs_step.specs.Successors.{Fits, successors}
+use Rattle.abs_step.specs.Successors.{HasTrackedBytes, successors}
 use Rattle.abs_step.specs.Safety.{unsafe_reason, is_fault_free}
 use Rattle.abs_step.specs.Soundness.{op_at, Covers}
 
@@ -15,8 +15,8 @@ use Rattle.abs_step.specs.Soundness.{op_at, Covers}
 -- whole, and what is known of D0 is an address.
 pub record IsOrdered (tracked : List ℕ) (p : Point) (lower upper : AbstractState) : Type 0 where
   pub below : StateBelow lower upper
-  pub lower_fits : Fits tracked (record { point = p; state = lower })
-  pub upper_fits : Fits tracked (record { point = p; state = upper })
+  pub lower_fits : HasTrackedBytes tracked (record { point = p; state = lower })
+  pub upper_fits : HasTrackedBytes tracked (record { point = p; state = upper })
   pub scratchpad : HasScratchpad upper
   pub address : ForSome lower.counters.d0 (λ at. at < 65536)
 

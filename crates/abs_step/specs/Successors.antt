@@ -30,8 +30,8 @@ abbrev pub tracked_bytes : List ℕ → KnownRegisters → List (Option ℕ)
 tracked_bytes tracked k = map (tracked_byte tracked k) (range_with_len 0 8)
 
 -- a point has the bytes that the state knows of the tracked registers
-abbrev pub Fits : List ℕ → Invariant → Type 0
-Fits tracked x = x.point.split ≡ tracked_bytes tracked x.state.registers
+abbrev pub HasTrackedBytes : List ℕ → Invariant → Type 0
+HasTrackedBytes tracked x = x.point.split ≡ tracked_bytes tracked x.state.registers
 
 -- ---- the start, as reset leaves the flat machine
 

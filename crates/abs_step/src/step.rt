@@ -4,7 +4,7 @@ ghost use Rattle.std.specs.List.{AllByRecursion};
 ghost use Rattle.std.specs.Option.{ForSome};
 ghost use Rattle.f8_spec.specs.Instructions.{InRange, decoded, row_of};
 ghost use Rattle.abs_domain.specs.StateView.{state_of};
-ghost use Rattle.abs_step.specs.Successors.{Fits, start_point, start_state};
+ghost use Rattle.abs_step.specs.Successors.{HasTrackedBytes, start_point, start_state};
 ghost use Rattle.abs_step.specs.Successors.{successors};
 ghost use Rattle.abs_step.specs.Safety.{first_reason, reasons, unsafe_reason};
 ghost use Rattle.abs_step.specs.MapView.{view_of};
@@ -50,7 +50,7 @@ const START: Abs = Abs {
 pub fn start(split: &Split) -> (Point, Abs)
     ensures point { result.0 ≡ start_point }
     ensures state { state_of result.1 ≡ start_state }
-    ensures fits { Fits split.now (invariant_at result.0 result.1) }
+    ensures fits { HasTrackedBytes split.now (invariant_at result.0 result.1) }
 {
     let point = Point {
         at: 0,
@@ -72,7 +72,7 @@ pub(crate) fn instruction_at(map: &Map, at: u16) -> Option<Op>
 /// own). Of the chips it learns by the map.
 #[tactic(auto, unfolding(crate::specs::Safety::unsafe_reason))]
 pub fn after(abs: &Abs, point: &Point, split: &Split, map: &Map) -> Result<Succs, Reason>
-    requires { Fits split.now (invariant_at point.now abs.now) }
+    requires { HasTrackedBytes split.now (invariant_at point.now abs.now) }
     ensures safe { IfOk result (λ _. unsafe_reason (view_of map.now) split.now
         (invariant_at point.now abs.now) ≡ None) }
     ensures reason { IfErr result (λ reason. unsafe_reason (view_of map.now) split.now
@@ -80,7 +80,7 @@ pub fn after(abs: &Abs, point: &Point, split: &Split, map: &Map) -> Result<Succs
     ensures successors { IfOk result (λ succs. succs
         ≡ next_at (view_of map.now) split.now (invariant_at point.now abs.now)) }
     ensures some { IfOk result (λ succs. 0 < length succs) }
-    ensures fits { IfOk result (λ succs. AllByRecursion (Fits split.now) succs) }
+    ensures fits { IfOk result (λ succs. AllByRecursion (HasTrackedBytes split.now) succs) }
 {
     if let Some(reason) = code_reason(map, point.at) {
         return Err(reason);
@@ -107,7 +107,7 @@ fn after_instruction(
     ensures successors { IfOk result (λ succs. succs
         ≡ successors op (view_of map.now) split.now (invariant_at point.now abs.now)) }
     ensures some { IfOk result (λ succs. 0 < length succs) }
-    ensures fits { IfOk result (λ succs. AllByRecursion (Fits split.now) succs) }
+    ensures fits { IfOk result (λ succs. AllByRecursion (HasTrackedBytes split.now) succs) }
 {
     let mut registers = Registers::of(abs);
     let counters = Counters::of(abs);

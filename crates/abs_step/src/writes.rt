@@ -2,7 +2,7 @@
 ghost use Rattle.std.specs.Prelude.{◌≡◌, ◌<◌};
 ghost use Rattle.std.specs.Option.{ForSome};
 ghost use Rattle.abs_domain.specs.KnownParts.{known_byte};
-ghost use Rattle.abs_step.specs.RegisterWrites.{exactly, number_of, digit_allows, target_allows};
+ghost use Rattle.abs_step.specs.RegisterWrites.{exactly, target_number, digit_allows, target_allows};
 ghost use Rattle.abs_step.specs.RegisterWrites.{is_exact, written_to};
 ghost use Rattle.abs_step.specs.Safety.{blurs};
 ghost use Rattle.abs_step.specs.WorkView.{target_view, write_view};
@@ -33,7 +33,7 @@ impl Target {
     pub fn number(self) -> Option<u8>
         requires high { ForSome self.high (λ digit. digit < 8) }
         requires low { ForSome self.low (λ digit. digit < 8) }
-        ensures value { result ≡ number_of (target_view self) }
+        ensures value { result ≡ target_number (target_view self) }
         ensures range { ForSome result (λ number. number < 64) }
     {
         Some(self.high? * 8 + self.low?)

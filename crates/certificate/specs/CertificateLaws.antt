@@ -7,13 +7,13 @@ use Rattle.std.specs.Map.{keys_of}
 use Rattle.abs_domain.specs.AbstractState.{AbstractState, HasScratchpad}
 use Rattle.abs_domain.specs.PointOrder.{point_cmp}
 use Rattle.abs_domain.specs.declared.points.Point.{Point}
-use Rattle.abs_step.specs.Successors.{Fits}
+use Rattle.abs_step.specs.Successors.{HasTrackedBytes}
 use Rattle.abs_step.specs.CartridgeAnalysis.{IsWithinRange, FitsPoint, as_invariant}
 use Rattle.certificate.specs.CertificateText.{certificate_of, certificate_text}
 
 -- the points have the bytes that their states know of the tracked registers
 abbrev pub HaveSplit : List ℕ → List (Point × AbstractState) → Type 0
-HaveSplit tracked notes = AllByRecursion (λ e. Fits tracked (as_invariant e)) notes
+HaveSplit tracked notes = AllByRecursion (λ e. HasTrackedBytes tracked (as_invariant e)) notes
 
 -- the same, and all that is known is within its range
 abbrev pub AllFit : List ℕ → List (Point × AbstractState) → Type 0

@@ -8,7 +8,7 @@ ghost use Rattle.abs_step.specs.MapView.{view_of, chips_view};
 ghost use Rattle.abs_step.specs.Safety.{is_fault_free as spelled_freedom};
 ghost use Rattle.abs_step.specs.StepView.{invariant_at, invariant_of};
 ghost use Rattle.abs_step.specs.StatesAtPoints.{states_of};
-ghost use Rattle.abs_step.specs.Successors.{Fits, start_point, start_state};
+ghost use Rattle.abs_step.specs.Successors.{HasTrackedBytes, start_point, start_state};
 ghost use Rattle.abs_step.specs.CartridgeAnalysis.{analysis};
 ghost use Rattle.abs_step.specs.ReachedStates.{IsSafelyClosed, HoldsFaultFreeStates};
 ghost use Rattle.certificate.specs.CertificateLaws.{HaveSplit, AllFit};
@@ -81,7 +81,7 @@ fn failure_at(
     split: &Split,
     map: &Map,
 ) -> Option<VerifyAnswer>
-    requires { Fits split.now (invariant_at point.now state.now) }
+    requires { HasTrackedBytes split.now (invariant_at point.now state.now) }
     ensures { result ≡ spelled_failure (analysis (view_of map.now) split.now)
         (states_of notes.now.entries) (point.now, state_of state.now) }
 {
