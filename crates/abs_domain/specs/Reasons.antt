@@ -2,8 +2,8 @@
 use Rattle.std.specs.Prelude.{ℕ}
 use Rattle.abs_domain.specs.declared.reason.Reason.{Reason}
 use Rattle.abs_domain.specs.declared.reason.Reason.TheVariants.{CodeNotHeldOnce, CodeInRam, ReservedOpcode, UnknownJump, UnknownReturn}
-use Rattle.abs_domain.specs.declared.reason.Reason.TheVariants.{UnsetReturn, DataCountersApart, ReturnNotHeldOnce, BadPort, InterruptPossible}
-use Rattle.abs_domain.specs.declared.reason.Reason.TheVariants.{SharedDataAddress, TrackedRegisterBlurred}
+use Rattle.abs_domain.specs.declared.reason.Reason.TheVariants.{UnsetReturn, DataCountersApart, ReturnNotHeldOnce, BadPort}
+use Rattle.abs_domain.specs.declared.reason.Reason.TheVariants.{InterruptPossible, SharedDataAddress, TrackedRegisterBlurred}
 
 abbrev pub reason_number : Reason → ℕ
 reason_number CodeNotHeldOnce = 1

@@ -54,7 +54,8 @@ module _ (rule : BusRule) (by_place : GoesByPlace rule) (reference : ℕ) where
           cc
       by false e = refl
 
-  silent_parties : (n : ℕ) (xs : List PlacedSeat) → AllByRecursion (IsThere rule reference) xs → AllByRecursion (WouldNot rule reference) xs →
+  silent_parties : (n : ℕ) (xs : List PlacedSeat) → AllByRecursion (IsThere rule reference) xs →
+      AllByRecursion (WouldNot rule reference) xs →
       parties rule (enumerate_from n xs) ≡ []
   silent_parties n [] there none = refl
   silent_parties n (x ∷ xs) there none =
@@ -135,12 +136,14 @@ at_itself n = grind (arith, nat_tests)
 one_is_served : (reference : ℕ) (p : Party) → p.at ≡ reference → one_party reference p None ≡ Served (Some p.socket)
 one_is_served reference p at = rw (at, at_itself reference) refl
 
-read_by : (reference : ℕ) (ps bs : List Party) → Taking Read read_by_place reference ps bs → ReadOutcome reference (read_ruling reference ps (lowest bs))
+read_by : (reference : ℕ) (ps bs : List Party) → Taking Read read_by_place reference ps bs →
+    ReadOutcome reference (read_ruling reference ps (lowest bs))
 read_by reference ps bs (OneTakes p is at none) = IsServed (Some p.socket) (rw (is, none) (one_is_served reference p at))
 read_by reference ps bs (NobodyTakes none) = IsUndriven (rw none refl)
 
 pub read_outcome : (reference n : ℕ) (xs : List PlacedSeat) → AllByRecursion (IsThere Read reference) xs → AtMostOne Read reference xs →
-    ReadOutcome reference (read_ruling reference (parties Read (enumerate_from n xs)) (lowest (bystanders Read reference (enumerate_from n xs))))
+    ReadOutcome reference
+    (read_ruling reference (parties Read (enumerate_from n xs)) (lowest (bystanders Read reference (enumerate_from n xs))))
 read_outcome reference n xs there most = read_by reference _ _ (taking Read read_by_place reference n xs there most)
 
 served_by : (reference : ℕ) (ps bs : List Party) → Taking Read read_by_place reference ps bs → (ps ≡ [] → ⊥) →
@@ -151,7 +154,8 @@ served_by reference ps bs (NobodyTakes none) some = absurd (some none)
 -- where some chip takes part it is served
 pub read_served : (reference n : ℕ) (xs : List PlacedSeat) → AllByRecursion (IsThere Read reference) xs → AtMostOne Read reference xs →
     SomeOf (λ x. answers Read x ≡ true) xs → (socket : Option ℕ)
-    × (read_ruling reference (parties Read (enumerate_from n xs)) (lowest (bystanders Read reference (enumerate_from n xs))) ≡ Served socket)
+    × (read_ruling reference (parties Read (enumerate_from n xs)) (lowest (bystanders Read reference (enumerate_from n xs)))
+    ≡ Served socket)
 read_served reference n xs there most some =
     served_by reference _ _ (taking Read read_by_place reference n xs there most) (some_take Read read_by_place reference n xs some)
 
@@ -165,6 +169,7 @@ store_by reference ps bs (NobodyTakes none) stands = (None, rw (none, stands) re
 -- a store is served where all chips with RAM at the flat machine's place are there
 pub store_served : (reference n : ℕ) (xs : List PlacedSeat) → AllByRecursion (IsThere Store reference) xs →
     AllByRecursion (WouldBeThere Store reference) xs → AtMostOne Store reference xs → (socket : Option ℕ)
-    × (store_ruling reference (parties Store (enumerate_from n xs)) (lowest (bystanders Store reference (enumerate_from n xs))) ≡ Served socket)
+    × (store_ruling reference (parties Store (enumerate_from n xs)) (lowest (bystanders Store reference (enumerate_from n xs)))
+    ≡ Served socket)
 store_served reference n xs there would most =
     store_by reference _ _ (taking Store store_by_place reference n xs there most) (nobody_stands Store store_by_place reference n xs would)

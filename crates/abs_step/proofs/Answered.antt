@@ -1,5 +1,6 @@
 -- Reads at D0 at a safe point: what can become of them, and that some chip answers where the state is free of faults.
-use Rattle.std.proofs.Common.{◌≡◌, ℕ, zero, suc, ◌+◌, ◌*◌, ◌/◌, ◌<◌, ◌≤◌, Bool, true, false, ◌&&◌, ◌||◌, List, refl, ap, sym, ◌∙◌, subst, ◌⊎◌, inl, inr, arith}
+use Rattle.std.proofs.Common.{◌≡◌, ℕ, zero, suc, ◌+◌, ◌*◌, ◌/◌, ◌<◌, ◌≤◌, Bool, true, false}
+use Rattle.std.proofs.Common.{◌&&◌, ◌||◌, List, refl, ap, sym, ◌∙◌, subst, ◌⊎◌, inl, inr, arith}
 use Rattle.std.specs.Prelude.{Option, Some, None, not, filter_map, option_map, option_and_then, slice_get}
 use Rattle.std.specs.List.{AllByRecursion, list_all, range_with_len}
 use Rattle.std.proofs.lemmas.Bool.{cases_eq}
@@ -87,9 +88,11 @@ any_there Psu m k r c s is mapped alike p0 t holds =
 any_there Smi m k r c s is mapped alike p0 t holds =
     let any : m.any s.kind ≡ true = mapped.any r.d0 holds in
     holds_if k.s0 (alike (rw is at any)) t.first
-any_there Pio m k r c s is mapped alike p0 t holds = let has : has_counters s.kind ≡ true = mapped.counted r.d0 holds in absurd (cc (rw is at has))
+any_there Pio m k r c s is mapped alike p0 t holds =
+    let has : has_counters s.kind ≡ true = mapped.counted r.d0 holds in absurd (cc (rw is at has))
 
-module _ (m : MapView) (ret : Option ℕ) (k : KnownCounters) (r : Flow) (cs : List Copy) (view : IsViewOf m (seats_of cs)) (alike : ReadsAlike m k)
+module _ (m : MapView) (ret : Option ℕ) (k : KnownCounters) (r : Flow) (cs : List Copy) (view : IsViewOf m (seats_of cs))
+    (alike : ReadsAlike m k)
     (told : AllByRecursion (IsTold m ret k r) cs) where
   by_smi : m.held r.d0 Smi ≡ true → r.d0 < 65536 → SomeOf (Answers r) cs
   by_smi held small = some_map (λ (c : Copy). HoldsAs Smi r.d0 c.seat) (Answers r) cs
@@ -147,7 +150,8 @@ module _ (m : MapView) (tracked : List ℕ) (x : Invariant) (op : Op) (here : Po
   pub read_outcome_here : reads_at_data (row_of op) ≡ true → (romc : ℕ) → IsDataRead romc →
       DataOutcome romc here.flat.state.flow.d0 (access_fault here.flat.state.flow here.copies (at_data romc))
   read_outcome_here reads romc is = data_read m x.point.ret x.state.counters here.flat.state.flow romc here.copies (read_rule romc is)
-      (reads_alike (row_of op) m x.state.counters safe.state.later.1.1.1.0 reads) (told_copies m tracked x op here safe) (unshared_here reads)
+      (reads_alike (row_of op) m x.state.counters safe.state.later.1.1.1.0 reads) (told_copies m tracked x op here safe)
+      (unshared_here reads)
 
   answered_here : is_fault_free m x ≡ true → reads_at_data (row_of op) ≡ true → is_answered m x.state.counters.d0 x.state.counters.p0 ≡ true
   unfolding is_fault_free
@@ -160,6 +164,7 @@ module _ (m : MapView) (tracked : List ℕ) (x : Invariant) (op : Op) (here : Po
   read_served_here free reads romc is =
       let alike = reads_alike (row_of op) m x.state.counters safe.state.later.1.1.1.0 reads in
       let told = told_copies m tracked x op here safe in
-      data_read_served m x.point.ret x.state.counters here.flat.state.flow romc here.copies (read_rule romc is) alike told (unshared_here reads)
+      data_read_served m x.point.ret x.state.counters here.flat.state.flow romc here.copies (read_rule romc is) alike told
+      (unshared_here reads)
       (some_answers m x.point.ret x.state.counters here.flat.state.flow here.copies safe.beside.view alike told x.state.counters.d0
       safe.beside.tells.counters.d0 safe.beside.range.counters.d0 (answered_here free reads))

@@ -4,7 +4,8 @@ use Rattle.std.specs.Prelude.{Option, Some, None, is_some, is_none, not, slice_g
 use Rattle.std.specs.List.{AllZip, AllByRecursion, list_any, range_with_len}
 use Rattle.abs_domain.specs.Lattice.{Below}
 use Rattle.abs_domain.specs.AbstractState.{KnownRegisters}
-use Rattle.abs_step.specs.RegisterWrites.{known_register, Target, RegisterWrite, target_allows, is_exact, written_to, written_from, written_all}
+use Rattle.abs_step.specs.RegisterWrites.{known_register, Target, RegisterWrite, target_allows}
+use Rattle.abs_step.specs.RegisterWrites.{is_exact, written_to, written_from, written_all}
 use Rattle.abs_step.specs.Safety.{blurs, any_blurred}
 use Rattle.abs_step.specs.Successors.{tracked_byte, tracked_bytes}
 use Rattle.abs_step.proofs.Knowing.{known_of, Implies, left_of, right_of, both_of, known_below}

@@ -52,7 +52,8 @@ pub next_is : (m : MapView) (tracked : List ℕ) (x : Invariant) (ways : List (P
     IsNext m tracked x ways
 next_is m tracked x ways e = by (unsafe_reason m tracked x) refl (op_at m x) refl e
   where
-    by : (reason : Option Reason) → unsafe_reason m tracked x ≡ reason → (o : Option Op) → op_at m x ≡ o → answer_by reason o m tracked x ≡ Ok ways →
+    by : (reason : Option Reason) → unsafe_reason m tracked x ≡ reason → (o : Option Op) → op_at m x ≡ o →
+        answer_by reason o m tracked x ≡ Ok ways →
         IsNext m tracked x ways
     by (Some reason) r o q e = absurd (cc)
     by None r None q e = let safe = safe_state m tracked x r in let has = safe.1.is in absurd (cc)
@@ -106,7 +107,8 @@ module _ (m : MapView) (seats : List Seat) (tracked : List ℕ) (view : IsViewOf
     address = first.range.d0;
   }
 
-  keeps : (p : Point) (lower upper : AbstractState) (ways : List (Point × AbstractState)) → FitsPoint tracked p lower → FitsPoint tracked p upper →
+  keeps : (p : Point) (lower upper : AbstractState) (ways : List (Point × AbstractState)) → FitsPoint tracked p lower →
+      FitsPoint tracked p upper →
       is_state_below lower upper ≡ true → answer_at m tracked (record { point = p; state = upper }) ≡ Ok ways →
       LeadsBelow (analysis m tracked) p lower ways
   keeps p lower upper ways first second below e =
@@ -120,12 +122,14 @@ module _ (m : MapView) (seats : List Seat) (tracked : List ℕ) (view : IsViewOf
         lower = map entry_of (successors next.op m tracked x);
         safe = is_next m tracked x next.op safe next.is;
         followed = record {
-          each = λ q t way. from_all (IsMatched ways) _ (q, t) (all_matched upper_ways _ ways next.same covered) (in_of_contains _ (q, t) way);
+          each =
+              λ q t way. from_all (IsMatched ways) _ (q, t) (all_matched upper_ways _ ways next.same covered) (in_of_contains _ (q, t) way);
         };
       }
 
   next_fits : (p : Point) (s : AbstractState) (ways : List (Point × AbstractState)) → FitsPoint tracked p s →
-      answer_at m tracked (record { point = p; state = s }) ≡ Ok ways → (q : Point) (t : AbstractState) → Contains ways (q, t) → FitsPoint tracked q t
+      answer_at m tracked (record { point = p; state = s }) ≡ Ok ways → (q : Point) (t : AbstractState) → Contains ways (q, t) →
+      FitsPoint tracked q t
   next_fits p s ways h e q t way =
       let x : Invariant = record { point = p; state = s } in
       let next = next_is m tracked x ways e in

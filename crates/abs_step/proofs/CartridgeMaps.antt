@@ -57,7 +57,8 @@ noted_in : (notes : List (Point × AbstractState)) (p : Point) (s : AbstractStat
     IsIn (p, s) notes
 noted_in notes p s noted = in_of_contains notes (p, s) (Contains-from_lookup same_point p s notes noted)
 
-in_noted : (notes : List (Point × AbstractState)) (e : Point × AbstractState) → IsStrictlySortedBy point_cmp (keys_of notes) → IsIn e notes →
+in_noted : (notes : List (Point × AbstractState)) (e : Point × AbstractState) → IsStrictlySortedBy point_cmp (keys_of notes) →
+    IsIn e notes →
     lookup (is_at (point_cmp e.0)) notes ≡ Some e.1
 in_noted notes e ascends is =
     lookup-from_Contains (eq_by_cmp_equiv point_laws.total) e.0 e.1 notes (IsDistinct-from_sorted point_cmp (keys_of notes) ascends)
@@ -70,7 +71,8 @@ cover_of (e ∷ es) p s u (inl here) below =
     inl (λ i. (here i).0, subst (λ (d : Point × AbstractState). StateBelow s d.1) (sym here) below)
 cover_of (e ∷ es) p s u (inr later) below = inr (cover_of es p s u later below)
 
-module _ (m : MapView) (tracked : List ℕ) (notes : List (Point × AbstractState)) (ascends : IsStrictlySortedBy point_cmp (keys_of notes)) where
+module _ (m : MapView) (tracked : List ℕ) (notes : List (Point × AbstractState))
+    (ascends : IsStrictlySortedBy point_cmp (keys_of notes)) where
   covered : (p : Point) (s : AbstractState) → CoversAt (analysis m tracked) notes p s →
       Covers (map as_invariant notes) (record { point = p; state = s })
   covered p s h = cover_of notes p s h.upper (noted_in notes p h.upper h.noted) ((order_laws.test s h.upper).0 h.below)

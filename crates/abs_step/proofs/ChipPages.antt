@@ -1,5 +1,6 @@
 -- What one chip alone holds has a byte there; and whether some page has several holders, by its first address.
-use Rattle.std.proofs.Common.{◌≡◌, ℕ, zero, suc, ◌+◌, ◌*◌, ◌/◌, ◌<◌, Bool, true, false, ◌||◌, List, [], ◌∷◌, length, map, refl, ap, sym, ◌∙◌, arith}
+use Rattle.std.proofs.Common.{◌≡◌, ℕ, zero, suc, ◌+◌, ◌*◌, ◌/◌, ◌<◌, Bool, true, false}
+use Rattle.std.proofs.Common.{◌||◌, List, [], ◌∷◌, length, map, refl, ap, sym, ◌∙◌, arith}
 use Rattle.std.specs.Prelude.{Option, Some, None, is_some, option_map, option_and_then, slice_get, filter_map}
 use Rattle.std.specs.List.{list_any, range_with_len, cons_option}
 use Rattle.f8_spec.specs.ChipState.{ChipView, place_of, sort_at, held_byte}
@@ -70,7 +71,8 @@ sort_of_page : (seats : List Seat) (at : ℕ) → sort_of seats (at / 256 * 256)
 unfolding sort_in
 sort_of_page seats at = let page : at / 256 * 256 / 256 ≡ at / 256 = omega arith in ap (sort_in seats) page
 
-some_in : (test : ℕ → Bool) (start n k number : ℕ) → k < n → number ≡ start + k → test number ≡ true → list_any test (range_with_len start n) ≡ true
+some_in : (test : ℕ → Bool) (start n k number : ℕ) → k < n → number ≡ start + k → test number ≡ true →
+    list_any test (range_with_len start n) ≡ true
 some_in test start zero k number small same holds = absurd (omega (arith, small))
 some_in test start (suc n) zero number small same holds =
     let here : number ≡ start = omega arith in
@@ -99,7 +101,8 @@ found_in test start (suc n) some = by (test start) refl some (found_in test (sta
 pub page_of_shared : (seats : List Seat) (at : ℕ) → at < 65536 → sort_of seats at ≡ Shared → has_shared_page seats ≡ true
 page_of_shared seats at small shared =
     let first : sort_of seats (at / 256 * 256) ≡ Shared = sort_of_page seats at ∙ shared in
-    some_in (λ number. is_shared (sort_of seats (number * 256))) 0 256 (at / 256) (at / 256) (omega arith) (omega arith) (ap is_shared first)
+    some_in (λ number. is_shared (sort_of seats (number * 256))) 0 256 (at / 256) (at / 256) (omega arith) (omega arith)
+    (ap is_shared first)
 
 pub shared_of_page : (seats : List Seat) → has_shared_page seats ≡ true → Overlap seats
 shared_of_page seats some =

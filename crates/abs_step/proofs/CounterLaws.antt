@@ -72,11 +72,13 @@ counters_below row i j k l p h = h
 
 -- ---- the flat machine's counters
 
-pub data_tells : (row : Row) (i : Inputs) (j : KnownInputs) (k : KnownCounters) (r : Flow) → InputsBelow (whole_inputs i) j → DataTells k r →
+pub data_tells : (row : Row) (i : Inputs) (j : KnownInputs) (k : KnownCounters) (r : Flow) → InputsBelow (whole_inputs i) j →
+    DataTells k r →
     DataTells (known_counters row j k) (flow_after row i true r)
 data_tells DataFromQ i j k r p h = record { d0 = below_word (Some i.q_high) j.q_high (Some i.q_low) j.q_low p.q_high p.q_low; d1 = h.d1 }
 data_tells DataFromH i j k r p h = record { d0 = below_word (Some i.h_high) j.h_high (Some i.h_low) j.h_low p.h_high p.h_low; d1 = h.d1 }
-data_tells LoadData i j k r p h = record { d0 = below_word (Some i.operand) j.operand (Some i.second) j.second p.operand p.second; d1 = h.d1 }
+data_tells LoadData i j k r p h =
+    record { d0 = below_word (Some i.operand) j.operand (Some i.second) j.second p.operand p.second; d1 = h.d1 }
 data_tells ReadData i j k r p h = record { d0 = below_and_then (λ a. Some (places_on a 1)) _ (Some r.d0) k.d0 (λ a. refl) h.d0; d1 = h.d1 }
 data_tells StoreData i j k r p h = record { d0 = below_and_then (λ a. Some (places_on a 1)) _ (Some r.d0) k.d0 (λ a. refl) h.d0; d1 = h.d1 }
 data_tells AddData i j k r p h = record {
@@ -89,7 +91,8 @@ data_tells row i j k r p h = record { d0 = h.d0; d1 = h.d1 }
 
 -- ---- a 3851's copy
 
-psu_loaded : (x : Option ℕ) (a : ℕ) (k : KnownCounters) (r c s : Flow) → Below (Some a) x → r.d0 ≡ a → c.d0 ≡ a → r.d1 ≡ s.d1 → DataTells k s →
+psu_loaded : (x : Option ℕ) (a : ℕ) (k : KnownCounters) (r c s : Flow) → Below (Some a) x → r.d0 ≡ a → c.d0 ≡ a → r.d1 ≡ s.d1 →
+    DataTells k s →
     PsuTells (with_loaded x k) r c
 psu_loaded x a k r c s p here there second h = record {
   value = rw there p;
@@ -125,7 +128,8 @@ psu_tells row i j k r c p h t = record { value = t.value; first = t.first; secon
 
 -- ---- a 3853's copy
 
-smi_moved : (f : ℕ → ℕ) (g : ℕ → Option ℕ) (k : KnownCounters) (r c s d : Flow) → r.d0 ≡ f s.d0 → r.d1 ≡ s.d1 → c.d0 ≡ f d.d0 → c.d1 ≡ d.d1 →
+smi_moved : (f : ℕ → ℕ) (g : ℕ → Option ℕ) (k : KnownCounters) (r c s d : Flow) → r.d0 ≡ f s.d0 → r.d1 ≡ s.d1 → c.d0 ≡ f d.d0 →
+    c.d1 ≡ d.d1 →
     SmiTells k s d → SmiTells (with_moved g k) r c
 smi_moved f g k r c s d here second there other t = record {
   first = rw (here, there) (holds_map k.s0 (ap f) t.first);
@@ -145,7 +149,8 @@ smi_tells row i j k r c t = record { first = t.first; second = t.second }
 
 -- ---- a chip's copy
 
-pub chip_tells : (kind : ChipKind) (row : Row) (i : Inputs) (j : KnownInputs) (k : KnownCounters) (r c : Flow) → InputsBelow (whole_inputs i) j →
+pub chip_tells : (kind : ChipKind) (row : Row) (i : Inputs) (j : KnownInputs) (k : KnownCounters) (r c : Flow) →
+    InputsBelow (whole_inputs i) j →
     DataTells k r → ChipTells kind k r c →
     ChipTells kind (known_counters row j k) (flow_after row i true r) (flow_after row i (has_second_counter kind) c)
 chip_tells Psu row i j k r c p h t = psu_tells row i j k r c p h t

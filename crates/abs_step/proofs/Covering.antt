@@ -44,7 +44,8 @@ cover_of (y ∷ ys) x z (inl here) point below =
 cover_of (y ∷ ys) x z (inr later) point below = inr (cover_of ys x z later point below)
 
 -- what is covered by invariants that are covered
-pub cover_through : (notes others : List Invariant) (x : Invariant) → AllByRecursion (Covers notes) others → Covers others x → Covers notes x
+pub cover_through : (notes others : List Invariant) (x : Invariant) → AllByRecursion (Covers notes) others → Covers others x →
+    Covers notes x
 cover_through notes [] x all h = absurd h
 cover_through notes (y ∷ ys) x all (inl here) =
     let above = found_cover notes y all.0 in
@@ -61,7 +62,8 @@ same_by p q Less e same = absurd (cc)
 same_by p q Equal e same = point_laws.exact p q e
 same_by p q Greater e same = absurd (cc)
 
-pub pads_kept : (x : Invariant) (done : List Invariant) → HasPad x → AllByRecursion HasPad done → AllByRecursion HasPad (with_invariant x done)
+pub pads_kept : (x : Invariant) (done : List Invariant) → HasPad x → AllByRecursion HasPad done →
+    AllByRecursion HasPad (with_invariant x done)
 pads_kept x [] pad pads = (pad, tt)
 pads_kept x (d ∷ ds) pad pads = by (same_point x.point d.point) (pads_kept x ds pad pads.1)
   where
@@ -109,12 +111,14 @@ all_added (y ∷ ys) done x more pads (inr later) =
 
 -- ---- successors
 
-pub in_along : (tracked : List ℕ) (s : AbstractState) (e : Exit) (es : List Exit) → IsIn e es → IsIn (at_exit tracked s e) (flat_map (along tracked s) es)
+pub in_along : (tracked : List ℕ) (s : AbstractState) (e : Exit) (es : List Exit) → IsIn e es →
+    IsIn (at_exit tracked s e) (flat_map (along tracked s) es)
 in_along tracked s e [] is = absurd is
 in_along tracked s e (f ∷ fs) (inl here) = inl (ap (at_exit tracked s) here)
 in_along tracked s e (f ∷ fs) (inr later) = inr (in_along tracked s e fs later)
 
-pub pads_along : (tracked : List ℕ) (s : AbstractState) (es : List Exit) → HasScratchpad s → AllByRecursion HasPad (flat_map (along tracked s) es)
+pub pads_along : (tracked : List ℕ) (s : AbstractState) (es : List Exit) → HasScratchpad s →
+    AllByRecursion HasPad (flat_map (along tracked s) es)
 pads_along tracked s [] pad = tt
 pads_along tracked s (e ∷ es) pad = (pad, pads_along tracked s es pad)
 
@@ -168,7 +172,8 @@ chip_above Smi k l r c p h = record {
 }
 chip_above Pio k l r c p h = tt
 
-pub stands_above : (y z : Invariant) (here : Position) → StandsFor y here → z.point ≡ y.point → StateBelow y.state z.state → StandsFor z here
+pub stands_above : (y z : Invariant) (here : Position) → StandsFor y here → z.point ≡ y.point → StateBelow y.state z.state →
+    StandsFor z here
 stands_above y z here h point below = record {
   at = h.at ∙ ap (λ (p : Point). p.at) (sym point);
   ret = rw (point) h.ret;

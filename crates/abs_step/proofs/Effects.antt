@@ -127,7 +127,13 @@ compared_below x y k l p h = with_status _ _ k l
 pub stepped_below : (field : ℕ) (k l : KnownRegisters) → RegistersBelow k l →
     RegistersBelow (with_digit_stepped field k) (with_digit_stepped field l)
 stepped_below field k l h =
-    record { accumulator = h.accumulator; high = h.high; low = by (field == 13) (field == 14); status = h.status; scratchpad = h.scratchpad }
+    record {
+      accumulator = h.accumulator;
+      high = h.high;
+      low = by (field == 13) (field == 14);
+      status = h.status;
+      scratchpad = h.scratchpad;
+    }
   where
     by : (up down : Bool) → Below
         (if up then option_map (λ digit. (digit + 1) % 8) k.low else if down then option_map (λ digit. (digit + 7) % 8) k.low else k.low)

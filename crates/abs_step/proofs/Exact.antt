@@ -1,7 +1,9 @@
 -- Where all is known, what is known after an instruction is what the flat machine has; so that it is right of every state that less is
 -- known of.
-use Rattle.std.proofs.Common.{◌≡◌, ℕ, zero, suc, ◌+◌, ◌*◌, ◌/◌, ◌%◌, ◌<◌, Bool, true, false, List, [], ◌∷◌, map, refl, ap, sym, subst, arith}
-use Rattle.std.specs.Prelude.{Option, Some, None, nat_lt, if◌then◌else◌, slice_index, slice_index_or, slice_set, ◌==◌, bit_and, bit_xor, option_map}
+use Rattle.std.proofs.Common.{◌≡◌, ℕ, zero, suc, ◌+◌, ◌*◌, ◌/◌, ◌%◌, ◌<◌, Bool, true}
+use Rattle.std.proofs.Common.{false, List, [], ◌∷◌, map, refl, ap, sym, subst, arith}
+use Rattle.std.specs.Prelude.{Option, Some, None, nat_lt, if◌then◌else◌, slice_index}
+use Rattle.std.specs.Prelude.{slice_index_or, slice_set, ◌==◌, bit_and, bit_xor, option_map}
 use Rattle.std.specs.List.{AllZip}
 use Rattle.std.proofs.lemmas.Bool.Decides.{nat_tests}
 use Rattle.f8_spec.specs.Words.{sum_value}
@@ -15,7 +17,8 @@ use Rattle.console_spec.specs.Processor.{with_scratch, decremented, effect, used
 use Rattle.abs_domain.specs.Lattice.{Below}
 use Rattle.abs_domain.specs.AbstractState.{KnownRegisters, RegistersBelow}
 use Rattle.abs_domain.proofs.Orders.{registers_refl, registers_trans, all_below_refl, status_refl}
-use Rattle.abs_step.specs.RegisterWrites.{known_register, known_field, Target, exactly, target_of, RegisterWrite, target_allows, written_from}
+use Rattle.abs_step.specs.RegisterWrites.{known_register, known_field, Target, exactly}
+use Rattle.abs_step.specs.RegisterWrites.{target_of, RegisterWrite, target_allows, written_from}
 use Rattle.abs_step.specs.KnownResults.{known_after_sum, known_effect, BytePair, register_writes, known_result, with_digit_stepped}
 use Rattle.abs_step.specs.Concretization.{whole_status, whole_registers}
 use Rattle.abs_step.proofs.Knowing.{below_map}
@@ -168,7 +171,8 @@ known_decremented field k = record k {
       (record { target = target_of field k; value = option_map (λ byte. sum_value byte 255 false) (known_field field k) }) k.scratchpad;
 }
 
-decrement_whole : (field : ℕ) (m : Registers) → RegistersBelow (whole_registers (decremented field m)) (known_decremented field (whole_registers m))
+decrement_whole : (field : ℕ) (m : Registers) →
+    RegistersBelow (whole_registers (decremented field m)) (known_decremented field (whole_registers m))
 decrement_whole field m = record {
   accumulator = refl;
   high = refl;
@@ -176,7 +180,8 @@ decrement_whole field m = record {
   status = sum_status (whole_status m.status) (whole_status m.status) (Some (field_byte field m)) (known_field field (whole_registers m))
       (Some 255) (Some 255) (Some false) (Some false) (status_refl (whole_status m.status)) (field_whole field m) refl refl;
   scratchpad = field_written field _ _ m
-      (below_map (λ byte. sum_value byte 255 false) (Some (field_byte field m)) (known_field field (whole_registers m)) (field_whole field m));
+      (below_map (λ byte. sum_value byte 255 false) (Some (field_byte field m)) (known_field field (whole_registers m))
+      (field_whole field m));
 }
 
 -- the two bytes, known
@@ -185,7 +190,8 @@ whole_pair high low = record { high = Some high; low = Some low }
 
 pub result_whole : (op : Op) (i : Inputs) (m : Registers) → InRange op →
     RegistersBelow (whole_registers (result_of op i m))
-    (known_result op (Some (used_byte (row_of op) i)) (whole_pair i.stack_high i.stack_low) (whole_pair i.data_high i.data_low) (whole_registers m))
+    (known_result op (Some (used_byte (row_of op) i)) (whole_pair i.stack_high i.stack_low) (whole_pair i.data_high i.data_low)
+    (whole_registers m))
 unfolding effect known_effect register_writes
 result_whole LrAKu i m range = accumulator_whole _ _ m (register_whole 12 m)
 result_whole LrAKl i m range = accumulator_whole _ _ m (register_whole 13 m)

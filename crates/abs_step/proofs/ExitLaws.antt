@@ -42,7 +42,8 @@ matched_right : {A B : Type 0} (R : A → B → Type 0) (xs : List A) (ys zs : L
 matched_right R [] ys zs h = tt
 matched_right R (x ∷ xs) ys zs h = (match_right R x ys zs h.0, matched_right R xs ys zs h.1)
 
-matched_both : {A B : Type 0} (R : A → B → Type 0) (xs ys : List A) (zs : List B) → Matched R xs zs → Matched R ys zs → Matched R (xs ++ ys) zs
+matched_both : {A B : Type 0} (R : A → B → Type 0) (xs ys : List A) (zs : List B) → Matched R xs zs → Matched R ys zs →
+    Matched R (xs ++ ys) zs
 matched_both R [] ys zs p q = q
 matched_both R (x ∷ xs) ys zs p q = (p.0, matched_both R xs ys zs p.1 q)
 
@@ -73,7 +74,8 @@ module _ (R : Option ℕ → Option ℕ → Type 0) (same : (v : ℕ) → R (Som
   next_below : (at : ℕ) (ret back : Option ℕ) → R ret back → Matched ExitBelow (exit_to (Some at) ret) (exit_to (Some at) back)
   next_below at ret back q = (inl (record { at = refl; ret = q }), tt)
 
-  branch_below : (a b : Option Bool) (x y : Option ℕ) (next : ℕ) (ret back : Option ℕ) → Below a b → Below x y → is_some y ≡ true → R ret back →
+  branch_below : (a b : Option Bool) (x y : Option ℕ) (next : ℕ) (ret back : Option ℕ) → Below a b → Below x y → is_some y ≡ true →
+      R ret back →
       Matched ExitBelow (branch_exits a x next ret) (branch_exits b y next back)
   branch_below a (Some true) x y next ret back t p known q = rw t (to_below x y ret back p known q)
   branch_below a (Some false) x y next ret back t p known q = rw t (next_below next ret back q)

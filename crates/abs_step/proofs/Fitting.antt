@@ -17,11 +17,14 @@ pub start_fits : (tracked : List ℕ) → HasTrackedBytes tracked start_invarian
 start_fits tracked = fits.start tracked
 
 -- what holds next after a state that the program holds
-pub next_fits : (op : Op) (m : MapView) (tracked : List ℕ) (p : Point) (s : Abs) → AllByRecursion (HasTrackedBytes tracked) (successors op m tracked (invariant_at p s))
-next_fits op m tracked p s = all_map _ (HasTrackedBytes tracked) _ (λ y h. h.0) (fits.successors op m tracked (invariant_at p s) (join_laws.whole s))
+pub next_fits : (op : Op) (m : MapView) (tracked : List ℕ) (p : Point) (s : Abs) →
+    AllByRecursion (HasTrackedBytes tracked) (successors op m tracked (invariant_at p s))
+next_fits op m tracked p s =
+    all_map _ (HasTrackedBytes tracked) _ (λ y h. h.0) (fits.successors op m tracked (invariant_at p s) (join_laws.whole s))
 
 -- two exits one after the other
 pub two_along : (tracked : List ℕ) (k : KnownRegisters) (counters : KnownCounters) (d e : Exit) (x y : Invariant) →
-    x ≡ at_exit tracked (record { registers = k; counters = counters }) d → y ≡ at_exit tracked (record { registers = k; counters = counters }) e →
+    x ≡ at_exit tracked (record { registers = k; counters = counters }) d →
+    y ≡ at_exit tracked (record { registers = k; counters = counters }) e →
     with_invariant y (with_invariant x []) ≡ joined_along tracked k counters (d ∷ e ∷ [])
 two_along tracked k counters d e x y first second = rw (first, second) refl

@@ -133,7 +133,8 @@ used_below Jump i j h = h.operand
 used_below ReadData i j h = h.data_byte
 used_below row i j h = tt
 
-pub used_tells : (row : Row) (i : Inputs) (j : KnownInputs) → InputsBelow (whole_inputs i) j → Below (Some (used_byte row i)) (known_used_byte row j)
+pub used_tells : (row : Row) (i : Inputs) (j : KnownInputs) → InputsBelow (whole_inputs i) j →
+    Below (Some (used_byte row i)) (known_used_byte row j)
 used_tells Immediate i j h = h.operand
 used_tells Call i j h = h.operand
 used_tells Jump i j h = h.operand
@@ -141,5 +142,6 @@ used_tells ReadData i j h = h.data_byte
 used_tells row i j h = tt
 
 -- whether a branch is taken, by what is known above
-pub taken_tells : (op : Op) (m : Registers) (k : KnownRegisters) → RegistersBelow (whole_registers m) k → Below (Some (is_taken op m)) (known_taken op k)
+pub taken_tells : (op : Op) (m : Registers) (k : KnownRegisters) → RegistersBelow (whole_registers m) k →
+    Below (Some (is_taken op m)) (known_taken op k)
 taken_tells op m k h = rw (sym (taken_whole op m)) (taken_below op (whole_registers m) k h)

@@ -1,5 +1,5 @@
--- What is known stays within its range: bytes, digits and addresses. Where all that isn't known is taken as 0, the flat machine's step is one
--- of those that the state stands for, and its results are in range; so is what is known of them.
+-- What is known stays within its range: bytes, digits and addresses. Where all that isn't known is taken as 0, the flat machine's step is
+-- one of those that the state stands for, and its results are in range; so is what is known of them.
 use Rattle.std.proofs.Common.{◌≡◌, ℕ, zero, suc, ◌+◌, ◌*◌, ◌/◌, ◌%◌, ◌<◌, Bool, true, false, List, [], ◌∷◌, map, refl, ap, ◌∙◌, arith}
 use Rattle.std.specs.Prelude.{Option, Some, None, option_map, option_and_then, unwrap_or, slice_index_or}
 use Rattle.std.specs.List.{AllZip}
@@ -70,7 +70,8 @@ scratchpad_below : (xs : List (Option ℕ)) → AllZip Below (map Some (map fill
 scratchpad_below [] = tt
 scratchpad_below (x ∷ xs) = (filled_below x, scratchpad_below xs)
 
-scratchpad_small : (xs : List (Option ℕ)) → ((number : ℕ) → ForSome (slice_index_or xs number None) (λ byte. byte < 256)) → AreBytes (map filled xs)
+scratchpad_small : (xs : List (Option ℕ)) → ((number : ℕ) → ForSome (slice_index_or xs number None) (λ byte. byte < 256)) →
+    AreBytes (map filled xs)
 scratchpad_small [] h place = omega arith
 scratchpad_small (x ∷ xs) h zero = filled_small 256 x (omega arith) (h 0)
 scratchpad_small (x ∷ xs) h (suc place) = scratchpad_small xs (λ number. h (suc number)) place
@@ -237,7 +238,8 @@ module _ (m : MapView) (tells : TellsBytes m) (tracked : List ℕ) (p : Point) (
       let i = inputs_at op m here in
       let below = inputs_filled i in
       results_tell op (filled_inputs i) (filled_registers s.registers) _ _ _ s.registers in_range
-      (used_tells (row_of op) (filled_inputs i) i below) below.stack_bytes below.counter_bytes (registers_filled s fits.scratchpad fits.range)
+      (used_tells (row_of op) (filled_inputs i) i below) below.stack_bytes below.counter_bytes
+      (registers_filled s fits.scratchpad fits.range)
 
   result_is_small : HasBytes (result_of op (filled_inputs (inputs_at op m here)) (filled_registers s.registers))
   result_is_small = result_small op (filled_inputs (inputs_at op m here)) (filled_registers s.registers) in_range inputs_small

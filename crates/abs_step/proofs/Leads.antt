@@ -109,7 +109,8 @@ taken_by row i j r at ret tell back ready here =
     let matched = exits_below Below (λ v. refl) row (whole_inputs i) j r.p (Some r.p1) ret tell back back ready in
     let exact : Matched (ExitBelow Below (λ v. refl)) (exit_to (Some (flow_after row i true r).p) (Some (flow_after row i true r).p1))
     (exits row j r.p ret) = rw (exits_whole row i r) at matched in
-    subst (λ (a : ℕ). (e : Exit) × IsIn e (exits row j a ret) × ((flow_after row i true r).p ≡ e.at) × Below (Some (flow_after row i true r).p1) e.ret)
+    subst (λ (a : ℕ). (e : Exit) × IsIn e (exits row j a ret) × ((flow_after row i true r).p ≡ e.at)
+    × Below (Some (flow_after row i true r).p1) e.ret)
     here (found _ _ (exits row j r.p ret) exact.0)
 
 module _ (m : MapView) (tracked : List ℕ) (x : Invariant) (op : Op) (here : Position) (safe : IsSafeHere m tracked x op here) where
@@ -150,10 +151,13 @@ module _ (m : MapView) (tracked : List ℕ) (x : Invariant) (op : Op) (here : Po
       let row = row_of op in
       let own = gets_tell m tracked x op here safe in
       record {
-        at = same_next row i true (has_second_counter c.seat.kind) here.flat.state.flow c.flow h.at (back_by row h.back safe.state.later.1.1.0);
+        at = same_next row i true (has_second_counter c.seat.kind) here.flat.state.flow c.flow h.at
+            (back_by row h.back safe.state.later.1.1.0);
         back = from_all _ (exits_of op m x) e
-            (backs row i (inputs_at op m x) x.point.at x.point.ret (has_second_counter c.seat.kind) here.flat.state.flow c.flow h.at h.back) is;
-        chip = chip_tells c.seat.kind row i (inputs_at op m x) x.state.counters here.flat.state.flow c.flow own safe.beside.tells.counters h.chip;
+            (backs row i (inputs_at op m x) x.point.at x.point.ret (has_second_counter c.seat.kind) here.flat.state.flow c.flow h.at h.back)
+            is;
+        chip = chip_tells c.seat.kind row i (inputs_at op m x) x.state.counters here.flat.state.flow c.flow own safe.beside.tells.counters
+            h.chip;
       }
     where
       back_by : (row : Row) → Holds (is_some x.point.ret) (c.flow.p1 ≡ here.flat.state.flow.p1) → return_is_unset row x.point.ret ≡ false →
@@ -173,8 +177,10 @@ module _ (m : MapView) (tracked : List ℕ) (x : Invariant) (op : Op) (here : Po
         ret = rw (ap (λ (f : Flow). f.p1) flow) way.ret;
         registers = registers_stand;
         counters = subst (λ (f : Flow). DataTells (state_after op m x).counters f) (sym flow)
-            (data_tells row i (inputs_at op m x) x.state.counters here.flat.state.flow (gets_tell m tracked x op here safe) safe.beside.tells.counters);
+            (data_tells row i (inputs_at op m x) x.state.counters here.flat.state.flow (gets_tell m tracked x op here safe)
+            safe.beside.tells.counters);
         copies = all_mapped (copy_after row i) _ here.copies (all_map _ _ here.copies
-            (λ c h. copies_uninterrupted row i way.exit.ret (state_after op m x).counters here.flat.state.flow c none (copy_stands way.exit way.is c h))
+            (λ c h. copies_uninterrupted row i way.exit.ret (state_after op m x).counters here.flat.state.flow c none
+            (copy_stands way.exit way.is c h))
             safe.beside.tells.copies);
       }

@@ -116,7 +116,8 @@ one_reader port [] one = absurd (omega arith)
 one_reader port (p ∷ []) one = (Some p.socket, refl)
 one_reader port (p ∷ (q ∷ ps)) one = absurd (omega arith)
 
-pub port_read_served : (romc port n : ℕ) (cs : List Copy) → counter_of romc ≡ NoCounter → (readers port (seats_of cs) == 1) ≡ true → (socket : Option ℕ)
+pub port_read_served : (romc port n : ℕ) (cs : List Copy) → counter_of romc ≡ NoCounter → (readers port (seats_of cs) == 1) ≡ true →
+    (socket : Option ℕ)
     × (port_read_ruling port (parties PortRead (enumerate_from n (map (placed_copy (at_port romc port)) cs))) ≡ Served socket)
 port_read_served romc port n cs none one =
     let exact : readers port (seats_of cs) ≡ 1 = grind (arith, nat_tests) in

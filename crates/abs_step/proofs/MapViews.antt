@@ -1,5 +1,6 @@
 -- The view of the map of some chips is right of them, and so is what is known of them, which is the same.
-use Rattle.std.proofs.Common.{◌≡◌, ℕ, zero, suc, ◌/◌, ◌<◌, ◌≤◌, Bool, true, false, ◌||◌, List, [], ◌∷◌, length, map, refl, ap, sym, ◌∙◌, arith}
+use Rattle.std.proofs.Common.{◌≡◌, ℕ, zero, suc, ◌/◌, ◌<◌, ◌≤◌, Bool, true, false, ◌||◌}
+use Rattle.std.proofs.Common.{List, [], ◌∷◌, length, map, refl, ap, sym, ◌∙◌, arith}
 use Rattle.std.specs.Prelude.{Option, Some, None, is_some, slice_get, option_map, option_and_then, if◌then◌else◌, nat_lt, ◌&&◌, slice_index}
 use Rattle.std.proofs.lemmas.Bool.{ltb-true, ltb-false, lt-ltb}
 use Rattle.std.proofs.lemmas.List.{get_or_past}
@@ -55,7 +56,8 @@ abbrev IsRom : Page → Type 0
 IsRom p = p.sort ≡ RomPage
 
 rom_at : (pages : List Page) (place : ℕ) → AllByRecursion IsRom pages →
-    is_some (option_and_then (λ sort. if is_ram sort then Some sort else None) (option_map (λ (p : Page). p.sort) (slice_get pages place))) ≡ false
+    is_some (option_and_then (λ sort. if is_ram sort then Some sort else None) (option_map (λ (p : Page). p.sort) (slice_get pages place)))
+    ≡ false
 rom_at [] place all = refl
 rom_at (p ∷ ps) zero all = rw all.0 refl
 rom_at (p ∷ ps) (suc place) all = rom_at ps place all.1
@@ -144,7 +146,8 @@ right_is chips = record {
 -- ---- each map tells just that
 
 -- what is told below a bound, and is nothing from it on
-below_alone : {X : Type 0} (f g : ℕ → X) (none : X) (size : ℕ) → ((at : ℕ) → at < size → f at ≡ g at) → ((at : ℕ) → size ≤ at → f at ≡ none) →
+below_alone : {X : Type 0} (f g : ℕ → X) (none : X) (size : ℕ) → ((at : ℕ) → at < size → f at ≡ g at) →
+    ((at : ℕ) → size ≤ at → f at ≡ none) →
     (at : ℕ) → f at ≡ (if nat_lt at size then g at else none)
 below_alone f g none size below past at = by (nat_lt at size) refl
   where

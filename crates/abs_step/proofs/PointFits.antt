@@ -37,7 +37,8 @@ both_small : (es fs : List Exit) → AllByRecursion IsSmallExit es → AllByRecu
 both_small [] fs p q = q
 both_small (e ∷ es) fs p q = (p.0, both_small es fs p.1 q)
 
-branch_small : (taken : Option Bool) (target : Option ℕ) (next : ℕ) (ret : Option ℕ) → IsBelow 65536 target → next < 65536 → IsBelow 65536 ret →
+branch_small : (taken : Option Bool) (target : Option ℕ) (next : ℕ) (ret : Option ℕ) → IsBelow 65536 target → next < 65536 →
+    IsBelow 65536 ret →
     AllByRecursion IsSmallExit (branch_exits taken target next ret)
 branch_small (Some true) target next ret p q r = small_to target ret p r
 branch_small (Some false) target next ret p q r = small_to (Some next) ret (some_below 65536 next q) r
@@ -143,6 +144,7 @@ module _ (tracked : List ℕ) where
       AllByRecursion IsFitting (successors op m tracked x)
   unfolding successors
   successors_fit m tells x h op is =
-      let small = exits_small (row_of op) (inputs_at op m x) x.point.at x.point.ret (inputs_small m tells tracked x.point x.state h op is) h.ret in
+      let small =
+      exits_small (row_of op) (inputs_at op m x) x.point.at x.point.ret (inputs_small m tells tracked x.point x.state h op is) h.ret in
       all_fit (all_along op m tracked x) [] (along_fits (state_after op m x) (exits_of op m x) (pad_after op m x h.scratchpad)
       (after_in_range m tells tracked x.point x.state h op is) small) tt

@@ -31,7 +31,8 @@ set_bytes (x ∷ xs) zero byte h small (suc place) = h (suc place)
 set_bytes (x ∷ xs) (suc n) byte h small zero = h zero
 set_bytes (x ∷ xs) (suc n) byte h small (suc place) = set_bytes xs n byte (λ q. h (suc q)) small place
 
-pub set_memory : (xs : List ℕ) (n byte : ℕ) → ((at : ℕ) → byte_at xs at < 256) → byte < 256 → (at : ℕ) → byte_at (slice_set xs n byte) at < 256
+pub set_memory : (xs : List ℕ) (n byte : ℕ) → ((at : ℕ) → byte_at xs at < 256) → byte < 256 → (at : ℕ) →
+    byte_at (slice_set xs n byte) at < 256
 set_memory [] n byte h small at = h at
 set_memory (x ∷ xs) zero byte h small zero = small
 set_memory (x ∷ xs) zero byte h small (suc at) = h (suc at)
@@ -201,7 +202,8 @@ branch_small false at byte = omega arith
 pub word_small : (high low : ℕ) → high < 256 → low < 256 → word high low < 65536
 word_small high low p q = omega arith
 
-pub flow_small : (row : Row) (i : Inputs) (second : Bool) (c : Flow) → GetsBytes i → AreAddresses c → AreAddresses (flow_after row i second c)
+pub flow_small : (row : Row) (i : Inputs) (second : Bool) (c : Flow) → GetsBytes i → AreAddresses c →
+    AreAddresses (flow_after row i second c)
 flow_small StackFromK i second c g h = record { p = omega arith; p1 = word_small i.k_high i.k_low g.k_high g.k_low; d0 = h.d0; d1 = h.d1 }
 flow_small CallK i second c g h = record { p = word_small i.k_high i.k_low g.k_high g.k_low; p1 = omega arith; d0 = h.d0; d1 = h.d1 }
 flow_small JumpQ i second c g h = record { p = word_small i.q_high i.q_low g.q_high g.q_low; p1 = h.p1; d0 = h.d0; d1 = h.d1 }

@@ -14,7 +14,8 @@ use Rattle.std.proofs.lemmas.List.Elements.{All-contains}
 use Rattle.std.proofs.lemmas.Cmp.{eq_by_cmp_equiv}
 use Rattle.abs_domain.specs.declared.reason.Reason.{Reason}
 use Rattle.abs_step.specs.Analysis.{Analysis, AnalysisLaws}
-use Rattle.abs_step.specs.ReachedStates.{Reached, start, joined, next, CoversAt, IsSafelyClosed, HoldsFaultFreeStates, IsLeastMap, IsLowestMap}
+use Rattle.abs_step.specs.ReachedStates.{Reached, start, joined, next, CoversAt}
+use Rattle.abs_step.specs.ReachedStates.{IsSafelyClosed, HoldsFaultFreeStates, IsLeastMap, IsLowestMap}
 use Rattle.abs_step.specs.ReachedStates.{SomeIsSafe, SomeIsFaultFree, ReachesUnsafe, ReachesTooMany}
 
 module _ {P S : Type 0} (an : Analysis P S) (laws : AnalysisLaws an) where
@@ -84,7 +85,8 @@ module _ {P S : Type 0} (an : Analysis P S) (laws : AnalysisLaws an) where
   pub none_past_too_many : ReachesTooMany an → SomeIsSafe an → ⊥
   none_past_too_many many some =
       let most : length many.points ≤ length some.0 =
-      length-le_from_keys (eq_by_cmp_equiv laws.total) many.points some.0 many.distinct (all_noted some.0 some.1 many.points many.reached) in
+      length-le_from_keys (eq_by_cmp_equiv laws.total) many.points some.0 many.distinct
+      (all_noted some.0 some.1 many.points many.reached) in
       let few = some.1.is_map.few in
       let more = many.many in
       absurd (omega arith)

@@ -23,7 +23,8 @@ both_known (Some a) None p q = absurd (cc)
 both_known (Some a) (Some b) p q = refl
 
 -- over a map that tells each byte that one chip holds and no store changes
-module _ (m : MapView) (told_at : (at : ℕ) → at < 65536 → is_held_once (m.sort at) ≡ true → is_ram_sort (m.sort at) ≡ false → is_some (m.byte at) ≡ true)
+module _ (m : MapView)
+    (told_at : (at : ℕ) → at < 65536 → is_held_once (m.sort at) ≡ true → is_ram_sort (m.sort at) ≡ false → is_some (m.byte at) ≡ true)
     (tracked : List ℕ) (x : Invariant) (op : Op) (operands : NoneHold (operand_reasons (row_length (row_of op)) m x.point.at))
     (later : NoneHold (later_reasons op m tracked x)) where
   told : (n : ℕ) → NoneHold (code_reasons m (places_on x.point.at n)) → is_some (m.byte (places_on x.point.at n)) ≡ true

@@ -8,7 +8,8 @@ use Rattle.memory_map.specs.MapKinds.{is_held_once}
 use Rattle.abs_domain.specs.declared.reason.Reason.{Reason}
 use Rattle.abs_step.specs.MapView.{MapView}
 use Rattle.abs_step.specs.Successors.{Invariant}
-use Rattle.abs_step.specs.Safety.{first_reason, code_reasons, operand_reasons, later_reasons, reasons, instruction_reason, reason_behind, unsafe_reason}
+use Rattle.abs_step.specs.Safety.{first_reason, code_reasons, operand_reasons, later_reasons}
+use Rattle.abs_step.specs.Safety.{reasons, instruction_reason, reason_behind, unsafe_reason}
 use Rattle.abs_step.specs.Soundness.{op_at}
 use Rattle.abs_step.proofs.Knowing.{is_not}
 use Rattle.abs_step.proofs.SafeRows.{NoneHold}
@@ -58,7 +59,8 @@ safe_by m tracked x (Some op) is code none =
     let both = no_reason op m tracked x none in
     (op, record { is = is; code = code; operands = both.0; later = both.1 })
 
-pub safe_state : (m : MapView) (tracked : List ℕ) (x : Invariant) → unsafe_reason m tracked x ≡ None → (op : Op) × IsSafeState m tracked x op
+pub safe_state : (m : MapView) (tracked : List ℕ) (x : Invariant) → unsafe_reason m tracked x ≡ None →
+    (op : Op) × IsSafeState m tracked x op
 unfolding unsafe_reason
 safe_state m tracked x none =
     let parts = behind m tracked x (first_reason (code_reasons m x.point.at)) none in

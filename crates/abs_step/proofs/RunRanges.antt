@@ -48,7 +48,8 @@ chip_small port seats s keys writes = by (readers port seats == 1)
     by true = value_small port s keys writes
     by false = omega arith
 
-port_small : (op : Op) (operand : ℕ) (seats : List Seat) (s : State) → AreBytes s.keys → AllByRecursion (λ (w : PortWrite). w.byte < 256) s.writes →
+port_small : (op : Op) (operand : ℕ) (seats : List Seat) (s : State) → AreBytes s.keys →
+    AllByRecursion (λ (w : PortWrite). w.byte < 256) s.writes →
     read_port op operand seats s < 256
 port_small In operand seats s keys writes = chip_small operand seats s keys writes
 port_small (Ins n) operand seats s keys writes = by (nat_lt n 2)
@@ -79,7 +80,8 @@ gets_bytes op here h =
       q_low = h.registers.scratchpad 15;
       h_high = h.registers.scratchpad 10;
       h_low = h.registers.scratchpad 11;
-      port_byte = port_small op (byte_at here.flat.memory (places_on here.flat.state.flow.p 1)) (seats_of here.copies) here.flat.state h.keys h.writes;
+      port_byte = port_small op (byte_at here.flat.memory (places_on here.flat.state.flow.p 1)) (seats_of here.copies) here.flat.state
+          h.keys h.writes;
     }
 
 gets_accumulator : (op : Op) (here : Position) → (gets_at op here).accumulator ≡ here.flat.state.registers.accumulator
@@ -115,14 +117,16 @@ stored_keeps seats at byte a memory stays = by (is_ram_sort (sort_of seats at)) 
     by true ram = get_or-set_other memory at a byte 255 (λ (same : a ≡ at). absurd (cc))
     by false ram = refl
 
-pub memory_keeps : (row : Row) (seats : List Seat) (i : Inputs) (c : Flow) (a : ℕ) (memory : List ℕ) → is_ram_sort (sort_of seats a) ≡ false →
+pub memory_keeps : (row : Row) (seats : List Seat) (i : Inputs) (c : Flow) (a : ℕ) (memory : List ℕ) →
+    is_ram_sort (sort_of seats a) ≡ false →
     byte_at (memory_after row seats i c memory) a ≡ byte_at memory a
 memory_keeps StoreData seats i c a memory stays = stored_keeps seats c.d0 i.accumulator a memory stays
 memory_keeps row seats i c a memory stays = refl
 
 -- ---- an instruction without an interrupt
 
-pub range_after : (op : Op) (here : Position) → InRange op → (gets_at op here).chosen ≡ None → IsInRange here → IsInRange (position_after op here)
+pub range_after : (op : Op) (here : Position) → InRange op → (gets_at op here).chosen ≡ None → IsInRange here →
+    IsInRange (position_after op here)
 range_after op here in_range none h =
     let i = gets_at op here in
     let gets = gets_bytes op here h in

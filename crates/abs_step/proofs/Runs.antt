@@ -70,7 +70,8 @@ module _ (m : MapView) (x : Invariant) where
   pulse_beside None here h = h
   pulse_beside (Some socket) here h = record {
     view = h.view;
-    tells = record { at = h.tells.at; ret = h.tells.ret; registers = h.tells.registers; counters = h.tells.counters; copies = h.tells.copies };
+    tells =
+        record { at = h.tells.at; ret = h.tells.ret; registers = h.tells.registers; counters = h.tells.counters; copies = h.tells.copies };
     range = record {
       registers = h.range.registers;
       keys = h.range.keys;
@@ -85,7 +86,8 @@ module _ (m : MapView) (x : Invariant) where
   event_beside : (e : Event) (here : Position) → HasByte e → IsBeside m x here → IsBeside m x (with_event e here)
   event_beside (Keys port byte) here small h = record {
     view = h.view;
-    tells = record { at = h.tells.at; ret = h.tells.ret; registers = h.tells.registers; counters = h.tells.counters; copies = h.tells.copies };
+    tells =
+        record { at = h.tells.at; ret = h.tells.ret; registers = h.tells.registers; counters = h.tells.counters; copies = h.tells.copies };
     range = record {
       registers = h.range.registers;
       keys = set_bytes here.flat.state.keys port byte h.range.keys small;
@@ -141,7 +143,8 @@ safe_here m tracked x here none beside =
 
 module _ (m : MapView) (seats : List Seat) (tracked : List ℕ) (notes : List Invariant) (map_safe : IsSafeMap m seats tracked notes) where
   -- one that covers what stands for a position
-  stands_by : (x : Invariant) (here : Position) → Covers notes x → IsBeside m x here → seats_of here.copies ≡ seats → Stands m seats tracked notes here
+  stands_by : (x : Invariant) (here : Position) → Covers notes x → IsBeside m x here → seats_of here.copies ≡ seats →
+      Stands m seats tracked notes here
   stands_by x here covers beside chips =
       let above = found_cover notes x covers in
       let higher : IsBeside m above.0 here = record {
@@ -150,7 +153,8 @@ module _ (m : MapView) (seats : List Seat) (tracked : List ℕ) (notes : List In
         range = beside.range;
         fixed = beside.fixed;
       } in
-      let safe = safe_here m tracked above.0 here (from_all (λ (y : Invariant). unsafe_reason m tracked y ≡ None) notes above.0 map_safe.safe above.1) higher in
+      let safe = safe_here m tracked above.0 here
+      (from_all (λ (y : Invariant). unsafe_reason m tracked y ≡ None) notes above.0 map_safe.safe above.1) higher in
       record { note = above.0; is = above.1; op = safe.0; safe = safe.1; chips = chips }
 
   pub at_start : (here : Position) → IsFreeStart m.byte seats here → Stands m seats tracked notes here
@@ -164,7 +168,8 @@ module _ (m : MapView) (seats : List Seat) (tracked : List ℕ) (notes : List In
   -- ---- an instruction
 
   -- what holds at the exit that is taken is beside the position there
-  exit_beside : (x : Invariant) (op : Op) (here : Position) → (safe : IsSafeHere m tracked x op here) → (way : Taken m tracked x op here safe) →
+  exit_beside : (x : Invariant) (op : Op) (here : Position) → (safe : IsSafeHere m tracked x op here) →
+      (way : Taken m tracked x op here safe) →
       IsBeside m (at_exit tracked (state_after op m x) way.exit) (position_after op here)
   exit_beside x op here safe way =
       let i = gets_at op here in
@@ -173,7 +178,8 @@ module _ (m : MapView) (seats : List Seat) (tracked : List ℕ) (notes : List In
         tells = stands m tracked x op here safe way;
         range = range_after op here safe.range (chosen_none m tracked x op here safe) safe.beside.range;
         fixed = λ at byte small is.
-            memory_keeps (row_of op) (seats_of here.copies) i here.flat.state.flow at here.flat.memory (safe.beside.view.stays at byte small is)
+            memory_keeps (row_of op) (seats_of here.copies) i here.flat.state.flow at here.flat.memory
+            (safe.beside.view.stays at byte small is)
             ∙ safe.beside.fixed at byte small is;
       }
 
@@ -182,7 +188,8 @@ module _ (m : MapView) (seats : List Seat) (tracked : List ℕ) (notes : List In
   exit_is_covered here s way =
       let pad = pad_after s.op m s.note (pad_of s.note here s.safe.beside.tells s.safe.beside.range.registers.size) in
       let leads = from_all (LeadsInto m tracked notes) notes s.note map_safe.closed.each s.is in
-      cover_through notes (successors s.op m tracked s.note) _ (leads s.op s.safe.state.is) (exit_covered s.op m tracked s.note way.exit pad way.is)
+      cover_through notes (successors s.op m tracked s.note) _ (leads s.op s.safe.state.is)
+      (exit_covered s.op m tracked s.note way.exit pad way.is)
 
   -- some invariant stands for the position after it, and so before the events behind it
   pub after_stands : (here : Position) → (s : Stands m seats tracked notes here) → Stands m seats tracked notes (position_after s.op here)

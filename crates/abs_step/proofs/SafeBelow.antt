@@ -79,8 +79,10 @@ module _ (m : MapView) (p : Point) (s t : AbstractState) (below : StateBelow s t
       let i = inputs_ordered in
       record {
         registers = results_below op _ _ _ _ _ _ s.registers t.registers
-            (used_below (row_of op) (inputs_at op m (at_point p s)) (inputs_at op m (at_point p t)) i) i.stack_bytes i.counter_bytes below.registers;
-        counters = counters_below (row_of op) (inputs_at op m (at_point p s)) (inputs_at op m (at_point p t)) s.counters t.counters i below.counters;
+            (used_below (row_of op) (inputs_at op m (at_point p s)) (inputs_at op m (at_point p t)) i) i.stack_bytes i.counter_bytes
+            below.registers;
+        counters = counters_below (row_of op) (inputs_at op m (at_point p s)) (inputs_at op m (at_point p t)) s.counters t.counters i
+            below.counters;
       }
 
   pub writes_ordered : AllZip WriteBelow (writes_of op m (at_point p s)) (writes_of op m (at_point p t))
@@ -134,7 +136,8 @@ clear_falls : (x y : Option Bool) → Below x y → Falls (not (is_known_false x
 clear_falls x None p e = absurd (cc)
 clear_falls x (Some y) p e = rw p e
 
-interrupted_falls : (op : Op) (m : MapView) (s t : AbstractState) → StateBelow s t → Falls (may_be_interrupted op m s) (may_be_interrupted op m t)
+interrupted_falls : (op : Op) (m : MapView) (s t : AbstractState) → StateBelow s t →
+    Falls (may_be_interrupted op m s) (may_be_interrupted op m t)
 interrupted_falls op m s t h = and_falls _ m.wired _ m.wired
     (and_falls (not (is_shielding op)) _ (not (is_shielding op)) _ (same_falls (not (is_shielding op)))
     (clear_falls s.registers.status.icb t.registers.status.icb h.registers.status.icb)) (same_falls m.wired)
@@ -160,7 +163,8 @@ safe_of m tracked x op h =
     let later : first_reason (reasons op m tracked x) ≡ None = first_none _ (none_both _ _ h.operands h.later) in
     rw (code, h.is) later
 
-pub safe_below : (m : MapView) (seats : List Seat) (tracked : List ℕ) (p : Point) (s t : AbstractState) (op : Op) → IsViewOf m seats → StateBelow s t →
+pub safe_below : (m : MapView) (seats : List Seat) (tracked : List ℕ) (p : Point) (s t : AbstractState) (op : Op) → IsViewOf m seats →
+    StateBelow s t →
     ForSome s.counters.d0 (λ at. at < 65536) → IsSafeState m tracked (at_point p t) op → IsSafeState m tracked (at_point p s) op
 safe_below m seats tracked p s t op view h small safe =
     let l = safe.later in
@@ -199,7 +203,8 @@ safe_below m seats tracked p s t op view h small safe =
       );
     }
 
-pub reason_below : (m : MapView) (seats : List Seat) (tracked : List ℕ) (p : Point) (s t : AbstractState) → IsViewOf m seats → StateBelow s t →
+pub reason_below : (m : MapView) (seats : List Seat) (tracked : List ℕ) (p : Point) (s t : AbstractState) → IsViewOf m seats →
+    StateBelow s t →
     ForSome s.counters.d0 (λ at. at < 65536) → unsafe_reason m tracked (at_point p t) ≡ None → unsafe_reason m tracked (at_point p s) ≡ None
 reason_below m seats tracked p s t view h small none =
     let safe = safe_state m tracked (at_point p t) none in
@@ -208,7 +213,8 @@ reason_below m seats tracked p s t view h small none =
 -- ---- free of faults
 
 -- an address that is held is held by some kind of chip
-held_by_kind : (m : MapView) (ss : List Seat) (at : ℕ) → at < 65536 → AllByRecursion (IsMapped m) ss → SomeOf (λ (s : Seat). seat_holds s at ≡ true) ss →
+held_by_kind : (m : MapView) (ss : List Seat) (at : ℕ) → at < 65536 → AllByRecursion (IsMapped m) ss →
+    SomeOf (λ (s : Seat). seat_holds s at ≡ true) ss →
     (m.held at Smi ≡ true) ⊎ ((m.held at Psu ≡ true) × (m.any Psu ≡ true))
 held_by_kind m [] at small mapped some = absurd some
 held_by_kind m (s ∷ ss) at small mapped (inl holds) = by s.kind refl
@@ -243,7 +249,8 @@ fact_of : (p0 q0 : Bool) → FactBelow p0 q0 → q0 ≡ true → p0 ≡ true
 fact_of p0 true p e = p
 fact_of p0 false p e = absurd (cc)
 
-answered_below : (m : MapView) (seats : List Seat) (x y : Option ℕ) (p0 q0 : Bool) → IsViewOf m seats → ForSome x (λ at. at < 65536) → Below x y →
+answered_below : (m : MapView) (seats : List Seat) (x y : Option ℕ) (p0 q0 : Bool) → IsViewOf m seats → ForSome x (λ at. at < 65536) →
+    Below x y →
     FactBelow p0 q0 → is_answered m y q0 ≡ true → is_answered m x p0 ≡ true
 answered_below m seats x (Some at) p0 q0 view small p fact e = rw p (some_kind (m.held at Smi) (m.held at Psu) p0 q0 fact e)
 answered_below m seats None None p0 q0 view small p fact e = some_every (holds_every_address m) (m.any Psu) p0 q0 fact e

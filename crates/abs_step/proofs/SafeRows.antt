@@ -9,7 +9,8 @@ use Rattle.f8_spec.specs.BusArbitration.{rule_of}
 use Rattle.f8_spec.specs.declared.bus.BusRule.TheVariants.{Read}
 use Rattle.f8_spec.specs.declared.instructions.Row.{Row}
 use Rattle.f8_spec.specs.declared.instructions.Row.TheVariants.{StackToK, DataToPair, ReadData, StoreData, Return, Immediate}
-use Rattle.f8_spec.specs.declared.instructions.Row.TheVariants.{PortIn, PortOut, Call, Jump, LoadData, Branch, BranchIsar, ShortIn, ShortOut}
+use Rattle.f8_spec.specs.declared.instructions.Row.TheVariants.{PortIn, PortOut, Call, Jump, LoadData}
+use Rattle.f8_spec.specs.declared.instructions.Row.TheVariants.{Branch, BranchIsar, ShortIn, ShortOut}
 use Rattle.console_spec.specs.Processor.{Flow, Inputs, flow_after, counters_after}
 use Rattle.console_spec.specs.CounterCopies.{Copy}
 use Rattle.console_spec.specs.FlatMemory.{sort_of}
@@ -70,10 +71,12 @@ holds_if_known (Some v) e h = h
 -- ---- the last fetch
 
 -- without an interrupt the counters are those of the instruction's own table
-pub uninterrupted : (row : Row) (i : Inputs) (second : Bool) (c : Flow) → i.chosen ≡ None → counters_after row i second c ≡ flow_after row i second c
+pub uninterrupted : (row : Row) (i : Inputs) (second : Bool) (c : Flow) → i.chosen ≡ None →
+    counters_after row i second c ≡ flow_after row i second c
 uninterrupted row i second c none = rw none refl
 
-module _ (Q : Option Fault → Type 0) (q : Lasts Q) (m : MapView) (ret : Option ℕ) (k : KnownCounters) (i : Inputs) (r : Flow) (cs : List Copy) where
+module _ (Q : Option Fault → Type 0) (q : Lasts Q) (m : MapView) (ret : Option ℕ) (k : KnownCounters) (i : Inputs) (r : Flow)
+    (cs : List Copy) where
   back_at_return : (row : Row) → return_is_unset row ret ≡ false → (c : Copy) → IsTold m ret k r c → row ≡ Return → c.flow.p1 ≡ r.p1
   back_at_return row set c h is =
       let here : return_is_unset Return ret ≡ false = rw is at set in
@@ -124,13 +127,15 @@ module _ (Q : Option Fault → Type 0) (q : Lasts Q) (m : MapView) (ret : Option
           let same : v ≡ r.p1 = cc in
           held_once r.p1 h.stack_small h.view (rw same at held)
 
-  port_read : (port : ℕ) → port < 256 → IsViewOf m (seats_of cs) → not (m.readers port == 1) ≡ false → access_fault r cs (at_port 0x1B port) ≡ None
+  port_read : (port : ℕ) → port < 256 → IsViewOf m (seats_of cs) → not (m.readers port == 1) ≡ false →
+      access_fault r cs (at_port 0x1B port) ≡ None
   port_read port small view good =
       let one = is_not _ good in
       let v = port_read_served 0x1B port 0 cs refl (rw (view.readers port small) at one) in
       rw v.1 refl
 
-  port_write : (port : ℕ) → port < 256 → IsViewOf m (seats_of cs) → nat_le 2 (m.takers port) ≡ false → access_fault r cs (at_port 0x1A port) ≡ None
+  port_write : (port : ℕ) → port < 256 → IsViewOf m (seats_of cs) → nat_le 2 (m.takers port) ≡ false →
+      access_fault r cs (at_port 0x1A port) ≡ None
   port_write port small view good =
       let v = port_write_served 0x1A port 0 cs refl (rw (view.takers port small) at good) in
       rw v.1 refl

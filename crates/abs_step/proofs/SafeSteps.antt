@@ -43,7 +43,8 @@ smi_fact true true false rest e g a = absurd (cc)
 smi_fact false any false rest e g a = absurd (cc)
 smi_fact true false false rest e g a = absurd (cc)
 
-psu_fact : (first reads any p0 may : Bool) → (first || (reads && any && not p0 && may)) ≡ false → reads ≡ true → any ≡ true → may ≡ true → p0 ≡ true
+psu_fact : (first reads any p0 may : Bool) → (first || (reads && any && not p0 && may)) ≡ false → reads ≡ true → any ≡ true → may ≡ true →
+    p0 ≡ true
 psu_fact first reads any true may e r a m = refl
 psu_fact true reads any false may e r a m = absurd (cc)
 psu_fact false true true false true e r a m = absurd (cc)

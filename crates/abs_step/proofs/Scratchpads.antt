@@ -36,7 +36,8 @@ target_below field k l p = by (nat_lt field 12)
 pub register_below : (number : ℕ) (k l : KnownRegisters) → RegistersBelow k l → Below (known_register number k) (known_register number l)
 register_below number k l p = below_at number k.scratchpad l.scratchpad p.scratchpad
 
-pub read_below : (t u : Target) (xs ys : List (Option ℕ)) → TargetBelow t u → AllZip Below xs ys → Below (read_target t xs) (read_target u ys)
+pub read_below : (t u : Target) (xs ys : List (Option ℕ)) → TargetBelow t u → AllZip Below xs ys →
+    Below (read_target t xs) (read_target u ys)
 read_below t u xs ys p q =
     below_and_then (λ number. slice_index_or xs number None) (λ number. slice_index_or ys number None) (target_number t) (target_number u)
     (λ number. below_at number xs ys q) (below_lift2 _ t.high u.high t.low u.low p.high p.low)

@@ -12,7 +12,8 @@ use Rattle.console_spec.specs.Services.{Fault}
 use Rattle.console_spec.specs.Run.{Position, Turn, Goes, Done, Ending, opcode_at, instruction_fault, position_after, next}
 use Rattle.console_spec.specs.Run.{decided, goes_unless, position_after_reset, reset_fault}
 use Rattle.console_spec.specs.Scripts.{Script, events_at, most_instructions}
-use Rattle.console_spec.specs.Telling.{Telling, Moment, with_events, is_over, fallen, events_fallen, events_behind, moment_of, telling_on, telling}
+use Rattle.console_spec.specs.Telling.{Telling, Moment, with_events, is_over, fallen}
+use Rattle.console_spec.specs.Telling.{events_fallen, events_behind, moment_of, telling_on, telling}
 use Rattle.console_spec.specs.Telling.{on_rack, begun, telling_behind, played_by}
 use Rattle.console_spec.specs.declared.At.{At}
 use Rattle.console_spec.specs.declared.Event.{Event}
@@ -68,18 +69,22 @@ module _ (bytes : ℕ → Option ℕ) (seats : List Seat) (claim : Position → 
       (λ es small none. telling_ends n (suc k) (with_events es (position_after g.op x)) (x, g.op, es, h, g.is, none, small, refl)))
     where
       by : (b : Bool) →
-          EndsBy claim (telling_on script x (moment_of (on_rack traced) script x (next x)) (λ z. telling (on_rack traced) script n z) (next x)).ending →
+          EndsBy claim
+          (telling_on script x (moment_of (on_rack traced) script x (next x)) (λ z. telling (on_rack traced) script n z) (next x)).ending →
           EndsBy claim (if b then record { moments = []; ending = record { position = x; stop = Done } }
-          else telling_on script x (moment_of (on_rack traced) script x (next x)) (λ z. telling (on_rack traced) script n z) (next x)).ending
+          else telling_on script x (moment_of (on_rack traced) script x (next x)) (λ z. telling (on_rack traced) script n z)
+          (next x)).ending
       by true later = inl refl
       by false later = later
 
 -- ---- whole runs
 
-module _ (m : MapView) (tracked : List ℕ) (notes : List Invariant) (vs : List ChipView) (chain : List ℕ) (powers : List PowerOn) (traced : Bool)
-    (script : Script) (safe : IsSafeMap m (map seat_of vs) tracked notes) (are : ArePowers powers) (for : IsScriptFor m.byte vs script) where
+module _ (m : MapView) (tracked : List ℕ) (notes : List Invariant) (vs : List ChipView) (chain : List ℕ) (powers : List PowerOn)
+    (traced : Bool) (script : Script) (safe : IsSafeMap m (map seat_of vs) tracked notes) (are : ArePowers powers)
+    (for : IsScriptFor m.byte vs script) where
   reset_goes : reset_fault (begun vs chain powers script) ≡ None
-  reset_goes = soundness.reset m (map seat_of vs) tracked notes safe (begun vs chain powers script) (begun_free m.byte vs chain powers script are for)
+  reset_goes = soundness.reset m (map seat_of vs) tracked notes safe (begun vs chain powers script)
+      (begun_free m.byte vs chain powers script are for)
 
   whole_ends : (claim : Position → Option Fault → Type 0) →
       ((n : ℕ) (here : Position) → IsReached m.byte (map seat_of vs) n here → GoesOn (claim here) here) →
@@ -91,7 +96,8 @@ module _ (m : MapView) (tracked : List ℕ) (notes : List Invariant) (vs : List 
       let later : EndsBy claim (rest (position_after_reset x)).ending =
       telling_ends m.byte (map seat_of vs) claim each traced script for.events (most_instructions script.end) 0 (position_after_reset x)
       (reset_free m.byte (map seat_of vs) x (begun_free m.byte vs chain powers script are for)) in
-      subst (λ (f : Option Fault). EndsBy claim (telling_behind x rest (goes_unless f (position_after_reset x))).ending) (sym reset_goes) later
+      subst (λ (f : Option Fault). EndsBy claim (telling_behind x rest (goes_unless f (position_after_reset x))).ending) (sym reset_goes)
+      later
 
 done_of : (e : Ending) → EndsBy (λ here fault. fault ≡ None) e → e.stop ≡ Done
 done_of e (inl is_done) = is_done
@@ -100,7 +106,8 @@ done_of e (inr (fault, is, none)) = absurd (cc)
 pub script_runs : ScriptRunLaw
 script_runs = record {
   sound = λ m tracked notes vs chain powers traced script safe are script_for.
-      whole_ends m tracked notes vs chain powers traced script safe are script_for (λ here fault. OnlyUndriven here.flat.state.flow.d0 fault)
+      whole_ends m tracked notes vs chain powers traced script safe are script_for
+      (λ here fault. OnlyUndriven here.flat.state.flow.d0 fault)
       (λ n here h. soundness.sound m (map seat_of vs) tracked notes safe n here h);
   fault_free = λ m tracked notes vs chain powers traced script safe free are script_for.
       done_of (played_by vs chain powers traced script).ending

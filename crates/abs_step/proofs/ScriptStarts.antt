@@ -8,7 +8,8 @@ use Rattle.f8_spec.specs.Powers.{ArePowers}
 use Rattle.f8_spec.specs.declared.chips.PowerOn.{PowerOn}
 use Rattle.f8_spec.specs.BusArbitration.{Seat, seat_of}
 use Rattle.console_spec.specs.AddressSpace.{byte_at}
-use Rattle.console_spec.specs.FlatMemory.{sort_of, owner_of, fixed_byte, fixed_byte_by, fill_of_owner, first_byte, first_byte_by, first_memory}
+use Rattle.console_spec.specs.FlatMemory.{sort_of, owner_of, fixed_byte, fixed_byte_by}
+use Rattle.console_spec.specs.FlatMemory.{fill_of_owner, first_byte, first_byte_by, first_memory}
 use Rattle.console_spec.specs.Powering.{fill_in, start_in}
 use Rattle.console_spec.specs.CounterCopies.{Copy, reset_copy}
 use Rattle.console_spec.specs.Run.{Position, seats_of, pulse_in, power_position, position_after_reset}
@@ -53,7 +54,8 @@ all_small f a zero at each = omega arith
 all_small f a (suc n) zero each = each a (omega arith) (omega arith)
 all_small f a (suc n) (suc at) each = all_small f (a + 1) n at (λ x from small. each x (omega (arith, from)) (omega (arith, small)))
 
-memory_small : (vs : List ChipView) (fill : ℕ → ℕ) (at : ℕ) → ((x : ℕ) → x < 65536 → first_byte vs fill x < 256) → byte_at (first_memory vs fill) at < 256
+memory_small : (vs : List ChipView) (fill : ℕ → ℕ) (at : ℕ) → ((x : ℕ) → x < 65536 → first_byte vs fill x < 256) →
+    byte_at (first_memory vs fill) at < 256
 unfolding first_memory
 memory_small vs fill at each = all_small (first_byte vs fill) 0 65536 at (λ x from small. each x (omega (arith, small)))
 
@@ -101,7 +103,8 @@ module _ (bytes : ℕ → Option ℕ) (vs : List ChipView) (chain : List ℕ) (p
     acknowledged = refl;
     chips = copies_seats starts 0 (map seat_of vs);
     fixed = λ at byte small is. memory_fixed vs fills at small
-        ∙ first_fixed (sort_of (map seat_of vs) at) (fill_of_owner fills (owner_of (map seat_of vs) at)) byte _ (for.fixed at byte small is);
+        ∙ first_fixed (sort_of (map seat_of vs) at) (fill_of_owner fills (owner_of (map seat_of vs) at)) byte _
+        (for.fixed at byte small is);
     copies = copies_begin starts 0 (map seat_of vs);
     range = record {
       registers = record {
@@ -113,7 +116,8 @@ module _ (bytes : ℕ → Option ℕ) (vs : List ChipView) (chain : List ℕ) (p
       keys = same_bytes 256 0 (omega arith);
       writes = tt;
       memory = λ at. memory_small vs fills at
-          (λ x small. first_small (sort_of (map seat_of vs) x) (fill_of_owner fills (owner_of (map seat_of vs) x)) (fixed_byte vs x) (owned x)
+          (λ x small. first_small (sort_of (map seat_of vs) x) (fill_of_owner fills (owner_of (map seat_of vs) x)) (fixed_byte vs x)
+          (owned x)
           (λ byte is. for.held x byte small is));
       counters = record { p = omega arith; p1 = omega arith; d0 = omega arith; d1 = omega arith };
       copies = copies_small starts 0 (map seat_of vs) (start_small script.power chain powers are);
@@ -171,7 +175,8 @@ events_free bytes seats (e ∷ es) here small h =
     events_free bytes seats es (with_event e here) small.1 (event_free bytes seats e here small.0 h)
 
 -- the events of a frame have bytes where all have
-pub events_small : (frame : ℕ) (events : List At) → AllByRecursion (λ (a : At). HasByte a.event) events → AllByRecursion HasByte (events_at frame events)
+pub events_small : (frame : ℕ) (events : List At) → AllByRecursion (λ (a : At). HasByte a.event) events →
+    AllByRecursion HasByte (events_at frame events)
 events_small frame [] h = tt
 events_small frame (a ∷ later) h = by (a.frame == frame) (events_small frame later h.1)
   where
@@ -183,7 +188,8 @@ events_small frame (a ∷ later) h = by (a.frame == frame) (events_small frame l
 pub begun_free : (bytes : ℕ → Option ℕ) (vs : List ChipView) (chain : List ℕ) (powers : List PowerOn) (script : Script) → ArePowers powers →
     IsScriptFor bytes vs script → IsFreeStart bytes (map seat_of vs) (begun vs chain powers script)
 begun_free bytes vs chain powers script are for =
-    events_free bytes (map seat_of vs) (events_at 0 script.events) (power_position vs chain powers script.power) (events_small 0 script.events for.events)
+    events_free bytes (map seat_of vs) (events_at 0 script.events) (power_position vs chain powers script.power)
+    (events_small 0 script.events for.events)
     (power_free bytes vs chain powers script are for)
 
 pub reset_free : (bytes : ℕ → Option ℕ) (seats : List Seat) (here : Position) → IsFreeStart bytes seats here →

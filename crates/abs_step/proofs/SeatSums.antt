@@ -35,7 +35,8 @@ module _ {M : Type 0} (t : Tally M) where
 
   pub same_total : {chips sockets : List Seat} → AreSeated chips sockets → total sockets ≡ total chips
   same_total none_left = refl
-  same_total (blank {chips} {sockets} {s} is later) = ap (λ x. t.plus x (total sockets)) (t.blank s is) ∙ t.left (total sockets) ∙ same_total later
+  same_total (blank {chips} {sockets} {s} is later) =
+      ap (λ x. t.plus x (total sockets)) (t.blank s is) ∙ t.left (total sockets) ∙ same_total later
   same_total (chip before after {sockets} {s} later) = ap (t.plus (t.of s)) (same_total later) ∙ sym (taken_out before s after)
 
 -- ---- whether some chip passes a test, how many do, and what an address is

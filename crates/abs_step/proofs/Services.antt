@@ -48,7 +48,8 @@ pub record IsAt (a : Access) (r : Flow) (c : Copy) : Type 0 where
   pub counted : HoldsByCounters c.seat
 
 -- the place of a chip that has counters goes by them
-own_at : (a : Access) (c : Copy) → has_counters c.seat.kind ≡ true → own_place a c.seat.kind c.flow ≡ a.place (has_second_counter c.seat.kind) c.flow
+own_at : (a : Access) (c : Copy) → has_counters c.seat.kind ≡ true →
+    own_place a c.seat.kind c.flow ≡ a.place (has_second_counter c.seat.kind) c.flow
 own_at a c has = rw has refl
 
 served : (r : Flow) (cs : List Copy) (a : Access) → rule_of a.romc ≡ Read →
@@ -101,10 +102,12 @@ there_by Psu m k r c s is mapped alike small t holds =
 there_by Smi m k r c s is mapped alike small t holds =
     let any : m.any s.kind ≡ true = mapped.any c.d0 holds in
     holds_if k.s0 (alike.smi (rw is at any)) t.first
-there_by Pio m k r c s is mapped alike small t holds = let has : has_counters s.kind ≡ true = mapped.counted c.d0 holds in absurd (cc (rw is at has))
+there_by Pio m k r c s is mapped alike small t holds =
+    let has : has_counters s.kind ≡ true = mapped.counted c.d0 holds in absurd (cc (rw is at has))
 
 -- a chip that has RAM somewhere
-ram_by : (kind : ChipKind) (m : MapView) (k : KnownCounters) (r c : Flow) (s : Seat) (at : ℕ) → s.kind ≡ kind → IsMapped m s → StoresAlike m k →
+ram_by : (kind : ChipKind) (m : MapView) (k : KnownCounters) (r c : Flow) (s : Seat) (at : ℕ) → s.kind ≡ kind → IsMapped m s →
+    StoresAlike m k →
     ChipTells kind k r c → seat_has_ram s at ≡ true → c.d0 ≡ r.d0
 ram_by Psu m k r c s at is mapped alike t ram = let smi : s.kind ≡ Smi = mapped.ram at ram in absurd (cc)
 ram_by Smi m k r c s at is mapped alike t ram =
@@ -135,7 +138,8 @@ pub data_read : (m : MapView) (ret : Option ℕ) (k : KnownCounters) (r : Flow) 
     ReadsAlike m k → AllByRecursion (IsTold m ret k r) cs → (sort_of (seats_of cs) r.d0 ≡ Shared → ⊥) →
     DataOutcome romc r.d0 (access_fault r cs (at_data romc))
 data_read m ret k r romc cs rule alike told unshared = outcome_of r cs romc rule
-    (read_outcome r.d0 0 _ (read_there m ret k r romc cs alike told) (one_would_read (at_data romc) r.d0 cs (held_by_one r.d0 (seats_of cs) unshared)))
+    (read_outcome r.d0 0 _ (read_there m ret k r romc cs alike told)
+    (one_would_read (at_data romc) r.d0 cs (held_by_one r.d0 (seats_of cs) unshared)))
 
 -- a copy that is at D0, where its chip holds it
 abbrev pub Answers : Flow → Copy → Type 0
@@ -145,7 +149,8 @@ pub data_read_served : (m : MapView) (ret : Option ℕ) (k : KnownCounters) (r :
     ReadsAlike m k → AllByRecursion (IsTold m ret k r) cs → (sort_of (seats_of cs) r.d0 ≡ Shared → ⊥) → SomeOf (Answers r) cs →
     access_fault r cs (at_data romc) ≡ None
 data_read_served m ret k r romc cs rule alike told unshared some = served r cs (at_data romc) rule
-    (read_served r.d0 0 _ (read_there m ret k r romc cs alike told) (one_would_read (at_data romc) r.d0 cs (held_by_one r.d0 (seats_of cs) unshared))
+    (read_served r.d0 0 _ (read_there m ret k r romc cs alike told)
+    (one_would_read (at_data romc) r.d0 cs (held_by_one r.d0 (seats_of cs) unshared))
     (some_mapped (placed_copy (at_data romc)) _ cs (some_map (Answers r) _ cs
     (all_map _ _ cs (λ c h answer. rw (own_at (at_data romc) c (h.mapped.counted r.d0 answer.0), answer.1) answer.0) told) some)))
 

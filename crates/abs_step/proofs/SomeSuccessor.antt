@@ -11,7 +11,8 @@ use Rattle.abs_domain.specs.AbstractState.{AbstractState}
 use Rattle.abs_domain.specs.Joins.{joined_state}
 use Rattle.abs_step.specs.KnownFlow.{KnownInputs, Exit, exit_to, branch_exits, exits}
 use Rattle.abs_step.specs.MapView.{view_of}
-use Rattle.abs_step.specs.Successors.{Invariant, inputs_at, state_after, exits_of, at_exit, along, same_point, with_invariant, with_invariants, successors}
+use Rattle.abs_step.specs.Successors.{Invariant, inputs_at, state_after, exits_of, at_exit}
+use Rattle.abs_step.specs.Successors.{along, same_point, with_invariant, with_invariants, successors}
 use Rattle.abs_step.specs.Safety.{first_reason, reasons}
 use Rattle.abs_step.proofs.ExitLaws.{is_ready}
 use Rattle.abs_step.proofs.MapViews.{byte_told}
@@ -59,7 +60,8 @@ some_kept : (xs done : List Invariant) → 0 < length done → 0 < length (with_
 some_kept [] done some = some
 some_kept (x ∷ xs) done some = some_kept xs (with_invariant x done) (some_with x done)
 
-some_along : (tracked : List ℕ) (s : AbstractState) (es : List Exit) → 0 < length es → 0 < length (with_invariants (flat_map (along tracked s) es) [])
+some_along : (tracked : List ℕ) (s : AbstractState) (es : List Exit) → 0 < length es →
+    0 < length (with_invariants (flat_map (along tracked s) es) [])
 some_along tracked s [] some = absurd (omega arith)
 some_along tracked s (e ∷ es) some = some_kept (flat_map (along tracked s) es) (at_exit tracked s e ∷ []) (omega arith)
 

@@ -72,7 +72,8 @@ module _ (m : MapView) (seats : List Seat) (tracked : List ℕ) (notes : List In
 
   -- an instruction goes on, with whatever is claimed of reads at D0
   goes_on : (Q : Option Fault → Type 0) → Lasts Q → (here : Position) → (s : Stands m seats tracked notes here) →
-      (reads_at_data (row_of s.op) ≡ true → (romc : ℕ) → IsDataRead romc → Q (access_fault here.flat.state.flow here.copies (at_data romc))) →
+      (reads_at_data (row_of s.op) ≡ true → (romc : ℕ) → IsDataRead romc →
+      Q (access_fault here.flat.state.flow here.copies (at_data romc))) →
       GoesOn Q here
   goes_on Q lasts here s reads = record {
     op = s.op;

@@ -44,7 +44,8 @@ told_at : (m : MapView) (x : Invariant) (here : Position) → IsBeside m x here 
     Below (Some (byte_at here.flat.memory at)) (m.byte at)
 told_at m x here h at small = told_byte (m.byte at) (byte_at here.flat.memory at) (λ b is. h.fixed at b small is)
 
-told_through : (m : MapView) (x : Invariant) (here : Position) → IsBeside m x here → (at : ℕ) (o : Option ℕ) → at < 65536 → Below (Some at) o →
+told_through : (m : MapView) (x : Invariant) (here : Position) → IsBeside m x here → (at : ℕ) (o : Option ℕ) → at < 65536 →
+    Below (Some at) o →
     Below (Some (byte_at here.flat.memory at)) (option_and_then m.byte o)
 told_through m x here h at None small p = tt
 told_through m x here h at (Some v) small p =
@@ -73,7 +74,8 @@ unfolding own_inputs
 inputs_tell op m x here h =
     let registers = here.flat.state.registers in
     let told = h.tells.registers in
-    let known = λ (n : ℕ). below_trans _ _ _ (register_whole n registers) (register_below n (whole_registers registers) x.state.registers told) in
+    let known =
+    λ (n : ℕ). below_trans _ _ _ (register_whole n registers) (register_below n (whole_registers registers) x.state.registers told) in
     record {
       taken = taken_tells op registers x.state.registers told;
       operand = rw h.tells.at (told_at m x here h (places_on x.point.at 1) (omega arith));
@@ -115,7 +117,8 @@ third true e = e
 third false e = refl
 
 -- the instruction shields its end, or interrupts are off after it, or no chip can ask
-pub not_chosen : (op : Op) (m : MapView) (after : AbstractState) (icb : Bool) (seats : List Seat) (chain : List ℕ) (h : History) (time : ℕ) →
+pub not_chosen : (op : Op) (m : MapView) (after : AbstractState) (icb : Bool) (seats : List Seat) (chain : List ℕ) (h : History)
+    (time : ℕ) →
     may_be_interrupted op m after ≡ false → Below (Some icb) after.registers.status.icb → m.wired ≡ list_any (λ s. s.wired) seats →
     chosen_at op icb seats chain h time ≡ None
 unfolding chosen_at

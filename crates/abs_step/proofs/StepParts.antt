@@ -19,7 +19,8 @@ first_left : (rs ss : List (Bool × Reason)) (reason : Reason) → first_reason 
 first_left [] ss reason is = absurd (cc)
 first_left (r ∷ rs) ss reason is = by r.0 is (first_left rs ss reason)
   where
-    by : (b : Bool) → (if b then Some r.1 else first_reason rs) ≡ Some reason → (first_reason rs ≡ Some reason → first_reason (rs ++ ss) ≡ Some reason) →
+    by : (b : Bool) → (if b then Some r.1 else first_reason rs) ≡ Some reason →
+        (first_reason rs ≡ Some reason → first_reason (rs ++ ss) ≡ Some reason) →
         (if b then Some r.1 else first_reason (rs ++ ss)) ≡ Some reason
     by true here later = here
     by false here later = later here
@@ -28,7 +29,8 @@ first_right : (rs ss : List (Bool × Reason)) → first_reason rs ≡ None → f
 first_right [] ss none = refl
 first_right (r ∷ rs) ss none = by r.0 none (first_right rs ss)
   where
-    by : (b : Bool) → (if b then Some r.1 else first_reason rs) ≡ None → (first_reason rs ≡ None → first_reason (rs ++ ss) ≡ first_reason ss) →
+    by : (b : Bool) → (if b then Some r.1 else first_reason rs) ≡ None →
+        (first_reason rs ≡ None → first_reason (rs ++ ss) ≡ first_reason ss) →
         (if b then Some r.1 else first_reason (rs ++ ss)) ≡ first_reason ss
     by true here later = absurd (cc)
     by false here later = later here
@@ -49,7 +51,8 @@ pub known_at : (op : Op) (m : MapView) (x : Invariant) (i : KnownInputs) (k : Kn
 known_at op m x i k l registers counters inputs =
     record { inputs = inputs ∙ rw (registers, counters) refl; registers = registers; counters = counters }
 
-pub stepped_to : (op : Op) (i : KnownInputs) (k : KnownRegisters) (ws : List RegisterWrite) (r : KnownRegisters) (row : Row) (byte : Option ℕ) →
+pub stepped_to : (op : Op) (i : KnownInputs) (k : KnownRegisters) (ws : List RegisterWrite) (r : KnownRegisters) (row : Row)
+    (byte : Option ℕ) →
     ws ≡ register_writes op i.stack_bytes i.counter_bytes k → row ≡ row_of op → byte ≡ known_used_byte row i →
     r ≡ record (known_effect op byte k) { scratchpad = written_all ws k.scratchpad } → SteppedTo op i k ws r
 stepped_to op i k ws r row byte writes row_is byte_is registers =
@@ -62,7 +65,8 @@ module _ (op : Op) (m : MapView) (tracked : List ℕ) (x : Invariant) where
   abbrev behind : List (Bool × Reason)
   behind = reasons_after op m tracked (state_after op m x).registers.status.icb x.state.counters.d0 (writes_of op m x)
 
-  pub by_operands : (reason : Reason) → first_reason (operand_reasons (length_of op) m x.point.at) ≡ Some reason → first_reason (reasons op m tracked x) ≡ Some reason
+  pub by_operands : (reason : Reason) → first_reason (operand_reasons (length_of op) m x.point.at) ≡ Some reason →
+      first_reason (reasons op m tracked x) ≡ Some reason
   unfolding reasons
   by_operands reason is = first_left (operand_reasons (length_of op) m x.point.at) (later_reasons op m tracked x) reason is
 
@@ -95,7 +99,8 @@ module _ (op : Op) (m : MapView) (tracked : List ℕ) (x : Invariant) where
           rw (icb_is, registers_are, writes_are, known.counters) refl in
           later none ∙ first_right before behind (sym same_before ∙ none_before) ∙ sym same ∙ is
 
-      pub next_are : (ls : KnownCounters) (es : List Exit) → ls ≡ known_counters (row_of op) i l → es ≡ exits (row_of op) i x.point.at x.point.ret →
+      pub next_are : (ls : KnownCounters) (es : List Exit) → ls ≡ known_counters (row_of op) i l →
+          es ≡ exits (row_of op) i x.point.at x.point.ret →
           joined_along tracked r ls es ≡ successors op m tracked x
       unfolding successors
       next_are ls es counters_are exits_are =

@@ -143,13 +143,15 @@ module _ (tracked : List ℕ) (s t : AbstractState) (fs : List Exit) (notes : Li
       first_below notes (at_exit tracked t f) (at_exit tracked s e) point below (covered f (within f (inl refl)))
   match_covered e (f ∷ gs) within (inr later) = match_covered e gs (λ g is. within g (inr is)) later
 
-  along_covered : (es : List Exit) → Matched (ExitBelow Same (λ v. refl)) es fs → AllByRecursion (FirstCovers notes) (flat_map (along tracked s) es)
+  along_covered : (es : List Exit) → Matched (ExitBelow Same (λ v. refl)) es fs →
+      AllByRecursion (FirstCovers notes) (flat_map (along tracked s) es)
   along_covered [] h = tt
   along_covered (e ∷ es) h = (match_covered e fs (λ f is. is) h.0, along_covered es h.1)
 
 module _ (m : MapView) (seats : List Seat) (tracked : List ℕ) (p : Point) (s t : AbstractState) (view : IsViewOf m seats)
     (ordered : IsOrdered tracked p s t) (op : Op) (safe : IsSafeState m tracked (at_point p t) op) where
-  same_after : tracked_bytes tracked (state_after op m (at_point p s)).registers ≡ tracked_bytes tracked (state_after op m (at_point p t)).registers
+  same_after : tracked_bytes tracked (state_after op m (at_point p s)).registers
+      ≡ tracked_bytes tracked (state_after op m (at_point p t)).registers
   same_after = tracked_after tracked s.registers t.registers (writes_of op m (at_point p s)) (writes_of op m (at_point p t))
       (writes_ordered m p s t ordered.below op) ordered.below.registers.scratchpad safe.later.1.1.1.1.1.1.1.1.0
       (sym ordered.lower_fits ∙ ordered.upper_fits)
@@ -158,19 +160,23 @@ module _ (m : MapView) (seats : List Seat) (tracked : List ℕ) (p : Point) (s t
       FirstCovers (successors op m tracked (at_point p t)) (at_exit tracked (state_after op m (at_point p t)) f)
   unfolding successors
   upper_covered f is = all_first_added (all_along op m tracked (at_point p t)) [] _
-      (pads_along tracked (state_after op m (at_point p t)) (exits_of op m (at_point p t)) (pad_after op m (at_point p t) ordered.scratchpad)) tt
+      (pads_along tracked (state_after op m (at_point p t)) (exits_of op m (at_point p t))
+      (pad_after op m (at_point p t) ordered.scratchpad)) tt
       (in_along tracked (state_after op m (at_point p t)) f (exits_of op m (at_point p t)) is)
 
   successors_covered : AllByRecursion (Covers (successors op m tracked (at_point p t))) (successors op m tracked (at_point p s))
   unfolding successors
   successors_covered =
       let upper = successors op m tracked (at_point p t) in
-      let matched = exits_below (λ (x y : Option ℕ). x ≡ y) (λ v. refl) (row_of op) (inputs_at op m (at_point p s)) (inputs_at op m (at_point p t))
+      let matched =
+      exits_below (λ (x y : Option ℕ). x ≡ y) (λ v. refl) (row_of op) (inputs_at op m (at_point p s)) (inputs_at op m (at_point p t))
       p.at p.ret p.ret (inputs_ordered m p s t ordered.below op) (below_refl p.ret) refl
       (ready m view.told tracked (at_point p t) op safe.operands safe.later) in
-      let each = along_covered tracked (state_after op m (at_point p s)) (state_after op m (at_point p t)) (exits_of op m (at_point p t)) upper
+      let each =
+      along_covered tracked (state_after op m (at_point p s)) (state_after op m (at_point p t)) (exits_of op m (at_point p t)) upper
       (after_ordered m p s t ordered.below op) same_after upper_covered (exits_of op m (at_point p s)) matched in
-      all_map (FirstCovers upper) (Covers upper) _ (λ y h. first_covers upper y h) (all_covered upper (all_along op m tracked (at_point p s)) [] each tt)
+      all_map (FirstCovers upper) (Covers upper) _ (λ y h. first_covers upper y h)
+      (all_covered upper (all_along op m tracked (at_point p s)) [] each tt)
 
 -- ---- the law
 

@@ -1,5 +1,6 @@
 -- Points have what their states know of the tracked registers.
-use Rattle.std.proofs.Common.{◌≡◌, ℕ, zero, suc, ◌+◌, Bool, true, false, List, [], ◌∷◌, length, map, replicate, refl, sym, ◌∙◌, subst, arith}
+use Rattle.std.proofs.Common.{◌≡◌, ℕ, zero, suc, ◌+◌, Bool, true, false, List, []}
+use Rattle.std.proofs.Common.{◌∷◌, length, map, replicate, refl, sym, ◌∙◌, subst, arith}
 use Rattle.std.specs.Prelude.{Option, Some, None, slice_get, slice_index_or, option_and_then, if◌then◌else◌, ◌==◌, flat_map}
 use Rattle.std.specs.List.{AllByRecursion, range_with_len}
 use Rattle.std.proofs.lemmas.Bool.Decides.{nat_tests}
@@ -12,7 +13,8 @@ use Rattle.abs_domain.proofs.Bounds.{join_laws}
 use Rattle.abs_step.specs.RegisterWrites.{known_register}
 use Rattle.abs_step.specs.KnownFlow.{Exit}
 use Rattle.abs_step.specs.MapView.{MapView}
-use Rattle.abs_step.specs.Successors.{Invariant, HasTrackedBytes, tracked_byte, tracked_bytes, start_state, start_invariant, state_after, exits_of, along}
+use Rattle.abs_step.specs.Successors.{Invariant, HasTrackedBytes, tracked_byte, tracked_bytes, start_state}
+use Rattle.abs_step.specs.Successors.{start_invariant, state_after, exits_of, along}
 use Rattle.abs_step.specs.Successors.{all_along, same_point, with_invariant, with_invariants, successors}
 use Rattle.abs_step.specs.FitLaws.{FitLaw}
 use Rattle.abs_step.proofs.Covering.{same_by, pad_after}
@@ -73,7 +75,8 @@ joined_fits : (tracked : List ℕ) (p : Point) (s t : AbstractState) → HasScra
     HasTrackedBytes tracked (record { point = p; state = joined_state s t })
 joined_fits tracked p s t whole full first second =
     let same : tracked_bytes tracked s.registers ≡ tracked_bytes tracked t.registers = sym first ∙ second in
-    first ∙ sym (joined_bytes (tracked_byte tracked s.registers) (tracked_byte tracked t.registers) (tracked_byte tracked (joined_state s t).registers)
+    first ∙ sym (joined_bytes (tracked_byte tracked s.registers) (tracked_byte tracked t.registers)
+    (tracked_byte tracked (joined_state s t).registers)
     (range_with_len 0 8) (λ place e. joined_byte tracked s t place whole full e) same)
 
 -- ---- what holds next
@@ -100,7 +103,8 @@ all_fits : (tracked : List ℕ) (xs done : List Invariant) → AllByRecursion (I
 all_fits tracked [] done more all = all
 all_fits tracked (x ∷ xs) done more all = all_fits tracked xs (with_invariant x done) more.1 (with_fits tracked x done more.0 all)
 
-along_fits : (tracked : List ℕ) (s : AbstractState) (es : List Exit) → HasScratchpad s → AllByRecursion (IsWhole tracked) (flat_map (along tracked s) es)
+along_fits : (tracked : List ℕ) (s : AbstractState) (es : List Exit) → HasScratchpad s →
+    AllByRecursion (IsWhole tracked) (flat_map (along tracked s) es)
 along_fits tracked s [] pad = tt
 along_fits tracked s (e ∷ es) pad = ((refl, pad), along_fits tracked s es pad)
 

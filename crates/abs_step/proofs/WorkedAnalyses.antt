@@ -22,7 +22,8 @@ no_chips = record { reached = start; unsafe = refl }
 abbrev second_point : Point
 second_point = record start_point { at = 1 }
 
-nop : answer_at (map_of (psu 0 4 (0x2B ∷ []) ∷ [])) [] (record { point = start_point; state = start_state }) ≡ Ok ((second_point, start_state) ∷ [])
+nop : answer_at (map_of (psu 0 4 (0x2B ∷ []) ∷ [])) [] (record { point = start_point; state = start_state })
+    ≡ Ok ((second_point, start_state) ∷ [])
 unfolding decoded known_effect register_writes successors unsafe_reason reasons
 nop = refl
 

@@ -28,7 +28,8 @@ two_at_one_address = refl
 
 -- ---- a jump whose last byte lies behind the chip, and an opcode that no instruction has
 
-jump_cut_off : check (chips_view (described 0 4 (0x29 ∷ 0x03 ∷ 0xFE ∷ replicate 1019 255 ++ 0x29 ∷ 0x08 ∷ []) ∷ [])) [] 5 ≡ Unsafe 0x03FE None CodeNotHeldOnce
+jump_cut_off : check (chips_view (described 0 4 (0x29 ∷ 0x03 ∷ 0xFE ∷ replicate 1019 255 ++ 0x29 ∷ 0x08 ∷ []) ∷ [])) [] 5
+    ≡ Unsafe 0x03FE None CodeNotHeldOnce
 unfolding decoded known_effect register_writes successors unsafe_reason reasons is_fault_free holds_every_address chips_view
 jump_cut_off = refl
 
@@ -76,14 +77,16 @@ missing_port_at_once : check (chips_view (described 0 4 (0x26 ∷ 0x02 ∷ []) �
 unfolding decoded known_effect register_writes successors unsafe_reason reasons is_fault_free holds_every_address chips_view
 missing_port_at_once = refl
 
-pixels : check (chips_view (described 0 4 (0x20 ∷ 0x20 ∷ 0xB0 ∷ 0x20 ∷ 0x81 ∷ 0xB4 ∷ 0x20 ∷ 0x20 ∷ 0xB0 ∷ 0x70 ∷ 0xB0 ∷ 0x20 ∷ 0x82 ∷ 0xB4 ∷ 0x20 ∷ 0x20
+pixels : check (chips_view
+    (described 0 4 (0x20 ∷ 0x20 ∷ 0xB0 ∷ 0x20 ∷ 0x81 ∷ 0xB4 ∷ 0x20 ∷ 0x20 ∷ 0xB0 ∷ 0x70 ∷ 0xB0 ∷ 0x20 ∷ 0x82 ∷ 0xB4 ∷ 0x20 ∷ 0x20
     ∷ 0xB0 ∷ 0x90 ∷ 0xFF ∷ []) ∷ [])) [] 40 ≡ Safe 13 true
 unfolding decoded known_effect register_writes successors unsafe_reason reasons is_fault_free holds_every_address chips_view
 pixels = refl
 
 -- ---- a timer that may interrupt: control 3 and a load, and then EI, behind which a NOP doesn't shield its end
 
-timer : check (chips_view (Psu 0 (0x73 ∷ 0xB6 ∷ 0x20 ∷ 0x7F ∷ 0xB7 ∷ replicate 7 0x2B ++ 0x1B ∷ 0x2B ∷ replicate 1010 255) 4 0x0180 true ∷ [])) [] 30
+timer : check
+    (chips_view (Psu 0 (0x73 ∷ 0xB6 ∷ 0x20 ∷ 0x7F ∷ 0xB7 ∷ replicate 7 0x2B ++ 0x1B ∷ 0x2B ∷ replicate 1010 255) 4 0x0180 true ∷ [])) [] 30
     ≡ Unsafe 0x0D None InterruptPossible
 unfolding decoded known_effect register_writes successors unsafe_reason reasons is_fault_free holds_every_address chips_view
 timer = refl

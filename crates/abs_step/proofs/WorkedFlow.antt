@@ -82,7 +82,8 @@ move_of_unknown : counters_after Lm unknown (counters None None None true false 
 move_of_unknown = refl
 
 -- A is FE, which is -2
-sum_moves : counters_after Adc (registers (Some 0xFE) None (flags None None) nothing_in) (counters (Some 1) (Some 0x10) (Some 0x12) true false false false)
+sum_moves : counters_after Adc (registers (Some 0xFE) None (flags None None) nothing_in)
+    (counters (Some 1) (Some 0x10) (Some 0x12) true false false false)
     ≡ counters (Some 0xFFFF) (Some 0x10) (Some 0x10) true false false true
 sum_moves = refl
 

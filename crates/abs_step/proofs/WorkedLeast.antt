@@ -163,7 +163,8 @@ unfolding known_effect register_writes
 a_to_register_at_isar = refl
 
 -- any register may be written: the one with the same byte is known still
-a_to_an_unknown_register : after (op.LrRA 12) (registers (Some 5) None None no_flag (slice_set (slice_set nothing_in 0 (Some 5)) 63 (Some 6)))
+a_to_an_unknown_register : after (op.LrRA 12)
+    (registers (Some 5) None None no_flag (slice_set (slice_set nothing_in 0 (Some 5)) 63 (Some 6)))
     ≡ registers (Some 5) None None no_flag (slice_set nothing_in 0 (Some 5))
 unfolding known_effect register_writes
 a_to_an_unknown_register = refl

@@ -27,7 +27,8 @@ abbrev notes : List Invariant
 notes = start_invariant ∷ loaded_at 1 ∷ loaded_at 2 ∷ []
 
 -- what the one instruction of a point leads into
-leads : (x : Invariant) (here op : Op) → op_at branch_back x ≡ Some here → AllByRecursion (Covers notes) (successors here branch_back [] x) →
+leads : (x : Invariant) (here op : Op) → op_at branch_back x ≡ Some here →
+    AllByRecursion (Covers notes) (successors here branch_back [] x) →
     op_at branch_back x ≡ Some op → AllByRecursion (Covers notes) (successors op branch_back [] x)
 leads x here op is covered told =
     let same : here ≡ op = cc in

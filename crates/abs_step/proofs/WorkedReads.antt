@@ -1,5 +1,5 @@
--- Whole steps that were worked out by hand, over descriptions: the byte that a read at D0 gives, pairs of bytes, flags, ISAR's steps, tracked
--- registers in points, and two ways that lead to one point.
+-- Whole steps that were worked out by hand, over descriptions: the byte that a read at D0 gives, pairs of bytes, flags, ISAR's steps,
+-- tracked registers in points, and two ways that lead to one point.
 use Rattle.std.proofs.Common.{◌≡◌, ℕ, Bool, true, false, List, [], ◌∷◌, map, replicate, refl}
 use Rattle.std.specs.Prelude.{Option, Some, None, slice_set}
 use Rattle.f8_spec.specs.Instructions.{decoded}
@@ -35,7 +35,8 @@ flags sign carry none overflow = record { sign = sign; carry = carry; zero = non
 -- ---- LM
 
 abbrev read_at : Option ℕ → List (Option ℕ)
-read_at d0 = map (λ x. x.state.registers.accumulator) (behind (0x16 ∷ 0x34 ∷ []) [] (data_at d0 (record registers { accumulator = Some 1 })))
+read_at d0 =
+    map (λ x. x.state.registers.accumulator) (behind (0x16 ∷ 0x34 ∷ []) [] (data_at d0 (record registers { accumulator = Some 1 })))
 
 read_rom : read_at (Some 1) ≡ Some 0x34 ∷ []
 unfolding decoded known_effect register_writes successors chips_view
@@ -67,7 +68,8 @@ unfolding decoded known_effect register_writes successors chips_view
 read_wherever = refl
 
 -- it leaves the flags, steps D0 and every DC0, and keeps all facts but the one of D1
-read_keeps : behind (0x16 ∷ 0x34 ∷ []) [] (data_at (Some 0xFFFF) (record registers { accumulator = Some 1; status = flags None (Some true) None (Some true) }))
+read_keeps : behind (0x16 ∷ 0x34 ∷ []) []
+    (data_at (Some 0xFFFF) (record registers { accumulator = Some 1; status = flags None (Some true) None (Some true) }))
     ≡ record {
       point = record start_point { at = 1 };
       state = record {
@@ -123,7 +125,8 @@ unfolding decoded known_effect register_writes successors chips_view
 complement_of_unknown = refl
 
 -- LNK with a known carry and an unknown accumulator
-link_of_unknown : map (λ x. x.state.registers) (behind (0x19 ∷ []) [] (data_at None (record registers { status = flags None (Some true) None None })))
+link_of_unknown : map (λ x. x.state.registers)
+    (behind (0x19 ∷ []) [] (data_at None (record registers { status = flags None (Some true) None None })))
     ≡ record registers { status = flags None None None None } ∷ []
 unfolding decoded known_effect register_writes successors chips_view
 link_of_unknown = refl
@@ -158,7 +161,8 @@ return_to_k = refl
 
 -- and back: LR DC,H
 data_from_h : map (λ x. x.state.counters)
-    (behind (0x10 ∷ []) [] (data_at None (record registers { scratchpad = slice_set (slice_set registers.scratchpad 10 (Some 0x12)) 11 (Some 0x34) })))
+    (behind (0x10 ∷ []) []
+    (data_at None (record registers { scratchpad = slice_set (slice_set registers.scratchpad 10 (Some 0x12)) 11 (Some 0x34) })))
     ≡ record { d0 = Some 0x1234; d1 = None; c = Some 0x1234; s0 = true; s1 = true; p0 = true; p1 = false } ∷ []
 unfolding decoded known_effect register_writes successors chips_view
 data_from_h = refl
@@ -238,7 +242,8 @@ by_carry = refl
 
 -- the one successor has the state as it was: nothing is joined away
 one_way_state : behind (0x81 ∷ 0x01 ∷ []) [] (data_at (Some 5) (record registers { status = flags None None None None }))
-    ≡ record { point = record start_point { at = 2 }; state = data_at (Some 5) (record registers { status = flags None None None None }) } ∷ []
+    ≡ record { point = record start_point { at = 2 }; state = data_at (Some 5) (record registers { status = flags None None None None }) }
+    ∷ []
 unfolding decoded known_effect register_writes successors chips_view
 one_way_state = refl
 
@@ -247,7 +252,8 @@ one_way_state = refl
 abbrev splits : List ℕ → List ℕ → KnownRegisters → List (List (Option ℕ))
 splits bytes tracked k = map (λ x. x.point.split) (behind bytes tracked (data_at None k))
 
-written : splits (0x53 ∷ []) (4 ∷ 3 ∷ []) (record registers { accumulator = Some 9; scratchpad = slice_set registers.scratchpad 4 (Some 8) })
+written : splits (0x53 ∷ []) (4 ∷ 3 ∷ [])
+    (record registers { accumulator = Some 9; scratchpad = slice_set registers.scratchpad 4 (Some 8) })
     ≡ (Some 8 ∷ Some 9 ∷ replicate 6 None) ∷ []
 unfolding decoded known_effect register_writes successors chips_view
 written = refl

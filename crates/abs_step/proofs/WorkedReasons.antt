@@ -1,5 +1,5 @@
--- Each reason against a state, and the first of several, worked out by hand and computed from the definitions: where it holds, and where the
--- least change makes it fail. Whether reads are answered stands at the end.
+-- Each reason against a state, and the first of several, worked out by hand and computed from the definitions: where it holds, and where
+-- the least change makes it fail. Whether reads are answered stands at the end.
 use Rattle.std.proofs.Common.{◌≡◌, ℕ, Bool, true, false, ◌+◌, ◌-◌, List, [], ◌∷◌, ◌++◌, length, map, replicate, refl}
 use Rattle.std.specs.Prelude.{Option, Some, None, slice_set}
 use Rattle.std.specs.List.{range_with_len}
@@ -28,7 +28,8 @@ abbrev counters : Option ℕ → Option ℕ → Bool → Bool → KnownCounters
 counters d0 c s0 p0 = record { d0 = d0; d1 = Some 0; c = c; s0 = s0; s1 = false; p0 = p0; p1 = false }
 
 abbrev at : ℕ → Option ℕ → KnownRegisters → KnownCounters → Invariant
-at here ret k counters = record { point = record start_point { at = here; ret = ret }; state = record { registers = k; counters = counters } }
+at here ret k counters =
+    record { point = record start_point { at = here; ret = ret }; state = record { registers = k; counters = counters } }
 
 abbrev at_start : Invariant
 at_start = at 0 None registers start_state.counters
@@ -79,8 +80,8 @@ opcode_in_void : unsafe_reason (chips_view (Smi (page Void 0 ∷ []) [] false �
 unfolding decoded known_effect register_writes unsafe_reason reasons chips_view
 opcode_in_void = refl
 
-operand_in_void : unsafe_reason (chips_view (described 0x2400 4 (replicate 1023 0 ++ 0x20 ∷ []) ∷ Smi (page Void 0x28 ∷ []) [] false ∷ [])) []
-    (at 0x27FF None registers (counters None None false false)) ≡ None
+operand_in_void : unsafe_reason (chips_view (described 0x2400 4 (replicate 1023 0 ++ 0x20 ∷ []) ∷ Smi (page Void 0x28 ∷ []) [] false ∷ []))
+    [] (at 0x27FF None registers (counters None None false false)) ≡ None
 unfolding decoded known_effect register_writes unsafe_reason reasons chips_view
 operand_in_void = refl
 
@@ -95,11 +96,13 @@ unfolding decoded known_effect register_writes unsafe_reason reasons chips_view
 jump_by_q = refl
 
 -- PK goes by K and not by Q
-call_by_k_unknown : reason (0x0C ∷ []) [] [] (at 0 None (with_bytes 14 (Some 1) (Some 2)) (counters None None false false)) ≡ Some UnknownJump
+call_by_k_unknown : reason (0x0C ∷ []) [] [] (at 0 None (with_bytes 14 (Some 1) (Some 2)) (counters None None false false))
+    ≡ Some UnknownJump
 unfolding decoded known_effect register_writes unsafe_reason reasons chips_view
 call_by_k_unknown = refl
 
-return_from_half_of_k : reason (0x09 ∷ []) [] [] (at 0 None (with_bytes 12 None (Some 2)) (counters None None false false)) ≡ Some UnknownReturn
+return_from_half_of_k : reason (0x09 ∷ []) [] [] (at 0 None (with_bytes 12 None (Some 2)) (counters None None false false))
+    ≡ Some UnknownReturn
 unfolding decoded known_effect register_writes unsafe_reason reasons chips_view
 return_from_half_of_k = refl
 
@@ -150,7 +153,8 @@ read_by_unknown : reason (0x16 ∷ []) [] [] at_start ≡ Some DataCountersApart
 unfolding decoded known_effect register_writes unsafe_reason reasons chips_view
 read_by_unknown = refl
 
-read_by_another : reason (0x16 ∷ []) (ram ∷ []) [] (at 0 None registers (counters (Some 0x2800) (Some 0x03FF) true false)) ≡ Some DataCountersApart
+read_by_another : reason (0x16 ∷ []) (ram ∷ []) [] (at 0 None registers (counters (Some 0x2800) (Some 0x03FF) true false))
+    ≡ Some DataCountersApart
 unfolding decoded known_effect register_writes unsafe_reason reasons chips_view
 read_by_another = refl
 
@@ -213,7 +217,8 @@ plain_when_off : unsafe_reason (chips_view (wired (0x2B ∷ []))) [] at_start �
 unfolding decoded known_effect register_writes unsafe_reason reasons chips_view
 plain_when_off = refl
 
-plain_perhaps_on : unsafe_reason (chips_view (wired (0x2B ∷ []))) [] (at 0 None perhaps_on (counters None None false false)) ≡ Some InterruptPossible
+plain_perhaps_on : unsafe_reason (chips_view (wired (0x2B ∷ []))) [] (at 0 None perhaps_on (counters None None false false))
+    ≡ Some InterruptPossible
 unfolding decoded known_effect register_writes unsafe_reason reasons chips_view
 plain_perhaps_on = refl
 
@@ -230,7 +235,8 @@ long_write_shields : unsafe_reason (chips_view (wired (0xB4 ∷ []))) [] (at 0 N
 unfolding decoded known_effect register_writes unsafe_reason reasons chips_view
 long_write_shields = refl
 
-short_write_does_not : unsafe_reason (chips_view (wired (0xB0 ∷ []))) [] (at 0 None perhaps_on (counters None None false false)) ≡ Some InterruptPossible
+short_write_does_not : unsafe_reason (chips_view (wired (0xB0 ∷ []))) [] (at 0 None perhaps_on (counters None None false false))
+    ≡ Some InterruptPossible
 unfolding decoded known_effect register_writes unsafe_reason reasons chips_view
 short_write_does_not = refl
 
@@ -259,7 +265,8 @@ store_at_shared = refl
 -- ---- 12: tracked registers
 
 -- by an ISAR of which a digit isn't known: the register 16 may be written where the high digit is 2, and 8 may not
-perhaps_written : reason (0x5C ∷ []) [] (16 ∷ []) (at 0 None (with_isar (Some 2) None) (counters None None false false)) ≡ Some TrackedRegisterBlurred
+perhaps_written : reason (0x5C ∷ []) [] (16 ∷ []) (at 0 None (with_isar (Some 2) None) (counters None None false false))
+    ≡ Some TrackedRegisterBlurred
 unfolding decoded known_effect register_writes unsafe_reason reasons chips_view
 perhaps_written = refl
 
@@ -299,16 +306,19 @@ unknown_decrement = refl
 -- ---- of several the first
 
 -- LR P0,Q by an unknown Q, and an interrupt: 4 and 10
-jump_and_interrupt : unsafe_reason (chips_view (wired (0x0D ∷ []))) [] (at 0 None perhaps_on (counters None None false false)) ≡ Some UnknownJump
+jump_and_interrupt : unsafe_reason (chips_view (wired (0x0D ∷ []))) [] (at 0 None perhaps_on (counters None None false false))
+    ≡ Some UnknownJump
 unfolding decoded known_effect register_writes unsafe_reason reasons chips_view
 jump_and_interrupt = refl
 
 -- LR Q,DC away from each chip, with an interrupt, on shared addresses, to a tracked register: 7, 10, 11 and 12; and less and less of them
-all_four : unsafe_reason (chips_view (wired (0x0E ∷ []) ++ over)) (14 ∷ []) (at 0 None perhaps_on (counters None None false false)) ≡ Some DataCountersApart
+all_four : unsafe_reason (chips_view (wired (0x0E ∷ []) ++ over)) (14 ∷ []) (at 0 None perhaps_on (counters None None false false))
+    ≡ Some DataCountersApart
 unfolding decoded known_effect register_writes unsafe_reason reasons chips_view
 all_four = refl
 
-last_three : unsafe_reason (chips_view (wired (0x0E ∷ []) ++ over)) (14 ∷ []) (at 0 None perhaps_on (counters None None true true)) ≡ Some InterruptPossible
+last_three : unsafe_reason (chips_view (wired (0x0E ∷ []) ++ over)) (14 ∷ []) (at 0 None perhaps_on (counters None None true true))
+    ≡ Some InterruptPossible
 unfolding decoded known_effect register_writes unsafe_reason reasons chips_view
 last_three = refl
 

@@ -30,7 +30,8 @@ after op byte k = known_result op byte no_pair no_pair k
 -- ---- sums and results
 
 -- the carry that LNK adds isn't known, so that neither the sum nor a flag is
-link_with_unknown_carry : after Lnk None (registers (Some 1) None None (flags (Some true) None (Some true) (Some true) (Some true)) nothing_in)
+link_with_unknown_carry : after Lnk None
+    (registers (Some 1) None None (flags (Some true) None (Some true) (Some true) (Some true)) nothing_in)
     ≡ registers None None None (flags None None None None (Some true)) nothing_in
 unfolding known_effect register_writes
 link_with_unknown_carry = refl
@@ -66,7 +67,8 @@ exclusive_or_of_unknown = refl
 
 -- decimal 45 and 55 as bytes with 6 in each digit: AB and 55 is 00 with a carry, of which no digit gains 10
 decimal_sum : after (Asd 0) None (registers (Some 0xAB) None None no_flags (slice_set nothing_in 0 (Some 0x55)))
-    ≡ registers (Some 0) None None (flags (Some true) (Some true) (Some true) (Some false) (Some false)) (slice_set nothing_in 0 (Some 0x55))
+    ≡ registers (Some 0) None None (flags (Some true) (Some true) (Some true) (Some false) (Some false))
+    (slice_set nothing_in 0 (Some 0x55))
 unfolding known_effect register_writes
 decimal_sum = refl
 
@@ -91,7 +93,8 @@ status_from_j : after LrWJ None (registers None None None no_flags (slice_set no
 unfolding known_effect register_writes
 status_from_j = refl
 
-status_from_unknown_j : after LrWJ None (registers None None None (flags (Some true) (Some true) (Some true) (Some true) (Some true)) nothing_in)
+status_from_unknown_j : after LrWJ None
+    (registers None None None (flags (Some true) (Some true) (Some true) (Some true) (Some true)) nothing_in)
     ≡ registers None None None (flags None None None None None) nothing_in
 unfolding known_effect register_writes
 status_from_unknown_j = refl
@@ -120,7 +123,8 @@ isar_from_known : after LrIsA None (registers (Some 0x4B) None None no_flags not
 unfolding known_effect register_writes
 isar_from_known = refl
 
-one_digit_set : after (Lisu 3) None (registers None None (Some 2) no_flags nothing_in) ≡ registers None (Some 3) (Some 2) no_flags nothing_in
+one_digit_set : after (Lisu 3) None (registers None None (Some 2) no_flags nothing_in)
+    ≡ registers None (Some 3) (Some 2) no_flags nothing_in
 unfolding known_effect register_writes
 one_digit_set = refl
 

@@ -1,5 +1,6 @@
--- A state of which all is known: after each of the instructions all is known again, and it is what the flat machine has. So no definition of a
--- single instruction knows less than it could there. Computed for all opcodes, at two states; only of what comes in by a port nothing is known.
+-- A state of which all is known: after each of the instructions all is known again, and it is what the flat machine has. So no definition
+-- of a single instruction knows less than it could there. Computed for all opcodes, at two states; only of what comes in by a port nothing
+-- is known.
 use Rattle.std.proofs.Common.{◌≡◌, ℕ, ◌+◌, ◌*◌, ◌/◌, ◌%◌, Bool, true, false, List, [], ◌∷◌, map, refl}
 use Rattle.std.specs.Prelude.{Option, Some, None, ◌==◌, ◌&&◌, not, if◌then◌else◌}
 use Rattle.std.specs.List.{list_all, range_with_len}
@@ -101,7 +102,8 @@ counters_right m op =
     let k : KnownCounters = known_counters (row_of op) (all_inputs op m) counters in
     let r : Flow = flow_after (row_of op) (inputs op m) true flow in
     let own : Flow = flow_after (row_of op) (inputs op m) false flow in
-    known_as k.d0 r.d0 && known_as k.d1 r.d1 && known_as k.c own.d0 && k.s0 && k.s1 && same_fact k.p0 (own.d0 == r.d0) && same_fact k.p1 (own.d0 == r.d1)
+    known_as k.d0 r.d0 && known_as k.d1 r.d1 && known_as k.c own.d0 && k.s0 && k.s1 && same_fact k.p0 (own.d0 == r.d0)
+    && same_fact k.p1 (own.d0 == r.d1)
 
 abbrev is_the_one : Flow → List Exit → Bool
 is_the_one r [] = false

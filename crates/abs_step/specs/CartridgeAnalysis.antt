@@ -86,4 +86,5 @@ pub record AnalysisLaw : Type 0 where
       IsStrictlySortedBy point_cmp (keys_of notes) → IsClosedMap (analysis m tracked) notes → HoldsSafeStates (analysis m tracked) notes →
       IsSafeMap m seats tracked (map as_invariant notes)
   pub fault_free : (m : MapView) (tracked : List ℕ) (notes : List (Point × AbstractState)) →
-      IsStrictlySortedBy point_cmp (keys_of notes) → HoldsFaultFreeStates (analysis m tracked) notes → IsFaultFree m (map as_invariant notes)
+      IsStrictlySortedBy point_cmp (keys_of notes) → HoldsFaultFreeStates (analysis m tracked) notes →
+      IsFaultFree m (map as_invariant notes)

@@ -17,8 +17,8 @@ use Rattle.memory_map.specs.MapKinds.{is_held_once}
 use Rattle.abs_domain.specs.AbstractState.{KnownRegisters, KnownCounters, AbstractState}
 use Rattle.abs_domain.specs.declared.reason.Reason.{Reason}
 use Rattle.abs_domain.specs.declared.reason.Reason.TheVariants.{CodeNotHeldOnce, CodeInRam, ReservedOpcode, UnknownJump, UnknownReturn}
-use Rattle.abs_domain.specs.declared.reason.Reason.TheVariants.{UnsetReturn, DataCountersApart, ReturnNotHeldOnce, BadPort, InterruptPossible}
-use Rattle.abs_domain.specs.declared.reason.Reason.TheVariants.{SharedDataAddress, TrackedRegisterBlurred}
+use Rattle.abs_domain.specs.declared.reason.Reason.TheVariants.{UnsetReturn, DataCountersApart, ReturnNotHeldOnce, BadPort}
+use Rattle.abs_domain.specs.declared.reason.Reason.TheVariants.{InterruptPossible, SharedDataAddress, TrackedRegisterBlurred}
 use Rattle.abs_step.specs.Known.{known_word, is_known_false}
 use Rattle.abs_step.specs.RegisterWrites.{RegisterWrite, known_register, target_allows, is_exact}
 use Rattle.abs_step.specs.KnownResults.{register_writes}

@@ -29,10 +29,10 @@ EndsBy claim e = (e.stop ≡ Done) ⊎ ((fault : Fault) × (e.stop ≡ Unserved 
 
 pub record ScriptRunLaw : Type 0 where
   -- where the map is safe, nothing stops a run but a read at D0 that no chip answers
-  pub sound : (m : MapView) (tracked : List ℕ) (notes : List Invariant) (vs : List ChipView) (chain : List ℕ) (powers : List PowerOn) (traced : Bool)
-      (script : Script) → IsSafeMap m (map seat_of vs) tracked notes → ArePowers powers → IsScriptFor m.byte vs script →
+  pub sound : (m : MapView) (tracked : List ℕ) (notes : List Invariant) (vs : List ChipView) (chain : List ℕ) (powers : List PowerOn)
+      (traced : Bool) (script : Script) → IsSafeMap m (map seat_of vs) tracked notes → ArePowers powers → IsScriptFor m.byte vs script →
       EndsBy (λ here fault. OnlyUndriven here.flat.state.flow.d0 fault) (played_by vs chain powers traced script).ending
   -- where it is free of faults too, nothing does
-  pub fault_free : (m : MapView) (tracked : List ℕ) (notes : List Invariant) (vs : List ChipView) (chain : List ℕ) (powers : List PowerOn) (traced : Bool)
-      (script : Script) → IsSafeMap m (map seat_of vs) tracked notes → IsFaultFree m notes → ArePowers powers → IsScriptFor m.byte vs script →
-      (played_by vs chain powers traced script).ending.stop ≡ Done
+  pub fault_free : (m : MapView) (tracked : List ℕ) (notes : List Invariant) (vs : List ChipView) (chain : List ℕ) (powers : List PowerOn)
+      (traced : Bool) (script : Script) → IsSafeMap m (map seat_of vs) tracked notes → IsFaultFree m notes → ArePowers powers →
+      IsScriptFor m.byte vs script → (played_by vs chain powers traced script).ending.stop ≡ Done
