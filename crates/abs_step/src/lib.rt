@@ -14,7 +14,7 @@ mod registers;
 mod scratchpad;
 mod status;
 mod step;
-mod succs;
+mod successors;
 mod tracked;
 mod writes;
 
@@ -25,4 +25,4 @@ pub use laws::{
     step_order_law,
 };
 pub use step::{after, start};
-pub use succs::Succs;
+pub use successors::Successors;

@@ -20,7 +20,7 @@ use super::hazards::{
 };
 use super::inputs::Inputs;
 use super::registers::Registers;
-use super::succs::Succs;
+use super::successors::Successors;
 use super::tracked::tracked_bytes;
 use super::writes::Writes;
 use abs_domain::{Abs, Bit, Digit, MOST_TRACKED, Point, Reason, SCRATCHPAD_SIZE, Val, Word};
@@ -71,16 +71,16 @@ pub(crate) fn instruction_at(map: &Map, at: u16) -> Option<Op>
 /// What holds after the instruction at a point, at each point to which it may lead, or why the state isn't safe there (this project's
 /// own). Of the chips it learns by the map.
 #[tactic(auto, unfolding(crate::specs::Safety::unsafe_reason))]
-pub fn after(abs: &Abs, point: &Point, split: &Split, map: &Map) -> Result<Succs, Reason>
+pub fn after(abs: &Abs, point: &Point, split: &Split, map: &Map) -> Result<Successors, Reason>
     requires { HasTrackedBytes split.now (invariant_at point.now abs.now) }
     ensures safe { IfOk result (λ _. unsafe_reason (view_of map.now) split.now
         (invariant_at point.now abs.now) ≡ None) }
     ensures reason { IfErr result (λ reason. unsafe_reason (view_of map.now) split.now
         (invariant_at point.now abs.now) ≡ Some reason) }
-    ensures successors { IfOk result (λ succs. succs
+    ensures successors { IfOk result (λ ways. ways
         ≡ next_at (view_of map.now) split.now (invariant_at point.now abs.now)) }
-    ensures some { IfOk result (λ succs. 0 < length succs) }
-    ensures fits { IfOk result (λ succs. AllByRecursion (HasTrackedBytes split.now) succs) }
+    ensures some { IfOk result (λ ways. 0 < length ways) }
+    ensures fits { IfOk result (λ ways. AllByRecursion (HasTrackedBytes split.now) ways) }
 {
     if let Some(reason) = code_reason(map, point.at) {
         return Err(reason);
@@ -98,16 +98,16 @@ fn after_instruction(
     point: &Point,
     split: &Split,
     map: &Map,
-) -> Result<Succs, Reason>
+) -> Result<Successors, Reason>
     requires { InRange op }
     ensures safe { IfOk result (λ _. first_reason (reasons op (view_of map.now) split.now
         (invariant_at point.now abs.now)) ≡ None) }
     ensures reason { IfErr result (λ reason. first_reason (reasons op (view_of map.now) split.now
         (invariant_at point.now abs.now)) ≡ Some reason) }
-    ensures successors { IfOk result (λ succs. succs
+    ensures successors { IfOk result (λ ways. ways
         ≡ successors op (view_of map.now) split.now (invariant_at point.now abs.now)) }
-    ensures some { IfOk result (λ succs. 0 < length succs) }
-    ensures fits { IfOk result (λ succs. AllByRecursion (HasTrackedBytes split.now) succs) }
+    ensures some { IfOk result (λ ways. 0 < length ways) }
+    ensures fits { IfOk result (λ ways. AllByRecursion (HasTrackedBytes split.now) ways) }
 {
     let mut registers = Registers::of(abs);
     let counters = Counters::of(abs);
@@ -125,7 +125,7 @@ fn after_instruction(
     }
     let exits = Exits::of(op, &inputs, point.at, point.ret);
     let counters = counters.after(row_of(op), &inputs);
-    Ok(successors(split, &registers, counters, exits))
+    Ok(joined_along(split, &registers, counters, exits))
 }
 
 /// The first reason against an instruction, by what holds before it, behind those of its bytes.
@@ -182,22 +182,27 @@ fn reason_after(
 }
 
 /// What holds at each exit, with each point once.
-fn successors(split: &Split, registers: &Registers, counters: Counters, exits: Exits) -> Succs
+fn joined_along(
+    split: &Split,
+    registers: &Registers,
+    counters: Counters,
+    exits: Exits,
+) -> Successors
     ensures { result ≡ joined_along split.now registers.now (counters_view counters)
         (exits_view exits) }
 {
     let state = registers.state_with(counters);
     let bytes = tracked_bytes(split, registers);
-    let mut succs = Succs::empty(point_at(Exit { at: 0, ret: None }, bytes), state);
+    let mut ways = Successors::empty(point_at(Exit { at: 0, ret: None }, bytes), state);
     match exits {
         Exits::Nowhere => {},
-        Exits::One(exit) => succs.add(point_at(exit, bytes), state),
+        Exits::One(exit) => ways.add(point_at(exit, bytes), state),
         Exits::Two(first, second) => {
-            succs.add(point_at(first, bytes), state);
-            succs.add(point_at(second, bytes), state);
+            ways.add(point_at(first, bytes), state);
+            ways.add(point_at(second, bytes), state);
         },
     }
-    succs
+    ways
 }
 
 /// The point to which an exit leads.

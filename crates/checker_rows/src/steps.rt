@@ -44,7 +44,7 @@ fn loads_the_data_counter_at_the_start(rt: HostRuntime) -> Result<(), Fail> {
     let map = lone(rt.alloc(), &[0x2A, 0x00, 0x05, 0x2C, 0x16])?;
     let split = Split::new();
     let (here, state) = start(&split);
-    let Ok(succs) = after(&state, &here, &split, &map) else {
+    let Ok(ways) = after(&state, &here, &split, &map) else {
         panic!(rt; "the start isn't safe");
     };
     let mut wanted = state;
@@ -53,7 +53,7 @@ fn loads_the_data_counter_at_the_start(rt: HostRuntime) -> Result<(), Fail> {
     wanted.c = Word::Known(0x0005);
     wanted.s0 = true;
     wanted.p0 = true;
-    assert_eq!(rt; succs.as_slice(), [(point(0x0003), wanted)].as_slice());
+    assert_eq!(rt; ways.as_slice(), [(point(0x0003), wanted)].as_slice());
     Ok(())
 }
 
@@ -80,11 +80,11 @@ fn takes_a_branch_first(rt: HostRuntime) -> Result<(), Fail> {
     let split = Split::new();
     let (here, mut unknown) = start(&split);
     unknown.w[1] = Bit::Any;
-    let Ok(succs) = after(&unknown, &here, &split, &map) else {
+    let Ok(ways) = after(&unknown, &here, &split, &map) else {
         panic!(rt; "a branch isn't safe");
     };
     let wanted = [(point(0x0000), unknown), (point(0x0002), unknown)];
-    assert_eq!(rt; succs.as_slice(), wanted.as_slice());
+    assert_eq!(rt; ways.as_slice(), wanted.as_slice());
     Ok(())
 }
 

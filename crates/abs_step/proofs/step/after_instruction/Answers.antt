@@ -37,9 +37,11 @@ returns-in-Some-reason_after-clause-reason c =
     let none : first_reason (operand_reasons (length_of c.args.op) m x.point.at) ≡ None = sym c.operand_reason.ensures ∙ c.in_default.is in
     let none_before : first_reason (reasons_before c.args.op m x.point.ret i.operand c.of-registers.result l) ≡ None =
     sym c.reason_before.ensures ∙ c.in_default-reason_before.is in
-    let stepped = stepped_to c.args.op i c.of-registers.result (writes_view c.writes-writes.result) c.step.new.self c.row_of.result c.used_byte.result
+    let stepped =
+    stepped_to c.args.op i c.of-registers.result (writes_view c.writes-writes.result) c.step.new.self c.row_of.result c.used_byte.result
     c.writes-writes.ensures c.row_of.ensures c.used_byte.ensures c.step.ensures in
-    by_after c.args.op m c.args.split.now x i c.of-registers.result l known none (writes_view c.writes-writes.result) c.step.new.self stepped
+    by_after c.args.op m c.args.split.now x i c.of-registers.result l known none (writes_view c.writes-writes.result) c.step.new.self
+    stepped
     none_before c.icb.result _ c.icb.ensures (sym c.reason_after.ensures ∙ c.in-Some-reason_after.is)
 
 pub returns-clause-safe : goal.returns-clause-safe
@@ -52,9 +54,11 @@ returns-clause-safe c =
     let none : first_reason (operand_reasons (length_of c.args.op) m x.point.at) ≡ None = sym c.operand_reason.ensures ∙ c.in_default.is in
     let none_before : first_reason (reasons_before c.args.op m x.point.ret i.operand c.of-registers.result l) ≡ None =
     sym c.reason_before.ensures ∙ c.in_default-reason_before.is in
-    let stepped = stepped_to c.args.op i c.of-registers.result (writes_view c.writes-writes.result) c.step.new.self c.row_of.result c.used_byte.result
+    let stepped =
+    stepped_to c.args.op i c.of-registers.result (writes_view c.writes-writes.result) c.step.new.self c.row_of.result c.used_byte.result
     c.writes-writes.ensures c.row_of.ensures c.used_byte.ensures c.step.ensures in
-    by_after c.args.op m c.args.split.now x i c.of-registers.result l known none (writes_view c.writes-writes.result) c.step.new.self stepped
+    by_after c.args.op m c.args.split.now x i c.of-registers.result l known none (writes_view c.writes-writes.result) c.step.new.self
+    stepped
     none_before c.icb.result None c.icb.ensures (sym c.reason_after.ensures ∙ c.in_default-reason_after.is)
 
 pub returns-clause-successors : goal.returns-clause-successors
@@ -67,10 +71,12 @@ returns-clause-successors c =
     let none : first_reason (operand_reasons (length_of c.args.op) m x.point.at) ≡ None = sym c.operand_reason.ensures ∙ c.in_default.is in
     let none_before : first_reason (reasons_before c.args.op m x.point.ret i.operand c.of-registers.result l) ≡ None =
     sym c.reason_before.ensures ∙ c.in_default-reason_before.is in
-    let stepped = stepped_to c.args.op i c.of-registers.result (writes_view c.writes-writes.result) c.step.new.self c.row_of.result c.used_byte.result
+    let stepped =
+    stepped_to c.args.op i c.of-registers.result (writes_view c.writes-writes.result) c.step.new.self c.row_of.result c.used_byte.result
     c.writes-writes.ensures c.row_of.ensures c.used_byte.ensures c.step.ensures in
-    c.successors.ensures
-    ∙ next_are c.args.op m c.args.split.now x i c.of-registers.result l known none (writes_view c.writes-writes.result) c.step.new.self stepped
+    c.joined_along.ensures
+    ∙ next_are c.args.op m c.args.split.now x i c.of-registers.result l known none (writes_view c.writes-writes.result) c.step.new.self
+    stepped
     none_before (counters_view c.after-counters.result) (exits_view c.of-exits.result)
     (c.after-counters.ensures ∙ rw c.row_of-2.ensures refl) c.of-exits.ensures
 

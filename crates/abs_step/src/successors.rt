@@ -11,12 +11,12 @@ pub(crate) const MOST_SUCCESSORS: usize = 2;
 
 /// What holds next: one or two points with their states, that of a taken branch first. Contracts see the list of them.
 #[derive(Drop)]
-pub struct Succs {
+pub struct Successors {
     list: [(Point, Abs); MOST_SUCCESSORS],
     len: usize,
 }
 
-impl Model for Succs {
+impl Model for Successors {
     ghost use Rattle.std.specs.Prelude.{List, ◌≡◌, ◌≤◌, length, map, take};
     ghost use Rattle.abs_step.specs.Successors.{Invariant};
     ghost use Rattle.abs_step.specs.StepView.{invariant_of};
@@ -28,16 +28,16 @@ impl Model for Succs {
     ghost invariant = { λ s. (s.len ≤ 2) × (length s.list ≡ 2) };
 }
 
-impl Succs {
+impl Successors {
     ghost use Rattle.std.specs.Prelude.{◌≡◌, ◌<◌, ◌≤◌, ◌+◌, length, map, []};
     ghost use Rattle.abs_step.specs.Successors.{with_invariant};
     ghost use Rattle.abs_step.specs.StepView.{invariant_of, invariant_at};
 
     /// No point. The list is filled up with a point and a state that don't count.
-    pub(crate) fn empty(point: Point, state: Abs) -> Succs
+    pub(crate) fn empty(point: Point, state: Abs) -> Successors
         ensures { result ≡ [] }
     {
-        Succs {
+        Successors {
             list: [(point, state); MOST_SUCCESSORS],
             len: 0,
         }

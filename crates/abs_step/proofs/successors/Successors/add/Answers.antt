@@ -8,7 +8,7 @@ use Rattle.abs_domain.specs.Joins.{joined_state}
 use Rattle.abs_step.specs.Successors.{same_point, with_invariant}
 use Rattle.abs_step.specs.StepView.{invariant_of, invariant_at}
 use Rattle.abs_step.proofs.Joinings.{joined_there, joined_behind, more_behind}
-use Rattle.abs_step.proofs.succs.Succs.add.Goals as goal
+use Rattle.abs_step.proofs.successors.Successors.add.Goals as goal
 
 pub returns-then-is_same-clause-list : goal.returns-then-is_same-clause-list
 returns-then-is_same-clause-list c =

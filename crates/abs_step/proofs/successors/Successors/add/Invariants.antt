@@ -1,7 +1,7 @@
 -- None of the points so far is the new one.
 use Rattle.std.proofs.Common.{◌≡◌, ◌<◌, ℕ, false, get_or}
 use Rattle.abs_step.specs.Successors.{same_point}
-use Rattle.abs_step.proofs.succs.Succs.add.Given as goal
+use Rattle.abs_step.proofs.successors.Successors.add.Given as goal
 
 abbrev pub invariant-loop-place : goal.invariant-loop-place
 invariant-loop-place l =
