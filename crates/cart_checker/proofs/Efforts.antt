@@ -27,7 +27,8 @@ module _ {P S : Type 0} (an : Analysis P S) (laws : AnalysisLaws an) where
       ∙ sum_by-insert_entry an.rank laws.total old.notes q v wrote.was_ascending
 
   -- a new point
-  falls_new : (old new : Work P S) (q : P) (t : S) → Wrote an.order old new q t → state_at an old.notes q ≡ None → length new.notes ≤ 65536 →
+  falls_new : (old new : Work P S) (q : P) (t : S) → Wrote an.order old new q t → state_at an old.notes q ≡ None →
+      length new.notes ≤ 65536 →
       an.fits q t → effort an new ≤ effort an old
   falls_new old new q t wrote absent few fits =
       let sum : weight new + 0 ≡ weight old + an.rank t =
@@ -55,7 +56,8 @@ module _ {P S : Type 0} (an : Analysis P S) (laws : AnalysisLaws an) where
       length new.notes ≤ 65536 → effort an new ≤ effort an old
   added_falls old new left q t holds added reaches few = by (state_at an old.notes q) refl added
     where
-      by_test : (s : S) (b : Bool) → state_at an old.notes q ≡ Some s → an.below t s ≡ b → MatchBool b (new ≡ old) (Wrote an.order old new q (an.join s t)) →
+      by_test : (s : S) (b : Bool) → state_at an old.notes q ≡ Some s → an.below t s ≡ b →
+          MatchBool b (new ≡ old) (Wrote an.order old new q (an.join s t)) →
           effort an new ≤ effort an old
       by_test s true noted below same = let kept : effort an new ≡ effort an old = ap (effort an) same in omega arith
       by_test s false noted below wrote =

@@ -1,5 +1,6 @@
 -- What holds of the work of a search goes on to hold whatever is added, and at the end it is the least map.
-use Rattle.std.proofs.Common.{◌≡◌, ◌≤◌, Bool, true, false, cond, ◌||◌, is_some, ◌⊎◌, List, [], ◌∷◌, length, refl, sym, ap, ◌∙◌, subst, inl, inr, arith}
+use Rattle.std.proofs.Common.{◌≡◌, ◌≤◌, Bool, true, false, cond, ◌||◌, is_some, ◌⊎◌, List, []}
+use Rattle.std.proofs.Common.{◌∷◌, length, refl, sym, ap, ◌∙◌, subst, inl, inr, arith}
 use Rattle.std.specs.Prelude.{Option, Some, None, Ok, MatchBool}
 use Rattle.std.specs.List.{Contains}
 use Rattle.std.specs.BTreeMap.{is_at}
@@ -86,7 +87,8 @@ module _ {P S : Type 0} (an : Analysis P S) (laws : AnalysisLaws an) where
       covered = λ o t way. covers_kept above o t (settled.covered o t way);
     }
 
-    holds_wrote : (left : P → S → Type 0) → Holds an old left → IsAbove old q v → Reached an q v → length new.notes ≤ 65536 → Holds an new left
+    holds_wrote : (left : P → S → Type 0) → Holds an old left → IsAbove old q v → Reached an q v → length new.notes ≤ 65536 →
+        Holds an new left
     holds_wrote left holds above reaches few = record {
       start = covers_kept above an.start_point an.start_state holds.start;
       reached = λ p s noted. reached_by p s (came p s noted);
@@ -123,7 +125,8 @@ module _ {P S : Type 0} (an : Analysis P S) (laws : AnalysisLaws an) where
       length new.notes ≤ 65536 → AddedHolds old new left q t
   added_holds old new left q t holds added reaches few = by (state_at an old.notes q) refl added
     where
-      wrote_holds : (v : S) → Wrote an.order old new q v → IsAbove old q v → Reached an q v → an.below t v ≡ true → AddedHolds old new left q t
+      wrote_holds : (v : S) → Wrote an.order old new q v → IsAbove old q v → Reached an q v → an.below t v ≡ true →
+          AddedHolds old new left q t
       wrote_holds v wrote above there below = record {
         holds = holds_wrote old new q v wrote left holds above there few;
         covered = record { upper = v; noted = noted_here old new q v wrote; below = below };
@@ -144,12 +147,14 @@ module _ {P S : Type 0} (an : Analysis P S) (laws : AnalysisLaws an) where
           let above : IsAbove old q (an.join s t) = record {
             each = λ u there. subst (λ (o : S). an.below o (an.join s t) ≡ true) (some_inside s u (sym noted ∙ there)) first;
           } in
-          wrote_holds (an.join s t) wrote above (joined was reaches) (laws.second q s t (reached_fits an laws was) (reached_fits an laws reaches))
+          wrote_holds (an.join s t) wrote above (joined was reaches)
+          (laws.second q s t (reached_fits an laws was) (reached_fits an laws reaches))
         where
           some_inside : (x y : S) → Some x ≡ Some y → x ≡ y
           some_inside x y e = cc
 
-      by_test : (s : S) (b : Bool) → state_at an old.notes q ≡ Some s → an.below t s ≡ b → MatchBool b (new ≡ old) (Wrote an.order old new q (an.join s t)) →
+      by_test : (s : S) (b : Bool) → state_at an old.notes q ≡ Some s → an.below t s ≡ b →
+          MatchBool b (new ≡ old) (Wrote an.order old new q (an.join s t)) →
           AddedHolds old new left q t
       by_test s true noted below same = unchanged s noted below same
       by_test s false noted below wrote = raised s noted wrote
@@ -171,7 +176,8 @@ module _ {P S : Type 0} (an : Analysis P S) (laws : AnalysisLaws an) where
       by true e is = inl (sym (same_point p k e))
       by false e is = inr is
 
-  pub holds_taken : (old new : Work P S) (k : P) (s : S) → IsTaken old new k → state_at an old.notes k ≡ Some s → Holds an old (Nothing an) →
+  pub holds_taken : (old new : Work P S) (k : P) (s : S) → IsTaken old new k → state_at an old.notes k ≡ Some s →
+      Holds an old (Nothing an) →
       Holds an new (Only an k s)
   holds_taken old new k s taken noted holds =
       subst (λ (ns : List (P × S)). Holds an (record { notes = ns; due = new.due }) (Only an k s)) (sym taken.notes) (record {
@@ -192,7 +198,8 @@ module _ {P S : Type 0} (an : Analysis P S) (laws : AnalysisLaws an) where
       due_so p t there (inl same) = inr (inr (here p t there same))
       due_so p t there (inr due) = inl due
 
-      so : (p : P) (t : S) → state_at an old.notes p ≡ Some t → (is_due an.order old.due p ≡ true) ⊎ (IsSettled an old.notes p t ⊎ Nothing an p t) →
+      so : (p : P) (t : S) → state_at an old.notes p ≡ Some t →
+          (is_due an.order old.due p ≡ true) ⊎ (IsSettled an old.notes p t ⊎ Nothing an p t) →
           (is_due an.order new.due p ≡ true) ⊎ (IsSettled an old.notes p t ⊎ Only an k s p t)
       so p t there (inl due) = due_so p t there (due_by k new.due p (ap (λ (ks : List P). is_due an.order ks p) (sym taken.due) ∙ due))
       so p t there (inr (inl settled)) = inr (inl settled)
@@ -215,7 +222,8 @@ module _ {P S : Type 0} (an : Analysis P S) (laws : AnalysisLaws an) where
       due_so p t there (inl same) = let both : None ≡ Some t = sym absent ∙ ap (state_at an old.notes) same ∙ there in absurd (cc)
       due_so p t there (inr due) = inl due
 
-      so : (p : P) (t : S) → state_at an old.notes p ≡ Some t → (is_due an.order old.due p ≡ true) ⊎ (IsSettled an old.notes p t ⊎ Nothing an p t) →
+      so : (p : P) (t : S) → state_at an old.notes p ≡ Some t →
+          (is_due an.order old.due p ≡ true) ⊎ (IsSettled an old.notes p t ⊎ Nothing an p t) →
           (is_due an.order new.due p ≡ true) ⊎ (IsSettled an old.notes p t ⊎ Nothing an p t)
       so p t there (inl due) = due_so p t there (due_by k new.due p (ap (λ (ks : List P). is_due an.order ks p) (sym taken.due) ∙ due))
       so p t there (inr rest) = inr rest
@@ -248,7 +256,8 @@ module _ {P S : Type 0} (an : Analysis P S) (laws : AnalysisLaws an) where
     pub notes : w.notes ≡ []
     pub due : w.due ≡ []
 
-  pub holds_start : (old new : Work P S) → IsEmptyWork old → Wrote an.order old new an.start_point an.start_state → Holds an new (Nothing an)
+  pub holds_start : (old new : Work P S) → IsEmptyWork old → Wrote an.order old new an.start_point an.start_state →
+      Holds an new (Nothing an)
   holds_start old new empty wrote = record {
     start = record {
       upper = an.start_state;
@@ -281,7 +290,8 @@ module _ {P S : Type 0} (an : Analysis P S) (laws : AnalysisLaws an) where
       few =
           let count = wrote.count in
           let empty_count : length old.notes ≡ 0 = ap length empty.notes in
-          let one : cond (is_some (state_at an old.notes an.start_point)) 0 1 ≤ 1 = at_most (is_some (state_at an old.notes an.start_point)) in
+          let one : cond (is_some (state_at an old.notes an.start_point)) 0 1 ≤ 1 =
+          at_most (is_some (state_at an old.notes an.start_point)) in
           omega arith
         where
           at_most : (b : Bool) → cond b 0 1 ≤ 1

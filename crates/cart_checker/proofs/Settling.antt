@@ -1,5 +1,6 @@
 -- A state is settled: all that holds next is added, one after the other.
-use Rattle.std.proofs.Common.{◌≡◌, ℕ, zero, suc, ◌+◌, ◌<◌, ◌≤◌, List, [], ◌∷◌, length, map, slice_index_or, refl, sym, ap, ◌∙◌, subst, arith}
+use Rattle.std.proofs.Common.{◌≡◌, ℕ, zero, suc, ◌+◌, ◌<◌, ◌≤◌, List, [], ◌∷◌}
+use Rattle.std.proofs.Common.{length, map, slice_index_or, refl, sym, ap, ◌∙◌, subst, arith}
 use Rattle.std.specs.Prelude.{Option, Some, None, Ok, Err}
 use Rattle.std.specs.List.{All, AllWithin}
 use Rattle.std.proofs.lemmas.List.{get_or_read, length-map}
@@ -85,7 +86,8 @@ module _ (m : MapTable) (tracked : List ℕ) where
       Holds (map_analysis m tracked) w (Only (map_analysis m tracked) p (state_of s)) → Settling w w p s ways 0
   settling_none w p s ways holds = record { holds = holds; covered = AllWithin-none (IsCovered w) ways 0; falls = omega arith }
 
-  pub way_reached : (p : Point) (s : Abs) (ways : List (Point × Abs)) (k : ℕ) (way : Point × Abs) → IsAnswer m tracked p s ways → IsWay ways k way →
+  pub way_reached : (p : Point) (s : Abs) (ways : List (Point × Abs)) (k : ℕ) (way : Point × Abs) → IsAnswer m tracked p s ways →
+      IsWay ways k way →
       Reached (map_analysis m tracked) p (state_of s) → Reached (map_analysis m tracked) way.0 (state_of way.1)
   way_reached p s ways k way answer is reached =
       let count : length (states_of ways) ≡ length ways = length-map ways state_in in
@@ -93,9 +95,11 @@ module _ (m : MapTable) (tracked : List ℕ) where
       next reached (next_ok m tracked p s ways answer) (k, omega arith, state_at_place ways k way ∙ ap state_in (sym is.is))
 
   module _ (laws : AnalysisLaws (map_analysis m tracked)) where
-    pub settling_more : (old w new : Work Point AbstractState) (p : Point) (s : Abs) (ways : List (Point × Abs)) (k : ℕ) (way : Point × Abs) →
+    pub settling_more : (old w new : Work Point AbstractState) (p : Point) (s : Abs) (ways : List (Point × Abs)) (k : ℕ)
+        (way : Point × Abs) →
         Settling old w p s ways k → IsWay ways k way → Reached (map_analysis m tracked) way.0 (state_of way.1) →
-        Added point_cmp is_state_below joined_state w new way.0 (state_of way.1) → length new.notes ≤ 65536 → Settling old new p s ways (k + 1)
+        Added point_cmp is_state_below joined_state w new way.0 (state_of way.1) → length new.notes ≤ 65536 →
+        Settling old new p s ways (k + 1)
     settling_more old w new p s ways k way so is reached added few =
         let an = map_analysis m tracked in
         let step = added_holds an laws w new (Only an p (state_of s)) way.0 (state_of way.1) so.holds added reached few in
@@ -109,7 +113,8 @@ module _ (m : MapTable) (tracked : List ℕ) where
           falls = omega arith;
         }
 
-    pub settling_all : (old w : Work Point AbstractState) (p : Point) (s : Abs) (ways : List (Point × Abs)) (k : ℕ) → Settling old w p s ways k →
+    pub settling_all : (old w : Work Point AbstractState) (p : Point) (s : Abs) (ways : List (Point × Abs)) (k : ℕ) →
+        Settling old w p s ways k →
         length ways ≤ k → IsAnswer m tracked p s ways → Holds (map_analysis m tracked) w (Nothing (map_analysis m tracked))
     settling_all old w p s ways k so end answer =
         let an = map_analysis m tracked in

@@ -8,7 +8,8 @@ use Rattle.abs_domain.specs.declared.points.Point.{Point}
 use Rattle.cart_checker.specs.Worklists.{Work, state_by, Wrote, AddedTo, Added}
 
 module _ (old new : Work Point AbstractState) (q : Point) (t : AbstractState) where
-  pub added_new : state_by point_cmp old.notes q ≡ None → Wrote point_cmp old new q t → Added point_cmp is_state_below joined_state old new q t
+  pub added_new : state_by point_cmp old.notes q ≡ None → Wrote point_cmp old new q t →
+      Added point_cmp is_state_below joined_state old new q t
   added_new absent is = subst (AddedTo point_cmp is_state_below joined_state old new q t) (sym absent) is
 
   module _ (s : AbstractState) (noted : state_by point_cmp old.notes q ≡ Some s) where

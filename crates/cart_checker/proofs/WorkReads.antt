@@ -17,7 +17,8 @@ use Rattle.abs_domain.specs.declared.state.Abs.{Abs}
 use Rattle.abs_step.specs.StatesAtPoints.{state_in, states_of}
 use Rattle.cart_checker.specs.Worklists.{state_by, is_due, Wrote}
 
-pub found_as : (notes : List (Point × Abs)) (p : Point) → state_by point_cmp (states_of notes) p ≡ option_map state_of (lookup (is_at (point_cmp p)) notes)
+pub found_as : (notes : List (Point × Abs)) (p : Point) →
+    state_by point_cmp (states_of notes) p ≡ option_map state_of (lookup (is_at (point_cmp p)) notes)
 found_as notes p = lookup-map_values state_of (is_at (point_cmp p)) notes
 
 pub many_as : (notes : List (Point × Abs)) → length (states_of notes) ≡ length notes
@@ -37,7 +38,8 @@ insert_as : (notes : List (Point × Abs)) (q : Point) (v : Abs) →
     states_of (insert_entry point_cmp notes q v) ≡ insert_entry point_cmp (states_of notes) q (state_of v)
 insert_as [] q v = refl
 insert_as (e ∷ es) q v =
-    insert_by (point_cmp q e.0) e es (insert_entry point_cmp es q v) (insert_entry point_cmp (states_of es) q (state_of v)) q v (insert_as es q v)
+    insert_by (point_cmp q e.0) e es (insert_entry point_cmp es q v) (insert_entry point_cmp (states_of es) q (state_of v)) q v
+    (insert_as es q v)
 
 -- what the insertion of a state tells
 pub record IsInserted (old new : List (Point × Abs)) (q : Point) (v : Abs) : Type 0 where
@@ -53,7 +55,8 @@ pub record IsMadeDue (old new : List Point) (q : Point) : Type 0 where
   pub due : (p : Point) → is_due point_cmp new p ≡ cond (is_at (point_cmp q) p) true (is_due point_cmp old p)
   pub longer : length new ≤ length old + 1
 
-read_by : (b : Bool) (v : Abs) (o : Option Abs) → option_map state_of (cond b (Some v) o) ≡ cond b (Some (state_of v)) (option_map state_of o)
+read_by : (b : Bool) (v : Abs) (o : Option Abs) →
+    option_map state_of (cond b (Some v) o) ≡ cond b (Some (state_of v)) (option_map state_of o)
 read_by true v o = refl
 read_by false v o = refl
 

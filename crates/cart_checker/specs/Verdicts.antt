@@ -9,7 +9,8 @@ use Rattle.abs_domain.specs.declared.points.Point.{Point}
 use Rattle.abs_step.specs.MapView.{chips_view}
 use Rattle.abs_step.specs.Analysis.{Analysis}
 use Rattle.abs_step.specs.CartridgeAnalysis.{analysis}
-use Rattle.abs_step.specs.ReachedStates.{SomeIsSafe, SomeIsFaultFree, IsLeastMap, IsLowestMap, HoldsFaultFreeStates, ReachesUnsafe, ReachesTooMany}
+use Rattle.abs_step.specs.ReachedStates.{SomeIsSafe, SomeIsFaultFree, IsLeastMap, IsLowestMap}
+use Rattle.abs_step.specs.ReachedStates.{HoldsFaultFreeStates, ReachesUnsafe, ReachesTooMany}
 use Rattle.cart_checker.specs.declared.verdict.Verdict.{Verdict}
 use Rattle.cart_checker.specs.declared.verdict.Verdict.TheVariants.{Whole, Agreed, Refused, TooMany}
 

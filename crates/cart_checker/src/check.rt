@@ -1,16 +1,20 @@
 // The check of a cartridge.
-ghost use Rattle.std.specs.Prelude.{◌≡◌, IfOk};
-ghost use Rattle.abs_step.specs.MapView.{chips_view};
+ghost use Rattle.std.specs.Prelude.{◌≡◌, ◌↔◌, Err, IfOk, IsErr};
+ghost use Rattle.std.specs.List.{list_all};
+ghost use Rattle.abs_step.specs.MapView.{chips_view, view_of};
+ghost use Rattle.abs_step.specs.Safety.{is_fault_free};
+ghost use Rattle.abs_step.specs.StepView.{invariant_of};
 ghost use Rattle.abs_step.specs.Analysis.{AnalysisLaws};
 ghost use Rattle.abs_step.specs.CartridgeAnalysis.{TellsBytes};
 ghost use Rattle.cart_checker.specs.Verdicts.{IsVerdict, Carries, IsVerdictIn, CarriesIn};
-ghost use Rattle.cart_checker.specs.WorkView.{map_analysis, are_fault_free};
+ghost use Rattle.cart_checker.specs.WorkView.{map_analysis, IsVerdictOn};
+ghost use Rattle.cart_checker.specs.declared.halt.Halt.TheVariants.{Memory as WantOfMemory};
 
 use super::halt::Halt;
 use super::search::search;
 use super::verdict::Verdict;
 use abs_domain::{Abs, Point};
-use abs_step::{analysis_law, map_view_law, whole};
+use abs_step::{Annotation, analysis_law, map_view_law, whole};
 use cartridge::{Cart, Split};
 use f8_spec::Memory;
 use memory_map::Map;
@@ -37,7 +41,15 @@ fn checked(alloc: Global, split: &Split, map: &Map) -> Result<Verdict, Memory>
     ensures verdict { IfOk result (IsVerdictIn (map_analysis map.now split.now)) }
     ensures carries { IfOk result (CarriesIn (map_analysis map.now split.now)) }
 {
-    match search(alloc, split, map) {
+    verdict_on(search(alloc, split, map), map)
+}
+
+/// The verdict on what a search found. Want of memory has none, and nothing else is told as that.
+fn verdict_on(found: Result<Annotation, Halt>, map: &Map) -> Result<Verdict, Memory>
+    ensures memory { IsErr result ↔ (found ≡ Err WantOfMemory) }
+    ensures verdict { IfOk result (IsVerdictOn (view_of map.now) found) }
+{
+    match found {
         Ok(notes) => {
             if are_fault_free(notes.as_map(), map) {
                 Ok(Verdict::Whole(notes))
@@ -57,7 +69,8 @@ fn checked(alloc: Global, split: &Split, map: &Map) -> Result<Verdict, Memory>
 
 /// Each state is free of faults at its point.
 fn are_fault_free(notes: &BTreeMap<Point, Abs>, map: &Map) -> bool
-    ensures { result ≡ are_fault_free map.now notes.now.entries }
+    ensures { result ≡ list_all (λ e. is_fault_free (view_of map.now) (invariant_of e))
+        notes.now.entries }
 {
     notes.iter().all(|(point, state)| whole(state, point, map))
 }

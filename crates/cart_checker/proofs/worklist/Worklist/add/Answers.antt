@@ -8,6 +8,7 @@ use Rattle.cart_checker.specs.Worklists.{state_by}
 use Rattle.cart_checker.specs.WorkView.{work_of}
 use Rattle.cart_checker.proofs.WorkReads.{found_as, many_as}
 use Rattle.cart_checker.proofs.WorkAdds.{added_new, added_below, added_raised}
+use Rattle.cart_checker.proofs.Stops.{only_memory}
 use Rattle.cart_checker.proofs.worklist.Worklist.add.Goals as goal
 
 pub returns-then-len-ge-MOST_POINTS-clause-halt : goal.returns-then-len-ge-MOST_POINTS-clause-halt
@@ -48,3 +49,11 @@ returns-in_ok-write-in-Some-clause-few c =
     let count : length (work_of c.write-in-Some.new.self).notes ≡ length (states_of notes) + 0 =
     c.in_ok-write-in-Some.ensures.count ∙ ap (λ (o : _). length (states_of notes) + cond (is_some o) 0 1) noted in
     omega arith
+
+pub returns-in_err-write-in-Some-clause-halt : goal.returns-in_err-write-in-Some-clause-halt
+returns-in_err-write-in-Some-clause-halt c =
+    let notes = c.args.self.now.notes.entries in
+    let noted : state_by point_cmp (states_of notes) c.args.point.now ≡ Some (state_of c.in-Some.old.now) =
+    found_as notes c.args.point.now ∙ ap (option_map state_of) (sym c.in-Some.ensures.value) in
+    only_memory (work_of c.args.self.now) c.args.point.now (state_of c.in-Some.old.now) noted c.from_residual-in_err-write-in-Some.result
+    c.from_residual-in_err-write-in-Some.ensures.1

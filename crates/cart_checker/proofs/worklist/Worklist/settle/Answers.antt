@@ -13,7 +13,8 @@ after-requires c = (reached_fits (map_analysis c.args.map.now c.args.split.now) 
 
 pub loop-way-init : goal.loop-way-init
 loop-way-init c =
-    settling_none c.args.map.now c.args.split.now (work_of c.args.self.now) c.args.point c.args.state c.as_slice-way-items.result.now c.requires.holds
+    settling_none c.args.map.now c.args.split.now (work_of c.args.self.now) c.args.point c.args.state c.as_slice-way-items.result.now
+    c.requires.holds
 
 pub add-requires : goal.add-requires
 add-requires c = record { few = c.loop-way.invariant.holds.few }
@@ -27,10 +28,12 @@ returns-in_err-add-in-Ok-clause-halt c =
       leads = c.as_slice-way-items.ensures ∙ c.in-Ok.ensures.successors;
     } in
     let is : IsWay ways c.loop-way.way-index way = record { within = c.loop-way-test.true; is = c.way-item.is } in
-    let reached = way_reached c.args.map.now c.args.split.now c.args.point c.args.state ways c.loop-way.way-index way answer is c.requires.reached in
+    let reached =
+    way_reached c.args.map.now c.args.split.now c.args.point c.args.state ways c.loop-way.way-index way answer is c.requires.reached in
     handed_on (map_analysis c.args.map.now c.args.split.now) c.from_residual.result c.in_err-add-in-Ok.field-0.0 c.from_residual.ensures.1
     (add_shows (map_analysis c.args.map.now c.args.split.now) c.requires.laws (work_of c.loop-way.self)
-    (Only (map_analysis c.args.map.now c.args.split.now) c.args.point (state_of c.args.state)) way.0 (state_of way.1) c.in_err-add-in-Ok.field-0.0 refl
+    (Only (map_analysis c.args.map.now c.args.split.now) c.args.point (state_of c.args.state)) way.0 (state_of way.1)
+    c.in_err-add-in-Ok.field-0.0 refl
     c.loop-way.invariant.holds reached c.in_err-add-in-Ok.ensures.halt)
 
 pub loop-way-preserved : goal.loop-way-preserved
@@ -42,8 +45,10 @@ loop-way-preserved c =
       leads = c.as_slice-way-items.ensures ∙ c.in-Ok.ensures.successors;
     } in
     let is : IsWay ways c.loop-way.way-index way = record { within = c.loop-way-test.true; is = c.way-item.is } in
-    let reached = way_reached c.args.map.now c.args.split.now c.args.point c.args.state ways c.loop-way.way-index way answer is c.requires.reached in
-    settling_more c.args.map.now c.args.split.now c.requires.laws _ _ _ c.args.point c.args.state ways c.loop-way.way-index way c.loop-way.invariant is
+    let reached =
+    way_reached c.args.map.now c.args.split.now c.args.point c.args.state ways c.loop-way.way-index way answer is c.requires.reached in
+    settling_more c.args.map.now c.args.split.now c.requires.laws _ _ _ c.args.point c.args.state ways c.loop-way.way-index way
+    c.loop-way.invariant is
     reached c.in_ok-add-in-Ok.ensures.added c.in_ok-add-in-Ok.ensures.few
 
 pub returns-after-loop-way-clause-holds : goal.returns-after-loop-way-clause-holds
@@ -53,7 +58,8 @@ returns-after-loop-way-clause-holds c =
       safe = c.in-Ok.ensures.safe;
       leads = c.as_slice-way-items.ensures ∙ c.in-Ok.ensures.successors;
     } in
-    settling_all c.args.map.now c.args.split.now c.requires.laws _ _ c.args.point c.args.state ways c.loop-way.way-index c.loop-way.invariant
+    settling_all c.args.map.now c.args.split.now c.requires.laws _ _ c.args.point c.args.state ways c.loop-way.way-index
+    c.loop-way.invariant
     (omega (arith, c.loop-way-test.false)) answer
 
 pub returns-after-loop-way-clause-falls : goal.returns-after-loop-way-clause-falls
