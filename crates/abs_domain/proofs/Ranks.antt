@@ -2,7 +2,8 @@
 use Rattle.std.proofs.Common.{◌≡◌, ◌+◌, ◌<◌, ◌≤◌, ℕ, Bool, true, false, ◌&&◌, ◌⊎◌, inl, inr, List, [], ◌∷◌, length, refl, ap, sym, arith}
 use Rattle.std.specs.Prelude.{Option, Some, None, if◌then◌else◌}
 use Rattle.std.specs.List.{AllZip}
-use Rattle.abs_domain.specs.Lattice.{Below, FactBelow, common, common_each, same_bool, known_count, fact_count, known_count_each, same_number}
+use Rattle.abs_domain.specs.Lattice.{Below, FactBelow, common, common_each, same_bool}
+use Rattle.abs_domain.specs.Lattice.{known_count, fact_count, known_count_each, same_number}
 use Rattle.abs_domain.specs.AbstractState.{KnownStatus, KnownRegisters, KnownCounters, AbstractState, HasScratchpad}
 use Rattle.abs_domain.specs.AbstractState.{StatusBelow, RegistersBelow, CountersBelow, StateBelow}
 use Rattle.abs_domain.specs.Joins.{joined_status, joined_registers, joined_counters, joined_state}

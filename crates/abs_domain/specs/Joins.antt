@@ -81,7 +81,8 @@ abbrev pub registers_rank : KnownRegisters → ℕ
 registers_rank s = known_count s.accumulator + known_count s.high + known_count s.low + status_rank s.status + known_count_each s.scratchpad
 
 abbrev pub counters_rank : KnownCounters → ℕ
-counters_rank s = known_count s.d0 + known_count s.d1 + known_count s.c + fact_count s.s0 + fact_count s.s1 + fact_count s.p0 + fact_count s.p1
+counters_rank s =
+    known_count s.d0 + known_count s.d1 + known_count s.c + fact_count s.s0 + fact_count s.s1 + fact_count s.p0 + fact_count s.p1
 
 abbrev pub rank : AbstractState → ℕ
 rank s = registers_rank s.registers + counters_rank s.counters

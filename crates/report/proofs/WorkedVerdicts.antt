@@ -39,7 +39,8 @@ unfolding refused_line point_text digits
 call_by_unknown_k = refl
 
 -- three registers are tracked, the byte of the second isn't known; a reason has two digits
-tracked_bytes : refused_line (9 ∷ 0 ∷ 63 ∷ []) (point 0xABCD None (Some 0 ∷ None ∷ Some 0xFE ∷ []) 5) TrackedRegisterBlurred ≡ codes "refused ABCD ---- 00,--,FE 12\n"
+tracked_bytes : refused_line (9 ∷ 0 ∷ 63 ∷ []) (point 0xABCD None (Some 0 ∷ None ∷ Some 0xFE ∷ []) 5) TrackedRegisterBlurred
+    ≡ codes "refused ABCD ---- 00,--,FE 12\n"
 unfolding refused_line point_text digits
 tracked_bytes = refl
 

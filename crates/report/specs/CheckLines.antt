@@ -43,7 +43,8 @@ agreed_line points = codes "agreed " ++ decimal points ++ codes "\n"
 
 -- a state at a point is not safe, for a reason, which is told by its number
 unfoldable pub refused_line : List ℕ → Point → Reason → List ℕ
-refused_line tracked point reason = codes "refused " ++ point_text tracked point ++ codes " " ++ decimal (reason_number reason) ++ codes "\n"
+refused_line tracked point reason =
+    codes "refused " ++ point_text tracked point ++ codes " " ++ decimal (reason_number reason) ++ codes "\n"
 
 -- too many points have a state
 unfoldable pub toomany_line : List ℕ
