@@ -97,7 +97,8 @@ module _ (an : Analysis Point AbstractState) where
   all_settled_back : (notes es : List (Point × AbstractState)) → All (IsSettledAt notes) es → first_failure an notes es ≡ None
   all_settled_back notes [] all = refl
   all_settled_back notes (e ∷ es) all =
-      ap (λ (o : Option VerifyAnswer). option_or o (first_failure an notes es)) (settled_back notes e (All-head (IsSettledAt notes) e es all))
+      ap (λ (o : Option VerifyAnswer). option_or o (first_failure an notes es))
+      (settled_back notes e (All-head (IsSettledAt notes) e es all))
       ∙ all_settled_back notes es (All-tail (IsSettledAt notes) e es all)
 
   -- ---- nothing fails
@@ -175,7 +176,8 @@ module _ (an : Analysis Point AbstractState) where
 
     -- it is closed and safe
 
-    sound : covers an.order an.below notes an.start_point an.start_state ≡ true → first_failure an notes notes ≡ None → IsSafelyClosed an notes
+    sound : covers an.order an.below notes an.start_point an.start_state ≡ true → first_failure an notes notes ≡ None →
+        IsSafelyClosed an notes
     sound start none = record {
       is_map = is_map;
       closed = record { start = covered notes an.start_point an.start_state start; next = next };
@@ -185,7 +187,8 @@ module _ (an : Analysis Point AbstractState) where
         here_at : (p : Point) (s : AbstractState) → state_at an notes p ≡ Some s → IsSettledAt notes (p, s)
         here_at p s here = All-contains (IsSettledAt notes) notes (p, s) (all_settled notes notes none) (among p s here)
 
-        next : (p : Point) (s : AbstractState) (ways : List (Point × AbstractState)) → state_at an notes p ≡ Some s → an.next p s ≡ Ok ways →
+        next : (p : Point) (s : AbstractState) (ways : List (Point × AbstractState)) → state_at an notes p ≡ Some s →
+            an.next p s ≡ Ok ways →
             (q : Point) (t : AbstractState) → Contains ways (q, t) → CoversAt an notes q t
         next p s ways here is q t way =
             let at = here_at p s here in

@@ -1,5 +1,5 @@
--- States as the program holds them, read as those of an analysis: what a look-up finds, what the checker's step tells, and whether all are free
--- of faults.
+-- States as the program holds them, read as those of an analysis: what a look-up finds, what the checker's step tells, and whether all are
+-- free of faults.
 use Rattle.std.proofs.Common.{◌≡◌, ℕ, Bool, ◌&&◌, List, [], ◌∷◌, map, refl, sym, ap, ◌∙◌}
 use Rattle.std.specs.Prelude.{Option, Some, None, option_map, Ok, Err}
 use Rattle.std.specs.List.{list_all}
@@ -39,7 +39,8 @@ states_as : (ways : List (Point × Abs)) → map entry_of (map invariant_of ways
 states_as [] = refl
 states_as (w ∷ ws) = ap (λ (es : List (Point × AbstractState)). state_in w ∷ es) (states_as ws)
 
-safe_by : (o : Option Op) (m : MapView) (tracked : List ℕ) (x : Invariant) → answer_by None o m tracked x ≡ Ok (map entry_of (next_by o m tracked x))
+safe_by : (o : Option Op) (m : MapView) (tracked : List ℕ) (x : Invariant) →
+    answer_by None o m tracked x ≡ Ok (map entry_of (next_by o m tracked x))
 safe_by None m tracked x = refl
 safe_by (Some op) m tracked x = refl
 

@@ -1,5 +1,5 @@
--- What is found of invariant maps that were worked out by hand, computed from the definitions: of `LIS 1`, `NOP` and `BR` to the `NOP`, of an
--- opcode that no instruction has, and of reads that go on past the ROM.
+-- What is found of invariant maps that were worked out by hand, computed from the definitions: of `LIS 1`, `NOP` and `BR` to the `NOP`, of
+-- an opcode that no instruction has, and of reads that go on past the ROM.
 use Rattle.std.proofs.Common.{◌≡◌, ℕ, true, false, ◌-◌, List, [], ◌∷◌, ◌++◌, length, replicate, refl}
 use Rattle.std.specs.Prelude.{Option, Some, None}
 use Rattle.f8_spec.specs.Instructions.{decoded}
@@ -62,7 +62,8 @@ unfolding decoded known_effect register_writes successors unsafe_reason reasons 
 no_last = refl
 
 -- a point to which no run comes counts as well: FF stands there
-one_too_many : found loop ((at 0, start_state) ∷ (at 1, with_a (Some 1)) ∷ (at 2, with_a (Some 1)) ∷ (at 4, start_state) ∷ []) ≡ Unsafe (at 4) ReservedOpcode
+one_too_many : found loop ((at 0, start_state) ∷ (at 1, with_a (Some 1)) ∷ (at 2, with_a (Some 1)) ∷ (at 4, start_state) ∷ [])
+    ≡ Unsafe (at 4) ReservedOpcode
 unfolding decoded known_effect register_writes successors unsafe_reason reasons is_fault_free holds_every_address chips_view
 one_too_many = refl
 
