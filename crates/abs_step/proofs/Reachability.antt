@@ -1,6 +1,6 @@
 -- What follows from the laws of an analysis alone: reached states fit their points, every closed and safe map covers them, and so an unsafe
 -- one, or too many points, show that there is no such map; and the least one is free of faults where some is.
-use Rattle.std.proofs.Common.{◌≡◌, ℕ, ◌≤◌, true, List, length, refl, sym, ◌∙◌, subst, arith}
+use Rattle.std.proofs.Common.{◌≡◌, ◌≤◌, true, List, length, refl, sym, ◌∙◌, subst, arith}
 use Rattle.std.specs.Prelude.{Ok, Err, IsSome}
 use Rattle.std.specs.List.{All, Contains, list_any}
 use Rattle.std.specs.Map.{lookup}
