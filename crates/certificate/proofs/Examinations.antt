@@ -1,5 +1,5 @@
 -- What an examination finds is right: no failure means that a map is closed and safe, and the other way round.
-use Rattle.std.proofs.Common.{◌≡◌, ℕ, Bool, true, false, ◌&&◌, if◌then◌else◌, List, [], ◌∷◌, refl, sym, ap, ◌∙◌, subst}
+use Rattle.std.proofs.Common.{◌≡◌, Bool, true, false, ◌&&◌, if◌then◌else◌, List, [], ◌∷◌, refl, sym, ap, ◌∙◌, subst}
 use Rattle.std.specs.Prelude.{Option, Some, None, option_map, unwrap_or, Result, Ok, Err, ◌↔◌}
 use Rattle.std.specs.List.{All, Contains, list_all}
 use Rattle.std.specs.Cmp.{IsTotalOrder}

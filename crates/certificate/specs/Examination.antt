@@ -1,6 +1,6 @@
 -- What an examination of an invariant map finds: whether the map is closed, safe and free of faults, or the first failure.
 use Rattle.std.specs.Prelude.{Bool, true, false, if◌then◌else◌, List, [], ◌∷◌, Option}
-use Rattle.std.specs.Prelude.{Some, None, option_map, unwrap_or, Result, Ok, Err, ℕ}
+use Rattle.std.specs.Prelude.{Some, None, option_map, unwrap_or, Result, Ok, Err}
 use Rattle.std.specs.List.{list_all}
 use Rattle.std.specs.Map.{lookup}
 use Rattle.std.specs.Option.{option_or}
