@@ -8,7 +8,8 @@ use Rattle.abs_domain.specs.StateView.{state_of}
 use Rattle.abs_domain.specs.declared.points.Point.{Point}
 use Rattle.abs_domain.specs.declared.reason.Reason.{Reason}
 use Rattle.abs_domain.specs.declared.reason.Reason.TheVariants.{UnknownJump, UnknownReturn, UnsetReturn, DataCountersApart}
-use Rattle.abs_domain.specs.declared.reason.Reason.TheVariants.{ReturnNotHeldOnce, BadPort, InterruptPossible, SharedDataAddress, TrackedRegisterBlurred}
+use Rattle.abs_domain.specs.declared.reason.Reason.TheVariants.{ReturnNotHeldOnce, BadPort, InterruptPossible, SharedDataAddress}
+use Rattle.abs_domain.specs.declared.reason.Reason.TheVariants.{TrackedRegisterBlurred}
 use Rattle.abs_domain.specs.declared.state.Abs.{Abs}
 use Rattle.abs_step.specs.MapView.{MapView}
 use Rattle.abs_step.specs.Successors.{Invariant, along, with_invariants, successors}
