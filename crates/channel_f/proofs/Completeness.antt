@@ -36,13 +36,15 @@ use Rattle.channel_f.specs.Completeness.{due_at, Answered, AnsweredDue, RefusesB
 use Rattle.channel_f.specs.Reports.{Answers, AnswersDue, Wants, Stops}
 use Rattle.channel_f.specs.declared.manner.Manner.{Manner}
 use Rattle.channel_f.specs.declared.manner.Manner.TheVariants.{Whole, Summary}
+use Rattle.channel_f.specs.declared.status.Status.{Status}
+use Rattle.channel_f.specs.declared.status.Status.TheVariants as status
 use Rattle.channel_f.proofs.Games.{answers_of}
 
 -- a status that the store, the sink and memory don't have
-record IsPlain (status : ℕ) : Type 0 where
-  store : status ≢ 4
-  sink : status ≢ 5
-  memory : status ≢ 6
+record IsPlain (due : Status) : Type 0 where
+  store : due ≢ status.Store
+  sink : due ≢ status.Sink
+  memory : due ≢ status.Memory
 
 -- ---- what is due
 
@@ -88,16 +90,16 @@ still_told old new work outcome works files e (inr told) = told
 no_rise : (before now : ℕ) → now ≡ before → before < now → ⊥
 no_rise before now e less = omega (arith, e, less)
 
-two_not_six : (said : ℕ) → said ≡ 2 → said ≡ 6 → ⊥
-two_not_six said two six = cc
+input_not_memory : (said : Status) → said ≡ status.Input → said ≡ status.Memory → ⊥
+input_not_memory said by_input by_memory = cc
 
-four_not_six : (said : ℕ) → said ≡ 4 → said ≡ 6 → ⊥
-four_not_six said four six = cc
+store_not_memory : (said : Status) → said ≡ status.Store → said ≡ status.Memory → ⊥
+store_not_memory said by_store by_memory = cc
 
-five_not_six : (said : ℕ) → said ≡ 5 → said ≡ 6 → ⊥
-five_not_six said five six = cc
+sink_not_memory : (said : Status) → said ≡ status.Sink → said ≡ status.Memory → ⊥
+sink_not_memory said by_sink by_memory = cc
 
--- what is due with 2 is the refusal of a rack
+-- what is due as refused input is the refusal of a rack
 record RackRefuses (rack : List ChipState) (due : Answer) : Type 0 where
   chips : List ChipSpec
   line : List ℕ
@@ -105,30 +107,30 @@ record RackRefuses (rack : List ChipState) (due : Answer) : Type 0 where
   lines : due.lines ≡ line ∷ []
 
 -- What is due came to an answer, whose status is none of those.
-record Answering (old new : Around) (said : ℕ) (due : Due) : Type 0 where
+record Answering (old new : Around) (said : Status) (due : Due) : Type 0 where
   answer : Answer
   plain : IsPlain answer.status
-  of_rack : answer.status ≡ 2 → RackRefuses old.rack answer
+  of_rack : answer.status ≡ status.Input → RackRefuses old.rack answer
   ends : Answers old.output new.output said answer
   is_due : Answered old new said answer → AnsweredDue old new said due
 
 -- ---- an answer
 
-module _ (old new : Around) (said : ℕ) (work : Work Due) where
+module _ (old new : Around) (said : Status) (work : Work Due) where
   complete_ok : (due : Due) → Answering old new said due → Works old.input new.input work (Ok due) → IsComplete old new said work
   complete_ok due here works = record {
     answers = λ files other e is_due no_store no_sink.
         let told = works.telling files e (due_has (work files).end other is_due) in
         let same = due_given (work files).end due other (works.follows files told).0 is_due in
-        subst (λ (d : Due). AnsweredDue old new said d ⊎ (said ≡ 6)) same (answered_due (answered no_sink ends.which));
+        subst (λ (d : Due). AnsweredDue old new said d ⊎ (said ≡ status.Memory)) same (answered_due (answered no_sink ends.which));
     lacks = λ files told none. absurd (given_due (work files).end due (works.follows files told).0 none);
-    refused = λ files e none two. inr (rack_refused two ends.which);
+    refused = λ files e none by_input. inr (rack_refused by_input ends.which);
     bound = λ files e either.
         let follows = works.follows files (still_told old new work (Ok due) works files e either) in
         record { count = length (work files).asks; few = omega arith; fetches = follows.1 };
-    store = λ four. absurd (not_store four ends.which);
+    store = λ by_store. absurd (not_store by_store ends.which);
     store_told = λ less. absurd (no_rise old.input.faults new.input.faults works.fails less);
-    sink = λ five. (ends.part five).rose;
+    sink = λ by_sink. (ends.part by_sink).rose;
     sink_told = λ less. is_sink less ends.which;
   }
     where
@@ -141,46 +143,46 @@ module _ (old new : Around) (said : ℕ) (work : Work Due) where
       ends : Answers old.output new.output said a
       ends = here.ends
 
-      answered_due : Answered old new said a ⊎ (said ≡ 6) → AnsweredDue old new said due ⊎ (said ≡ 6)
+      answered_due : Answered old new said a ⊎ (said ≡ status.Memory) → AnsweredDue old new said due ⊎ (said ≡ status.Memory)
       answered_due (inl answered) = inl (here.is_due answered)
-      answered_due (inr six) = inr six
+      answered_due (inr by_memory) = inr by_memory
 
-      answered : (Rose old.output.faults new.output.faults → ⊥) → (said ≡ a.status) ⊎ (said ≡ 5) ⊎ (said ≡ 6) →
-          Answered old new said a ⊎ (said ≡ 6)
+      answered : (Rose old.output.faults new.output.faults → ⊥) → (said ≡ a.status) ⊎ (said ≡ status.Sink) ⊎ (said ≡ status.Memory) →
+          Answered old new said a ⊎ (said ≡ status.Memory)
       answered no_sink (inl is) = inl (record {
         status = is;
-        lines = ends.whole (λ five. no_sink (ends.part five).rose) (λ six. plain.memory (sym is ∙ six));
+        lines = ends.whole (λ by_sink. no_sink (ends.part by_sink).rose) (λ by_memory. plain.memory (sym is ∙ by_memory));
       })
-      answered no_sink (inr (inl five)) = absurd (no_sink (ends.part five).rose)
-      answered no_sink (inr (inr six)) = inr six
+      answered no_sink (inr (inl by_sink)) = absurd (no_sink (ends.part by_sink).rose)
+      answered no_sink (inr (inr by_memory)) = inr by_memory
 
-      rack_refused : said ≡ 2 → (said ≡ a.status) ⊎ (said ≡ 5) ⊎ (said ≡ 6) → RefusesRack old new
-      rack_refused two (inl is) =
-          let refuses = here.of_rack (sym is ∙ two) in
-          let whole = ends.whole (λ five. plain.sink (sym is ∙ five)) (λ six. plain.memory (sym is ∙ six)) in
+      rack_refused : said ≡ status.Input → (said ≡ a.status) ⊎ (said ≡ status.Sink) ⊎ (said ≡ status.Memory) → RefusesRack old new
+      rack_refused by_input (inl is) =
+          let refuses = here.of_rack (sym is ∙ by_input) in
+          let whole = ends.whole (λ by_sink. plain.sink (sym is ∙ by_sink)) (λ by_memory. plain.memory (sym is ∙ by_memory)) in
           record {
             chips = refuses.chips;
             line = refuses.line;
             due = refuses.is;
             lines = subst (λ (ls : List (List ℕ)). Adds old.output new.output (text_of ls)) refuses.lines whole;
           }
-      rack_refused two (inr (inl five)) = cc
-      rack_refused two (inr (inr six)) = cc
+      rack_refused by_input (inr (inl by_sink)) = cc
+      rack_refused by_input (inr (inr by_memory)) = cc
 
-      not_store : said ≡ 4 → (said ≡ a.status) ⊎ (said ≡ 5) ⊎ (said ≡ 6) → ⊥
-      not_store four (inl is) = plain.store (sym is ∙ four)
-      not_store four (inr (inl five)) = cc
-      not_store four (inr (inr six)) = cc
+      not_store : said ≡ status.Store → (said ≡ a.status) ⊎ (said ≡ status.Sink) ⊎ (said ≡ status.Memory) → ⊥
+      not_store by_store (inl is) = plain.store (sym is ∙ by_store)
+      not_store by_store (inr (inl by_sink)) = cc
+      not_store by_store (inr (inr by_memory)) = cc
 
-      stays : said ≢ 5 → said ≢ 6 → old.output.faults < new.output.faults → ⊥
-      stays five six less = no_rise old.output.faults new.output.faults (ends.whole five six).count less
+      stays : said ≢ status.Sink → said ≢ status.Memory → old.output.faults < new.output.faults → ⊥
+      stays by_sink by_memory less = no_rise old.output.faults new.output.faults (ends.whole by_sink by_memory).count less
 
-      is_sink : old.output.faults < new.output.faults → (said ≡ a.status) ⊎ (said ≡ 5) ⊎ (said ≡ 6) → said ≡ 5
+      is_sink : old.output.faults < new.output.faults → (said ≡ a.status) ⊎ (said ≡ status.Sink) ⊎ (said ≡ status.Memory) → said ≡ status.Sink
       is_sink less (inl is) =
-          absurd (stays (λ five. plain.sink (sym is ∙ five)) (λ six. plain.memory (sym is ∙ six)) less)
-      is_sink less (inr (inl five)) = five
-      is_sink less (inr (inr six)) =
-          absurd (no_rise old.output.faults new.output.faults (ends.nothing six).count less)
+          absurd (stays (λ by_sink. plain.sink (sym is ∙ by_sink)) (λ by_memory. plain.memory (sym is ∙ by_memory)) less)
+      is_sink less (inr (inl by_sink)) = by_sink
+      is_sink less (inr (inr by_memory)) =
+          absurd (no_rise old.output.faults new.output.faults (ends.nothing by_memory).count less)
 
   -- memory was wanting behind the files
   complete_wanting : (due : Due) → Wants old.output new.output said → Works old.input new.input work (Ok due) →
@@ -188,13 +190,13 @@ module _ (old new : Around) (said : ℕ) (work : Work Due) where
   complete_wanting due wants works = record {
     answers = λ files other e is_due no_store no_sink. inr wants.status;
     lacks = λ files told none. absurd (given_due (work files).end due (works.follows files told).0 none);
-    refused = λ files e none two. absurd (two_not_six said two wants.status);
+    refused = λ files e none by_input. absurd (input_not_memory said by_input wants.status);
     bound = λ files e either.
         let follows = works.follows files (still_told old new work (Ok due) works files e either) in
         record { count = length (work files).asks; few = omega arith; fetches = follows.1 };
-    store = λ four. absurd (four_not_six said four wants.status);
+    store = λ by_store. absurd (store_not_memory said by_store wants.status);
     store_told = λ less. absurd (no_rise old.input.faults new.input.faults works.fails less);
-    sink = λ five. absurd (five_not_six said five wants.status);
+    sink = λ by_sink. absurd (sink_not_memory said by_sink wants.status);
     sink_told = λ less. absurd (no_rise old.output.faults new.output.faults wants.nothing.count less);
   }
 
@@ -206,94 +208,94 @@ module _ (old new : Around) (said : ℕ) (work : Work Due) where
     answers = λ files due e is_due no_store no_sink.
         let told = works.telling files e (due_has (work files).end due is_due) in
         let same = due_refused (work files).end r due (works.follows files told).0 is_due in
-        subst (λ (d : Due). AnsweredDue old new said d ⊎ (said ≡ 6)) same (inl (answered no_sink ends.which));
+        subst (λ (d : Due). AnsweredDue old new said d ⊎ (said ≡ status.Memory)) same (inl (answered no_sink ends.which));
     lacks = λ files told none. absurd (refused_due (work files).end r (works.follows files told).0 none);
-    refused = λ files e none two. inl (behind files none two (works.refused files e));
+    refused = λ files e none by_input. inl (behind files none by_input (works.refused files e));
     bound = λ files e either.
         let follows = works.follows files (still_told old new work (Err (Refused r)) works files e either) in
         record { count = length (work files).asks; few = omega arith; fetches = follows.1 };
-    store = λ four. absurd (not_store four ends.which);
+    store = λ by_store. absurd (not_store by_store ends.which);
     store_told = λ less. absurd (no_rise old.input.faults new.input.faults works.fails less);
-    sink = λ five. (ends.part five).rose;
+    sink = λ by_sink. (ends.part by_sink).rose;
     sink_told = λ less. is_sink less ends.which;
   }
     where
-      answered : (Rose old.output.faults new.output.faults → ⊥) → (said ≡ 2) ⊎ (said ≡ 5) →
+      answered : (Rose old.output.faults new.output.faults → ⊥) → (said ≡ status.Input) ⊎ (said ≡ status.Sink) →
           Answered old new said (refusal_answer r)
       answered no_sink (inl is) =
-          record { status = is; lines = ends.whole (λ five. no_sink (ends.part five).rose) }
-      answered no_sink (inr five) = absurd (no_sink (ends.part five).rose)
+          record { status = is; lines = ends.whole (λ by_sink. no_sink (ends.part by_sink).rose) }
+      answered no_sink (inr by_sink) = absurd (no_sink (ends.part by_sink).rose)
 
-      not_five : said ≡ 2 → said ≡ 5 → ⊥
-      not_five two five = cc
+      not_sink : said ≡ status.Input → said ≡ status.Sink → ⊥
+      not_sink by_input by_sink = cc
 
-      behind : (files : List NamedBytes) → due_at (work files).end ≡ None → said ≡ 2 →
+      behind : (files : List NamedBytes) → due_at (work files).end ≡ None → said ≡ status.Input →
           ((work files).end ≡ Refuses r) ⊎ Misses files (work files).asks (order_of (file_of r)) →
           RefusesBehind old new files (work files).asks
-      behind files none two (inl is) = absurd (refused_due (work files).end r is none)
-      behind files none two (inr misses) =
-          record { refusal = r; lines = ends.whole (not_five two); misses = misses }
+      behind files none by_input (inl is) = absurd (refused_due (work files).end r is none)
+      behind files none by_input (inr misses) =
+          record { refusal = r; lines = ends.whole (not_sink by_input); misses = misses }
 
-      not_store : said ≡ 4 → (said ≡ 2) ⊎ (said ≡ 5) → ⊥
-      not_store four (inl is) = cc
-      not_store four (inr five) = cc
+      not_store : said ≡ status.Store → (said ≡ status.Input) ⊎ (said ≡ status.Sink) → ⊥
+      not_store by_store (inl is) = cc
+      not_store by_store (inr by_sink) = cc
 
-      is_sink : old.output.faults < new.output.faults → (said ≡ 2) ⊎ (said ≡ 5) → said ≡ 5
+      is_sink : old.output.faults < new.output.faults → (said ≡ status.Input) ⊎ (said ≡ status.Sink) → said ≡ status.Sink
       is_sink less (inl is) =
-          absurd (no_rise old.output.faults new.output.faults (ends.whole (not_five is)).count less)
-      is_sink less (inr five) = five
+          absurd (no_rise old.output.faults new.output.faults (ends.whole (not_sink is)).count less)
+      is_sink less (inr by_sink) = by_sink
   complete_stop (Store p) works ends = record {
     answers = λ files answer e is_due no_store no_sink. absurd (no_store works.fails);
     lacks = λ files told none. one_of ends.which;
-    refused = λ files e none two. absurd (not_two two ends.which);
+    refused = λ files e none by_input. absurd (not_input by_input ends.which);
     bound = λ files e either.
         let follows = works.follows files (still_told old new work (Err (Store p)) works files e either) in
         let within = slice_get_within (work files).asks follows.place follows.ask follows.here in
         record { count = follows.place + 1; few = omega (arith, within); fetches = follows.fetches };
-    store = λ four. works.fails;
+    store = λ by_store. works.fails;
     store_told = λ less. ends.which;
-    sink = λ five. (ends.part five).rose;
+    sink = λ by_sink. (ends.part by_sink).rose;
     sink_told = λ less. is_sink less ends.which;
   }
     where
-      one_of : (said ≡ 4) ⊎ (said ≡ 5) → (said ≡ 4) ⊎ (said ≡ 5) ⊎ (said ≡ 6)
-      one_of (inl four) = inl four
-      one_of (inr five) = inr (inl five)
+      one_of : (said ≡ status.Store) ⊎ (said ≡ status.Sink) → (said ≡ status.Store) ⊎ (said ≡ status.Sink) ⊎ (said ≡ status.Memory)
+      one_of (inl by_store) = inl by_store
+      one_of (inr by_sink) = inr (inl by_sink)
 
-      not_two : said ≡ 2 → (said ≡ 4) ⊎ (said ≡ 5) → ⊥
-      not_two two (inl four) = cc
-      not_two two (inr five) = cc
+      not_input : said ≡ status.Input → (said ≡ status.Store) ⊎ (said ≡ status.Sink) → ⊥
+      not_input by_input (inl by_store) = cc
+      not_input by_input (inr by_sink) = cc
 
-      not_five : said ≡ 4 → said ≡ 5 → ⊥
-      not_five four five = cc
+      not_sink : said ≡ status.Store → said ≡ status.Sink → ⊥
+      not_sink by_store by_sink = cc
 
-      is_sink : old.output.faults < new.output.faults → (said ≡ 4) ⊎ (said ≡ 5) → said ≡ 5
+      is_sink : old.output.faults < new.output.faults → (said ≡ status.Store) ⊎ (said ≡ status.Sink) → said ≡ status.Sink
       is_sink less (inl is) =
-          absurd (no_rise old.output.faults new.output.faults (ends.whole (not_five is)).count less)
-      is_sink less (inr five) = five
+          absurd (no_rise old.output.faults new.output.faults (ends.whole (not_sink is)).count less)
+      is_sink less (inr by_sink) = by_sink
   complete_stop Memory works ends = record {
     answers = λ files answer e is_due no_store no_sink. inr ends.status;
     lacks = λ files told none. inr (inr ends.status);
-    refused = λ files e none two. absurd (two_not_six said two ends.status);
+    refused = λ files e none by_input. absurd (input_not_memory said by_input ends.status);
     bound = λ files e either. works.follows files (still_told old new work (Err Memory) works files e either);
-    store = λ four. absurd (four_not_six said four ends.status);
+    store = λ by_store. absurd (store_not_memory said by_store ends.status);
     store_told = λ less. absurd (no_rise old.input.faults new.input.faults works.fails less);
-    sink = λ five. absurd (five_not_six said five ends.status);
+    sink = λ by_sink. absurd (sink_not_memory said by_sink ends.status);
     sink_told = λ less. absurd (no_rise old.output.faults new.output.faults ends.nothing.count less);
   }
 
 -- ---- what came of what is due
 
--- each answer that may be due has a status of its own, and 2 is the refusal of a rack
+-- each answer that may be due has a status of its own, and refused input is the refusal of a rack
 record IsOrdinary (rack : List ChipState) (answer : Answer) : Type 0 where
   plain : IsPlain answer.status
-  of_rack : answer.status ≡ 2 → RackRefuses rack answer
+  of_rack : answer.status ≡ status.Input → RackRefuses rack answer
 
 abbrev AreOrdinary : List ChipState → Due → Type 0
 AreOrdinary rack (Plain answer) = IsOrdinary rack answer
 AreOrdinary rack (Judged cart by) = (verdict : Verdict) → IsOrdinary rack (by verdict)
 
-complete_given : (old new : Around) (said : ℕ) (work : Work Due) (due : Due) → AreOrdinary old.rack due →
+complete_given : (old new : Around) (said : Status) (work : Work Due) (due : Due) → AreOrdinary old.rack due →
     Works old.input new.input work (Ok due) → AnswersDue old.output new.output said due → IsComplete old new said work
 complete_given old new said work (Plain answer) ordinary works ends =
     complete_ok old new said work (Plain answer)
@@ -315,7 +317,7 @@ complete_given old new said work (Judged cart by) ordinary works (inr judges) =
     })
     works
 
-complete_of : {A : Type 0} (old new : Around) (said : ℕ) (work : Work A) (due : A → Due) (outcome : Result A Stop) →
+complete_of : {A : Type 0} (old new : Around) (said : Status) (work : Work A) (due : A → Due) (outcome : Result A Stop) →
     ((x : A) → AreOrdinary old.rack (due x)) → Works old.input new.input work outcome →
     Ends old.output new.output said (outcome_as due outcome) → IsComplete old new said (work >>= λ x. gives (due x))
 complete_of old new said work due (Ok x) ordinary works ends =
@@ -326,7 +328,7 @@ complete_of old new said work due (Err stop) ordinary works ends =
     (works_stop old.input new.input work (λ y. gives (due y)) stop works) ends
 
 -- no file is asked for
-complete_asked : (old new : Around) (said : ℕ) (due : Due) → AreOrdinary old.rack due → new.input ≡ old.input →
+complete_asked : (old new : Around) (said : Status) (due : Due) → AreOrdinary old.rack due → new.input ≡ old.input →
     AnswersDue old.output new.output said due → IsComplete old new said (gives due)
 complete_asked old new said due ordinary asks answers =
     complete_given old new said (gives due) due ordinary
@@ -335,28 +337,28 @@ complete_asked old new said due ordinary asks answers =
 
 -- ---- the statuses of answers
 
-zero_ordinary : (rack : List ChipState) (lines : List (List ℕ)) → IsOrdinary rack (record { status = 0; lines = lines })
-zero_ordinary rack lines = record {
+done_ordinary : (rack : List ChipState) (lines : List (List ℕ)) → IsOrdinary rack (record { status = status.Done; lines = lines })
+done_ordinary rack lines = record {
   plain = record { store = λ e. cc; sink = λ e. cc; memory = λ e. cc };
   of_rack = λ e. cc;
 }
 
-one_ordinary : (rack : List ChipState) → IsOrdinary rack words_answer
-one_ordinary rack = record {
+words_ordinary : (rack : List ChipState) → IsOrdinary rack words_answer
+words_ordinary rack = record {
   plain = record { store = λ e. cc; sink = λ e. cc; memory = λ e. cc };
   of_rack = λ e. cc;
 }
 
-seven_ordinary : (rack : List ChipState) (lines : List (List ℕ)) → IsOrdinary rack (record { status = 7; lines = lines })
-seven_ordinary rack lines = record {
+no_verdict_ordinary : (rack : List ChipState) (lines : List (List ℕ)) → IsOrdinary rack (record { status = status.NoVerdict; lines = lines })
+no_verdict_ordinary rack lines = record {
   plain = record { store = λ e. cc; sink = λ e. cc; memory = λ e. cc };
   of_rack = λ e. cc;
 }
 
--- only a rack is refused with 2
+-- of the input only a rack is refused
 stop_ordinary : (rack : List ChipState) (stop : RunStop) (lines : List (List ℕ)) →
     IsOrdinary rack (record { status = status_of stop; lines = lines })
-stop_ordinary rack Done lines = zero_ordinary rack lines
+stop_ordinary rack Done lines = done_ordinary rack lines
 stop_ordinary rack (Unserved fault) lines = record {
   plain = record { store = λ e. cc; sink = λ e. cc; memory = λ e. cc };
   of_rack = λ e. cc;
@@ -376,7 +378,7 @@ unless_ordinary : (rack : List ChipState) (chips : List ChipSpec) (line : Option
 unless_ordinary rack chips None due is ordinary = ordinary
 unless_ordinary rack chips (Some line) due is ordinary = record {
   plain = record { store = λ e. cc; sink = λ e. cc; memory = λ e. cc };
-  of_rack = λ two. record { chips = chips; line = line; is = is; lines = refl };
+  of_rack = λ by_input. record { chips = chips; line = line; is = is; lines = refl };
 }
 
 game_ordinary : (manner : Manner) (rack : List ChipState) (game : Game) → AreOrdinary rack (game_due manner rack game)
@@ -387,19 +389,19 @@ game_ordinary manner rack game =
 debug_ordinary : (rack : List ChipState) (asked : Debugging) → AreOrdinary rack (debug_due rack asked)
 debug_ordinary rack asked =
     unless_ordinary rack asked.cart.chips (refusal asked.cart.chips rack) (Plain (debug_answer asked rack)) refl
-    (zero_ordinary rack _)
+    (done_ordinary rack _)
 
 check_ordinary : (rack : List ChipState) (tracked : List ℕ) (verdict : Verdict) → IsOrdinary rack (check_answer tracked verdict)
-check_ordinary rack tracked (FaultFree notes) = zero_ordinary rack _
-check_ordinary rack tracked (Agreed notes) = zero_ordinary rack _
-check_ordinary rack tracked (RefusedCart point state reason) = seven_ordinary rack _
-check_ordinary rack tracked TooMany = seven_ordinary rack _
+check_ordinary rack tracked (FaultFree notes) = done_ordinary rack _
+check_ordinary rack tracked (Agreed notes) = done_ordinary rack _
+check_ordinary rack tracked (RefusedCart point state reason) = no_verdict_ordinary rack _
+check_ordinary rack tracked TooMany = no_verdict_ordinary rack _
 
 cert_ordinary : (rack : List ChipState) (tracked : List ℕ) (verdict : Verdict) → IsOrdinary rack (cert_answer tracked verdict)
-cert_ordinary rack tracked (FaultFree notes) = zero_ordinary rack _
-cert_ordinary rack tracked (Agreed notes) = zero_ordinary rack _
-cert_ordinary rack tracked (RefusedCart point state reason) = seven_ordinary rack _
-cert_ordinary rack tracked TooMany = seven_ordinary rack _
+cert_ordinary rack tracked (FaultFree notes) = done_ordinary rack _
+cert_ordinary rack tracked (Agreed notes) = done_ordinary rack _
+cert_ordinary rack tracked (RefusedCart point state reason) = no_verdict_ordinary rack _
+cert_ordinary rack tracked TooMany = no_verdict_ordinary rack _
 
 judged_ordinary : (rack : List ChipState) (certified : Bool) (cart : Cart) → AreOrdinary rack (check_due certified cart)
 judged_ordinary rack true cart = λ verdict. cert_ordinary rack cart.split verdict
@@ -407,14 +409,14 @@ judged_ordinary rack false cart = λ verdict. check_ordinary rack cart.split ver
 
 found_ordinary : (rack : List ChipState) (tracked : List ℕ) (points : ℕ) (answer : VerifyAnswer) →
     IsOrdinary rack (found_answer tracked points answer)
-found_ordinary rack tracked points found.Whole = zero_ordinary rack _
-found_ordinary rack tracked points found.Agreed = zero_ordinary rack _
-found_ordinary rack tracked points (found.NotClosed from to) = seven_ordinary rack _
-found_ordinary rack tracked points (found.Unsafe point reason) = seven_ordinary rack _
+found_ordinary rack tracked points found.Whole = done_ordinary rack _
+found_ordinary rack tracked points found.Agreed = done_ordinary rack _
+found_ordinary rack tracked points (found.NotClosed from to) = no_verdict_ordinary rack _
+found_ordinary rack tracked points (found.Unsafe point reason) = no_verdict_ordinary rack _
 
 -- ---- all commands
 
-pub completed : (old new : Around) (said : ℕ) (command : Option Command) → Says old new said command →
+pub completed : (old new : Around) (said : Status) (command : Option Command) → Says old new said command →
     IsComplete old new said (due_of old.rack command)
 completed old new said (Some (Play cart script traced)) says =
     complete_of old new said (game_of cart script) (play_due traced old.rack) says.outcome
@@ -433,12 +435,12 @@ completed old new said (Some (Debug cart commands)) says =
     says.works says.ends
 completed old new said (Some (Asm file)) says =
     complete_of old new said (image_by file) (λ picture. Plain (asm_answer picture)) says.told.outcome
-    (λ picture. zero_ordinary old.rack _) says.told.works says.told.ends
+    (λ picture. done_ordinary old.rack _) says.told.works says.told.ends
 completed old new said (Some (Dis file)) says =
     complete_of old new said (bytes_by file) (λ bytes. Plain (dis_answer bytes)) says.told.outcome
-    (λ bytes. zero_ordinary old.rack _) says.told.works says.told.ends
+    (λ bytes. done_ordinary old.rack _) says.told.works says.told.ends
 completed old new said (Some (Gen seed)) says =
     complete_asked old new said (gen_due old.rack seed) (game_ordinary (Summary seed) old.rack (generated_game seed))
     says.asks says.answers
 completed old new said None says =
-    complete_asked old new said (Plain words_answer) (one_ordinary old.rack) says.asks says.answers
+    complete_asked old new said (Plain words_answer) (words_ordinary old.rack) says.asks says.answers

@@ -36,6 +36,8 @@ use Rattle.channel_f.specs.SafeGames.{KeepsVerdict}
 use Rattle.channel_f.specs.SafeRuns.{HasScriptBytes, SafeRunLaw}
 use Rattle.channel_f.specs.declared.manner.Manner.{Manner}
 use Rattle.channel_f.specs.declared.manner.Manner.TheVariants.{Whole, Summary}
+use Rattle.channel_f.specs.declared.status.Status.{Status}
+use Rattle.channel_f.specs.declared.status.Status.TheVariants as status
 use Rattle.channel_f.proofs.SafeGames.{keeps_verdict}
 
 -- ---- lines and statuses
@@ -90,67 +92,67 @@ unfolding text_told
 flat_text t = text_of-append (flat_map lines_of (told_in t.moments)) (ending_lines t.ending)
 
 -- lines behind a text that was put
-reports_behind : (a b c : Output) (said due : ℕ) (text : List ℕ) (lines all : List (List ℕ)) → Adds a b text →
+reports_behind : (a b c : Output) (said due : Status) (text : List ℕ) (lines all : List (List ℕ)) → Adds a b text →
     Reports b c said due lines → text_of all ≡ text ++ text_of lines → Reports a c said due all
 reports_behind a b c said due text lines all first r whole = record {
   which = r.which;
-  whole = λ five. rw whole (adds_then a b c text (text_of lines) first (r.whole five));
-  part = λ five. rw whole (adds_part_behind a b c text (text_of lines) first (r.part five));
+  whole = λ by_sink. rw whole (adds_then a b c text (text_of lines) first (r.whole by_sink));
+  part = λ by_sink. rw whole (adds_part_behind a b c text (text_of lines) first (r.part by_sink));
 }
 
 -- the sink failed at a first part of the lines
-reports_part : (a b : Output) (due : ℕ) (text rest : List ℕ) (all : List (List ℕ)) → AddsPart a b text →
-    text_of all ≡ text ++ rest → Reports a b 5 due all
+reports_part : (a b : Output) (due : Status) (text rest : List ℕ) (all : List (List ℕ)) → AddsPart a b text →
+    text_of all ≡ text ++ rest → Reports a b status.Sink due all
 reports_part a b due text rest all part whole = record {
   which = inr refl;
-  whole = λ five. absurd (five refl);
-  part = λ five. rw whole (adds_part_first a b text rest part);
+  whole = λ by_sink. absurd (by_sink refl);
+  part = λ by_sink. rw whole (adds_part_first a b text rest part);
 }
 
-same_lines : (a b : Output) (said : ℕ) (due is : ℕ) (lines all : List (List ℕ)) → due ≡ is → lines ≡ all →
+same_lines : (a b : Output) (said due is : Status) (lines all : List (List ℕ)) → due ≡ is → lines ≡ all →
     Reports a b said due lines → Reports a b said is all
-same_lines a b said due is lines all status same r =
-    subst (λ (l : List (List ℕ)). Reports a b said is l) same (subst (λ (n : ℕ). Reports a b said n lines) status r)
+same_lines a b said due is lines all are same r =
+    subst (λ (l : List (List ℕ)). Reports a b said is l) same (subst (λ (n : Status). Reports a b said n lines) are r)
 
 -- no run ends with the status of want of memory
-pub status_not_memory : (stop : Stop) → status_of stop ≢ 6
+pub status_not_memory : (stop : Stop) → status_of stop ≢ status.Memory
 status_not_memory Done e = cc
 status_not_memory (Unserved fault) e = cc
 status_not_memory (Reserved at code) e = cc
 
-pub no_memory_from : (said due : ℕ) → due ≢ 6 → (said ≡ due) ⊎ (said ≡ 5) → said ≢ 6
-no_memory_from said due other (inl is) six = other (sym is ∙ six)
-no_memory_from said due other (inr is) six = cc
+pub no_memory_from : (said due : Status) → due ≢ status.Memory → (said ≡ due) ⊎ (said ≡ status.Sink) → said ≢ status.Memory
+no_memory_from said due other (inl is) by_memory = other (sym is ∙ by_memory)
+no_memory_from said due other (inr is) by_memory = cc
 
 -- a report that can be written with ample memory is an answer
-pub answers_of : (a b : Output) (said due : ℕ) (lines : List (List ℕ)) → due ≢ 6 → Reports a b said due lines →
+pub answers_of : (a b : Output) (said due : Status) (lines : List (List ℕ)) → due ≢ status.Memory → Reports a b said due lines →
     Answers a b said (record { status = due; lines = lines })
 answers_of a b said due lines other r = record {
   which = widened r.which;
-  whole = λ five six. r.whole five;
+  whole = λ by_sink by_memory. r.whole by_sink;
   part = r.part;
-  nothing = λ six. absurd (no_memory_from said due other r.which six);
+  nothing = λ by_memory. absurd (no_memory_from said due other r.which by_memory);
 }
   where
-    widened : (said ≡ due) ⊎ (said ≡ 5) → (said ≡ due) ⊎ (said ≡ 5) ⊎ (said ≡ 6)
+    widened : (said ≡ due) ⊎ (said ≡ status.Sink) → (said ≡ due) ⊎ (said ≡ status.Sink) ⊎ (said ≡ status.Memory)
     widened (inl is) = inl is
     widened (inr is) = inr (inl is)
 
 -- where memory was wanting, nothing was written
-pub answers_wanting : (now : Output) (due : Answer) → Answers now now 6 due
+pub answers_wanting : (now : Output) (due : Answer) → Answers now now status.Memory due
 answers_wanting now due = record {
   which = inr (inr refl);
-  whole = λ five six. absurd (six refl);
+  whole = λ by_sink by_memory. absurd (by_memory refl);
   part = λ e. cc;
-  nothing = λ six. adds_none now;
+  nothing = λ by_memory. adds_none now;
 }
 
-pub due_wanting : (now : Output) (due : Due) → AnswersDue now now 6 due
+pub due_wanting : (now : Output) (due : Due) → AnswersDue now now status.Memory due
 due_wanting now (Plain answer) = answers_wanting now answer
 due_wanting now (Judged cart by) = inl (record { status = refl; nothing = adds_none now })
 
-pub answers_stayed : (old new : Output) (due : Answer) → new ≡ old → Answers old new 6 due
-answers_stayed old new due same = subst (λ (now : Output). Answers old now 6 due) (sym same) (answers_wanting old due)
+pub answers_stayed : (old new : Output) (due : Answer) → new ≡ old → Answers old new status.Memory due
+answers_stayed old new due same = subst (λ (now : Output). Answers old now status.Memory due) (sym same) (answers_wanting old due)
 
 -- ---- a run on chips that are fitted
 
@@ -171,30 +173,30 @@ module _ (manner : Manner) (word : VerdictWord) (game : Game) (chain : List ℕ)
   opened = text_by manner word run ∙ sym (append_assoc opening told closing)
 
   -- the sink failed before it
-  pub reports_not_begun : (a b : Output) (due : ℕ) → AddsPart a b opening → Reports a b 5 due (lines_by manner word run)
+  pub reports_not_begun : (a b : Output) (due : Status) → AddsPart a b opening → Reports a b status.Sink due (lines_by manner word run)
   reports_not_begun a b due part =
       reports_part a b due opening (told ++ closing) (lines_by manner word run) part (text_by manner word run)
 
   pub on_not_begun : (a b : Output) (asked : ℕ) → AddsPart a b opening →
-      OnFitted a b 5 manner word game.script.power chain run fitted fitted asked asked
+      OnFitted a b status.Sink manner word game.script.power chain run fitted fitted asked asked
   on_not_begun a b asked part = record {
-    ran = λ five. absurd (five refl);
-    failed = λ five. inl (record { same = refl; part = part; unasked = refl });
+    ran = λ by_sink. absurd (by_sink refl);
+    failed = λ by_sink. inl (record { same = refl; part = part; unasked = refl });
   }
 
   -- it failed at one of its lines
-  pub reports_cut : (Asks : List ℕ → Type 0) (news : List ChipState) (a b c : Output) (due : ℕ) → Adds a b opening →
-      PlaysPart Asks (detail_of manner) game.script chain fitted news b c → Reports a c 5 due (lines_by manner word run)
+  pub reports_cut : (Asks : List ℕ → Type 0) (news : List ChipState) (a b c : Output) (due : Status) → Adds a b opening →
+      PlaysPart Asks (detail_of manner) game.script chain fitted news b c → Reports a c status.Sink due (lines_by manner word run)
   reports_cut Asks news a b c due first plays =
       reports_part a c due (opening ++ told) closing (lines_by manner word run)
       (adds_part_behind a b c opening told first plays.part) opened
 
   pub on_cut : (news : List ChipState) (a b c : Output) (before after : ℕ) → Adds a b opening →
       PlaysPart (AsksWithin (run_allowed fitted) before after) (detail_of manner) game.script chain fitted news b c →
-      OnFitted a c 5 manner word game.script.power chain run fitted news before after
+      OnFitted a c status.Sink manner word game.script.power chain run fitted news before after
   on_cut news a b c before after first plays = record {
-    ran = λ five. absurd (five refl);
-    failed = λ five. inr (inl (record {
+    ran = λ by_sink. absurd (by_sink refl);
+    failed = λ by_sink. inr (inl (record {
       powered = plays.powered;
       powers = plays.powers;
       between = b;
@@ -205,7 +207,7 @@ module _ (manner : Manner) (word : VerdictWord) (game : Game) (chain : List ℕ)
   }
 
   -- it came to its end
-  module _ (ending : Ending) (news : List ChipState) (a b c d : Output) (said : ℕ) (first : Adds a b opening)
+  module _ (ending : Ending) (news : List ChipState) (a b c d : Output) (said : Status) (first : Adds a b opening)
       (plays : RackPlays (detail_of manner) game.script chain ending fitted news b c)
       (r : Reports c d said (status_of (stop_at ending.halt)) (closing_told manner ending)) where
     ran_on : (before after : ℕ) → AsksWithin (run_allowed fitted) before after (tried_codes run) →
@@ -230,18 +232,18 @@ module _ (manner : Manner) (word : VerdictWord) (game : Game) (chain : List ℕ)
     pub on_run : (before after : ℕ) → AsksWithin (run_allowed fitted) before after (tried_codes run) →
         OnFitted a d said manner word game.script.power chain run fitted news before after
     on_run before after asks = record {
-      ran = λ five. ran_on before after asks;
-      failed = λ five. inr (inr (record {
+      ran = λ by_sink. ran_on before after asks;
+      failed = λ by_sink. inr (inr (record {
         ran = ran_on before after asks;
         between = c;
         told = told_all;
-        part = closing_reports.part five;
+        part = closing_reports.part by_sink;
       }));
     }
 
 -- ---- a game on a rack before it is fitted
 
-module _ (a b : Output) (said : ℕ) (manner : Manner) (game : Game) (rack fitted news : List ChipState) (before after : ℕ)
+module _ (a b : Output) (said : Status) (manner : Manner) (game : Game) (rack fitted news : List ChipState) (before after : ℕ)
     (chain : List ℕ) (same : views fitted ≡ fitted_views game.cart.chips rack) (linked : chain ≡ game_chain game rack) where
   run_same : run_fitted manner game chain fitted ≡ game_run manner game rack
   run_same =
@@ -279,15 +281,15 @@ module _ (a b : Output) (said : ℕ) (manner : Manner) (game : Game) (rack fitte
       PlaysJudged a b said manner game chain fitted news before after →
       Plays a b said manner game rack news before after
   plays_judged fits (inl wants) = record {
-    wanting = λ six. inr (subst (λ (chips : List ChipState). RackFits (seated game.cart.chips rack) rack chips)
+    wanting = λ by_memory. inr (subst (λ (chips : List ChipState). RackFits (seated game.cart.chips rack) rack chips)
         (sym wants.same) fits);
-    unasked = λ six. wants.unasked;
-    played = λ six. absurd (six wants.status);
+    unasked = λ by_memory. wants.unasked;
+    played = λ by_memory. absurd (by_memory wants.status);
   }
   plays_judged fits (inr runs) = record {
-    wanting = λ six. absurd (no_memory_from said _ (status_not_memory _) runs.reports.which six);
-    unasked = λ six. absurd (no_memory_from said _ (status_not_memory _) runs.reports.which six);
-    played = λ six. played_judged fits runs;
+    wanting = λ by_memory. absurd (no_memory_from said _ (status_not_memory _) runs.reports.which by_memory);
+    unasked = λ by_memory. absurd (no_memory_from said _ (status_not_memory _) runs.reports.which by_memory);
+    played = λ by_memory. played_judged fits runs;
   }
 
   pub due_judged : PlaysJudged a b said manner game chain fitted news before after →
@@ -299,46 +301,46 @@ module _ (a b : Output) (said : ℕ) (manner : Manner) (game : Game) (rack fitte
   pub keeps_judged : SafeRunLaw → HasScriptBytes game.script →
       PlaysJudged a b said manner game chain fitted news before after →
       KeepsVerdict said manner game rack
-  keeps_judged law script (inl wants) = λ fits patches six. absurd (six wants.status)
+  keeps_judged law script (inl wants) = λ fits patches by_memory. absurd (by_memory wants.status)
   keeps_judged law script (inr runs) =
       keeps_verdict law said manner game rack script runs.bytes
-      (subst (λ (t : Telling). (said ≡ status_of t.ending.stop) ⊎ (said ≡ 5)) run_same runs.reports.which)
+      (subst (λ (t : Telling). (said ≡ status_of t.ending.stop) ⊎ (said ≡ status.Sink)) run_same runs.reports.which)
 
 -- the check and the run on chips that are fitted
 pub judged_wanting : (now : Output) (manner : Manner) (game : Game) (chain : List ℕ) (fitted : List ChipState) (asked : ℕ) →
-    PlaysJudged now now 6 manner game chain fitted fitted asked asked
+    PlaysJudged now now status.Memory manner game chain fitted fitted asked asked
 judged_wanting now manner game chain fitted asked =
     inl (record { status = refl; nothing = adds_none now; same = refl; unasked = refl })
 
 pub plays_wanting : (a b : Output) (manner : Manner) (game : Game) (rack news : List ChipState) (before after : ℕ) →
     after ≡ before → RackFitsInPart (seated game.cart.chips rack) rack news →
-    Plays a b 6 manner game rack news before after
+    Plays a b status.Memory manner game rack news before after
 plays_wanting a b manner game rack news before after none partly = record {
   wanting = λ e. inl partly;
   unasked = λ e. none;
-  played = λ six. absurd (six refl);
+  played = λ by_memory. absurd (by_memory refl);
 }
 
 -- fitting asks nothing
-pub asked_before : (a b : Output) (said : ℕ) (game : Game) (manner : Manner) (rack news : List ChipState) (before mid after : ℕ) →
+pub asked_before : (a b : Output) (said : Status) (game : Game) (manner : Manner) (rack news : List ChipState) (before mid after : ℕ) →
     mid ≡ before → Plays a b said manner game rack news mid after → Plays a b said manner game rack news before after
 asked_before a b said game manner rack news before mid after none plays =
     subst (λ (n : ℕ). Plays a b said manner game rack news n after) none plays
 
 -- memory was wanting before the rack was looked at
 unless_wanting : (line : Option (List ℕ)) (now : Output) (manner : Manner) (game : Game) (rack : List ChipState) (asked : ℕ) →
-    PlaysUnless line now now 6 manner game rack rack asked asked
+    PlaysUnless line now now status.Memory manner game rack rack asked asked
 unless_wanting (Some line) now manner game rack asked = record { same = refl; unasked = refl }
 unless_wanting None now manner game rack asked =
     plays_wanting now now manner game rack rack asked asked refl (stays_in_part (seated game.cart.chips rack) rack)
 
 pub game_wanting : (now : Output) (manner : Manner) (game : Game) (rack : List ChipState) (asked : ℕ) →
-    PlaysGame now now 6 manner game rack rack asked asked
+    PlaysGame now now status.Memory manner game rack rack asked asked
 game_wanting now manner game rack asked = unless_wanting (refusal game.cart.chips rack) now manner game rack asked
 
 -- ---- a run on the flat instruction set alone
 
-pub reports_flat : (game : Game) (ending : Ending) (a b c : Output) (said : ℕ) →
+pub reports_flat : (game : Game) (ending : Ending) (a b c : Output) (said : Status) →
     Refers game.script ending game.cart.chips a b →
     Reports b c said (status_of (stop_at ending.halt)) (ending_told ending) →
     Reports a c said (status_of (ref_run game).ending.stop) (flat_telling_lines (ref_run game))
@@ -351,9 +353,9 @@ reports_flat game ending a b c said refers r =
     (ending_lines run.ending) (ap status_of refers.tells.halt) (told_ending ending run.ending refers.tells) r)
     (flat_text run)
 
-pub reports_flat_part : (game : Game) (a b : Output) (due : ℕ) →
+pub reports_flat_part : (game : Game) (a b : Output) (due : Status) →
     AddsPart a b (text_in Writes (told_in (ref_run game).moments)) →
-    Reports a b 5 due (flat_telling_lines (ref_run game))
+    Reports a b status.Sink due (flat_telling_lines (ref_run game))
 reports_flat_part game a b due part =
     let run = ref_run game in
     reports_part a b due (text_in Writes (told_in run.moments)) (text_of (ending_lines run.ending))
@@ -366,16 +368,16 @@ text_of-one : (text : List ℕ) → text_of (text ∷ []) ≡ text
 text_of-one text =
     text_of-cons text [] ∙ ap (λ (rest : List ℕ). text ++ rest) text_of-nil ∙ append-nil text
 
-pub reports_text : (a b : Output) (due : ℕ) (text : List ℕ) → due ≢ 5 → Adds a b text → Reports a b due due (text ∷ [])
+pub reports_text : (a b : Output) (due : Status) (text : List ℕ) → due ≢ status.Sink → Adds a b text → Reports a b due due (text ∷ [])
 reports_text a b due text other adds = record {
   which = inl refl;
-  whole = λ five. rw (text_of-one text) adds;
-  part = λ five. absurd (other five);
+  whole = λ by_sink. rw (text_of-one text) adds;
+  part = λ by_sink. absurd (other by_sink);
 }
 
-pub reports_text_part : (a b : Output) (due : ℕ) (text : List ℕ) → AddsPart a b text → Reports a b 5 due (text ∷ [])
+pub reports_text_part : (a b : Output) (due : Status) (text : List ℕ) → AddsPart a b text → Reports a b status.Sink due (text ∷ [])
 reports_text_part a b due text part = record {
   which = inr refl;
-  whole = λ five. absurd (five refl);
-  part = λ five. rw (text_of-one text) part;
+  whole = λ by_sink. absurd (by_sink refl);
+  part = λ by_sink. rw (text_of-one text) part;
 }

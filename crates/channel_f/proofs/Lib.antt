@@ -5,6 +5,7 @@ pub mod SafeGames
 mod KeyWords
 pub mod Games
 pub mod Debuggings
+mod StatusCodes
 mod Outcomes
 mod Completeness
 mod CheckedCertificates

@@ -22,10 +22,12 @@ use Rattle.channel_f.specs.RackDebugged.{RackDebugged}
 use Rattle.channel_f.specs.Reports.{Answers, AnswersDue, Reports, Stops}
 use Rattle.channel_f.specs.SafeGames.{KeepsVerdict}
 use Rattle.channel_f.specs.declared.manner.Manner.TheVariants.{Whole, Summary}
+use Rattle.channel_f.specs.declared.status.Status.{Status}
+use Rattle.channel_f.specs.declared.status.Status.TheVariants as status
 use Rattle.channel_f.proofs.Games.{answers_wanting, due_wanting, game_wanting}
 
 -- a command that doesn't look at the rack
-module _ {A : Type 0} (old new : Output) (before after : Input) (said : ℕ) (work : Work A) (due : A → Due) where
+module _ {A : Type 0} (old new : Output) (before after : Input) (said : Status) (work : Work A) (due : A → Due) where
   pub told_ok : (x : A) → Works before after work (Ok x) → AnswersDue old new said (due x) →
       Told old new before after said work due
   told_ok x works answers = record { outcome = Ok x; works = works; ends = answers }
@@ -34,7 +36,7 @@ module _ {A : Type 0} (old new : Output) (before after : Input) (said : ℕ) (wo
       Told old new before after said work due
   told_stop stop works stops = record { outcome = Err stop; works = works; ends = stops }
 
-module _ (old new : Around) (said : ℕ) where
+module _ (old new : Around) (said : Status) where
   pub tells_game : (traced : Bool) (work : Work Game) (game : Game) → Works old.input new.input work (Ok game) →
       AnswersDue old.output new.output said (play_due traced old.rack game) →
       RackAfter old.output new.output said (Whole traced) (Ok game) old.rack new.rack old.asked new.asked →
@@ -118,33 +120,33 @@ module _ (old new : Around) (said : ℕ) where
 
 -- memory was wanting before a file was asked for
 module _ (now : Around) where
-  wanting : Stops now.output now.output 6 Memory
+  wanting : Stops now.output now.output status.Memory Memory
   wanting = record { status = refl; nothing = adds_none now.output }
 
-  tells_wanting : {A : Type 0} (work : Work A) (due : A → Due) → Tells now now 6 work due
+  tells_wanting : {A : Type 0} (work : Work A) (due : A → Due) → Tells now now status.Memory work due
   tells_wanting work due = record {
     told =
-        told_stop now.output now.output now.input now.input 6 work due Memory (works_memory now.input work) wanting;
+        told_stop now.output now.output now.input now.input status.Memory work due Memory (works_memory now.input work) wanting;
     same = refl;
     unasked = refl;
   }
 
-  pub says_wanting : (command : Option Command) → Says now now 6 command
+  pub says_wanting : (command : Option Command) → Says now now status.Memory command
   says_wanting (Some (Play cart script traced)) =
-      tells_no_game now now 6 traced (game_of cart script) Memory (works_memory now.input (game_of cart script))
+      tells_no_game now now status.Memory traced (game_of cart script) Memory (works_memory now.input (game_of cart script))
       wanting refl refl
   says_wanting (Some (Check cart certified)) = tells_wanting (cart_of cart) (check_due certified)
   says_wanting (Some (Verify cart cert)) = tells_wanting (claim_of cart cert) (λ claim. Plain (verify_answer claim))
   says_wanting (Some (Ref cart script)) = tells_wanting (game_of cart script) (λ game. Plain (ref_answer game))
   says_wanting (Some (Debug cart commands)) =
-      tells_no_debugging now now 6 (debugging_of cart commands) Memory
+      tells_no_debugging now now status.Memory (debugging_of cart commands) Memory
       (works_memory now.input (debugging_of cart commands)) wanting refl refl
   says_wanting (Some (Asm file)) = tells_wanting (image_by file) (λ picture. Plain (asm_answer picture))
   says_wanting (Some (Dis file)) = tells_wanting (bytes_by file) (λ bytes. Plain (dis_answer bytes))
   says_wanting (Some (Gen seed)) = record {
     answers = due_wanting now.output (gen_due now.rack seed);
     chips = game_wanting now.output (Summary seed) (generated_game seed) now.rack now.asked;
-    safe = λ fits described six. absurd (six refl);
+    safe = λ fits described by_memory. absurd (by_memory refl);
     asks = refl;
   }
   says_wanting None =
@@ -181,10 +183,10 @@ command_named (name ∷ rest) command is =
     (option_map Gen (option_and_then seed_of (one_of rest))) command is
 
 -- other words are refused, and take no memory
-pub words_not_memory : {P : Type 0} (a b : Output) (said : ℕ) (lines : List (List ℕ)) → Reports a b said 1 lines →
-    said ≡ 6 → P
-words_not_memory {P = P} a b said lines reports six = by_status reports.which
+pub words_not_memory : {P : Type 0} (a b : Output) (said : Status) (lines : List (List ℕ)) → Reports a b said status.Words lines →
+    said ≡ status.Memory → P
+words_not_memory {P = P} a b said lines reports by_memory = by_status reports.which
   where
-    by_status : (said ≡ 1) ⊎ (said ≡ 5) → P
-    by_status (inl one) = cc
-    by_status (inr five) = cc
+    by_status : (said ≡ status.Words) ⊎ (said ≡ status.Sink) → P
+    by_status (inl by_words) = cc
+    by_status (inr by_sink) = cc

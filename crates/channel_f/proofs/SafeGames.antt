@@ -19,6 +19,8 @@ use Rattle.channel_f.specs.Manners.{detail_of}
 use Rattle.channel_f.specs.SafeGames.{KeepsVerdict}
 use Rattle.channel_f.specs.SafeRuns.{HasNoPatches, HasScriptBytes, IsAsDescribed, SafeRunLaw}
 use Rattle.channel_f.specs.declared.manner.Manner.{Manner}
+use Rattle.channel_f.specs.declared.status.Status.{Status}
+use Rattle.channel_f.specs.declared.status.Status.TheVariants as status
 
 -- a rack that is not refused has sockets enough
 no_line : (found : Option Shortage) → option_map shortage_line found ≡ None → found ≡ None
@@ -37,7 +39,7 @@ has_sockets game rack e = no_shortage (nat_lt MOST_CHIPS (length rack)) (rack_li
 none_said : ArePowers []
 none_said place p e = cc
 
-module _ (law : SafeRunLaw) (said : ℕ) (manner : Manner) (game : Game) (rack : List ChipState) (script : HasScriptBytes game.script)
+module _ (law : SafeRunLaw) (said : Status) (manner : Manner) (game : Game) (rack : List ChipState) (script : HasScriptBytes game.script)
     (bytes : TellsBytes (chips_view game.cart.chips)) where
   as_described : refusal game.cart.chips rack ≡ None → HasNoPatches game.cart.chips rack → IsAsDescribed game.cart.chips rack game.script
   as_described fits patches = record {
@@ -53,12 +55,12 @@ module _ (law : SafeRunLaw) (said : ℕ) (manner : Manner) (game : Game) (rack :
       whole
 
   status_by : (game_run manner game rack).ending.stop ≡ Done →
-      (said ≡ status_of (game_run manner game rack).ending.stop) ⊎ (said ≡ 5) → (said ≡ 0) ⊎ (said ≡ 5)
+      (said ≡ status_of (game_run manner game rack).ending.stop) ⊎ (said ≡ status.Sink) → (said ≡ status.Done) ⊎ (said ≡ status.Sink)
   status_by done (inl is) = inl (is ∙ ap status_of done)
-  status_by done (inr five) = inr five
+  status_by done (inr by_sink) = inr by_sink
 
-  pub keeps_verdict : (said ≡ status_of (game_run manner game rack).ending.stop) ⊎ (said ≡ 5) → KeepsVerdict said manner game rack
-  keeps_verdict which = λ fits patches six.
+  pub keeps_verdict : (said ≡ status_of (game_run manner game rack).ending.stop) ⊎ (said ≡ status.Sink) → KeepsVerdict said manner game rack
+  keeps_verdict which = λ fits patches by_memory.
       let described = as_described fits patches in
       record {
         done = is_done described;

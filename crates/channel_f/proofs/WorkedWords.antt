@@ -12,7 +12,7 @@ use Rattle.channel_f.specs.Answers.{Plain, due_of}
 one_word : (rack : List ChipState) (files : List NamedBytes) →
     due_of rack (command_of (codes "play" ∷ codes "a" ∷ [])) files ≡ record {
       asks = [];
-      end = Gives (Plain (record { status = 1; lines = codes "error words\n" ∷ [] }));
+      end = Gives (Plain (record { status = status.Words; lines = codes "error words\n" ∷ [] }));
     }
 unfolding words_line
 one_word rack files = refl

@@ -38,10 +38,12 @@ use Rattle.channel_f.specs.Manners.{run_by, lines_by}
 use Rattle.channel_f.specs.Refusals.{refusal_line, missing_line}
 use Rattle.channel_f.specs.declared.manner.Manner.{Manner}
 use Rattle.channel_f.specs.declared.manner.Manner.TheVariants.{Whole, Summary}
+use Rattle.channel_f.specs.declared.status.Status.{Status}
+use Rattle.channel_f.specs.declared.status.Status.TheVariants as status
 
 -- the lines that are due, and the status
 pub record Answer : Type 0 where
-  pub status : ℕ
+  pub status : Status
   pub lines : List (List ℕ)
 
 -- What is due: an answer, or for each verdict on a cartridge one, of which that of a right verdict is due.
@@ -63,11 +65,11 @@ refusal chips rack =
 
 -- ---- runs
 
--- 0 where all is done, 3 where a bus step is not served, and 8 at a reserved opcode
-abbrev pub status_of : Stop → ℕ
-status_of Done = 0
-status_of (Unserved fault) = 3
-status_of (Reserved at code) = 8
+-- the status of what stops a run
+abbrev pub status_of : Stop → Status
+status_of Done = status.Done
+status_of (Unserved fault) = status.Fault
+status_of (Reserved at code) = status.Reserved
 
 -- the sockets of the chips of a game, in the order of its description
 abbrev pub game_chain : Game → List ChipState → List ℕ
@@ -83,7 +85,7 @@ run_answer manner word run = record { status = status_of run.ending.stop; lines 
 -- ---- what is due
 
 abbrev pub unless_refused : Option (List ℕ) → Due → Due
-unless_refused (Some line) due = Plain (record { status = 2; lines = line ∷ [] })
+unless_refused (Some line) due = Plain (record { status = status.Input; lines = line ∷ [] })
 unless_refused None due = due
 
 -- the run of a game is told behind the verdict on its cartridge
@@ -101,9 +103,9 @@ play_due traced rack game = game_due (Whole traced) rack game
 abbrev pub debug_scene : Cart → List ChipState → Scene
 debug_scene cart rack = first_scene cart.chips (fitted_views cart.chips rack)
 
--- 0 once all commands are done, whatever stopped the session
+-- all is done once all commands are done, whatever stopped the session
 abbrev pub debug_answer : Debugging → List ChipState → Answer
-debug_answer asked rack = record { status = 0; lines = told_by asked.commands (debug_scene asked.cart rack) }
+debug_answer asked rack = record { status = status.Done; lines = told_by asked.commands (debug_scene asked.cart rack) }
 
 abbrev pub debug_due : List ChipState → Debugging → Due
 debug_due rack asked = unless_refused (refusal asked.cart.chips rack) (Plain (debug_answer asked rack))
@@ -118,16 +120,16 @@ generated_game seed = record {
 abbrev pub gen_due : List ChipState → ℕ → Due
 gen_due rack seed = game_due (Summary seed) rack (generated_game seed)
 
--- 0 where some map is closed and safe, with how many points the least one has, and else 7
+-- done where some map is closed and safe, with how many points the least one has, and else no verdict
 abbrev pub check_answer : List ℕ → Verdict → Answer
-check_answer tracked (FaultFree notes) = record { status = 0; lines = whole_line (length notes) ∷ [] }
-check_answer tracked (Agreed notes) = record { status = 0; lines = agreed_line (length notes) ∷ [] }
-check_answer tracked (Refused point state reason) = record { status = 7; lines = refused_line tracked point reason ∷ [] }
-check_answer tracked TooMany = record { status = 7; lines = toomany_line ∷ [] }
+check_answer tracked (FaultFree notes) = record { status = status.Done; lines = whole_line (length notes) ∷ [] }
+check_answer tracked (Agreed notes) = record { status = status.Done; lines = agreed_line (length notes) ∷ [] }
+check_answer tracked (Refused point state reason) = record { status = status.NoVerdict; lines = refused_line tracked point reason ∷ [] }
+check_answer tracked TooMany = record { status = status.NoVerdict; lines = toomany_line ∷ [] }
 
 -- a text, whose lines are told in one
 abbrev pub text_answer : List ℕ → Answer
-text_answer text = record { status = 0; lines = text ∷ [] }
+text_answer text = record { status = status.Done; lines = text ∷ [] }
 
 -- where some map is closed and safe, the certificate of the least one, in place of its line
 abbrev pub cert_answer : List ℕ → Verdict → Answer
@@ -140,12 +142,12 @@ abbrev pub check_due : Bool → Cart → Due
 check_due true cart = Judged cart (cert_answer cart.split)
 check_due false cart = Judged cart (check_answer cart.split)
 
--- 0 where a map of so many points is closed and safe, and else 7
+-- done where a map of so many points is closed and safe, and else no verdict
 abbrev pub found_answer : List ℕ → ℕ → VerifyAnswer → Answer
-found_answer tracked points found.Whole = record { status = 0; lines = whole_line points ∷ [] }
-found_answer tracked points found.Agreed = record { status = 0; lines = agreed_line points ∷ [] }
-found_answer tracked points (found.NotClosed from to) = record { status = 7; lines = notclosed_line tracked from to ∷ [] }
-found_answer tracked points (found.Unsafe point reason) = record { status = 7; lines = unsafe_line tracked point reason ∷ [] }
+found_answer tracked points found.Whole = record { status = status.Done; lines = whole_line points ∷ [] }
+found_answer tracked points found.Agreed = record { status = status.Done; lines = agreed_line points ∷ [] }
+found_answer tracked points (found.NotClosed from to) = record { status = status.NoVerdict; lines = notclosed_line tracked from to ∷ [] }
+found_answer tracked points (found.Unsafe point reason) = record { status = status.NoVerdict; lines = unsafe_line tracked point reason ∷ [] }
 
 -- what is found of the map that a certificate claims of a cartridge
 abbrev pub verify_answer : Claim → Answer
@@ -159,7 +161,7 @@ abbrev pub ref_answer : Game → Answer
 ref_answer game = record { status = status_of (ref_run game).ending.stop; lines = flat_telling_lines (ref_run game) }
 
 abbrev pub asm_answer : Picture → Answer
-asm_answer picture = record { status = 0; lines = image_lines picture }
+asm_answer picture = record { status = status.Done; lines = image_lines picture }
 
 -- the text of some bytes
 abbrev pub dis_answer : List ℕ → Answer
@@ -167,7 +169,7 @@ dis_answer bytes = text_answer (listing bytes)
 
 -- words that ask for nothing
 abbrev pub words_answer : Answer
-words_answer = record { status = 1; lines = words_line ∷ [] }
+words_answer = record { status = status.Words; lines = words_line ∷ [] }
 
 -- What is due, as a work over the files: each file is read before the next one is asked for, and the rack is looked at after all of them.
 abbrev pub due_of : List ChipState → Option Command → Work Due
@@ -184,7 +186,7 @@ due_of rack (Some (Gen seed)) = gives (gen_due rack seed)
 
 -- a file that is refused, and one that the store did not give
 abbrev pub refusal_answer : Refusal → Answer
-refusal_answer r = record { status = 2; lines = refusal_line r ∷ [] }
+refusal_answer r = record { status = status.Input; lines = refusal_line r ∷ [] }
 
 abbrev pub missing_answer : Purpose → Answer
-missing_answer purpose = record { status = 4; lines = missing_line purpose ∷ [] }
+missing_answer purpose = record { status = status.Store; lines = missing_line purpose ∷ [] }

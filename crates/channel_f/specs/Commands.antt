@@ -16,6 +16,7 @@ use Rattle.channel_f.specs.RackDebugged.{RackDebugged}
 use Rattle.channel_f.specs.Reports.{Answers, AnswersDue, Stops}
 use Rattle.channel_f.specs.SafeGames.{KeepsVerdict, IsSafeRun}
 use Rattle.channel_f.specs.declared.manner.Manner.TheVariants.{Whole, Summary}
+use Rattle.channel_f.specs.declared.status.Status.{Status}
 
 -- what stands around the program, as contracts see it: the sink, the store, the rack, and how many questions have been put to its chips
 pub record Around : Type 0 where
@@ -28,24 +29,24 @@ abbrev pub around : Output → Input → List ChipState → ℕ → Around
 around output input rack asked = record { output = output; input = input; rack = rack; asked = asked }
 
 -- What was written, and the status: those that are due, or those of the file that stopped it.
-abbrev pub Ends : Output → Output → ℕ → Result Due Stop → Type 0
+abbrev pub Ends : Output → Output → Status → Result Due Stop → Type 0
 Ends old new said (Ok due) = AnswersDue old new said due
 Ends old new said (Err stop) = Stops old new said stop
 
 -- The files gave what the answer is made of, or stopped the call, and it ended so.
-pub record Told {A : Type 0} (old new : Output) (before after : Input) (said : ℕ) (work : Work A) (due : A → Due) : Type 0 where
+pub record Told {A : Type 0} (old new : Output) (before after : Input) (said : Status) (work : Work A) (due : A → Due) : Type 0 where
   pub outcome : Result A Stop
   pub works : Works before after work outcome
   pub ends : Ends old new said (outcome_as due outcome)
 
 -- a command that leaves the rack as it was, and asks its chips nothing
-pub record Tells {A : Type 0} (old new : Around) (said : ℕ) (work : Work A) (due : A → Due) : Type 0 where
+pub record Tells {A : Type 0} (old new : Around) (said : Status) (work : Work A) (due : A → Due) : Type 0 where
   pub told : Told old.output new.output old.input new.input said work due
   pub same : new.rack ≡ old.rack
   pub unasked : new.asked ≡ old.asked
 
 -- a command that plays the game that the files gave on the rack
-pub record TellsGame (old new : Around) (said : ℕ) (traced : Bool) (work : Work Game) : Type 0 where
+pub record TellsGame (old new : Around) (said : Status) (traced : Bool) (work : Work Game) : Type 0 where
   pub outcome : Result Game Stop
   pub works : Works old.input new.input work outcome
   pub ends : Ends old.output new.output said (outcome_as (play_due traced old.rack) outcome)
@@ -53,14 +54,14 @@ pub record TellsGame (old new : Around) (said : ℕ) (traced : Bool) (work : Wor
   pub safe : IsSafeRun said (Whole traced) outcome old.rack
 
 -- a command that carries the commands that the files gave out on the rack
-pub record TellsDebugging (old new : Around) (said : ℕ) (work : Work Debugging) : Type 0 where
+pub record TellsDebugging (old new : Around) (said : Status) (work : Work Debugging) : Type 0 where
   pub outcome : Result Debugging Stop
   pub works : Works old.input new.input work outcome
   pub ends : Ends old.output new.output said (outcome_as (debug_due old.rack) outcome)
   pub chips : RackDebugged old.output new.output said outcome old.rack new.rack old.asked new.asked
 
 -- a command that plays the generated game on the rack, and asks for no file
-pub record TellsGenerated (old new : Around) (said : ℕ) (seed : ℕ) : Type 0 where
+pub record TellsGenerated (old new : Around) (said : Status) (seed : ℕ) : Type 0 where
   pub answers : AnswersDue old.output new.output said (gen_due old.rack seed)
   pub chips :
       PlaysGame old.output new.output said (Summary seed) (generated_game seed) old.rack new.rack old.asked new.asked
@@ -68,13 +69,13 @@ pub record TellsGenerated (old new : Around) (said : ℕ) (seed : ℕ) : Type 0 
   pub asks : new.input ≡ old.input
 
 -- words that ask for nothing
-pub record TellsWords (old new : Around) (said : ℕ) : Type 0 where
+pub record TellsWords (old new : Around) (said : Status) : Type 0 where
   pub answers : Answers old.output new.output said words_answer
   pub asks : new.input ≡ old.input
   pub same : new.rack ≡ old.rack
   pub unasked : new.asked ≡ old.asked
 
-abbrev pub Says : Around → Around → ℕ → Option Command → Type 0
+abbrev pub Says : Around → Around → Status → Option Command → Type 0
 Says old new said (Some (Play cart script traced)) = TellsGame old new said traced (game_of cart script)
 Says old new said (Some (Check cart certified)) = Tells old new said (cart_of cart) (check_due certified)
 Says old new said (Some (Verify cart cert)) = Tells old new said (claim_of cart cert) (λ claim. Plain (verify_answer claim))

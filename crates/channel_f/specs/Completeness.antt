@@ -13,6 +13,8 @@ use Rattle.cart_checker.specs.Verdicts.{RightVerdict}
 use Rattle.cart_checker.specs.declared.verdict.Verdict.{Verdict}
 use Rattle.channel_f.specs.Answers.{Answer, Due, Plain, Judged, refusal, refusal_answer}
 use Rattle.channel_f.specs.Commands.{Around}
+use Rattle.channel_f.specs.declared.status.Status.{Status}
+use Rattle.channel_f.specs.declared.status.Status.TheVariants as status
 
 -- what is due where no file is missing
 abbrev pub due_at : End Due → Option Due
@@ -21,16 +23,16 @@ due_at (Refuses refusal) = Some (Plain (refusal_answer refusal))
 due_at Lacks = None
 
 -- the status is the one that is due, with all of its lines
-pub record Answered (old new : Around) (said : ℕ) (answer : Answer) : Type 0 where
+pub record Answered (old new : Around) (said : Status) (answer : Answer) : Type 0 where
   pub status : said ≡ answer.status
   pub lines : Adds old.output new.output (text_of answer.lines)
 
 -- the same, where it is due by the right verdict on a cartridge
-pub record AnsweredBy (old new : Around) (said : ℕ) (cart : Cart) (by : Verdict → Answer) : Type 0 where
+pub record AnsweredBy (old new : Around) (said : Status) (cart : Cart) (by : Verdict → Answer) : Type 0 where
   pub right : RightVerdict cart
   pub answered : Answered old new said (by right.verdict)
 
-abbrev pub AnsweredDue : Around → Around → ℕ → Due → Type 0
+abbrev pub AnsweredDue : Around → Around → Status → Due → Type 0
 AnsweredDue old new said (Plain answer) = Answered old new said answer
 AnsweredDue old new said (Judged cart by) = AnsweredBy old new said cart by
 
@@ -47,25 +49,25 @@ pub record RefusesRack (old new : Around) : Type 0 where
   pub due : refusal chips old.rack ≡ Some line
   pub lines : Adds old.output new.output (text_of (line ∷ []))
 
-pub record IsComplete (old new : Around) (said : ℕ) (work : Work Due) : Type 0 where
+pub record IsComplete (old new : Around) (said : Status) (work : Work Due) : Type 0 where
   -- Where the store tells its files and has all that are asked for, and neither count rose, the call answers what is due, or memory was
   -- wanting.
   pub answers : (files : List NamedBytes) (due : Due) → old.input.files ≡ Some files →
       due_at (work files).end ≡ Some due →
       (Rose old.input.faults new.input.faults → ⊥) → (Rose old.output.faults new.output.faults → ⊥) →
-      AnsweredDue old new said due ⊎ (said ≡ 6)
+      AnsweredDue old new said due ⊎ (said ≡ status.Memory)
   -- where a file is missing, the store failed, or memory was wanting
   pub lacks : (files : List NamedBytes) → new.input.files ≡ Some files → due_at (work files).end ≡ None →
-      (said ≡ 4) ⊎ (said ≡ 5) ⊎ (said ≡ 6)
+      (said ≡ status.Store) ⊎ (said ≡ status.Sink) ⊎ (said ≡ status.Memory)
   -- where a file is missing and the store made something up for it, no file before it is refused
   pub refused : (files : List NamedBytes) → old.input.files ≡ Some files → due_at (work files).end ≡ None →
-      said ≡ 2 →
+      said ≡ status.Input →
       RefusesBehind old new files (work files).asks ⊎ RefusesRack old new
   -- no more files are asked for than there are to be had, with the first that is missing or refused
   pub bound : (files : List NamedBytes) → old.input.files ≡ Some files →
       HasFiles (work files).end ⊎ (new.input.files ≡ Some files) → AsksFew old.input new.input (work files).asks
   -- a failing store and a failing sink are told
-  pub store : said ≡ 4 → Rose old.input.faults new.input.faults
-  pub store_told : old.input.faults < new.input.faults → (said ≡ 4) ⊎ (said ≡ 5)
-  pub sink : said ≡ 5 → Rose old.output.faults new.output.faults
-  pub sink_told : old.output.faults < new.output.faults → said ≡ 5
+  pub store : said ≡ status.Store → Rose old.input.faults new.input.faults
+  pub store_told : old.input.faults < new.input.faults → (said ≡ status.Store) ⊎ (said ≡ status.Sink)
+  pub sink : said ≡ status.Sink → Rose old.output.faults new.output.faults
+  pub sink_told : old.output.faults < new.output.faults → said ≡ status.Sink

@@ -11,16 +11,18 @@ use Rattle.channel_f.specs.Manners.{run_fitted, lines_by}
 use Rattle.channel_f.specs.RackAfter.{OnFitted}
 use Rattle.channel_f.specs.Reports.{Reports}
 use Rattle.channel_f.specs.declared.manner.Manner.{Manner}
+use Rattle.channel_f.specs.declared.status.Status.{Status}
+use Rattle.channel_f.specs.declared.status.Status.TheVariants as status
 
 -- memory was wanting before the first line
-pub record CheckWants (old new : Output) (said : ℕ) (fitted news : List ChipState) (before after : ℕ) : Type 0 where
-  pub status : said ≡ 6
+pub record CheckWants (old new : Output) (said : Status) (fitted news : List ChipState) (before after : ℕ) : Type 0 where
+  pub status : said ≡ status.Memory
   pub nothing : Adds old new []
   pub same : news ≡ fitted
   pub unasked : after ≡ before
 
 -- the run is told behind the right verdict
-pub record RunsJudged (old new : Output) (said : ℕ) (manner : Manner) (game : Game) (chain : List ℕ)
+pub record RunsJudged (old new : Output) (said : Status) (manner : Manner) (game : Game) (chain : List ℕ)
     (fitted news : List ChipState) (before after : ℕ) : Type 0 where
   pub right : RightVerdict game.cart
   pub bytes : TellsBytes (chips_view game.cart.chips)
@@ -29,7 +31,7 @@ pub record RunsJudged (old new : Output) (said : ℕ) (manner : Manner) (game : 
   pub on : OnFitted old new said manner (verdict_word right.verdict) game.script.power chain
       (run_fitted manner game chain fitted) fitted news before after
 
-abbrev pub PlaysJudged : Output → Output → ℕ → Manner → Game → List ℕ → (fitted news : List ChipState) →
+abbrev pub PlaysJudged : Output → Output → Status → Manner → Game → List ℕ → (fitted news : List ChipState) →
     (before after : ℕ) → Type 0
 PlaysJudged old new said manner game chain fitted news before after =
     CheckWants old new said fitted news before after

@@ -18,6 +18,8 @@ use Rattle.loader.specs.Games.{Game}
 use Rattle.channel_f.specs.Answers.{refusal, game_chain, game_run}
 use Rattle.channel_f.specs.Manners.{detail_of, opening_lines, closing_lines}
 use Rattle.channel_f.specs.declared.manner.Manner.{Manner}
+use Rattle.channel_f.specs.declared.status.Status.{Status}
+use Rattle.channel_f.specs.declared.status.Status.TheVariants as status
 
 -- ---- a run on chips that are fitted
 
@@ -57,10 +59,10 @@ pub record FailedAfter (old new : Output) (manner : Manner) (word : VerdictWord)
   pub part : AddsPart between new (text_of (closing_lines manner run.ending))
 
 -- What a run on chips that are fitted makes of them.
-pub record OnFitted (old new : Output) (said : ℕ) (manner : Manner) (word : VerdictWord) (power : ℕ) (chain : List ℕ)
+pub record OnFitted (old new : Output) (said : Status) (manner : Manner) (word : VerdictWord) (power : ℕ) (chain : List ℕ)
     (run : Telling) (fitted news : List ChipState) (before after : ℕ) : Type 0 where
-  pub ran : said ≢ 5 → RanOn power chain run fitted news before after
-  pub failed : said ≡ 5 →
+  pub ran : said ≢ status.Sink → RanOn power chain run fitted news before after
+  pub failed : said ≡ status.Sink →
       FailedBefore old new manner word fitted news before after
       ⊎ FailedDuring old new manner word power chain run fitted news before after
       ⊎ FailedAfter old new manner word power chain run fitted news before after
@@ -68,7 +70,7 @@ pub record OnFitted (old new : Output) (said : ℕ) (manner : Manner) (word : Ve
 -- ---- a game on a rack
 
 -- the chips are fitted as the game has it, and then the run is theirs, behind a line of the right verdict
-pub record PlayedOn (old new : Output) (said : ℕ) (manner : Manner) (game : Game)
+pub record PlayedOn (old new : Output) (said : Status) (manner : Manner) (game : Game)
     (rack news : List ChipState) (before after : ℕ) : Type 0 where
   pub fitted : List ChipState
   pub fits : RackFits (seated game.cart.chips rack) rack fitted
@@ -78,12 +80,12 @@ pub record PlayedOn (old new : Output) (said : ℕ) (manner : Manner) (game : Ga
 
 -- What a call that plays a game says of the rack. Where memory was wanting, the first chips may have been fitted, or all of them, and
 -- no more became of them.
-pub record Plays (old new : Output) (said : ℕ) (manner : Manner) (game : Game)
+pub record Plays (old new : Output) (said : Status) (manner : Manner) (game : Game)
     (rack news : List ChipState) (before after : ℕ) : Type 0 where
-  pub wanting : said ≡ 6 →
+  pub wanting : said ≡ status.Memory →
       RackFitsInPart (seated game.cart.chips rack) rack news ⊎ RackFits (seated game.cart.chips rack) rack news
-  pub unasked : said ≡ 6 → after ≡ before
-  pub played : said ≢ 6 → PlayedOn old new said manner game rack news before after
+  pub unasked : said ≡ status.Memory → after ≡ before
+  pub played : said ≢ status.Memory → PlayedOn old new said manner game rack news before after
 
 -- the rack is left as it was
 pub record Leaves (rack news : List ChipState) (before after : ℕ) : Type 0 where
@@ -91,17 +93,17 @@ pub record Leaves (rack news : List ChipState) (before after : ℕ) : Type 0 whe
   pub unasked : after ≡ before
 
 -- so it is where a game is refused
-abbrev pub PlaysUnless : Option (List ℕ) → Output → Output → ℕ → Manner → Game → (rack news : List ChipState) →
+abbrev pub PlaysUnless : Option (List ℕ) → Output → Output → Status → Manner → Game → (rack news : List ChipState) →
     (before after : ℕ) → Type 0
 PlaysUnless (Some line) old new said manner game rack news before after = Leaves rack news before after
 PlaysUnless None old new said manner game rack news before after = Plays old new said manner game rack news before after
 
-abbrev pub PlaysGame : Output → Output → ℕ → Manner → Game → (rack news : List ChipState) → (before after : ℕ) → Type 0
+abbrev pub PlaysGame : Output → Output → Status → Manner → Game → (rack news : List ChipState) → (before after : ℕ) → Type 0
 PlaysGame old new said manner game rack news before after =
     PlaysUnless (refusal game.cart.chips rack) old new said manner game rack news before after
 
 -- and where the files gave no game
-abbrev pub RackAfter : Output → Output → ℕ → Manner → Result Game Stop → (rack news : List ChipState) →
+abbrev pub RackAfter : Output → Output → Status → Manner → Result Game Stop → (rack news : List ChipState) →
     (before after : ℕ) → Type 0
 RackAfter old new said manner (Ok game) rack news before after = PlaysGame old new said manner game rack news before after
 RackAfter old new said manner (Err stop) rack news before after = Leaves rack news before after

@@ -1,5 +1,5 @@
 -- The exit statuses as numbers.
-use Rattle.std.specs.Prelude.{ℕ}
+use Rattle.std.specs.Prelude.{◌≡◌, ℕ}
 use Rattle.channel_f.specs.declared.status.Status.{Status}
 use Rattle.channel_f.specs.declared.status.Status.TheVariants.{Done, Words, Input, Fault, Store, Sink, Memory, NoVerdict, Reserved}
 use Rattle.channel_f.specs.declared.status.Status.TheVariants.{NoWords}
@@ -15,3 +15,9 @@ exit_code Memory = 6
 exit_code NoVerdict = 7
 exit_code Reserved = 8
 exit_code NoWords = 10
+
+-- The number is that of a status of which this is said. No two statuses have one number.
+pub record HasStatus (number : ℕ) (Says : Status → Type 0) : Type 0 where
+  pub status : Status
+  pub is : number ≡ exit_code status
+  pub says : Says status

@@ -10,7 +10,6 @@ ghost use Rattle.pad_script.specs.Limits.{HasLimits};
 ghost use Rattle.channel_f.specs.RackAfter.{PlaysGame};
 ghost use Rattle.channel_f.specs.Reports.{Answers, AnswersDue, Reports, Wants};
 ghost use Rattle.channel_f.specs.SafeGames.{KeepsVerdict};
-ghost use Rattle.channel_f.specs.Statuses.{exit_code};
 
 use super::debugging::debug;
 use super::lines_out::{put_found, put_picture, put_text, put_verdict};
@@ -50,7 +49,7 @@ pub fn answer_play<S: Store, K: Sink>(
         (sum_by queries rack.old.items))
         (around (K.output sink.new) (S.input store.new) (map state rack.new.items)
         (sum_by queries rack.new.items))
-        (exit_code result) traced (game_of cart.now script.now) }
+        result traced (game_of cart.now script.now) }
 {
     match load_game(alloc, store, cart, script) {
         Ok(game) => play_game(alloc, &game, Manner::Whole { traced }, sink, rack),
@@ -61,8 +60,8 @@ pub fn answer_play<S: Store, K: Sink>(
 /// The certificate of a verdict, or the verdict's line where it has none.
 fn certify<K: Sink>(alloc: Global, split: &Split, verdict: &Verdict, sink: &mut K) -> Status
     ensures { let due = cert_answer split.now verdict.now in
-        Wants (K.output sink.old) (K.output sink.new) (exit_code result)
-        ⊎ Reports (K.output sink.old) (K.output sink.new) (exit_code result) due.status due.lines }
+        Wants (K.output sink.old) (K.output sink.new) result
+        ⊎ Reports (K.output sink.old) (K.output sink.new) result due.status due.lines }
 {
     match verdict {
         Verdict::Whole(notes) | Verdict::Agreed(notes) => match write_cert(alloc, notes, split) {
@@ -75,7 +74,7 @@ fn certify<K: Sink>(alloc: Global, split: &Split, verdict: &Verdict, sink: &mut 
 
 /// The line of the verdict on a cartridge, or its certificate.
 fn check<K: Sink>(alloc: Global, cart: &Cart, certified: bool, sink: &mut K) -> Status
-    ensures { AnswersDue (K.output sink.old) (K.output sink.new) (exit_code result)
+    ensures { AnswersDue (K.output sink.old) (K.output sink.new) result
         (check_due certified cart.now) }
 {
     match check_cart(alloc, cart) {
@@ -100,7 +99,7 @@ pub fn answer_check<S: Store, K: Sink>(
     sink: &mut K,
 ) -> Status
     ensures { Told (K.output sink.old) (K.output sink.new) (S.input store.old) (S.input store.new)
-        (exit_code result) (cart_of cart.now) (check_due certified) }
+        result (cart_of cart.now) (check_due certified) }
 {
     match load_cart(alloc, store, cart) {
         Ok(cart) => check(alloc, &cart, certified, sink),
@@ -112,7 +111,7 @@ pub fn answer_check<S: Store, K: Sink>(
 #[tactic(auto, using(crate::proofs::Games::answers_wanting))]
 fn verify_claim<K: Sink>(alloc: Global, claim: &Claim, sink: &mut K) -> Status
     requires { AllFit claim.now.cart.split claim.now.notes }
-    ensures { Answers (K.output sink.old) (K.output sink.new) (exit_code result)
+    ensures { Answers (K.output sink.old) (K.output sink.new) result
         (verify_answer (seen_claim claim.now)) }
 {
     match verify(alloc, &claim.cart, &claim.notes) {
@@ -131,7 +130,7 @@ pub fn answer_verify<S: Store, K: Sink>(
     sink: &mut K,
 ) -> Status
     ensures { Told (K.output sink.old) (K.output sink.new) (S.input store.old) (S.input store.new)
-        (exit_code result) (claim_of cart.now cert.now) (λ claim. Plain (verify_answer claim)) }
+        result (claim_of cart.now cert.now) (λ claim. Plain (verify_answer claim)) }
 {
     match load_claim(alloc, store, cart, cert) {
         Ok(claim) => verify_claim(alloc, &claim, sink),
@@ -149,7 +148,7 @@ pub fn answer_ref<S: Store, K: Sink>(
     sink: &mut K,
 ) -> Status
     ensures { Told (K.output sink.old) (K.output sink.new) (S.input store.old) (S.input store.new)
-        (exit_code result) (game_of cart.now script.now) (λ game. Plain (ref_answer game)) }
+        result (game_of cart.now script.now) (λ game. Plain (ref_answer game)) }
 {
     match load_game(alloc, store, cart, script) {
         Ok(game) => refer_game(alloc, &game, sink),
@@ -172,7 +171,7 @@ pub fn answer_debug<S: Store, K: Sink>(
         (sum_by queries rack.old.items))
         (around (K.output sink.new) (S.input store.new) (map state rack.new.items)
         (sum_by queries rack.new.items))
-        (exit_code result) (debugging_of cart.now commands.now) }
+        result (debugging_of cart.now commands.now) }
 {
     match load_debugging(alloc, store, cart, commands) {
         Ok(asked) => debug(alloc, &asked, sink, rack),
@@ -189,7 +188,7 @@ pub fn answer_asm<S: Store, K: Sink>(
     sink: &mut K,
 ) -> Status
     ensures { Told (K.output sink.old) (K.output sink.new) (S.input store.old) (S.input store.new)
-        (exit_code result) (image_by file.now) (λ picture. Plain (asm_answer picture)) }
+        result (image_by file.now) (λ picture. Plain (asm_answer picture)) }
 {
     match load_image(alloc, store, file) {
         Ok(image) => put_picture(sink, &image),
@@ -201,7 +200,7 @@ pub fn answer_asm<S: Store, K: Sink>(
 #[tactic(auto, using(crate::proofs::Games::answers_of, crate::proofs::Games::answers_wanting))]
 fn list_bytes<K: Sink>(alloc: Global, bytes: &[u8], sink: &mut K) -> Status
     requires { length bytes.now ≤ 65536 }
-    ensures { Answers (K.output sink.old) (K.output sink.new) (exit_code result)
+    ensures { Answers (K.output sink.old) (K.output sink.new) result
         (dis_answer bytes.now) }
 {
     match disassemble(alloc, bytes) {
@@ -219,7 +218,7 @@ pub fn answer_dis<S: Store, K: Sink>(
     sink: &mut K,
 ) -> Status
     ensures { Told (K.output sink.old) (K.output sink.new) (S.input store.old) (S.input store.new)
-        (exit_code result) (bytes_by file.now) (λ bytes. Plain (dis_answer bytes)) }
+        result (bytes_by file.now) (λ bytes. Plain (dis_answer bytes)) }
 {
     match load_bytes(alloc, store, file) {
         Ok(bytes) => list_bytes(alloc, bytes.as_slice(), sink),
@@ -249,11 +248,11 @@ fn generate(alloc: Global, seed: u32) -> Result<Game, Memory>
 
 /// `gen N`.
 pub fn answer_gen<K: Sink>(alloc: Global, seed: u32, sink: &mut K, rack: &mut Rack) -> Status
-    ensures answers { AnswersDue (K.output sink.old) (K.output sink.new) (exit_code result)
+    ensures answers { AnswersDue (K.output sink.old) (K.output sink.new) result
         (gen_due (map state rack.old.items) seed) }
-    ensures safe { KeepsVerdict (exit_code result)
+    ensures safe { KeepsVerdict result
         (Manner.Summary seed) (generated_game seed) (map state rack.old.items) }
-    ensures rack { PlaysGame (K.output sink.old) (K.output sink.new) (exit_code result)
+    ensures rack { PlaysGame (K.output sink.old) (K.output sink.new) result
         (Manner.Summary seed) (generated_game seed)
         (map state rack.old.items) (map state rack.new.items)
         (sum_by queries rack.old.items) (sum_by queries rack.new.items) }

@@ -2,8 +2,10 @@
 ghost use Rattle.std.specs.Prelude.{◌≢◌};
 ghost use Rattle.channel_f.specs.CheckedCertificates.{CheckedCertificateLaw};
 ghost use Rattle.channel_f.specs.SafeRuns.{HasScriptBytes, SafeRunLaw};
+ghost use Rattle.channel_f.specs.Statuses.{exit_code};
 ghost use Rattle.pad_script.specs.Reading.{seen};
 
+use super::status::Status;
 use super::top::console;
 use abs_step::{analysis_law, map_view_law, script_run_law, seated_view_law};
 use certificate::closed_map_law;
@@ -52,8 +54,8 @@ pub fn sure_console_law(
     sink: &mut SureSink,
     rack: &mut Rack,
 ) -> u8
-    ensures store { result ≢ 4 }
-    ensures sink { result ≢ 5 }
+    ensures store { result ≢ exit_code Status.Store }
+    ensures sink { result ≢ exit_code Status.Sink }
 {
     console(alloc, words, store, sink, rack)
 }

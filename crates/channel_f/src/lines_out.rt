@@ -7,7 +7,6 @@ ghost use Rattle.channel_f.specs.Manners.{opening_lines, ending_told, summary_to
 ghost use Rattle.channel_f.specs.Reports.{Reports};
 ghost use Rattle.asm_lines.specs.ImageLines.{image_lines};
 ghost use Rattle.outside.specs.SinkRules.{Adds, AddsPart};
-ghost use Rattle.channel_f.specs.Statuses.{exit_code};
 
 use super::manner::Manner;
 use super::status::Status;
@@ -60,7 +59,7 @@ fn lines_of(ending: &Ending) -> [Line; 7]
 }
 
 fn status_at(halt: &Option<Halt>) -> Status
-    ensures { exit_code result ≡ status_of (stop_at halt.now) }
+    ensures { result ≡ status_of (stop_at halt.now) }
 {
     match halt {
         None => Status::Done,
@@ -71,9 +70,9 @@ fn status_at(halt: &Option<Halt>) -> Status
 
 /// Writes lines, and then ends with a status.
 pub fn put_lines<K: Sink>(sink: &mut K, lines: &[Line], status: Status) -> Status
-    requires { exit_code status ≢ 5 }
+    requires { status ≢ Status.Sink }
     ensures { Reports (K.output sink.old) (K.output sink.new)
-        (exit_code result) (exit_code status) lines.now }
+        result status lines.now }
 {
     match put_all(sink, lines) {
         Ok(()) => status,
@@ -84,7 +83,7 @@ pub fn put_lines<K: Sink>(sink: &mut K, lines: &[Line], status: Status) -> Statu
 /// Writes the lines of a run from its stop line on, and ends with its status. ISAR is below 64.
 pub fn put_ending<K: Sink>(sink: &mut K, ending: &Ending) -> Status
     requires { ending.now.regs.isar < 64 }
-    ensures { Reports (K.output sink.old) (K.output sink.new) (exit_code result)
+    ensures { Reports (K.output sink.old) (K.output sink.new) result
         (status_of (stop_at ending.now.halt)) (ending_told ending.now) }
 {
     put_lines(sink, lines_of(ending).as_slice(), status_at(&ending.halt))
@@ -123,7 +122,7 @@ fn summary_of(ending: &Ending) -> [Line; 4]
 /// Writes the lines behind a run on a rack, and ends with its status. ISAR is below 64.
 pub fn put_closing<K: Sink>(sink: &mut K, manner: Manner, ending: &Ending) -> Status
     requires { ending.now.regs.isar < 64 }
-    ensures { Reports (K.output sink.old) (K.output sink.new) (exit_code result)
+    ensures { Reports (K.output sink.old) (K.output sink.new) result
         (status_of (stop_at ending.now.halt)) (closing_told manner ending.now) }
 {
     match manner {
@@ -147,7 +146,7 @@ fn check_line(split: &Split, verdict: &Verdict) -> Line
 }
 
 fn check_status(verdict: &Verdict) -> Status
-    ensures { (split : List ℕ) → exit_code result ≡ (check_answer split verdict.now).status }
+    ensures { (split : List ℕ) → result ≡ (check_answer split verdict.now).status }
 {
     match verdict {
         Verdict::Whole(_) | Verdict::Agreed(_) => Status::Done,
@@ -158,7 +157,7 @@ fn check_status(verdict: &Verdict) -> Status
 /// Writes the line of a verdict on a cartridge, and ends with its status.
 pub fn put_verdict<K: Sink>(sink: &mut K, split: &Split, verdict: &Verdict) -> Status
     ensures { let due = check_answer split.now verdict.now in
-        Reports (K.output sink.old) (K.output sink.new) (exit_code result) due.status due.lines }
+        Reports (K.output sink.old) (K.output sink.new) result due.status due.lines }
 {
     let line = check_line(split, verdict);
     put_lines(sink, [line].as_slice(), check_status(verdict))
@@ -179,7 +178,7 @@ fn found_line(split: &Split, points: usize, found: &VerifyAnswer) -> Line
 
 fn found_status(found: &VerifyAnswer) -> Status
     ensures { (split : List ℕ) (points : ℕ) →
-        exit_code result ≡ (found_answer split points found.now).status }
+        result ≡ (found_answer split points found.now).status }
 {
     match found {
         VerifyAnswer::Whole | VerifyAnswer::Agreed => Status::Done,
@@ -196,7 +195,7 @@ pub fn put_found<K: Sink>(
 ) -> Status
     requires { points ≤ 65536 }
     ensures { let due = found_answer split.now points found.now in
-        Reports (K.output sink.old) (K.output sink.new) (exit_code result) due.status due.lines }
+        Reports (K.output sink.old) (K.output sink.new) result due.status due.lines }
 {
     let line = found_line(split, points, found);
     put_lines(sink, [line].as_slice(), found_status(found))
@@ -205,7 +204,7 @@ pub fn put_found<K: Sink>(
 /// Writes the lines of an image.
 pub fn put_picture<K: Sink>(sink: &mut K, image: &Image) -> Status
     ensures { Reports (K.output sink.old) (K.output sink.new)
-        (exit_code result) 0 (image_lines image.now) }
+        result Status.Done (image_lines image.now) }
 {
     match put_image(sink, image) {
         Ok(()) => Status::Done,
@@ -216,7 +215,7 @@ pub fn put_picture<K: Sink>(sink: &mut K, image: &Image) -> Status
 /// Writes the lines of a text.
 pub fn put_text<K: Sink>(sink: &mut K, text: &Text) -> Status
     ensures { Reports (K.output sink.old) (K.output sink.new)
-        (exit_code result) 0 (text.now ∷ []) }
+        result Status.Done (text.now ∷ []) }
 {
     match put_listing(sink, text) {
         Ok(()) => Status::Done,

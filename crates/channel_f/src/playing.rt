@@ -13,7 +13,6 @@ ghost use Rattle.channel_f.specs.Manners.{run_fitted, lines_by};
 ghost use Rattle.channel_f.specs.Reports.{Answers, AnswersDue, Reports};
 ghost use Rattle.channel_f.specs.RackAfter.{OnFitted, Plays, PlaysGame};
 ghost use Rattle.channel_f.specs.SafeGames.{KeepsVerdict};
-ghost use Rattle.channel_f.specs.Statuses.{exit_code};
 
 use super::laws::{safe_run_law, script_law};
 use super::lines_out::{put_closing, put_ending, put_lines, put_opening};
@@ -55,12 +54,12 @@ fn play_fitted<K: Sink>(
     requires whole { AreWhole (map state rack.old.items) }
     requires ports { LeaveOwnPorts (map seat_of (views (map state rack.old.items))) }
     requires limits { HasLimits game.now.script.end }
-    ensures reports { Reports (K.output sink.old) (K.output sink.new) (exit_code result)
+    ensures reports { Reports (K.output sink.old) (K.output sink.new) result
         (status_of
         (run_fitted manner (seen_game game.now) chain (map state rack.old.items)).ending.stop)
         (lines_by manner word
         (run_fitted manner (seen_game game.now) chain (map state rack.old.items))) }
-    ensures rack { OnFitted (K.output sink.old) (K.output sink.new) (exit_code result)
+    ensures rack { OnFitted (K.output sink.old) (K.output sink.new) result
         manner word game.now.script.power chain
         (run_fitted manner (seen_game game.now) chain (map state rack.old.items))
         (map state rack.old.items) (map state rack.new.items)
@@ -88,7 +87,7 @@ fn check_and_play<K: Sink>(
     requires whole { AreWhole (map state rack.old.items) }
     requires ports { LeaveOwnPorts (map seat_of (views (map state rack.old.items))) }
     requires limits { HasLimits game.now.script.end }
-    ensures { PlaysJudged (K.output sink.old) (K.output sink.new) (exit_code result)
+    ensures { PlaysJudged (K.output sink.old) (K.output sink.new) result
         manner (seen_game game.now) chain (map state rack.old.items) (map state rack.new.items)
         (sum_by queries rack.old.items) (sum_by queries rack.new.items) }
 {
@@ -108,13 +107,13 @@ fn fit_and_play<K: Sink>(
 ) -> Status
     requires few { length rack.old.items ≤ MOST_CHIPS }
     requires limits { HasLimits game.now.script.end }
-    ensures answers { AnswersDue (K.output sink.old) (K.output sink.new) (exit_code result)
+    ensures answers { AnswersDue (K.output sink.old) (K.output sink.new) result
         (judged_run manner (seen_game game.now)
         (game_run manner (seen_game game.now) (map state rack.old.items))) }
-    ensures rack { Plays (K.output sink.old) (K.output sink.new) (exit_code result)
+    ensures rack { Plays (K.output sink.old) (K.output sink.new) result
         manner (seen_game game.now) (map state rack.old.items) (map state rack.new.items)
         (sum_by queries rack.old.items) (sum_by queries rack.new.items) }
-    ensures safe { KeepsVerdict (exit_code result)
+    ensures safe { KeepsVerdict result
         manner (seen_game game.now) (map state rack.old.items) }
 {
     safe_run_law();
@@ -135,11 +134,11 @@ pub fn play_game<K: Sink>(
     rack: &mut Rack,
 ) -> Status
     requires limits { HasLimits game.now.script.end }
-    ensures answers { AnswersDue (K.output sink.old) (K.output sink.new) (exit_code result)
+    ensures answers { AnswersDue (K.output sink.old) (K.output sink.new) result
         (game_due manner (map state rack.old.items) (seen_game game.now)) }
-    ensures safe { KeepsVerdict (exit_code result)
+    ensures safe { KeepsVerdict result
         manner (seen_game game.now) (map state rack.old.items) }
-    ensures rack { PlaysGame (K.output sink.old) (K.output sink.new) (exit_code result)
+    ensures rack { PlaysGame (K.output sink.old) (K.output sink.new) result
         manner (seen_game game.now) (map state rack.old.items) (map state rack.new.items)
         (sum_by queries rack.old.items) (sum_by queries rack.new.items) }
 {
@@ -152,7 +151,7 @@ pub fn play_game<K: Sink>(
 /// A game on the flat instruction set alone.
 pub fn refer_game<K: Sink>(alloc: Global, game: &Game, sink: &mut K) -> Status
     requires limits { HasLimits game.now.script.end }
-    ensures { Answers (K.output sink.old) (K.output sink.new) (exit_code result)
+    ensures { Answers (K.output sink.old) (K.output sink.new) result
         (ref_answer (seen_game game.now)) }
 {
     match refer(alloc, sink, &game.cart.chips, &game.script) {

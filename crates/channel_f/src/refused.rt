@@ -5,7 +5,6 @@ ghost use Rattle.text_lines.specs.Printable.{is_printable};
 ghost use Rattle.channel_f.specs.Refusals.{purpose_word as spelled_word, purpose_number as told_number};
 ghost use Rattle.channel_f.specs.Refusals.{refusal_line as spelled_refusal, missing_line as spelled_missing};
 ghost use Rattle.channel_f.specs.Reports.{Stops};
-ghost use Rattle.channel_f.specs.Statuses.{exit_code};
 
 use super::lines_out::put_lines;
 use super::status::Status;
@@ -89,7 +88,7 @@ fn missing_line(purpose: Purpose) -> Line
 
 /// Tells why files stopped a command. Where memory was wanting, nothing is written.
 pub fn put_stop<K: Sink>(sink: &mut K, stop: Stop) -> Status
-    ensures { Stops (K.output sink.old) (K.output sink.new) (exit_code result) stop }
+    ensures { Stops (K.output sink.old) (K.output sink.new) result stop }
 {
     match stop {
         Stop::Refused(refusal) => {

@@ -4,7 +4,7 @@ ghost use Rattle.command_line.specs.CommandLine.{command_of, has_command};
 ghost use Rattle.channel_f.specs.Answers.{due_of};
 ghost use Rattle.channel_f.specs.Commands.{around, Says};
 ghost use Rattle.channel_f.specs.Completeness.{IsComplete};
-ghost use Rattle.channel_f.specs.Statuses.{exit_code};
+ghost use Rattle.channel_f.specs.Statuses.{exit_code, HasStatus};
 
 use super::commands::{
     answer_asm, answer_check, answer_debug, answer_dis, answer_gen, answer_play, answer_ref,
@@ -32,8 +32,8 @@ fn answer_words<S: Store, K: Sink>(
         (sum_by queries rack.old.items))
         (around (K.output sink.new) (S.input store.new) (map state rack.new.items)
         (sum_by queries rack.new.items))
-        (exit_code result) (command_of (map string_bytes words.now)) }
-    ensures memory { exit_code result ≡ 6 → IsTrue (has_command (map string_bytes words.now)) }
+        result (command_of (map string_bytes words.now)) }
+    ensures memory { result ≡ Status.Memory → IsTrue (has_command (map string_bytes words.now)) }
 {
     match read_words(alloc, words) {
         Ok(
@@ -109,19 +109,20 @@ pub fn console<S: Store, K: Sink>(
     sink: &mut K,
     rack: &mut Rack,
 ) -> u8
-    ensures says { Says
+    ensures says { HasStatus result (λ ended. Says
         (around (K.output sink.old) (S.input store.old) (map state rack.old.items)
         (sum_by queries rack.old.items))
         (around (K.output sink.new) (S.input store.new) (map state rack.new.items)
         (sum_by queries rack.new.items))
-        result (command_of (map string_bytes words.now)) }
-    ensures complete { IsComplete
+        ended (command_of (map string_bytes words.now))) }
+    ensures complete { HasStatus result (λ ended. IsComplete
         (around (K.output sink.old) (S.input store.old) (map state rack.old.items)
         (sum_by queries rack.old.items))
         (around (K.output sink.new) (S.input store.new) (map state rack.new.items)
         (sum_by queries rack.new.items))
-        result (due_of (map state rack.old.items) (command_of (map string_bytes words.now))) }
-    ensures memory { result ≡ 6 → IsTrue (has_command (map string_bytes words.now)) }
+        ended (due_of (map state rack.old.items) (command_of (map string_bytes words.now)))) }
+    ensures memory { result ≡ exit_code Status.Memory →
+        IsTrue (has_command (map string_bytes words.now)) }
 {
     answer_words(alloc, words, store, sink, rack).code()
 }

@@ -5,9 +5,10 @@ use Rattle.cartridge.specs.declared.finish.Cart.{Cart}
 use Rattle.cart_checker.specs.Verdicts.{RightVerdict}
 use Rattle.channel_f.specs.Answers.{Judged, cert_answer}
 use Rattle.channel_f.specs.Reports.{AnswersDue, Reports, Wants}
+use Rattle.channel_f.specs.declared.status.Status.{Status}
 use Rattle.channel_f.proofs.commands.check.Goals as goal
 
-judged : (old new : Output) (said : ℕ) (cart : Cart) (right : RightVerdict cart) →
+judged : (old new : Output) (said : Status) (cart : Cart) (right : RightVerdict cart) →
     Wants old new said
     ⊎ Reports old new said (cert_answer cart.split right.verdict).status (cert_answer cart.split right.verdict).lines →
     AnswersDue old new said (Judged cart (cert_answer cart.split))

@@ -1,9 +1,10 @@
 -- The text is one line.
+use Rattle.channel_f.specs.declared.status.Status.TheVariants as status
 use Rattle.channel_f.proofs.Games.{reports_text, reports_text_part}
 use Rattle.channel_f.proofs.lines_out.put_text.Goals as goal
 
 pub returns-in-Ok : goal.returns-in-Ok
-returns-in-Ok g c = reports_text _ _ 0 c.args.text.now (λ e. cc) c.in-Ok.ensures.ok
+returns-in-Ok g c = reports_text _ _ status.Done c.args.text.now (λ e. cc) c.in-Ok.ensures.ok
 
 pub returns-in-Err : goal.returns-in-Err
-returns-in-Err g c = reports_text_part _ _ 0 c.args.text.now c.in-Err.ensures.err
+returns-in-Err g c = reports_text_part _ _ status.Done c.args.text.now c.in-Err.ensures.err

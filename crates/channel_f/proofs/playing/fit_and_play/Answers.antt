@@ -34,4 +34,4 @@ returns-in-Ok-clause-safe g c =
     c.safe_run_law.ensures c.script_law.ensures c.check_and_play.ensures
 
 pub returns-in-Err-clause-safe : goal.returns-in-Err-clause-safe
-returns-in-Err-clause-safe g c = λ fits patches six. absurd (six refl)
+returns-in-Err-clause-safe g c = λ fits patches by_memory. absurd (by_memory refl)
