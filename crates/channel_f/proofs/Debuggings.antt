@@ -27,6 +27,8 @@ use Rattle.loader.specs.declared.games.Debugging.{Debugging}
 use Rattle.channel_f.specs.Answers.{debug_answer}
 use Rattle.channel_f.specs.RackDebugged.{AreOf, Debugs, FailedAt}
 use Rattle.channel_f.specs.Reports.{Answers, Reports}
+use Rattle.channel_f.specs.declared.status.Status.{Status}
+use Rattle.channel_f.specs.declared.status.Status.TheVariants as status
 use Rattle.channel_f.proofs.Games.{answers_of}
 
 -- ---- the commands that are left
@@ -173,50 +175,50 @@ starts_at chips olds s news at =
 
 -- ---- what it answers
 
-pub reports_done : (a b : Output) (lines : List (List ℕ)) → Adds a b (text_of lines) → Reports a b 0 0 lines
+pub reports_done : (a b : Output) (lines : List (List ℕ)) → Adds a b (text_of lines) → Reports a b status.Done status.Done lines
 reports_done a b lines adds =
-    record { which = inl refl; whole = λ five. adds; part = λ five. cc }
+    record { which = inl refl; whole = λ by_sink. adds; part = λ by_sink. cc }
 
-pub reports_cut_short : (a b : Output) (lines : List (List ℕ)) → AddsPart a b (text_of lines) → Reports a b 5 0 lines
+pub reports_cut_short : (a b : Output) (lines : List (List ℕ)) → AddsPart a b (text_of lines) → Reports a b status.Sink status.Done lines
 reports_cut_short a b lines part =
-    record { which = inr refl; whole = λ five. absurd (five refl); part = λ five. part }
+    record { which = inr refl; whole = λ by_sink. absurd (by_sink refl); part = λ by_sink. part }
 
-zero_not_six : (said : ℕ) → (said ≡ 0) ⊎ (said ≡ 5) → said ≡ 6 → ⊥
-zero_not_six said (inl done) six = cc
-zero_not_six said (inr cut) six = cc
+done_not_memory : (said : Status) → (said ≡ status.Done) ⊎ (said ≡ status.Sink) → said ≡ status.Memory → ⊥
+done_not_memory said (inl done) by_memory = cc
+done_not_memory said (inr cut) by_memory = cc
 
-zero_is_not_six : ◌≢◌ {A = ℕ} 0 6
-zero_is_not_six e = cc
+done_is_not_memory : status.Done ≢ status.Memory
+done_is_not_memory e = cc
 
-module _ (a b : Output) (said : ℕ) (asked : Debugging) (rack fitted : List ChipState)
+module _ (a b : Output) (said : Status) (asked : Debugging) (rack fitted : List ChipState)
     (same : views fitted ≡ fitted_views asked.cart.chips rack)
-    (reports : Reports a b said 0 (told_by asked.commands (first_scene asked.cart.chips (views fitted)))) where
+    (reports : Reports a b said status.Done (told_by asked.commands (first_scene asked.cart.chips (views fitted)))) where
   pub debug_answers : Answers a b said (debug_answer asked rack)
   debug_answers =
-      answers_of a b said 0 (debug_answer asked rack).lines zero_is_not_six
-      (subst (λ (vs : List ChipView). Reports a b said 0 (told_by asked.commands (first_scene asked.cart.chips vs))) same
+      answers_of a b said status.Done (debug_answer asked rack).lines done_is_not_memory
+      (subst (λ (vs : List ChipView). Reports a b said status.Done (told_by asked.commands (first_scene asked.cart.chips vs))) same
       reports)
 
   pub debugs : (news : List ChipState) (before after : ℕ) →
-      (said ≢ 5 → AreOf (scene_by asked.commands (first_scene asked.cart.chips (views fitted))) news) →
-      (said ≡ 5 → FailedAt a b asked.commands (first_scene asked.cart.chips (views fitted)) news) →
+      (said ≢ status.Sink → AreOf (scene_by asked.commands (first_scene asked.cart.chips (views fitted))) news) →
+      (said ≡ status.Sink → FailedAt a b asked.commands (first_scene asked.cart.chips (views fitted)) news) →
       Debugs a b said asked rack news before after
   debugs news before after whole failed = record {
-    wanting = λ six. absurd (zero_not_six said reports.which six);
-    unasked = λ six. absurd (zero_not_six said reports.which six);
-    whole = λ five six.
+    wanting = λ by_memory. absurd (done_not_memory said reports.which by_memory);
+    unasked = λ by_memory. absurd (done_not_memory said reports.which by_memory);
+    whole = λ by_sink by_memory.
         subst (λ (vs : List ChipView). AreOf (scene_by asked.commands (first_scene asked.cart.chips vs)) news) same
-        (whole five);
-    failed = λ five.
+        (whole by_sink);
+    failed = λ by_sink.
         subst (λ (vs : List ChipView). FailedAt a b asked.commands (first_scene asked.cart.chips vs) news) same
-        (failed five);
+        (failed by_sink);
   }
 
 pub debugs_wanting : (a b : Output) (asked : Debugging) (rack news : List ChipState) (before after : ℕ) → after ≡ before →
-    RackFitsInPart (seated asked.cart.chips rack) rack news → Debugs a b 6 asked rack news before after
+    RackFitsInPart (seated asked.cart.chips rack) rack news → Debugs a b status.Memory asked rack news before after
 debugs_wanting a b asked rack news before after none partly = record {
-  wanting = λ six. partly;
-  unasked = λ six. none;
-  whole = λ five six. absurd (six refl);
-  failed = λ five. cc;
+  wanting = λ by_memory. partly;
+  unasked = λ by_memory. none;
+  whole = λ by_sink by_memory. absurd (by_memory refl);
+  failed = λ by_sink. cc;
 }

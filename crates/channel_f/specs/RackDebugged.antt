@@ -14,6 +14,8 @@ use Rattle.loader.specs.declared.refusals.Stop.{Stop}
 use Rattle.rack_run.specs.Seating.{seated, RackFitsInPart}
 use Rattle.channel_f.specs.Answers.{debug_scene, refusal}
 use Rattle.channel_f.specs.RackAfter.{Leaves}
+use Rattle.channel_f.specs.declared.status.Status.{Status}
+use Rattle.channel_f.specs.declared.status.Status.TheVariants as status
 
 -- the chips are those of a scene, and each that tells what it heard since power-on heard the scene's bus steps and nothing else
 pub record AreOf (scene : Scene) (states : List ChipState) : Type 0 where
@@ -35,20 +37,20 @@ pub record FailedAt (old new : Output) (commands : List Command) (scene : Scene)
 
 -- All commands were carried out unless the sink failed; and where memory was wanting, the first chips may have been fitted, and no more
 -- became of any.
-pub record Debugs (old new : Output) (said : ℕ) (asked : Debugging) (rack news : List ChipState) (before after : ℕ) : Type 0 where
-  pub wanting : said ≡ 6 → RackFitsInPart (seated asked.cart.chips rack) rack news
-  pub unasked : said ≡ 6 → after ≡ before
-  pub whole : said ≢ 5 → said ≢ 6 → AreOf (scene_by asked.commands (debug_scene asked.cart rack)) news
-  pub failed : said ≡ 5 → FailedAt old new asked.commands (debug_scene asked.cart rack) news
+pub record Debugs (old new : Output) (said : Status) (asked : Debugging) (rack news : List ChipState) (before after : ℕ) : Type 0 where
+  pub wanting : said ≡ status.Memory → RackFitsInPart (seated asked.cart.chips rack) rack news
+  pub unasked : said ≡ status.Memory → after ≡ before
+  pub whole : said ≢ status.Sink → said ≢ status.Memory → AreOf (scene_by asked.commands (debug_scene asked.cart rack)) news
+  pub failed : said ≡ status.Sink → FailedAt old new asked.commands (debug_scene asked.cart rack) news
 
 -- chips that are refused leave the rack as it was
-abbrev pub DebugsUnless : Option (List ℕ) → Output → Output → ℕ → Debugging → (rack news : List ChipState) →
+abbrev pub DebugsUnless : Option (List ℕ) → Output → Output → Status → Debugging → (rack news : List ChipState) →
     (before after : ℕ) → Type 0
 DebugsUnless (Some line) old new said asked rack news before after = Leaves rack news before after
 DebugsUnless None old new said asked rack news before after = Debugs old new said asked rack news before after
 
 -- and so do files that stop the command
-abbrev pub RackDebugged : Output → Output → ℕ → Result Debugging Stop → (rack news : List ChipState) →
+abbrev pub RackDebugged : Output → Output → Status → Result Debugging Stop → (rack news : List ChipState) →
     (before after : ℕ) → Type 0
 RackDebugged old new said (Ok asked) rack news before after =
     DebugsUnless (refusal asked.cart.chips rack) old new said asked rack news before after

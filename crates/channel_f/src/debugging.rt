@@ -14,7 +14,6 @@ ghost use Rattle.chip_debug.specs.Standing.{IsAt};
 ghost use Rattle.channel_f.specs.Answers.{debug_answer, debug_due, refusal as spelled_refusal};
 ghost use Rattle.channel_f.specs.RackDebugged.{AreOf, Debugs, DebugsUnless, FailedAt};
 ghost use Rattle.channel_f.specs.Reports.{Answers, AnswersDue, Reports};
-ghost use Rattle.channel_f.specs.Statuses.{exit_code};
 
 use super::lines_out::put_lines;
 use super::playing::refusal;
@@ -60,13 +59,13 @@ fn debug_fitted<K: Sink>(asked: &Debugging, sink: &mut K, rack: &mut Rack) -> St
     requires few { length rack.old.items ≤ MOST_CHIPS }
     requires whole { AreWhole (map state rack.old.items) }
     requires ports { LeaveOwnPorts (map seat_of (views (map state rack.old.items))) }
-    ensures reports { Reports (K.output sink.old) (K.output sink.new) (exit_code result) 0
+    ensures reports { Reports (K.output sink.old) (K.output sink.new) result Status.Done
         (told_by asked.now.commands (first_scene asked.now.cart.chips
         (views (map state rack.old.items)))) }
-    ensures whole { exit_code result ≢ 5 → AreOf (scene_by asked.now.commands
+    ensures whole { result ≢ Status.Sink → AreOf (scene_by asked.now.commands
         (first_scene asked.now.cart.chips (views (map state rack.old.items))))
         (map state rack.new.items) }
-    ensures failed { exit_code result ≡ 5 → FailedAt (K.output sink.old) (K.output sink.new)
+    ensures failed { result ≡ Status.Sink → FailedAt (K.output sink.old) (K.output sink.new)
         asked.now.commands (first_scene asked.now.cart.chips (views (map state rack.old.items)))
         (map state rack.new.items) }
 {
@@ -80,9 +79,9 @@ fn debug_fitted<K: Sink>(asked: &Debugging, sink: &mut K, rack: &mut Rack) -> St
 /// A session on a rack that has a place for the cartridge's chips.
 fn fit_and_debug<K: Sink>(alloc: Global, asked: &Debugging, sink: &mut K, rack: &mut Rack) -> Status
     requires few { length rack.old.items ≤ MOST_CHIPS }
-    ensures answers { Answers (K.output sink.old) (K.output sink.new) (exit_code result)
+    ensures answers { Answers (K.output sink.old) (K.output sink.new) result
         (debug_answer asked.now (map state rack.old.items)) }
-    ensures rack { Debugs (K.output sink.old) (K.output sink.new) (exit_code result) asked.now
+    ensures rack { Debugs (K.output sink.old) (K.output sink.new) result asked.now
         (map state rack.old.items) (map state rack.new.items)
         (sum_by queries rack.old.items) (sum_by queries rack.new.items) }
 {
@@ -94,10 +93,10 @@ fn fit_and_debug<K: Sink>(alloc: Global, asked: &Debugging, sink: &mut K, rack: 
 
 /// A session on a rack, if it has a place for the cartridge's chips.
 pub fn debug<K: Sink>(alloc: Global, asked: &Debugging, sink: &mut K, rack: &mut Rack) -> Status
-    ensures answers { AnswersDue (K.output sink.old) (K.output sink.new) (exit_code result)
+    ensures answers { AnswersDue (K.output sink.old) (K.output sink.new) result
         (debug_due (map state rack.old.items) asked.now) }
     ensures rack { DebugsUnless (spelled_refusal asked.now.cart.chips (map state rack.old.items))
-        (K.output sink.old) (K.output sink.new) (exit_code result) asked.now
+        (K.output sink.old) (K.output sink.new) result asked.now
         (map state rack.old.items) (map state rack.new.items)
         (sum_by queries rack.old.items) (sum_by queries rack.new.items) }
 {

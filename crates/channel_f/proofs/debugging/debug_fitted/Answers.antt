@@ -19,7 +19,7 @@ returns-in-Ok-clause-whole g c =
     let olds = map (λ b. (goal.Chip-dyn g (b.vtable, b.value)).state b.value) c.args.rack.now.items in
     let first = first_scene chips (views olds) in
     let done = c.in-Ok.ensures.whole first (starts_at chips olds _ _ c.new-session.ensures.at) in
-    λ five. rw c.as_slice.ensures.commands at done
+    λ by_sink. rw c.as_slice.ensures.commands at done
 
 pub returns-in-Err-clause-reports : goal.returns-in-Err-clause-reports
 returns-in-Err-clause-reports g c =
@@ -35,4 +35,4 @@ returns-in-Err-clause-failed g c =
     let olds = map (λ b. (goal.Chip-dyn g (b.vtable, b.value)).state b.value) c.args.rack.now.items in
     let first = first_scene chips (views olds) in
     let done = c.in-Err.ensures.failed first (starts_at chips olds _ _ c.new-session.ensures.at) in
-    λ five. rw c.as_slice.ensures.commands at done
+    λ by_sink. rw c.as_slice.ensures.commands at done
