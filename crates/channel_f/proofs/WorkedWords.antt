@@ -7,6 +7,7 @@ use Rattle.report.specs.RefusalLines.{words_line}
 use Rattle.command_line.specs.CommandLine.{command_of}
 use Rattle.loader.specs.Work.{Gives}
 use Rattle.channel_f.specs.Answers.{Plain, due_of}
+use Rattle.channel_f.specs.declared.status.Status.TheVariants as status
 
 -- one word too few, whatever the rack and the files
 one_word : (rack : List ChipState) (files : List NamedBytes) →

@@ -1,6 +1,5 @@
 -- The counts of faults of a sure store and a sure sink stay 0.
-use Rattle.std.proofs.Common.{arith}
-use Rattle.std.specs.Prelude.{inl, inr}
+use Rattle.std.proofs.Common.{arith, inl, inr}
 use Rattle.outside.specs.Counts.{Rose}
 use Rattle.channel_f.specs.declared.status.Status.TheVariants as status
 use Rattle.channel_f.proofs.StatusCodes.{never_code}
