@@ -8,5 +8,6 @@ pub mod Debuggings
 mod StatusCodes
 mod Outcomes
 mod Completeness
+mod SureCalls
 mod CheckedCertificates
 mod WorkedWords

@@ -1,5 +1,5 @@
 -- The same call, by the files that the store tells: when each status comes, and how many files are asked for.
-use Rattle.std.specs.Prelude.{◌≡◌, ℕ, ◌<◌, ◌⊎◌, List, [], ◌∷◌, Option, Some, None}
+use Rattle.std.specs.Prelude.{◌≡◌, ◌≢◌, ℕ, ◌<◌, ◌⊎◌, List, [], ◌∷◌, Option, Some, None}
 use Rattle.console_spec.specs.RunText.{text_of}
 use Rattle.outside.specs.Counts.{Rose}
 use Rattle.outside.specs.SinkRules.{Adds}
@@ -71,3 +71,17 @@ pub record IsComplete (old new : Around) (said : Status) (work : Work Due) : Typ
   pub store_told : old.input.faults < new.input.faults → (said ≡ status.Store) ⊎ (said ≡ status.Sink)
   pub sink : said ≡ status.Sink → Rose old.output.faults new.output.faults
   pub sink_told : old.output.faults < new.output.faults → said ≡ status.Sink
+
+-- ---- where nothing outside the program fails
+
+-- The same call over a store that has these files, was asked for no others so far, and never fails, and over a sink that never fails.
+pub record IsSurelyComplete (old new : Around) (said : Status) (files : List NamedBytes) (work : Work Due) : Type 0 where
+  -- what is due comes, or memory was wanting
+  pub answers : (due : Due) → due_at (work files).end ≡ Some due → AnsweredDue old new said due ⊎ (said ≡ status.Memory)
+  -- where a file is missing the store made an empty one up for it, and no file before it is refused
+  pub refused : due_at (work files).end ≡ None → said ≡ status.Input →
+      RefusesBehind old new files (work files).asks ⊎ RefusesRack old new
+  -- where none is missing, no more files are asked for than there are to be had, with the first that is refused
+  pub bound : HasFiles (work files).end → AsksFew old.input new.input (work files).asks
+  pub store : said ≢ status.Store
+  pub sink : said ≢ status.Sink

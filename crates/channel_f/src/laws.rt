@@ -1,8 +1,14 @@
 // Laws: what a verdict promises of runs, and what the program never ends with where nothing outside it fails.
-ghost use Rattle.std.specs.Prelude.{◌≢◌};
+ghost use Rattle.std.specs.Prelude.{◌≡◌, ◌≢◌, false, map, string_bytes, sum_by};
+ghost use Rattle.command_line.specs.CommandLine.{command_of};
+ghost use Rattle.outside.specs.MemorySinks.{sure_output_of};
+ghost use Rattle.outside.specs.MemoryStores.{sure_input};
+ghost use Rattle.channel_f.specs.Answers.{due_of};
+ghost use Rattle.channel_f.specs.Commands.{around};
+ghost use Rattle.channel_f.specs.Completeness.{IsSurelyComplete};
 ghost use Rattle.channel_f.specs.CheckedCertificates.{CheckedCertificateLaw};
 ghost use Rattle.channel_f.specs.SafeRuns.{HasScriptBytes, SafeRunLaw};
-ghost use Rattle.channel_f.specs.Statuses.{exit_code};
+ghost use Rattle.channel_f.specs.Statuses.{exit_code, HasStatus};
 ghost use Rattle.pad_script.specs.Reading.{seen};
 
 use super::status::Status;
@@ -45,8 +51,9 @@ pub fn checked_certificate_law()
     closed_map_law();
 }
 
-/// Over a store and a sink that never fail, [`console`] doesn't end with 4 or 5. So by its clause `complete` it answers what is due where the
-/// store has each file that is asked for, unless memory is wanting. This call is that one; its contract is the law.
+/// Over a store and a sink that never fail, [`console`] doesn't end with the status of either. Where the store was asked for none but its own
+/// files before, and has each one that is asked for now, what is due comes, with its status, unless memory is wanting (clause `complete`). This
+/// call is that one; its contract is the law.
 pub fn sure_console_law(
     alloc: Global,
     words: &[String],
@@ -54,6 +61,14 @@ pub fn sure_console_law(
     sink: &mut SureSink,
     rack: &mut Rack,
 ) -> u8
+    ensures complete { store.old.strayed ≡ false →
+        HasStatus result (λ ended. IsSurelyComplete
+        (around (sure_output_of sink.old) (sure_input store.old) (map state rack.old.items)
+        (sum_by queries rack.old.items))
+        (around (sure_output_of sink.new) (sure_input store.new) (map state rack.new.items)
+        (sum_by queries rack.new.items))
+        ended store.old.files
+        (due_of (map state rack.old.items) (command_of (map string_bytes words.now)))) }
     ensures store { result ≢ exit_code Status.Store }
     ensures sink { result ≢ exit_code Status.Sink }
 {

@@ -1,13 +1,15 @@
 -- The counts of faults of a sure store and a sure sink stay 0.
-use Rattle.std.proofs.Common.{arith, inl, inr}
-use Rattle.outside.specs.Counts.{Rose}
+use Rattle.std.proofs.Common.{refl}
 use Rattle.channel_f.specs.declared.status.Status.TheVariants as status
 use Rattle.channel_f.proofs.StatusCodes.{never_code}
+use Rattle.channel_f.proofs.SureCalls.{never_rose, surely_complete, told_unless_strayed}
 use Rattle.channel_f.proofs.laws.sure_console_law.Goals as goal
 
-never_rose : Rose 0 0 → ⊥
-never_rose (inl less) = omega (arith, less)
-never_rose (inr most) = omega (arith, most)
+pub returns-clause-complete : goal.returns-clause-complete
+returns-clause-complete g c =
+    λ kept.
+    surely_complete _ _ c.args.store.now.files _ (told_unless_strayed c.args.store.now.strayed c.args.store.now.files kept) refl refl refl refl
+    _ c.console.ensures.complete
 
 pub returns-clause-store : goal.returns-clause-store
 returns-clause-store g c =
