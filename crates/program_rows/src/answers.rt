@@ -1,6 +1,7 @@
 // Each command on its happy path, and the refusals with their one line.
-use super::calls::{LOOP_CART, LOOP_PLAY, Row, check_rows};
+use super::calls::{LOOP_CART, LOOP_PLAY, LOOP_SCRIPT, Row, check_rows, files_of, status_of};
 use f8_machine::Rack;
+use outside::{SureSink, SureStore};
 use psu3851::Psu;
 use smi3853::Smi;
 use std::test::Fail;
@@ -246,4 +247,18 @@ fn answers_on_a_whole_rack(rt: HostRuntime) -> Result<(), Fail> {
     }
     check_rows(&rt, rt.alloc(), &ANSWERS, &mut rack)?;
     check_rows(&rt, rt.alloc(), &REFUSALS, &mut rack)
+}
+
+#[test]
+fn plays_over_what_never_fails(rt: HostRuntime) -> Result<(), Fail> {
+    let mut rack: Rack = Vec::new(rt.alloc());
+    rack.push(Box::new(rt.alloc(), Psu::blank())?)?;
+    let files = [("cart", LOOP_CART), ("script", LOOP_SCRIPT)];
+    let mut store = SureStore::new(files_of(rt.alloc(), &files)?);
+    let mut sink = SureSink::new(rt.alloc(), 4_096)?;
+    let words = ["play", "cart", "script"];
+    let status = status_of(rt.alloc(), &words, &mut store, &mut sink, &mut rack)?;
+    assert_eq!(rt; status, 0);
+    assert_eq!(rt; sink.bytes(), LOOP_PLAY.as_bytes());
+    Ok(())
 }

@@ -1,7 +1,7 @@
 // What the rows have in common: files, and calls over stores and sinks in memory.
 use channel_f::console;
 use f8_machine::Rack;
-use outside::{CallList, CutList, FileList, MemSink, MemStore, NamedFile};
+use outside::{CallList, CutList, FileList, MemSink, MemStore, NamedFile, Sink, Store};
 use std::alloc::Global;
 use std::process::Abort;
 use std::test::Fail;
@@ -110,11 +110,11 @@ pub(crate) fn store_of(alloc: Global, files: FileList) -> MemStore {
 }
 
 /// The status of the program.
-pub(crate) fn status_of(
+pub(crate) fn status_of<S: Store, K: Sink>(
     alloc: Global,
     words: &[&str],
-    store: &mut MemStore,
-    sink: &mut MemSink,
+    store: &mut S,
+    sink: &mut K,
     rack: &mut Rack,
 ) -> Result<u8, Fail> {
     let words = words_of(alloc, words)?;
