@@ -7,13 +7,14 @@ use Rattle.console_spec.specs.Telling.{with_event}
 use Rattle.console_spec.specs.declared.Event.{Event}
 use Rattle.console_spec.specs.declared.Event.TheVariants.{Keys, Pulse}
 use Rattle.data_bus.specs.Racks.{NumberedZip, views}
+use Rattle.data_bus.specs.declared.index.Index.{Index}
 use Rattle.f8_machine.specs.Keying.{KeysInSocket, RackKeyed, RackKeyedBy, is_own, keyed_machine}
 use Rattle.f8_machine.specs.MachineState.{MachineState}
 use Rattle.f8_machine.specs.Refinement.{Represents}
 use Rattle.f8_machine.specs.RequestsHeld.{PulsesIf, PulsesInSocket, RackPulsed}
 use Rattle.f8_machine.specs.declared.heard.Heard.{Heard}
 use Rattle.chip_debug.specs.Scenes.{Scene, chips_with, happened, happening, pulsed_in}
-use Rattle.chip_debug.specs.Standing.{SessionState, HaveHeard, IsAt, IsReady}
+use Rattle.chip_debug.specs.Standing.{SessionState, HasFollowed, HaveHeard, IsAt, IsReady}
 use Rattle.chip_debug.proofs.KeptChips.{keys_keeps, pulses_keeps}
 use Rattle.chip_debug.proofs.KeptHearing.{heard_stays, keys_heard, pulses_heard}
 use Rattle.chip_debug.proofs.KeptRacks.{views_by, ready_stays}
@@ -73,15 +74,16 @@ pub record SameButKeys (m after : MachineState) : Type 0 where
   pub mode : after.mode ≡ m.mode
   pub phi : after.phi ≡ m.phi
   pub probe : after.probe ≡ m.probe
+  pub index : after.index ≡ m.index
 
 keyed_as : (own : Bool) (m keyed : MachineState) → SameButKeys m keyed → SameButKeys m (if own then keyed else m)
 keyed_as true m keyed same = same
-keyed_as false m keyed same = record { mode = refl; phi = refl; probe = refl }
+keyed_as false m keyed same = record { mode = refl; phi = refl; probe = refl; index = refl }
 
 pub keyed_same : (port byte : ℕ) (m after : MachineState) → after ≡ keyed_machine port byte m → SameButKeys m after
 keyed_same port byte m after is =
     subst (λ (n : MachineState). SameButKeys m n) (sym is)
-    (keyed_as (is_own port) m _ (record { mode = refl; phi = refl; probe = refl }))
+    (keyed_as (is_own port) m _ (record { mode = refl; phi = refl; probe = refl; index = refl }))
 
 -- ---- the scene
 
@@ -97,16 +99,17 @@ event_count (Pulse chip) x = pulse_count (slice_get x.chain chip) x
 module _ (s : SessionState) (after : MachineState) (olds news : List ChipState) (scene : Scene) (at : IsAt s olds scene)
     (halt : s.halt ≡ None) (running : scene.stop ≡ None) where
   came_at : (event : Event) → Represents after news (with_event event scene.position) →
-      after.probe ≡ s.machine.probe →
+      after.probe ≡ s.machine.probe → after.index ≡ s.machine.index →
       Comes (chips_with scene.position.chain event scene.chips) olds news →
       IsAt (record s { machine = after }) news (happened event scene)
-  came_at event represents probe comes =
+  came_at event represents probe index comes =
       let came : IsAt (record s { machine = after }) news (happening None event scene) = record {
         machine = rw running represents;
         chain = represents.stands.chain;
         probe = probe ∙ at.probe;
         chips = comes.are;
         heard = comes.heard scene.heard at.heard;
+        index = subst (λ (i : Index). HasFollowed scene.heard i) (sym index) at.index;
         stop = at.stop;
         count = at.count ∙ sym (event_count event scene.position);
         breaks = at.breaks;
@@ -120,6 +123,7 @@ module _ (s : SessionState) (after : MachineState) (olds news : List ChipState) 
       IsAt (record s { machine = after }) news (happened (Keys port byte) scene)
   keys_at port byte is keyed_all goes =
       came_at (Keys port byte) (goes (rw running at at.machine)) (keyed_same port byte s.machine after is).probe
+      (keyed_same port byte s.machine after is).index
       (subst (λ (vs : List ChipView). Comes (if is_own port then vs else map (keyed port byte) vs) olds news) at.chips
       (keys_by (is_own port) port byte olds news keyed_all at.ready))
 
@@ -129,6 +133,7 @@ module _ (s : SessionState) (after : MachineState) (olds news : List ChipState) 
       IsAt (record s { machine = after }) news (happened (Pulse chip) scene)
   pulse_at chip is pulsed_all goes =
       came_at (Pulse chip) (goes (rw running at at.machine)) (ap (λ (m : MachineState). m.probe) is)
+      (ap (λ (m : MachineState). m.index) is)
       (subst (λ (vs : List ChipView). Comes (pulsed_in (slice_get scene.position.chain chip) vs) olds news) at.chips
       (pulses_by (slice_get scene.position.chain chip) olds news
       (subst (λ (chain : List ℕ). RackPulsed (slice_get chain chip) olds news) at.chain pulsed_all) at.ready))

@@ -4,6 +4,8 @@ pub mod KeptBytes
 pub mod KeptChips
 pub mod KeptRacks
 pub mod KeptHearing
+pub mod PatchLaws
+pub mod AskingLaws
 pub mod SceneLaws
 pub mod Starts
 pub mod Turned

@@ -1,7 +1,8 @@
 -- A session is at the scene to which reset or an instruction led.
-use Rattle.std.proofs.Common.{◌≡◌, ℕ, List, ◌++◌, refl, sym, ap₂, subst, ◌∙◌}
+use Rattle.std.proofs.Common.{◌≡◌, ℕ, ◌+◌, ◌≤◌, List, ◌++◌, length, refl, sym, ap, ap₂, subst, ◌∙◌, arith}
+use Rattle.std.proofs.lemmas.List.{length-map}
 use Rattle.std.specs.Prelude.{Some, None}
-use Rattle.f8_spec.specs.ChipState.{ChipState}
+use Rattle.f8_spec.specs.ChipState.{ChipView, ChipState}
 use Rattle.console_spec.specs.BusTrace.{Course}
 use Rattle.console_spec.specs.Run.{Position, Turn, Goes, Stops}
 use Rattle.data_bus.specs.Racks.{views}
@@ -17,8 +18,10 @@ use Rattle.rack_run.specs.Machines.{machine_readout}
 use Rattle.rack_run.specs.Turns.{readout_of}
 use Rattle.rack_run.specs.declared.ending.Halt.{Halt}
 use Rattle.chip_debug.specs.declared.breaks.Breaks.{Breaks}
+use Rattle.chip_debug.specs.Asking.{allowed_since_power}
 use Rattle.chip_debug.specs.Scenes.{Scene, chips_after, hearing, led_by, served_steps}
-use Rattle.chip_debug.specs.Standing.{SessionState, HaveHeard, IsAt, IsReady}
+use Rattle.chip_debug.specs.Standing.{SessionState, HasFollowed, HaveHeard, IsAt, IsReady}
+use Rattle.chip_debug.proofs.AskingLaws.{followed_more}
 use Rattle.chip_debug.proofs.KeptChips.{runs_keeps}
 use Rattle.chip_debug.proofs.KeptHearing.{heard_stays, runs_heard}
 use Rattle.chip_debug.proofs.KeptRacks.{views_by, ready_stays}
@@ -29,13 +32,29 @@ pub record Shows (m : MachineState) (states : List ChipState) (scene : Scene) : 
   pub probe : m.probe ≡ scene.probe
   pub chips : views states ≡ scene.chips
   pub heard : HaveHeard scene.heard 0 states
+  pub index : HasFollowed scene.heard m.index
   pub ready : IsReady states
 
 -- so it is where a session is at the scene
 pub shows_at : (s : SessionState) (states : List ChipState) (scene : Scene) → IsAt s states scene →
     Shows s.machine states scene
 shows_at s states scene at =
-    record { chain = at.chain; probe = at.probe; chips = at.chips; heard = at.heard; ready = at.ready }
+    record { chain = at.chain; probe = at.probe; chips = at.chips; heard = at.heard; index = at.index; ready = at.ready }
+
+-- the chips of the scene are as many
+pub chips_at : {n : ℕ} (s : SessionState) (states : List ChipState) (scene : Scene) → IsAt s states scene → length states ≡ n →
+    length scene.chips ≡ n
+chips_at s states scene at long =
+    ap (λ (vs : List ChipView). length vs) (sym at.chips) ∙ length-map states (λ (x : ChipState). x.view) ∙ long
+
+-- where two scenes are one, so is what is allowed
+pub allowed_at : (p q : ℕ) (scene there : Scene) → scene ≡ there → q ≤ p + allowed_since_power scene →
+    q ≤ p + allowed_since_power there
+allowed_at p q scene there same few = subst (λ (s : Scene). q ≤ p + allowed_since_power s) same few
+
+-- no chip was put a question
+pub none_put : (p q : ℕ) → q ≡ p → q ≤ p + 0
+none_put p q same = omega arith
 
 -- after bus steps
 pub shows_heard : (outcome : Outcome) (m after : MachineState) (olds news : List ChipState) (scene : Scene)
@@ -50,8 +69,25 @@ shows_heard outcome m after olds news scene course shows follows bytes heard = r
   heard = subst (λ (steps : List Heard). HaveHeard (scene.heard ++ steps) 0 news) heard
       (heard_stays (Runs (steps_in outcome)) scene.heard (scene.heard ++ steps_in outcome)
       (runs_heard (steps_in outcome) scene.heard) 0 olds news follows.ran shows.heard);
+  index = subst (λ (steps : List Heard). HasFollowed (scene.heard ++ steps) after.index) heard
+      (followed_more scene.heard (steps_in outcome) m.index after.index shows.index follows.index);
   ready = ready_stays (Runs (steps_in outcome)) (runs_keeps (steps_in outcome) bytes) olds news follows.ran shows.ready;
 }
+
+-- ---- where a turn leads
+
+pub led_heard : (turn : Turn) (s : Scene) → (led_by turn s).heard ≡ s.heard
+led_heard (Goes y) s = refl
+led_heard (Stops stop) s = refl
+
+pub led_breaks : (turn : Turn) (s : Scene) → (led_by turn s).breaks ≡ s.breaks
+led_breaks (Goes y) s = refl
+led_breaks (Stops stop) s = refl
+
+pub led_chain : (turn : Turn) (s : Scene) → ((y : Position) → turn ≡ Goes y → y.chain ≡ s.position.chain) →
+    (led_by turn s).position.chain ≡ s.position.chain
+led_chain (Goes y) s same = same y refl
+led_chain (Stops stop) s same = refl
 
 -- the flat machine goes on
 pub goes_at : (m : MachineState) (states : List ChipState) (scene : Scene) (turn : Turn) (y : Position) (count : ℕ)
@@ -67,6 +103,7 @@ goes_at m states scene turn y count breaks goes shows running represents counts 
       probe = shows.probe;
       chips = shows.chips;
       heard = shows.heard;
+      index = shows.index;
       stop = sym running;
       count = counts;
       breaks = same;
@@ -91,6 +128,7 @@ stops_at m states scene turn halt count breaks stops shows reads counts same =
       probe = shows.probe;
       chips = shows.chips;
       heard = shows.heard;
+      index = shows.index;
       stop = refl;
       count = counts;
       breaks = same;

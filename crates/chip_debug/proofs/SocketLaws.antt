@@ -1,5 +1,5 @@
 -- The chips of a rack socket by socket.
-use Rattle.std.proofs.Common.{◌≡◌, ℕ, zero, suc, ◌+◌, ◌<◌, ◌≤◌, Bool, true, false, List, [], ◌∷◌, ◌++◌, length, drop, refl}
+use Rattle.std.proofs.Common.{◌≡◌, ℕ, zero, suc, ◌+◌, ◌*◌, ◌<◌, ◌≤◌, Bool, true, false, List, [], ◌∷◌, ◌++◌, length, drop, refl}
 use Rattle.std.proofs.Common.{sym, ap, ◌∙◌, arith, add-one, zero-add}
 use Rattle.std.specs.Prelude.{◌==◌, filter_map, is_some, option_map, slice_get, Option, Some, None}
 use Rattle.std.specs.List.{enumerate_from, filter, list_any}
@@ -27,6 +27,20 @@ seated (s ∷ states) (suc socket) within = seated states socket (omega (arith, 
 pub still_seated : (olds nows : List ChipState) (socket : ℕ) (s : ChipState) → nows ≡ olds →
     slice_get olds socket ≡ Some s → slice_get nows socket ≡ Some s
 still_seated olds nows socket s same here = ap (λ (states : List ChipState). slice_get states socket) same ∙ here
+
+-- ---- questions
+
+-- one chip more was asked
+pub asked_once : (p q r s n : ℕ) → q ≤ p + n → r ≤ q + 1 → s ≡ r → s ≤ p + (n + 1)
+asked_once p q r s n before once same = omega arith
+
+-- or not
+pub asked_not : (p q s n : ℕ) → q ≤ p + n → s ≡ q → s ≤ p + (n + 1)
+asked_not p q s n before same = omega arith
+
+-- each chip was asked once more
+pub asked_each : (p q r n chips size : ℕ) → q ≤ p + n * size → r ≤ q + chips → chips ≡ size → r ≤ p + (n + 1) * size
+asked_each p q r n chips size before each same = omega arith
 
 -- ---- from a socket on
 

@@ -1,5 +1,6 @@
 -- Power-on and reset lead to the first scene.
-use Rattle.std.proofs.Common.{◌≡◌, ℕ, ◌<◌, false, List, [], map, sym, ap, subst, ◌∙◌, lit<}
+use Rattle.std.proofs.Common.{◌≡◌, ℕ, ◌+◌, ◌*◌, ◌<◌, ◌≤◌, false, List, [], length, map, refl, sym, ap, subst, ◌∙◌, lit<, arith}
+use Rattle.std.proofs.lemmas.List.{length-map}
 use Rattle.std.specs.Prelude.{Option, Some, None}
 use Rattle.f8_spec.specs.ChipState.{ChipView, ChipState, powered}
 use Rattle.f8_spec.specs.MicroSteps.{Opcode}
@@ -13,12 +14,15 @@ use Rattle.console_spec.specs.Processor.{Flow}
 use Rattle.console_spec.specs.Run.{Position, Goes, goes_unless, position_after_reset}
 use Rattle.console_spec.specs.Run.{reset_access, reset_course, reset_fault, reset_gets}
 use Rattle.console_spec.specs.Services.{Fault, access_ruling}
+use Rattle.data_bus.specs.KnownAgreement.{no_marks}
 use Rattle.data_bus.specs.Racks.{views}
 use Rattle.data_bus.specs.declared.index.Index.{Index}
 use Rattle.console_spec.proofs.PowerLaws.{fill_small}
 use Rattle.f8_machine.specs.Advancing.{Follows}
+use Rattle.f8_machine.specs.Fitting.{Fits, tried}
 use Rattle.f8_machine.specs.HeardSteps.{HaveBytes}
 use Rattle.f8_machine.specs.MachineState.{MachineState, powered_machine, steps_in}
+use Rattle.f8_machine.specs.Questions.{allowances}
 use Rattle.f8_machine.specs.Refinement.{IsPowered, ResetRefines}
 use Rattle.f8_machine.specs.Rounds.{PowersInSocket, RackPowers}
 use Rattle.f8_machine.specs.declared.outcome.Outcome.{Outcome}
@@ -29,7 +33,7 @@ use Rattle.rack_run.proofs.PlayLaws.{powered_reads}
 use Rattle.rack_run.specs.declared.ending.Halt.TheVariants.{Fault as FaultHalt}
 use Rattle.chip_debug.specs.declared.breaks.Breaks.{Breaks}
 use Rattle.chip_debug.specs.Scenes.{Scene, hearing, powered_scene, reset_of, served_steps, started}
-use Rattle.chip_debug.specs.Standing.{SessionState, IsAt, IsReady, halt_in}
+use Rattle.chip_debug.specs.Standing.{SessionState, HasFollowed, IsAt, IsReady, halt_in}
 use Rattle.f8_spec.specs.BusArbitration.{seat_of}
 use Rattle.cpu3850.specs.OwnWrites.{LeaveOwnPorts}
 use Rattle.f8_machine.specs.Refinement.{AreWhole}
@@ -37,7 +41,9 @@ use Rattle.chip_debug.specs.Carried.{restarted}
 use Rattle.chip_debug.proofs.KeptChips.{powers_keeps}
 use Rattle.chip_debug.proofs.KeptHearing.{powers_heard}
 use Rattle.chip_debug.proofs.KeptRacks.{views_by, ready_stays}
-use Rattle.chip_debug.proofs.SceneLaws.{Shows, shows_heard, goes_at, stops_at}
+use Rattle.chip_debug.specs.Asking.{allowed_since_power}
+use Rattle.chip_debug.proofs.AskingLaws.{followed_none, steps_ask}
+use Rattle.chip_debug.proofs.SceneLaws.{Shows, shows_heard, goes_at, stops_at, led_heard}
 
 -- ---- the bytes of reset's steps
 
@@ -67,19 +73,24 @@ none_said place p e = cc
 -- the scene shows what power-on makes of the machine and of the chips
 pub powered_shows : (fill : ℕ) (chain : List ℕ) (index : Index) (breaks : Breaks) (m : MachineState)
     (olds news : List ChipState) →
-    fill < 256 → m ≡ powered_machine fill chain index → RackPowers fill chain [] olds news → IsReady olds →
+    fill < 256 → index.marks ≡ no_marks → m ≡ powered_machine fill chain index → RackPowers fill chain [] olds news → IsReady olds →
     Shows m news (powered_scene fill chain breaks (views olds))
-powered_shows fill chain index breaks m olds news small is powers ready = record {
+powered_shows fill chain index breaks m olds news small unknown is powers ready = record {
   chain = ap (λ (n : MachineState). n.chain) is;
   probe = ap (λ (n : MachineState). n.probe) is;
   chips =
       views_by (PowersInSocket (fill_in fill chain []) (start_in fill chain []))
       (λ k v. powered (fill_in fill chain [] k) (start_in fill chain [] k) v) (λ k a b is. is.view) 0 olds news powers;
   heard = powers_heard (fill_in fill chain []) (start_in fill chain []) 0 olds news powers;
+  index = subst (λ (i : Index). HasFollowed [] i) (sym (ap (λ (n : MachineState). n.index) is)) (followed_none index unknown);
   ready =
       ready_stays (PowersInSocket (fill_in fill chain []) (start_in fill chain []))
       (powers_keeps (fill_in fill chain []) (start_in fill chain []) (fill_small fill chain [] small none_said)) olds news powers ready;
 }
+
+-- so much is allowed for power-on alone
+from_power : (p q r n rooms all : ℕ) → q ≤ p + 512 * n → r + (512 * rooms + 0) ≤ q + all → rooms ≡ n → r ≤ p + all
+from_power p q r n rooms all power begun size = omega arith
 
 -- ---- reset
 
@@ -122,7 +133,39 @@ module _ (scene : Scene) (m after : MachineState) (mids news : List ChipState) (
       reset_by outcome follows refines
       (shows_heard outcome m after mids news scene (reset_course scene.position) shows follows bytes heard)
 
+-- power-on and then the steps of reset ask so many questions
+pub start_asks : (n fill : ℕ) (chain : List ℕ) (breaks : Breaks) (outcome : Outcome) (m after : MachineState)
+    (olds mids news : List ChipState) → length mids ≡ n → length news ≡ n →
+    Shows m mids (powered_scene fill chain breaks (views olds)) → Follows outcome m after mids news →
+    ResetRefines outcome m after news (powered_scene fill chain breaks (views olds)).position →
+    IsAt (record { machine = after; halt = halt_in outcome; count = 0; breaks = breaks }) news
+    (started fill chain breaks (views olds)) →
+    Fits m mids → Fits after news → (p q r : ℕ) → q ≤ p + 512 * n →
+    r ≤ q + allowances n m.index (tried m.mode outcome) →
+    r ≤ p + allowed_since_power (started fill chain breaks (views olds))
+start_asks n fill chain breaks outcome m after olds mids news long kept shows follows refines at fits fit p q r power few =
+    let scene = powered_scene fill chain breaks (views olds) in
+    let begun : r + allowed_since_power scene ≤ q + allowed_since_power (started fill chain breaks (views olds)) =
+    steps_ask n m after mids news scene (started fill chain breaks (views olds)) outcome long kept shows.chips at.chips fits fit
+    shows.index follows.index refl
+    (led_heard (goes_unless (reset_fault scene.position) (position_after_reset scene.position))
+    (hearing (served_steps (reset_course scene.position)) scene)
+    ∙ sym (reset_heard outcome m after news scene.position refines))
+    at.stop q r few in
+    let size : length scene.chips ≡ n =
+    ap (λ (vs : List ChipView). length vs) (sym shows.chips) ∙ length-map mids (λ (s : ChipState). s.view) ∙ long in
+    from_power p q r n (length scene.chips) (allowed_since_power (started fill chain breaks (views olds))) power begun size
+
 -- ---- again
+
+-- with the chain and the breaks of a session at a scene, on its chips
+pub restarted_is : (s : SessionState) (olds : List ChipState) (scene : Scene) (fill : ℕ) (chain : List ℕ) (breaks : Breaks) →
+    IsAt s olds scene → chain ≡ s.machine.chain → breaks ≡ s.breaks →
+    started fill chain breaks (views olds) ≡ restarted fill scene
+restarted_is s olds scene fill chain breaks at same_chain same_breaks =
+    ap (λ (l : List ℕ). started fill l breaks (views olds)) (same_chain ∙ at.chain)
+    ∙ ap (λ (b : Breaks). started fill scene.position.chain b (views olds)) (same_breaks ∙ at.breaks)
+    ∙ ap (λ (vs : List ChipView). started fill scene.position.chain scene.breaks vs) at.chips
 
 -- power-on and reset of a session at a scene, with the chain and the breaks that it has
 pub restarted_at : (s : SessionState) (olds : List ChipState) (scene : Scene) (fill : ℕ) (chain : List ℕ) (breaks : Breaks)
@@ -130,7 +173,5 @@ pub restarted_at : (s : SessionState) (olds : List ChipState) (scene : Scene) (f
     (AreWhole olds → LeaveOwnPorts (map seat_of (views olds)) → IsAt after news (started fill chain breaks (views olds))) →
     IsAt after news (restarted fill scene)
 restarted_at s olds scene fill chain breaks after news at same_chain same_breaks starts =
-    subst (λ (vs : List ChipView). IsAt after news (started fill scene.position.chain scene.breaks vs)) at.chips
-    (subst (λ (b : Breaks). IsAt after news (started fill scene.position.chain b (views olds))) (same_breaks ∙ at.breaks)
-    (subst (λ (l : List ℕ). IsAt after news (started fill l breaks (views olds))) (same_chain ∙ at.chain)
-    (starts at.ready.whole at.ready.free)))
+    subst (λ (begun : Scene). IsAt after news begun) (restarted_is s olds scene fill chain breaks at same_chain same_breaks)
+    (starts at.ready.whole at.ready.free)

@@ -1,5 +1,5 @@
 -- An instruction leads to the next scene.
-use Rattle.std.proofs.Common.{◌≡◌, ℕ, ◌+◌, Bool, true, false, List, refl, sym, ap, ap₂, subst, ◌∙◌}
+use Rattle.std.proofs.Common.{◌≡◌, ℕ, ◌+◌, ◌≤◌, ◌++◌, Bool, true, false, List, length, refl, sym, ap, ap₂, subst, ◌∙◌, arith}
 use Rattle.std.specs.Prelude.{◌||◌, ◌&&◌, if◌then◌else◌, Option, Some, None, is_some}
 use Rattle.std.specs.List.{list_any}
 use Rattle.f8_spec.specs.ChipState.{ChipView, ChipState}
@@ -12,8 +12,10 @@ use Rattle.console_spec.specs.Services.{Fault}
 use Rattle.probe.specs.ProbeState.{ProbeState, probe_counters}
 use Rattle.data_bus.specs.Racks.{views}
 use Rattle.f8_machine.specs.Advancing.{Follows}
+use Rattle.f8_machine.specs.Fitting.{Fits, tried}
 use Rattle.f8_machine.specs.HeardSteps.{HaveBytes}
 use Rattle.f8_machine.specs.MachineState.{MachineState, steps_in}
+use Rattle.f8_machine.specs.Questions.{allowances}
 use Rattle.f8_machine.specs.Refinement.{Refines, Represents}
 use Rattle.f8_machine.specs.declared.heard.Heard.{Heard}
 use Rattle.f8_machine.specs.declared.outcome.Outcome.{Outcome}
@@ -25,12 +27,14 @@ use Rattle.rack_run.specs.declared.ending.Halt.{Halt}
 use Rattle.rack_run.specs.declared.ending.Halt.TheVariants.{Fault as FaultHalt, Reserved as ReservedHalt}
 use Rattle.chip_debug.specs.declared.breaks.Breaks.{Breaks}
 use Rattle.chip_debug.specs.Breaks.{are_met, meets_behind, meets_step}
+use Rattle.chip_debug.specs.Asking.{allowed_since_power, behind_allowed}
 use Rattle.chip_debug.specs.Scenes.{Scene, hearing, is_met, next_steps, turned}
 use Rattle.chip_debug.specs.Standing.{SessionState, IsAt, came_of, halt_in}
 use Rattle.chip_debug.specs.declared.session.Came.{Came}
 use Rattle.chip_debug.specs.declared.session.Came.TheVariants.{Done as DoneCame, Met, Stopped}
 use Rattle.chip_debug.proofs.Halts.{runs_at, stops_as}
-use Rattle.chip_debug.proofs.SceneLaws.{Shows, shows_at, shows_heard, goes_at, stops_at}
+use Rattle.chip_debug.proofs.AskingLaws.{steps_ask}
+use Rattle.chip_debug.proofs.SceneLaws.{Shows, shows_at, shows_heard, goes_at, stops_at, led_breaks, led_chain, led_heard}
 
 -- ---- an instruction that is done counts
 
@@ -49,6 +53,28 @@ decided_count x y at code (Some op) e = goes_count x y (instruction_fault op x) 
 
 next_count : (x y : Position) → next x ≡ Goes y → y.flat.state.count ≡ x.flat.state.count + 1
 next_count x y e = decided_count x y x.flat.state.flow.p (opcode_at x) (decoded (opcode_at x)) e
+
+-- ---- and the chain and the breaks stay
+
+goes_chain : (x y : Position) (fault : Option Fault) (op : Op) → goes_unless fault (position_after op x) ≡ Goes y → y.chain ≡ x.chain
+goes_chain x y None op e =
+    let same : position_after op x ≡ y = cc in
+    ap (λ (z : Position). z.chain) (sym same)
+goes_chain x y (Some fault) op e = cc
+
+decided_chain : (x y : Position) (at code : ℕ) (found : Option Op) →
+    decided (λ op. goes_unless (instruction_fault op x) (position_after op x)) at code found ≡ Goes y → y.chain ≡ x.chain
+decided_chain x y at code None e = cc
+decided_chain x y at code (Some op) e = goes_chain x y (instruction_fault op x) op e
+
+next_chain : (x y : Position) → next x ≡ Goes y → y.chain ≡ x.chain
+next_chain x y e = decided_chain x y x.flat.state.flow.p (opcode_at x) (decoded (opcode_at x)) e
+
+pub turned_chain : (s : Scene) → (turned s).position.chain ≡ s.position.chain
+turned_chain s = led_chain (next s.position) (hearing (next_steps s) s) (next_chain s.position)
+
+pub turned_breaks : (s : Scene) → (turned s).breaks ≡ s.breaks
+turned_breaks s = led_breaks (next s.position) (hearing (next_steps s) s)
 
 -- ---- where it leads
 
@@ -101,6 +127,32 @@ module _ (s : SessionState) (after : MachineState) (olds news : List ChipState) 
   pub steps_are : (outcome : Outcome) → Refines outcome s.machine after news scene.position →
       steps_in outcome ≡ next_steps scene
   steps_are outcome refines = outcome_heard outcome s.machine after news scene.position refines
+
+  -- and so many questions they ask
+  pub turn_asks : (n : ℕ) (outcome : Outcome) → Refines outcome s.machine after news scene.position →
+      Follows outcome s.machine after olds news → HaveBytes (steps_in outcome) → length olds ≡ n → length news ≡ n →
+      Fits s.machine olds → Fits after news → (p q : ℕ) → q ≤ p + allowances n s.machine.index (tried s.machine.mode outcome) →
+      q + allowed_since_power scene ≤ p + allowed_since_power (turned scene)
+  turn_asks n outcome refines follows bytes long kept fits fit p q few =
+      let there = turned_at outcome refines follows bytes in
+      steps_ask n s.machine after olds news scene (turned scene) outcome long kept at.chips there.chips fits fit at.index follows.index
+      running
+      (led_heard (next scene.position) (hearing (next_steps scene) scene)
+      ∙ ap (λ (steps : List Heard). scene.heard ++ steps) (sym (steps_are outcome refines)))
+      there.stop p q few
+
+pub none_behind : (p q a b : ℕ) → q + a ≤ p + b → q + a ≤ p + b + 0
+none_behind p q a b few = omega arith
+
+pub then_behind : (p q r a b each all : ℕ) → q + a ≤ p + b → r ≤ q + each → each ≡ all → r + a ≤ p + b + all
+then_behind p q r a b each all steps few same = omega arith
+
+-- what is asked behind it, in a session at the scene to which it leads
+pub behind_asks : (heeds : Bool) (scene : Scene) (s : SessionState) (states : List ChipState) → IsAt s states (turned scene) →
+    behind_allowed heeds s.breaks s.machine.chain ≡ behind_allowed heeds scene.breaks scene.position.chain
+behind_asks heeds scene s states at =
+    ap₂ (λ (breaks : Breaks) (chain : List ℕ). behind_allowed heeds breaks chain) (at.breaks ∙ turned_breaks scene)
+    (at.chain ∙ turned_chain scene)
 
 -- ---- what comes of it
 

@@ -1,5 +1,5 @@
 -- Sessions worked out by hand, computed from the definitions.
-use Rattle.std.proofs.Common.{◌≡◌, ℕ, false, List, [], ◌∷◌, ◌++◌, codes, map, replicate, None, refl}
+use Rattle.std.proofs.Common.{◌≡◌, ℕ, ◌+◌, ◌*◌, false, List, [], ◌∷◌, ◌++◌, codes, map, replicate, None, refl}
 use Rattle.std.specs.Fmt.{digits}
 use Rattle.f8_spec.specs.ChipState.{ChipState, blank_view}
 use Rattle.f8_spec.specs.Instructions.{decoded}
@@ -14,8 +14,9 @@ use Rattle.console_spec.specs.Processor.{own_inputs, effect}
 use Rattle.console_spec.specs.RunText.{stop_line, fault_line}
 use Rattle.rack_run.specs.Seating.{fitted_views, kinds_of}
 use Rattle.rack_run.specs.Sockets.{chain_of}
-use Rattle.chip_debug.specs.declared.command.Command.TheVariants.{Step, Run}
+use Rattle.chip_debug.specs.declared.command.Command.TheVariants.{Power, Step, Run}
 use Rattle.chip_debug.specs.declared.command.Command.TheVariants.{BreakApart, ShowChips, Mem}
+use Rattle.chip_debug.specs.Asking.{session_allowed}
 use Rattle.chip_debug.specs.Breaks.{no_breaks}
 use Rattle.chip_debug.specs.Carried.{told_by}
 use Rattle.chip_debug.specs.DebugText.{ran_line, break_line, chip_line, probe_line, mem_line}
@@ -54,6 +55,13 @@ breaks_where_counters_part : told_by (BreakApart ∷ Run 9 ∷ Step 1 ∷ Mem 0 
 unfolding digits going ran_line break_line mem_line stop_line fault_line own_inputs chosen_at steps_to_expiry effect decoded first_memory
 breaks_where_counters_part = refl
 
+-- Power-on asks each chip of the rack and reset one, DCI asks five times and XDC once, and the chip described is asked behind each of the
+-- two. LM may ask each chip, since nothing is known of the data counter then, and each of the five bytes is asked of each.
+asks_where_counters_part : session_allowed (BreakApart ∷ Run 9 ∷ Step 1 ∷ Mem 0 5 ∷ []) parting
+    ≡ (512 * 14 + 1) + (5 + 1 + 2) + 4 * 14 + 5 * 14
+unfolding going own_inputs chosen_at steps_to_expiry effect decoded first_memory
+asks_where_counters_part = refl
+
 -- ---- with a 3853: four instructions, and the counters of the two chips
 
 abbrev two_kinds : Scene
@@ -69,6 +77,11 @@ shows_chips : told_by (Step 4 ∷ ShowChips ∷ []) two_kinds
     ∷ []
 unfolding digits going ran_line chip_line probe_line own_inputs chosen_at steps_to_expiry effect decoded first_memory
 shows_chips = refl
+
+-- at power-on all begins again
+asks_again : session_allowed (Power 0 ∷ ShowChips ∷ []) two_kinds ≡ (512 * 14 + 1) + (512 * 14 + 1) + 14
+unfolding going own_inputs chosen_at steps_to_expiry effect decoded first_memory
+asks_again = refl
 
 -- ---- JMP to JMP at the end of the chip, whose third byte nobody holds: the chips have heard the served steps, and the registers are those
 -- before the instruction

@@ -7,4 +7,5 @@ pub mod Breaks
 pub mod DebugText
 pub mod Scenes
 pub mod Carried
+pub mod Asking
 pub mod Standing

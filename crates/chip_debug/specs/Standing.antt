@@ -5,7 +5,10 @@ use Rattle.f8_spec.specs.ChipState.{ChipState, HeardStep, told_step}
 use Rattle.f8_spec.specs.BusArbitration.{seat_of}
 use Rattle.console_spec.specs.Run.{Position, Stop}
 use Rattle.cpu3850.specs.OwnWrites.{LeaveOwnPorts}
+use Rattle.data_bus.specs.KnownAgreement.{no_marks}
 use Rattle.data_bus.specs.Racks.{views}
+use Rattle.data_bus.specs.declared.index.Index.{Index}
+use Rattle.f8_machine.specs.Questions.{codes_of, followed_all}
 use Rattle.f8_machine.specs.MachineState.{MachineState, IsReset}
 use Rattle.f8_machine.specs.declared.outcome.Outcome.{Outcome}
 use Rattle.f8_machine.specs.declared.outcome.Outcome.TheVariants.{Done as DoneOutcome, Fault as FaultOutcome, Reserved as ReservedOutcome}
@@ -18,6 +21,7 @@ use Rattle.rack_run.specs.Machines.{machine_readout}
 use Rattle.rack_run.specs.Turns.{readout_of}
 use Rattle.rack_run.specs.declared.ending.Halt.{Halt}
 use Rattle.rack_run.specs.declared.ending.Halt.TheVariants.{Fault, Reserved}
+use Rattle.chip_debug.specs.Asking.{allowed_since_power, behind_allowed, going_allowed}
 use Rattle.chip_debug.specs.declared.breaks.Breaks.{Breaks}
 use Rattle.chip_debug.specs.Scenes.{Scene, going, is_met, next_steps, turned}
 use Rattle.chip_debug.specs.declared.session.Came.{Came}
@@ -48,6 +52,16 @@ halt_in (ReservedOutcome at code) = Some (Reserved at code)
 
 -- ---- where it stands
 
+-- the byte in the ROM of each chip of a rack that isn't as described, where it has one
+abbrev pub patches : List ChipState → List (Option (ℕ × ℕ))
+patches states = map (λ s. s.patch) states
+
+-- an index has followed some bus steps since power-on, when nothing was known of the chips' counters
+pub record HasFollowed (steps : List Heard) (index : Index) : Type 0 where
+  pub first : Index
+  pub unknown : first.marks ≡ no_marks
+  pub is : index ≡ followed_all (codes_of steps) first
+
 -- The machine and its rack represent the position as long as nothing stopped them, and then the machine tells the state before.
 abbrev pub MachineAt : Option Stop → MachineState → List ChipState → Position → Type 0
 MachineAt None m states x = Represents m states x
@@ -75,6 +89,7 @@ pub record IsAt (s : SessionState) (states : List ChipState) (scene : Scene) : T
   pub probe : s.machine.probe ≡ scene.probe
   pub chips : views states ≡ scene.chips
   pub heard : HaveHeard scene.heard 0 states
+  pub index : HasFollowed scene.heard s.machine.index
   pub stop : option_map stop_of s.halt ≡ scene.stop
   pub count : s.count ≡ scene.position.flat.state.count
   pub breaks : s.breaks ≡ scene.breaks
@@ -89,13 +104,25 @@ came_of heeds scene =
     if heeds && is_met (next_steps scene) (turned scene) then Met else
     Done
 
-pub record IsTurned (heeds : Bool) (came : Came) (s : SessionState) (states : List ChipState) (scene : Scene) : Type 0 where
+-- how many questions are put behind it, where so many are put behind one that is done
+abbrev pub behind : Came → ℕ → ℕ
+behind Done each = each
+behind Met each = each
+behind Stopped each = 0
+
+-- The instruction leads there, and asks no more than the allowances of its bus steps and what is asked behind it.
+pub record IsTurned (heeds : Bool) (came : Came) (s : SessionState) (states : List ChipState) (scene : Scene)
+    (before after : ℕ) : Type 0 where
   pub at : IsAt s states (turned scene)
   pub is : came ≡ came_of heeds scene
+  pub asked :
+      after + allowed_since_power scene
+      ≤ before + allowed_since_power (turned scene) + behind came (behind_allowed heeds scene.breaks scene.position.chain)
 
 -- and of so many
 pub record IsGone (heeds : Bool) (count : ℕ) (ran : Ran) (s : SessionState) (states : List ChipState)
-    (scene : Scene) : Type 0 where
+    (scene : Scene) (before after : ℕ) : Type 0 where
   pub at : IsAt s states (going heeds count scene).scene
   pub counted : ran.count ≡ (going heeds count scene).ran
   pub met : ran.broke ≡ (going heeds count scene).broke
+  pub asked : after ≤ before + going_allowed heeds count scene

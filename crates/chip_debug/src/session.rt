@@ -83,7 +83,7 @@ fn halt_of(outcome: Outcome) -> Option<Halt>
 }
 
 impl Session {
-    ghost use Rattle.std.specs.Prelude.{◌≡◌, ◌≤◌, ◌<◌, ◌+◌, ◌^◌, ◌&&◌, ◌||◌, length, map, None};
+    ghost use Rattle.std.specs.Prelude.{◌≡◌, ◌≤◌, ◌<◌, ◌+◌, ◌^◌, ◌&&◌, ◌||◌, length, map, sum_by, true, None};
     ghost use Rattle.f8_spec.specs.BusArbitration.{seat_of};
     ghost use Rattle.console_spec.specs.declared.Event.{Event};
     ghost use Rattle.console_spec.specs.RunText.{text_of};
@@ -95,18 +95,25 @@ impl Session {
     ghost use Rattle.rack_run.specs.Seating.{kinds_of};
     ghost use Rattle.rack_run.specs.Sockets.{chain_of as chain_by};
     ghost use Rattle.rack_run.specs.Texts.{Puts};
+    ghost use Rattle.chip_debug.specs.Asking.{allowed_since_power, behind_allowed, command_allowed, going_allowed};
     ghost use Rattle.chip_debug.specs.Breaks.{no_breaks, meets_behind as met_behind};
     ghost use Rattle.chip_debug.specs.Carried.{going_lines, lines_of, restarted, scene_after};
     ghost use Rattle.chip_debug.specs.Limits.{IsCommand, count_of};
     ghost use Rattle.chip_debug.specs.Scenes.{Scene, going, happened, started};
-    ghost use Rattle.chip_debug.specs.Standing.{IsAt, IsGone, IsTurned, most_done};
+    ghost use Rattle.chip_debug.specs.Standing.{IsAt, IsGone, IsTurned, most_done, patches};
 
-    /// A session with the chips of a cartridge on a rack of at most 16 chips that is fitted for it: power-on with the byte 00, and reset.
+    /// A session with the chips of a cartridge on a rack of at most 16 chips that is fitted for it: power-on with the byte 00, and reset. The
+    /// chips are put in all at most 512 questions for each, and the allowances of the bus steps of reset. No chip's patch changes.
     pub fn new(cart: &Cart, rack: &mut Rack) -> Session
         requires few { length rack.old.items ≤ MOST_CHIPS }
         requires whole { AreWhole (map state rack.old.items) }
         requires ports { LeaveOwnPorts (map seat_of (views (map state rack.old.items))) }
         ensures at { IsAt result (map state rack.new.items) (started 0
+            (chain_by cart.now.chips (kinds_of (map state rack.old.items))) no_breaks
+            (views (map state rack.old.items))) }
+        ensures patches { patches (map state rack.new.items) ≡ patches (map state rack.old.items) }
+        ensures asked { sum_by queries rack.new.items ≤ sum_by queries rack.old.items
+            + allowed_since_power (started 0
             (chain_by cart.now.chips (kinds_of (map state rack.old.items))) no_breaks
             (views (map state rack.old.items))) }
         ensures fits { Fits result.machine (map state rack.new.items) }
@@ -124,6 +131,11 @@ impl Session {
             LeaveOwnPorts (map seat_of (views (map state rack.old.items))) →
             IsAt result (map state rack.new.items) (started fill chain breaks
             (views (map state rack.old.items))) }
+        ensures patches { patches (map state rack.new.items) ≡ patches (map state rack.old.items) }
+        ensures asked { AreWhole (map state rack.old.items) →
+            LeaveOwnPorts (map seat_of (views (map state rack.old.items))) →
+            sum_by queries rack.new.items ≤ sum_by queries rack.old.items
+            + allowed_since_power (started fill chain breaks (views (map state rack.old.items))) }
         ensures fits { Fits result.machine (map state rack.new.items) }
         ensures count { result.count ≡ 0 }
         ensures chips { length rack.new.items ≡ length rack.old.items }
@@ -143,6 +155,10 @@ impl Session {
         requires few { length rack.old.items ≤ MOST_CHIPS }
         ensures at { (scene : Scene) → IsAt self.old (map state rack.old.items) scene →
             IsAt self.new (map state rack.new.items) (restarted fill scene) }
+        ensures patches { patches (map state rack.new.items) ≡ patches (map state rack.old.items) }
+        ensures asked { (scene : Scene) → IsAt self.old (map state rack.old.items) scene →
+            sum_by queries rack.new.items ≤ sum_by queries rack.old.items
+            + allowed_since_power (restarted fill scene) }
         ensures fits { Fits self.new.machine (map state rack.new.items) }
         ensures count { self.new.count ≡ 0 }
         ensures chips { length rack.new.items ≡ length rack.old.items }
@@ -157,6 +173,8 @@ impl Session {
         requires fits { Fits self.old.machine (map state rack.old.items) }
         ensures at { (scene : Scene) → IsAt self.old (map state rack.old.items) scene →
             IsAt self.new (map state rack.new.items) (happened event scene) }
+        ensures patches { patches (map state rack.new.items) ≡ patches (map state rack.old.items) }
+        ensures asked { map queries rack.new.items ≡ map queries rack.old.items }
         ensures fits { Fits self.new.machine (map state rack.new.items) }
         ensures count { self.new.count ≡ self.old.count }
         ensures chips { length rack.new.items ≡ length rack.old.items }
@@ -177,6 +195,8 @@ impl Session {
             (probe_counters self.now.machine.probe) self.now.machine.chain
             (views (map state rack.old.items)) }
         ensures stays { map state rack.new.items ≡ map state rack.old.items }
+        ensures asked { sum_by queries rack.new.items ≤ sum_by queries rack.old.items
+            + behind_allowed true self.now.breaks self.now.machine.chain }
         ensures chips { length rack.new.items ≡ length rack.old.items }
     {
         let machine = &self.machine;
@@ -191,6 +211,8 @@ impl Session {
             self.now.machine.flow.p (probe_counters self.now.machine.probe) self.now.machine.chain
             (views (map state rack.old.items)))) }
         ensures stays { map state rack.new.items ≡ map state rack.old.items }
+        ensures asked { sum_by queries rack.new.items ≤ sum_by queries rack.old.items
+            + behind_allowed heeds self.now.breaks self.now.machine.chain }
         ensures chips { length rack.new.items ≡ length rack.old.items }
     {
         meets_steps || (heeds && self.meets_behind(rack))
@@ -203,7 +225,9 @@ impl Session {
         requires count { self.old.count + 1 < 2 ^ 32 }
         requires fits { Fits self.old.machine (map state rack.old.items) }
         ensures turned { (scene : Scene) → IsAt self.old (map state rack.old.items) scene →
-            IsTurned heeds result self.new (map state rack.new.items) scene }
+            IsTurned heeds result self.new (map state rack.new.items) scene
+            (sum_by queries rack.old.items) (sum_by queries rack.new.items) }
+        ensures patches { patches (map state rack.new.items) ≡ patches (map state rack.old.items) }
         ensures goes_on { result ≡ Came.Done → self.new.halt ≡ None }
         ensures fits { Fits self.new.machine (map state rack.new.items) }
         ensures count { self.new.count ≤ self.old.count + 1 }
@@ -233,7 +257,9 @@ impl Session {
         requires count { self.old.count + count < 2 ^ 32 }
         requires fits { Fits self.old.machine (map state rack.old.items) }
         ensures gone { (scene : Scene) → IsAt self.old (map state rack.old.items) scene →
-            IsGone heeds count result self.new (map state rack.new.items) scene }
+            IsGone heeds count result self.new (map state rack.new.items) scene
+            (sum_by queries rack.old.items) (sum_by queries rack.new.items) }
+        ensures patches { patches (map state rack.new.items) ≡ patches (map state rack.old.items) }
         ensures fits { Fits self.new.machine (map state rack.new.items) }
         ensures count { self.new.count ≤ self.old.count + count }
         ensures chips { length rack.new.items ≡ length rack.old.items }
@@ -267,6 +293,10 @@ impl Session {
         ensures told { (scene : Scene) → IsAt self.old (map state rack.old.items) scene →
             Puts result (K.output sink.old) (K.output sink.new)
             (text_of (going_lines (going heeds count scene))) }
+        ensures patches { patches (map state rack.new.items) ≡ patches (map state rack.old.items) }
+        ensures asked { (scene : Scene) → IsAt self.old (map state rack.old.items) scene →
+            sum_by queries rack.new.items ≤ sum_by queries rack.old.items
+            + going_allowed heeds count scene }
         ensures fits { Fits self.new.machine (map state rack.new.items) }
         ensures count { self.new.count ≤ self.old.count + count }
         ensures chips { length rack.new.items ≡ length rack.old.items }
@@ -275,7 +305,10 @@ impl Session {
         put_going(sink, ran, &self.halt)
     }
 
-    /// Carries a command out, and puts its lines, each at once.
+    /// Carries a command out, and puts its lines, each at once. The chips are put in all no more questions than the allowances of the bus steps
+    /// that were tried, with 512 for each chip at power-on, and what the command asks itself: each chip for its counters or for each byte
+    /// of memory, and each chip described behind each instruction that is done, where counters that part are a break that is heeded. No
+    /// chip's patch changes.
     ///
     /// # Errors
     ///
@@ -295,6 +328,10 @@ impl Session {
         ensures told { (scene : Scene) → IsAt self.old (map state rack.old.items) scene →
             Puts result (K.output sink.old) (K.output sink.new)
             (text_of (lines_of command.now scene)) }
+        ensures patches { patches (map state rack.new.items) ≡ patches (map state rack.old.items) }
+        ensures asked { (scene : Scene) → IsAt self.old (map state rack.old.items) scene →
+            sum_by queries rack.new.items ≤ sum_by queries rack.old.items
+            + command_allowed command.now scene }
         ensures fits { Fits self.new.machine (map state rack.new.items) }
         ensures count { self.new.count ≤ self.old.count + count_of command.now }
         ensures chips { length rack.new.items ≡ length rack.old.items }

@@ -1,5 +1,5 @@
 // The lines of a session (this project's own), each on a buffer of its own.
-ghost use Rattle.std.specs.Prelude.{◌≡◌, ◌≤◌, ◌+◌, ◌++◌, length, map};
+ghost use Rattle.std.specs.Prelude.{◌≡◌, ◌≤◌, ◌+◌, ◌*◌, ◌++◌, length, map, sum_by};
 ghost use Rattle.data_bus.specs.Racks.{views};
 ghost use Rattle.chip_debug.specs.Carried.{bytes_held};
 ghost use Rattle.chip_debug.specs.DebugText.{ready_line as spelled_ready, ran_line as spelled_ran, break_line as spelled_break, second_text, counters_text, chip_line as spelled_chip, probe_line as spelled_probe, byte_text, mem_line as spelled_mem};
@@ -109,13 +109,15 @@ fn write_byte(line: &mut Line, byte: Option<u8>)
     }
 }
 
-/// `mem`: so many bytes from an address on, 16 at most.
+/// `mem`: so many bytes from an address on, 16 at most. For each of them each chip is asked once at most.
 #[tactic(auto, unfolding(crate::specs::DebugText::mem_line))]
 pub(crate) fn mem_line(rack: &mut Rack, at: u16, count: u8) -> Line
     requires few { length rack.old.items ≤ MOST_CHIPS }
     requires count { count ≤ 16 }
     ensures line { result ≡ spelled_mem at (bytes_held (views (map state rack.old.items)) at count) }
     ensures stays { map state rack.new.items ≡ map state rack.old.items }
+    ensures asked { sum_by queries rack.new.items ≤ sum_by queries rack.old.items
+        + count * length rack.old.items }
     ensures chips { length rack.new.items ≡ length rack.old.items }
 {
     let mut line = Line::new();

@@ -1,5 +1,5 @@
 // The chips in the sockets of a rack, as a session reads them.
-ghost use Rattle.std.specs.Prelude.{◌≡◌, ◌<◌, ◌≤◌, length, map, slice_get, Some};
+ghost use Rattle.std.specs.Prelude.{◌≡◌, ◌<◌, ◌≤◌, ◌+◌, length, map, slice_get, sum_by, Some};
 ghost use Rattle.f8_spec.specs.ChipState.{ChipState, held_byte, told_counters};
 ghost use Rattle.data_bus.specs.Racks.{views};
 ghost use Rattle.chip_debug.specs.Breaks.{seconds_differ as differ_second, is_parted as parted_from, are_apart as apart_from};
@@ -25,16 +25,18 @@ pub(crate) fn kind_in(rack: &Rack, socket: u8) -> ChipKind
 fn counters_of(chip: &mut Box<dyn Chip>) -> Counters
     ensures answer { result ≡ told_counters (state chip.old).view }
     ensures stays { state chip.new ≡ state chip.old }
+    ensures asked { queries chip.new ≤ queries chip.old + 1 }
 {
     chip.counters()
 }
 
-/// The counters that the chip in a socket tells.
+/// The counters that the chip in a socket tells, by one question.
 pub(crate) fn counters_in(rack: &mut Rack, socket: u8) -> Counters
     requires within { socket < length rack.old.items }
     ensures answer { (s : ChipState) → slice_get (map state rack.old.items) socket ≡ Some s →
         result ≡ told_counters s.view }
     ensures stays { map state rack.new.items ≡ map state rack.old.items }
+    ensures asked { sum_by queries rack.new.items ≤ sum_by queries rack.old.items + 1 }
     ensures chips { length rack.new.items ≡ length rack.old.items }
 {
     counters_of(&mut rack[usize::from(socket)])
@@ -60,11 +62,13 @@ fn is_parted(reference: &Counters, counters: &Counters) -> bool
         || seconds_differ(counters.dc1, reference.dc1)
 }
 
-/// The counters of a chip described aren't the probe's.
+/// The counters of a chip described aren't the probe's. Each chip described is asked once at most.
 pub(crate) fn are_apart(reference: &Counters, chain: &Chain, rack: &mut Rack) -> bool
     requires few { length rack.old.items ≤ MOST_CHIPS }
     ensures apart { result ≡ apart_from reference.now chain.now (views (map state rack.old.items)) }
     ensures stays { map state rack.new.items ≡ map state rack.old.items }
+    ensures asked { sum_by queries rack.new.items ≤ sum_by queries rack.old.items
+        + length chain.now }
     ensures chips { length rack.new.items ≡ length rack.old.items }
 {
     for &socket in chain.as_slice() {
@@ -79,26 +83,30 @@ pub(crate) fn are_apart(reference: &Counters, chain: &Chain, rack: &mut Rack) ->
 fn byte_of(chip: &mut Box<dyn Chip>, at: u16) -> Option<u8>
     ensures answer { result ≡ held_byte (state chip.old).view at }
     ensures stays { state chip.new ≡ state chip.old }
+    ensures asked { queries chip.new ≤ queries chip.old + 1 }
 {
     chip.peek(at)
 }
 
-/// The byte at an address where the chip in a socket holds it.
+/// The byte at an address where the chip in a socket holds it, by one question.
 fn byte_in(rack: &mut Rack, socket: u8, at: u16) -> Option<u8>
     requires within { socket < length rack.old.items }
     ensures answer { (s : ChipState) → slice_get (map state rack.old.items) socket ≡ Some s →
         result ≡ held_byte s.view at }
     ensures stays { map state rack.new.items ≡ map state rack.old.items }
+    ensures asked { sum_by queries rack.new.items ≤ sum_by queries rack.old.items + 1 }
     ensures chips { length rack.new.items ≡ length rack.old.items }
 {
     byte_of(&mut rack[usize::from(socket)], at)
 }
 
-/// The byte at an address where one chip alone holds it.
+/// The byte at an address where one chip alone holds it. Each chip is asked once at most.
 pub(crate) fn byte_held(rack: &mut Rack, at: u16) -> Option<u8>
     requires few { length rack.old.items ≤ MOST_CHIPS }
     ensures byte { result ≡ held_by_one (views (map state rack.old.items)) at }
     ensures stays { map state rack.new.items ≡ map state rack.old.items }
+    ensures asked { sum_by queries rack.new.items ≤ sum_by queries rack.old.items
+        + length rack.old.items }
     ensures chips { length rack.new.items ≡ length rack.old.items }
 {
     let mut held = None;

@@ -1,5 +1,5 @@
 // What a session tells. Each line is one put.
-ghost use Rattle.std.specs.Prelude.{◌≡◌, ◌≤◌, ◌<◌, ◌∷◌, length, map, option_map, slice_get, Some};
+ghost use Rattle.std.specs.Prelude.{◌≡◌, ◌≤◌, ◌<◌, ◌+◌, ◌∷◌, length, map, option_map, slice_get, sum_by, Some};
 ghost use Rattle.f8_spec.specs.ChipState.{ChipState, told_counters};
 ghost use Rattle.console_spec.specs.RunText.{stop_line, text_of};
 ghost use Rattle.data_bus.specs.Racks.{views};
@@ -93,24 +93,27 @@ pub(crate) fn put_regs<K: Sink>(
     sink.put(total_line(count, phi).as_bytes())
 }
 
-/// The line of the chip in a socket.
+/// The line of the chip in a socket, which is asked once.
 fn line_of_chip(rack: &mut Rack, socket: u8) -> Line
     requires within { socket < length rack.old.items }
     ensures line { (s : ChipState) → slice_get (map state rack.old.items) socket ≡ Some s →
         result ≡ spelled_chip socket s.view.kind (told_counters s.view) }
     ensures stays { map state rack.new.items ≡ map state rack.old.items }
+    ensures asked { sum_by queries rack.new.items ≤ sum_by queries rack.old.items + 1 }
     ensures chips { length rack.new.items ≡ length rack.old.items }
 {
     let kind = kind_in(rack, socket);
     chip_line(socket, kind, &counters_in(rack, socket))
 }
 
-/// The chips described, by their sockets.
+/// The chips described, by their sockets. Each is asked once at most.
 fn put_fitted<K: Sink>(sink: &mut K, chain: &Chain, rack: &mut Rack) -> Result<(), SinkFault>
     requires few { length rack.old.items ≤ MOST_CHIPS }
     ensures puts { Puts result (K.output sink.old) (K.output sink.new)
         (text_of (fitted_lines (fitted chain.now (views (map state rack.old.items))))) }
     ensures stays { map state rack.new.items ≡ map state rack.old.items }
+    ensures asked { sum_by queries rack.new.items ≤ sum_by queries rack.old.items
+        + length rack.old.items }
     ensures chips { length rack.new.items ≡ length rack.old.items }
 {
     for socket in 0..rack.len() as u8 {
@@ -132,6 +135,8 @@ pub(crate) fn put_chips<K: Sink>(
     ensures puts { Puts result (K.output sink.old) (K.output sink.new)
         (text_of (chips_lines reference.now chain.now (views (map state rack.old.items)))) }
     ensures stays { map state rack.new.items ≡ map state rack.old.items }
+    ensures asked { sum_by queries rack.new.items ≤ sum_by queries rack.old.items
+        + length rack.old.items }
     ensures chips { length rack.new.items ≡ length rack.old.items }
 {
     put_fitted(sink, chain, rack)?;

@@ -7,6 +7,7 @@ use Rattle.data_bus.specs.Racks.{views}
 use Rattle.f8_spec.specs.Spelling.{hex4}
 use Rattle.chip_debug.specs.Carried.{byte_held, bytes_held}
 use Rattle.chip_debug.specs.DebugText.{byte_text}
+use Rattle.chip_debug.proofs.SocketLaws.{asked_each}
 use Rattle.chip_debug.proofs.session_lines.mem_line.Goals as goal
 
 pub loop-place-preserved : goal.loop-place-preserved
@@ -26,5 +27,6 @@ loop-place-preserved g c =
           ∙ ap (λ (l : List (Option ℕ)). told ++ flat_map byte_text l) (sym more);
       len = omega (arith, c.write_byte.ensures.len, c.loop-place.invariant.len);
       stays = c.byte_held.ensures.stays ∙ c.loop-place.invariant.stays;
+      asked = asked_each _ _ _ c.loop-place.place _ _ c.loop-place.invariant.asked c.byte_held.ensures.asked c.loop-place.invariant.chips;
       chips = c.byte_held.ensures.chips ∙ c.loop-place.invariant.chips;
     }

@@ -1,12 +1,12 @@
 -- A chip of the chain whose counters part decides; any other is passed, and so is a socket without a chip.
 use Rattle.std.proofs.Common.{◌∙◌, ◌<◌, ◌≤◌, Bool, ap, ap₂, sym, length, map, get_or, false, true, arith}
-use Rattle.std.specs.Prelude.{◌||◌}
+use Rattle.std.specs.Prelude.{◌||◌, sum_by}
 use Rattle.std.specs.List.{list_any}
 use Rattle.std.proofs.lemmas.List.{length-map}
 use Rattle.std.proofs.lemmas.List.Folds.{list_any_at, list_any_more}
 use Rattle.chip_debug.specs.Breaks.{is_parted}
 use Rattle.chip_debug.proofs.ChainLaws.{any_of_all}
-use Rattle.chip_debug.proofs.SocketLaws.{seated, still_seated, apart_by_chain, parts_in, parts_seated, parts_past}
+use Rattle.chip_debug.proofs.SocketLaws.{asked_not, asked_once, seated, still_seated, apart_by_chain, parts_in, parts_seated, parts_past}
 use Rattle.chip_debug.proofs.sockets.are_apart.Goals as goal
 use Rattle.chip_debug.proofs.sockets.are_apart.Goals.{else-sits-via-then-sits+else-is_parted, else-sits-via-else-sits}
 
@@ -47,6 +47,8 @@ loop-socket-preserved g c =
             none = more ∙ ap₂ (λ (a : Bool) (b : Bool). a || b) c.loop-socket.invariant.none passed;
             stays = ap (λ r. map (λ b. (goal.Chip-dyn g (b.vtable, b.value)).state b.value) r.items) w.rack-is
                 ∙ w.counters_in.ensures.stays ∙ c.loop-socket.invariant.stays;
+            asked = asked_once _ _ _ _ at c.loop-socket.invariant.asked w.counters_in.ensures.asked
+                (ap (λ r. sum_by (λ b. (goal.Chip-dyn g (b.vtable, b.value)).queries b.value) r.items) w.rack-is);
             chips = ap (λ r. length r.items) w.rack-is ∙ w.counters_in.ensures.chips ∙ c.loop-socket.invariant.chips;
           }
       | else-sits-via-else-sits w ↦
@@ -57,6 +59,8 @@ loop-socket-preserved g c =
                 (parts_past c.args.reference.now states socket past);
             stays = ap (λ r. map (λ b. (goal.Chip-dyn g (b.vtable, b.value)).state b.value) r.items) w.rack-is
                 ∙ c.loop-socket.invariant.stays;
+            asked = asked_not _ _ _ at c.loop-socket.invariant.asked
+                (ap (λ r. sum_by (λ b. (goal.Chip-dyn g (b.vtable, b.value)).queries b.value) r.items) w.rack-is);
             chips = ap (λ r. length r.items) w.rack-is ∙ c.loop-socket.invariant.chips;
           }
     ]

@@ -1,9 +1,9 @@
 -- A second byte ends the search.
-use Rattle.std.proofs.Common.{◌∙◌, ◌+◌, ◌<◌, ◌≤◌, ◌++◌, ℕ, List, ap, sym, length, map, arith}
+use Rattle.std.proofs.Common.{◌∙◌, ◌+◌, ◌<◌, ◌≤◌, ◌++◌, ℕ, List, ap, sym, length, map, refl, arith}
 use Rattle.std.specs.Prelude.{Option}
 use Rattle.std.proofs.lemmas.List.{length-map}
 use Rattle.chip_debug.specs.Carried.{sole}
-use Rattle.chip_debug.proofs.SocketLaws.{seated, still_seated, held_from, held_more, held_none, listed, sole_of, sole_second}
+use Rattle.chip_debug.proofs.SocketLaws.{asked_once, seated, still_seated, held_from, held_more, held_none, listed, sole_of, sole_second}
 use Rattle.chip_debug.proofs.SocketLaws.{held_first_byte}
 use Rattle.chip_debug.proofs.sockets.byte_held.Goals as goal
 use Rattle.chip_debug.proofs.sockets.byte_held.Goals.{in-Some+else-is_some, in_default}
@@ -45,6 +45,7 @@ loop-socket-preserved g c =
             ∙ ap (λ (held : Option ℕ). listed held ++ held_from c.args.at (c.loop-socket.socket + 1) states) (sym w.held-is)
       ];
       stays = c.byte_in.ensures.stays ∙ c.loop-socket.invariant.stays;
+      asked = asked_once _ _ _ _ c.loop-socket.socket c.loop-socket.invariant.asked c.byte_in.ensures.asked refl;
       chips = c.byte_in.ensures.chips ∙ c.loop-socket.invariant.chips;
     }
 

@@ -1,12 +1,13 @@
 -- A turn puts the line of a chip that is described.
 use Rattle.std.proofs.Common.{◌≡◌, ◌∙◌, ◌<◌, ◌≤◌, ap, sym, length, map, arith}
+use Rattle.std.specs.Prelude.{sum_by}
 use Rattle.std.proofs.lemmas.List.{length-map}
 use Rattle.std.proofs.lemmas.Result.{err_from_is_err_and}
 use Rattle.f8_spec.specs.ChipState.{told_counters}
 use Rattle.rack_run.proofs.PutLaws.{so_far_more, so_far_all, so_far_cut}
 use Rattle.chip_debug.specs.DebugText.{chip_line}
 use Rattle.chip_debug.proofs.PutLines.{chip_some}
-use Rattle.chip_debug.proofs.SocketLaws.{seated, still_seated, lines_here, lines_not, lines_none}
+use Rattle.chip_debug.proofs.SocketLaws.{asked_not, asked_once, seated, still_seated, lines_here, lines_not, lines_none}
 use Rattle.chip_debug.proofs.telling.put_fitted.Goals as goal
 use Rattle.chip_debug.proofs.telling.put_fitted.Goals.{then-contains+in_ok-put, else-contains}
 
@@ -44,6 +45,8 @@ loop-socket-preserved g c =
                 lines);
             stays = ap (λ r. map (λ b. (goal.Chip-dyn g (b.vtable, b.value)).state b.value) r.items) w.rack-is
                 ∙ w.line_of_chip.ensures.stays ∙ c.loop-socket.invariant.stays;
+            asked = asked_once _ _ _ _ c.loop-socket.socket c.loop-socket.invariant.asked w.line_of_chip.ensures.asked
+                (ap (λ r. sum_by (λ b. (goal.Chip-dyn g (b.vtable, b.value)).queries b.value) r.items) w.rack-is);
             chips = ap (λ r. length r.items) w.rack-is ∙ w.line_of_chip.ensures.chips ∙ c.loop-socket.invariant.chips;
           }
       | else-contains w ↦ record {
@@ -52,6 +55,8 @@ loop-socket-preserved g c =
             (sym c.contains.ensures ∙ w.if-contains.false)) at c.loop-socket.invariant.so_far);
         stays = ap (λ r. map (λ b. (goal.Chip-dyn g (b.vtable, b.value)).state b.value) r.items) w.rack-is
             ∙ c.loop-socket.invariant.stays;
+        asked = asked_not _ _ _ c.loop-socket.socket c.loop-socket.invariant.asked
+            (ap (λ r. sum_by (λ b. (goal.Chip-dyn g (b.vtable, b.value)).queries b.value) r.items) w.rack-is);
         chips = ap (λ r. length r.items) w.rack-is ∙ c.loop-socket.invariant.chips;
       }
     ]

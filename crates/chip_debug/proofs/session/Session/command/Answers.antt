@@ -1,6 +1,9 @@
 -- What a command makes of the session and tells.
-use Rattle.std.proofs.Common.{◌∙◌, ◌≡◌, ap, inl, inr, List}
+use Rattle.std.proofs.Common.{◌∙◌, ◌≡◌, ap, inl, inr, length, map, refl, List}
+use Rattle.std.proofs.lemmas.List.{length-map}
 use Rattle.f8_spec.specs.ChipState.{ChipView}
+use Rattle.rack_run.proofs.AskingLaws.{none_asked}
+use Rattle.chip_debug.proofs.SceneLaws.{chips_at, none_put}
 use Rattle.chip_debug.specs.Carried.{bytes_held}
 use Rattle.chip_debug.specs.Standing.{SessionState}
 use Rattle.chip_debug.specs.DebugText.{mem_line}
@@ -43,3 +46,50 @@ returns-in-Mem-clause-told g c = λ scene stands.
     ∙ c.mem_line.ensures.line
     ∙ ap (λ (vs : List ChipView). mem_line c.in-Mem.at (bytes_held vs c.in-Mem.at c.in-Mem.count)) stands.chips)
     (mem_some _ _) c.put.ensures.ok c.put.ensures.err)
+
+pub returns-in-Power-clause-asked : goal.returns-in-Power-clause-asked
+returns-in-Power-clause-asked g c = λ scene stands. rw c.in-Power.is (c.restart.ensures.asked scene stands)
+
+pub returns-in-Keys-clause-asked : goal.returns-in-Keys-clause-asked
+returns-in-Keys-clause-asked g c = λ scene stands.
+    rw c.in-Keys.is
+    (none_put _ _
+    (none_asked (λ b. (goal.Chip-dyn g (b.vtable, b.value)).queries b.value) c.args.rack.now.items c.happen.new.rack.items
+    c.happen.ensures.asked))
+
+pub returns-in-Pulse-clause-asked : goal.returns-in-Pulse-clause-asked
+returns-in-Pulse-clause-asked g c = λ scene stands.
+    rw c.in-Pulse.is
+    (none_put _ _
+    (none_asked (λ b. (goal.Chip-dyn g (b.vtable, b.value)).queries b.value) c.args.rack.now.items c.happen-in-Pulse.new.rack.items
+    c.happen-in-Pulse.ensures.asked))
+
+pub returns-in-ShowChips-clause-asked : goal.returns-in-ShowChips-clause-asked
+returns-in-ShowChips-clause-asked g c = λ scene stands.
+    let states = map (λ b. (goal.Chip-dyn g (b.vtable, b.value)).state b.value) c.args.rack.now.items in
+    let size = chips_at _ states scene stands
+    (length-map c.args.rack.now.items (λ b. (goal.Chip-dyn g (b.vtable, b.value)).state b.value)) in
+    rw (c.in-ShowChips.is, size) c.put_chips.ensures.asked
+
+pub returns-in-Mem-clause-asked : goal.returns-in-Mem-clause-asked
+returns-in-Mem-clause-asked g c = λ scene stands.
+    let states = map (λ b. (goal.Chip-dyn g (b.vtable, b.value)).state b.value) c.args.rack.now.items in
+    let size = chips_at _ states scene stands
+    (length-map c.args.rack.now.items (λ b. (goal.Chip-dyn g (b.vtable, b.value)).state b.value)) in
+    rw (c.in-Mem.is, size) c.mem_line.ensures.asked
+
+pub returns-in-BreakAt-clause-asked : goal.returns-in-BreakAt-clause-asked
+returns-in-BreakAt-clause-asked g c = λ scene stands.
+    elim c.in-BreakAt.is [
+      | inl at ↦ rw at.1 (none_put _ _ refl)
+      | inr others ↦ elim others [
+        | inl romc ↦ rw romc.1 (none_put _ _ refl)
+        | inr others ↦ elim others [
+          | inl chip ↦ rw chip.1 (none_put _ _ refl)
+          | inr others ↦ elim others [
+            | inl apart ↦ rw apart (none_put _ _ refl)
+            | inr clear ↦ rw clear (none_put _ _ refl)
+          ]
+        ]
+      ]
+    ]

@@ -1,20 +1,27 @@
 -- The chain of the description's chips, and no break.
-use Rattle.std.proofs.Common.{◌≡◌, ℕ, List, map, subst}
+use Rattle.std.proofs.Common.{◌≡◌, ℕ, List, map, ap₂, subst}
 use Rattle.data_bus.specs.Racks.{views}
-use Rattle.f8_spec.specs.ChipState.{ChipView, ChipState}
-use Rattle.chip_debug.specs.Scenes.{started}
+use Rattle.f8_spec.specs.ChipState.{ChipView}
+use Rattle.chip_debug.specs.Scenes.{Scene, started}
 use Rattle.chip_debug.specs.Standing.{IsAt}
 use Rattle.chip_debug.specs.declared.breaks.Breaks.{Breaks}
-use Rattle.chip_debug.specs.declared.session.Session.{Session}
+use Rattle.chip_debug.proofs.SceneLaws.{allowed_at}
 use Rattle.chip_debug.proofs.session.Session.new.Goals as goal
 
-begun_with : (session : Session) (states : List ChipState) (fill : ℕ) (chain these : List ℕ) (breaks those : Breaks) (vs : List ChipView) →
-    chain ≡ these → breaks ≡ those → IsAt session states (started fill chain breaks vs) → IsAt session states (started fill these those vs)
-begun_with session states fill chain these breaks those vs same_chain same_breaks at =
-    subst (λ (b : Breaks). IsAt session states (started fill these b vs)) same_breaks
-    (subst (λ (c : List ℕ). IsAt session states (started fill c breaks vs)) same_chain at)
+scene_with : (fill : ℕ) (chain these : List ℕ) (breaks those : Breaks) (vs : List ChipView) → chain ≡ these → breaks ≡ those →
+    started fill chain breaks vs ≡ started fill these those vs
+scene_with fill chain these breaks those vs same_chain same_breaks =
+    ap₂ (λ (l : List ℕ) (b : Breaks). started fill l b vs) same_chain same_breaks
 
 pub returns-clause-at : goal.returns-clause-at
 returns-clause-at g c =
-    begun_with _ _ 0 _ _ _ _ (views (map (λ b. (goal.Chip-dyn g (b.vtable, b.value)).state b.value) c.args.rack.now.items))
-    c.chain_of-chain.ensures c.none.ensures (c.start.ensures.at c.requires.whole c.requires.ports)
+    let vs = views (map (λ b. (goal.Chip-dyn g (b.vtable, b.value)).state b.value) c.args.rack.now.items) in
+    subst (λ (scene : Scene). IsAt c.start.result
+    (map (λ b. (goal.Chip-dyn g (b.vtable, b.value)).state b.value) c.start.new.rack.items) scene)
+    (scene_with 0 _ _ _ _ vs c.chain_of-chain.ensures c.none.ensures) (c.start.ensures.at c.requires.whole c.requires.ports)
+
+pub returns-clause-asked : goal.returns-clause-asked
+returns-clause-asked g c =
+    let vs = views (map (λ b. (goal.Chip-dyn g (b.vtable, b.value)).state b.value) c.args.rack.now.items) in
+    allowed_at _ _ _ _ (scene_with 0 _ _ _ _ vs c.chain_of-chain.ensures c.none.ensures)
+    (c.start.ensures.asked c.requires.whole c.requires.ports)

@@ -2,7 +2,8 @@
 use Rattle.std.proofs.Common.{◌∙◌, ap, map, sym, subst}
 use Rattle.chip_debug.specs.Carried.{restarted}
 use Rattle.chip_debug.specs.Standing.{SessionState, IsAt}
-use Rattle.chip_debug.proofs.Starts.{restarted_at}
+use Rattle.chip_debug.proofs.SceneLaws.{allowed_at}
+use Rattle.chip_debug.proofs.Starts.{restarted_at, restarted_is}
 use Rattle.chip_debug.proofs.session.Session.restart.Goals as goal
 
 pub returns-clause-at : goal.returns-clause-at
@@ -12,3 +13,10 @@ returns-clause-at g c = λ scene stands.
     (c.copy-chain.ensures ∙ c.chain.ensures ∙ ap (λ (s : SessionState). s.machine.chain) c.self.view_is)
     (ap (λ (s : SessionState). s.breaks) c.self.view_is) c.start.ensures.at in
     subst (λ (s : SessionState). IsAt s news (restarted c.args.fill scene)) (sym c.self-2.view_is) again
+
+pub returns-clause-asked : goal.returns-clause-asked
+returns-clause-asked g c = λ scene stands.
+    let again = restarted_is _ _ scene c.args.fill c.copy-chain.result c.self.inside.breaks stands
+    (c.copy-chain.ensures ∙ c.chain.ensures ∙ ap (λ (s : SessionState). s.machine.chain) c.self.view_is)
+    (ap (λ (s : SessionState). s.breaks) c.self.view_is) in
+    allowed_at _ _ _ _ again (c.start.ensures.asked stands.ready.whole stands.ready.free)
