@@ -13,7 +13,7 @@ use Rattle.chip_debug.specs.declared.command.Command.{Command}
 use Rattle.chip_debug.specs.declared.command.Command.TheVariants.{Power, Keys, Pulse, Step, Run, BreakAt, BreakRomc}
 use Rattle.chip_debug.specs.declared.command.Command.TheVariants.{BreakChip, BreakApart, Clear, ShowRegs, ShowChips, Mem}
 use Rattle.chip_debug.specs.Carried.{restarted, scene_after}
-use Rattle.chip_debug.specs.Scenes.{Scene, Going, going}
+use Rattle.chip_debug.specs.Scenes.{Scene, going}
 
 -- ---- bus steps
 

@@ -1,5 +1,5 @@
 -- What a command makes of the session and tells.
-use Rattle.std.proofs.Common.{◌∙◌, ◌≡◌, ap, inl, inr, length, map, refl, List}
+use Rattle.std.proofs.Common.{◌∙◌, ◌≡◌, ap, inl, inr, map, refl, List}
 use Rattle.std.proofs.lemmas.List.{length-map}
 use Rattle.f8_spec.specs.ChipState.{ChipView}
 use Rattle.rack_run.proofs.AskingLaws.{none_asked}

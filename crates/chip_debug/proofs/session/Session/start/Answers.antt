@@ -1,6 +1,5 @@
 -- Power-on, and then reset.
-use Rattle.std.proofs.Common.{◌<◌, ◌≤◌, ◌+◌, ◌*◌, ◌∙◌, length, map, refl, rules, arith}
-use Rattle.std.specs.Prelude.{sum_by}
+use Rattle.std.proofs.Common.{◌<◌, ◌∙◌, length, map, refl, rules}
 use Rattle.std.proofs.lemmas.List.{length-map}
 use Rattle.data_bus.specs.Racks.{views}
 use Rattle.rack_run.proofs.AskingLaws.{power_asks}

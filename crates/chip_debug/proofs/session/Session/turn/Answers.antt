@@ -1,5 +1,5 @@
 -- An instruction leads to the next scene.
-use Rattle.std.proofs.Common.{◌∙◌, ◌≡◌, ap, length, map, refl, sym, List, None}
+use Rattle.std.proofs.Common.{◌∙◌, ◌≡◌, ap, length, refl, sym, List, None}
 use Rattle.std.specs.Prelude.{◌&&◌}
 use Rattle.std.specs.List.{list_any}
 use Rattle.std.proofs.lemmas.List.{length-map}
