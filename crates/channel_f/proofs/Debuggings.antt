@@ -1,5 +1,5 @@
 -- The commands of a session, one after another, and what a session on a rack answers.
-use Rattle.std.proofs.Common.{◌≡◌, ◌≢◌, ℕ, ◌+◌, ◌<◌, List, [], ◌∷◌, ◌++◌, length, drop, get_or, refl, sym, ap}
+use Rattle.std.proofs.Common.{◌≡◌, ◌≢◌, ℕ, ◌+◌, ◌<◌, List, [], ◌∷◌, ◌++◌, ◌≤◌, length, drop, get_or, refl, sym, ap, arith}
 use Rattle.std.proofs.Common.{◌∙◌, subst, inl, inr, map}
 use Rattle.std.specs.Prelude.{◌⊎◌, Ok, Err}
 use Rattle.std.proofs.lemmas.List.{append_assoc, append-nil, drop_more}
@@ -16,11 +16,12 @@ use Rattle.rack_run.specs.Seating.{fitted_views, kinds_of, seated, RackFitsInPar
 use Rattle.rack_run.specs.Sockets.{chain_of}
 use Rattle.rack_run.specs.Texts.{Puts}
 use Rattle.chip_face.specs.declared.specification.ChipSpec.{ChipSpec}
+use Rattle.chip_debug.specs.Asking.{allowed_since_power, command_allowed, commands_allowed, session_allowed}
 use Rattle.chip_debug.specs.Breaks.{no_breaks}
 use Rattle.chip_debug.specs.Carried.{first_scene, lines_of, scene_after, scene_by, told_by}
 use Rattle.chip_debug.specs.Limits.{count_of, total_of}
 use Rattle.chip_debug.specs.Scenes.{Scene, started}
-use Rattle.chip_debug.specs.Standing.{SessionState, IsAt}
+use Rattle.chip_debug.specs.Standing.{SessionState, IsAt, patches}
 use Rattle.chip_debug.specs.declared.command.Command.{Command}
 use Rattle.chip_debug.specs.declared.command.Command.TheVariants.{Power}
 use Rattle.loader.specs.declared.games.Debugging.{Debugging}
@@ -29,6 +30,7 @@ use Rattle.channel_f.specs.RackDebugged.{AreOf, Debugs, FailedAt}
 use Rattle.channel_f.specs.Reports.{Answers, Reports}
 use Rattle.channel_f.specs.declared.status.Status.{Status}
 use Rattle.channel_f.specs.declared.status.Status.TheVariants as status
+use Rattle.channel_f.proofs.FittedPatches.{partly_patched}
 use Rattle.channel_f.proofs.Games.{answers_of}
 
 -- ---- the commands that are left
@@ -55,6 +57,13 @@ told_by-append : (done left : List Command) (s : Scene) →
     text_of (told_by (done ++ left) s) ≡ text_of (told_by done s) ++ text_of (told_by left (scene_by done s))
 told_by-append done left s = ap text_of (lines_by-append done left s) ∙ text_of-append (told_by done s) (told_by left (scene_by done s))
 
+allowed_by-append : (done : List Command) (command : Command) (s : Scene) →
+    commands_allowed (done ++ command ∷ []) s ≡ commands_allowed done s + command_allowed command (scene_by done s)
+allowed_by-append [] command s = omega arith
+allowed_by-append (c ∷ done) command s =
+    let behind = allowed_by-append done command (scene_after c s) in
+    omega (arith, behind)
+
 -- where a session is at a scene, the chips are the scene's
 are_of : (s : SessionState) (states : List ChipState) (scene : Scene) → IsAt s states scene → AreOf scene states
 are_of s states scene at = record { chips = at.chips; heard = at.heard }
@@ -63,23 +72,25 @@ are_of s states scene at = record { chips = at.chips; heard = at.heard }
 
 -- some commands were carried out and told, and the others are left
 pub record Along (commands left : List Command) (first : Scene) (s : SessionState) (states : List ChipState)
-    (a b : Output) : Type 0 where
+    (a b : Output) (p q : ℕ) : Type 0 where
   pub done : List Command
   pub are : commands ≡ done ++ left
   pub at : IsAt s states (scene_by done first)
   pub told : Adds a b (text_of (told_by done first))
+  pub asked : q ≤ p + commands_allowed done first
 
-pub along_first : (commands : List Command) (first : Scene) (s : SessionState) (states : List ChipState) (a : Output) →
-    IsAt s states first → Along commands commands first s states a a
-along_first commands first s states a at = record {
+pub along_first : (commands : List Command) (first : Scene) (s : SessionState) (states : List ChipState) (a : Output)
+    (p : ℕ) → IsAt s states first → Along commands commands first s states a a p p
+along_first commands first s states a p at = record {
   done = [];
   are = refl;
   at = at;
   told = subst (λ (text : List ℕ). Adds a a text) (sym text_of-nil) (adds_none a);
+  asked = omega arith;
 }
 
 module _ (commands left : List Command) (command : Command) (later : List Command) (first : Scene) (s after : SessionState)
-    (states news : List ChipState) (a b c : Output) (along : Along commands left first s states a b)
+    (states news : List ChipState) (a b c : Output) (p q r : ℕ) (along : Along commands left first s states a b p q)
     (next : left ≡ command ∷ later) where
   are_next : commands ≡ along.done ++ command ∷ later
   are_next = along.are ∙ ap (λ (l : List Command). along.done ++ l) next
@@ -94,15 +105,24 @@ module _ (commands left : List Command) (command : Command) (later : List Comman
       ∙ ap (λ (lines : List (List ℕ)). text_of (told_by along.done first) ++ text_of lines)
       (append-nil (lines_of command (scene_by along.done first)))
 
+  asked_more : r ≤ q + command_allowed command (scene_by along.done first) →
+      r ≤ p + commands_allowed (along.done ++ command ∷ []) first
+  asked_more few =
+      let before = along.asked in
+      let all = allowed_by-append along.done command first in
+      omega (arith, few, before, all)
+
   pub along_more : IsAt after news (scene_after command (scene_by along.done first)) →
-      Adds b c (text_of (lines_of command (scene_by along.done first))) → Along commands later first after news a c
-  along_more at adds = record {
+      Adds b c (text_of (lines_of command (scene_by along.done first))) →
+      r ≤ q + command_allowed command (scene_by along.done first) → Along commands later first after news a c p r
+  along_more at adds few = record {
     done = along.done ++ command ∷ [];
     are = are_next ∙ sym (append_assoc along.done (command ∷ []) later);
     at = subst (λ (scene : Scene). IsAt after news scene) (sym (scene_by-append along.done command first)) at;
     told =
         subst (λ (text : List ℕ). Adds a c text) (sym text_more)
         (adds_then a b c (text_of (told_by along.done first)) text_here along.told adds);
+    asked = asked_more few;
   }
 
   abbrev text_later : List ℕ
@@ -130,8 +150,10 @@ module _ (commands left : List Command) (command : Command) (later : List Comman
 
   pub failed_at : IsAt after news (scene_after command (scene_by along.done first)) →
       AddsPart b c (text_of (lines_of command (scene_by along.done first))) →
-      text_of (lines_of command (scene_by along.done first)) ≢ [] → FailedAt a c commands first news
-  failed_at at part some = record {
+      text_of (lines_of command (scene_by along.done first)) ≢ [] →
+      r ≤ q + command_allowed command (scene_by along.done first) → (before : ℕ) → p ≤ before + allowed_since_power first →
+      FailedAt a c commands first news before r
+  failed_at at part some few before begun = record {
     before = along.done;
     command = command;
     rest = later;
@@ -141,10 +163,11 @@ module _ (commands left : List Command) (command : Command) (later : List Comman
     some = λ none. some (ap text_of none ∙ text_of-nil);
     part = part;
     chips = are_of after news (scene_after command (scene_by along.done first)) at;
+    asks = let more = asked_more few in omega (arith, more, begun);
   }
 
 module _ (commands left : List Command) (first : Scene) (s : SessionState) (states : List ChipState) (a b : Output)
-    (along : Along commands left first s states a b) (none : left ≡ []) where
+    (p q : ℕ) (along : Along commands left first s states a b p q) (none : left ≡ []) where
   all_done : along.done ≡ commands
   all_done = sym (along.are ∙ ap (λ (l : List Command). along.done ++ l) none ∙ append-nil along.done)
 
@@ -160,6 +183,9 @@ module _ (commands left : List Command) (first : Scene) (s : SessionState) (stat
       subst (λ (l : List Command). AreOf (scene_by l first) states) all_done
       (are_of s states (scene_by along.done first) along.at)
 
+  pub asked_all : q ≤ p + commands_allowed commands first
+  asked_all = subst (λ (l : List Command). q ≤ p + commands_allowed l first) all_done along.asked
+
 -- ---- a session on chips that are fitted
 
 kinds_seen : (states : List ChipState) → kinds_of states ≡ map (λ (v : ChipView). v.kind) (views states)
@@ -172,6 +198,14 @@ pub starts_at : (chips : List ChipSpec) (olds : List ChipState) (s : SessionStat
 starts_at chips olds s news at =
     subst (λ (kinds : List ChipKind). IsAt s news (started 0 (chain_of chips kinds) no_breaks (views olds)))
     (kinds_seen olds) at
+
+-- and so many questions were put until then
+pub begun_asks : (chips : List ChipSpec) (olds : List ChipState) (p q : ℕ) →
+    q ≤ p + allowed_since_power (started 0 (chain_of chips (kinds_of olds)) no_breaks (views olds)) →
+    q ≤ p + allowed_since_power (first_scene chips (views olds))
+begun_asks chips olds p q few =
+    subst (λ (kinds : List ChipKind). q ≤ p + allowed_since_power (started 0 (chain_of chips kinds) no_breaks (views olds)))
+    (kinds_seen olds) few
 
 -- ---- what it answers
 
@@ -201,22 +235,29 @@ module _ (a b : Output) (said : Status) (asked : Debugging) (rack fitted : List 
 
   pub debugs : (news : List ChipState) (before after : ℕ) →
       (said ≢ status.Sink → AreOf (scene_by asked.commands (first_scene asked.cart.chips (views fitted))) news) →
-      (said ≡ status.Sink → FailedAt a b asked.commands (first_scene asked.cart.chips (views fitted)) news) →
-      Debugs a b said asked rack news before after
-  debugs news before after whole failed = record {
+      (said ≡ status.Sink → FailedAt a b asked.commands (first_scene asked.cart.chips (views fitted)) news before after) →
+      (said ≢ status.Sink → after ≤ before + session_allowed asked.commands (first_scene asked.cart.chips (views fitted))) →
+      patches news ≡ patches rack → Debugs a b said asked rack news before after
+  debugs news before after whole failed few patched = record {
+    patched = patched;
+    asks = λ by_sink by_memory.
+        subst (λ (vs : List ChipView). after ≤ before + session_allowed asked.commands (first_scene asked.cart.chips vs)) same
+        (few by_sink);
     wanting = λ by_memory. absurd (done_not_memory said reports.which by_memory);
     unasked = λ by_memory. absurd (done_not_memory said reports.which by_memory);
     whole = λ by_sink by_memory.
         subst (λ (vs : List ChipView). AreOf (scene_by asked.commands (first_scene asked.cart.chips vs)) news) same
         (whole by_sink);
     failed = λ by_sink.
-        subst (λ (vs : List ChipView). FailedAt a b asked.commands (first_scene asked.cart.chips vs) news) same
+        subst (λ (vs : List ChipView). FailedAt a b asked.commands (first_scene asked.cart.chips vs) news before after) same
         (failed by_sink);
   }
 
 pub debugs_wanting : (a b : Output) (asked : Debugging) (rack news : List ChipState) (before after : ℕ) → after ≡ before →
     RackFitsInPart (seated asked.cart.chips rack) rack news → Debugs a b status.Memory asked rack news before after
 debugs_wanting a b asked rack news before after none partly = record {
+  patched = partly_patched asked.cart.chips rack news partly;
+  asks = λ by_sink by_memory. absurd (by_memory refl);
   wanting = λ by_memory. partly;
   unasked = λ by_memory. none;
   whole = λ by_sink by_memory. absurd (by_memory refl);

@@ -4,6 +4,7 @@ pub mod SafeRuns
 pub mod SafeGames
 mod KeyWords
 pub mod Games
+pub mod FittedPatches
 pub mod Debuggings
 mod StatusCodes
 mod Outcomes

@@ -1,5 +1,5 @@
 // A session of the debugger on a rack.
-ghost use Rattle.std.specs.Prelude.{◌≡◌, ◌≢◌, ◌≤◌, length, map, sum_by, OnErr, OnOk};
+ghost use Rattle.std.specs.Prelude.{◌≡◌, ◌≢◌, ◌≤◌, ◌+◌, ℕ, length, map, sum_by, OnErr, OnOk};
 ghost use Rattle.f8_spec.specs.BusArbitration.{seat_of};
 ghost use Rattle.console_spec.specs.RunText.{text_of};
 ghost use Rattle.cpu3850.specs.OwnWrites.{LeaveOwnPorts};
@@ -7,10 +7,11 @@ ghost use Rattle.data_bus.specs.Racks.{views};
 ghost use Rattle.f8_machine.specs.Fitting.{Fits};
 ghost use Rattle.f8_machine.specs.Refinement.{AreWhole};
 ghost use Rattle.rack_run.specs.Texts.{Puts};
+ghost use Rattle.chip_debug.specs.Asking.{allowed_since_power, commands_allowed, session_allowed};
 ghost use Rattle.chip_debug.specs.Carried.{first_scene, scene_by, told_by};
 ghost use Rattle.chip_debug.specs.Limits.{AreCommands, most_instructions, total_of};
 ghost use Rattle.chip_debug.specs.Scenes.{Scene};
-ghost use Rattle.chip_debug.specs.Standing.{IsAt};
+ghost use Rattle.chip_debug.specs.Standing.{IsAt, patches};
 ghost use Rattle.channel_f.specs.Answers.{debug_answer, debug_due, refusal as spelled_refusal};
 ghost use Rattle.channel_f.specs.RackDebugged.{AreOf, Debugs, DebugsUnless, FailedAt};
 ghost use Rattle.channel_f.specs.Reports.{Answers, AnswersDue, Reports};
@@ -43,9 +44,15 @@ fn carry_out<K: Sink>(
         Puts result (K.output sink.old) (K.output sink.new) (text_of (told_by commands.now scene)) }
     ensures whole { (scene : Scene) → IsAt session.old (map state rack.old.items) scene →
         OnOk result (AreOf (scene_by commands.now scene) (map state rack.new.items)) }
-    ensures failed { (scene : Scene) → IsAt session.old (map state rack.old.items) scene →
+    ensures failed { (scene : Scene) (before : ℕ) →
+        IsAt session.old (map state rack.old.items) scene →
+        sum_by queries rack.old.items ≤ before + allowed_since_power scene →
         OnErr result (FailedAt (K.output sink.old) (K.output sink.new) commands.now scene
-        (map state rack.new.items)) }
+        (map state rack.new.items) before (sum_by queries rack.new.items)) }
+    ensures asked { (scene : Scene) → IsAt session.old (map state rack.old.items) scene →
+        OnOk result (sum_by queries rack.new.items ≤ sum_by queries rack.old.items
+        + commands_allowed commands.now scene) }
+    ensures patches { patches (map state rack.new.items) ≡ patches (map state rack.old.items) }
     ensures chips { length rack.new.items ≡ length rack.old.items }
 {
     for command in commands {
@@ -67,7 +74,12 @@ fn debug_fitted<K: Sink>(asked: &Debugging, sink: &mut K, rack: &mut Rack) -> St
         (map state rack.new.items) }
     ensures failed { result ≡ Status.Sink → FailedAt (K.output sink.old) (K.output sink.new)
         asked.now.commands (first_scene asked.now.cart.chips (views (map state rack.old.items)))
-        (map state rack.new.items) }
+        (map state rack.new.items) (sum_by queries rack.old.items) (sum_by queries rack.new.items) }
+    ensures asked { result ≢ Status.Sink →
+        sum_by queries rack.new.items ≤ sum_by queries rack.old.items
+        + session_allowed asked.now.commands (first_scene asked.now.cart.chips
+        (views (map state rack.old.items))) }
+    ensures patches { patches (map state rack.new.items) ≡ patches (map state rack.old.items) }
 {
     let mut session = Session::new(&asked.cart, rack);
     match carry_out(&mut session, asked.commands.as_slice(), sink, rack) {

@@ -99,8 +99,10 @@ fn answer_words<S: Store, K: Sink>(
 /// Where a run of `play` or `gen` began, each chip has heard its bus steps and has taken its key bytes and pulses, and nothing else. Where
 /// the sink failed at a line of the run, that is so up to the end of the instruction, or of the reset, whose line it was. The chips were put
 /// in all at most 512 questions for each, and the allowances of the bus steps that were tried (clause `says`). After a session of `debug`
-/// they are as its commands left them, up to the one whose line failed; how many questions it put isn't said. Where neither a run nor a
-/// session began, they were put none. Each chip counts its questions up to the greatest `u64`, and the clause goes by these counts.
+/// they are as its commands left them, up to the one whose line failed. From each power-on on they were put as many questions at most as in
+/// a run, and besides those of the commands themselves: `show chips` puts one to each chip, `mem` one to each chip for each byte, and `run`
+/// one to each chip described behind each instruction, where counters that part are a break. Where neither a run nor a session began, they
+/// were put none. Each chip counts its questions up to the greatest `u64`, and the clause goes by these counts.
 #[tactic(auto, using(crate::proofs::Completeness::completed))]
 pub fn console<S: Store, K: Sink>(
     alloc: Global,

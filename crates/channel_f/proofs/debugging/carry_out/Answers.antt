@@ -3,12 +3,13 @@ use Rattle.std.proofs.Common.{◌∙◌, ◌≤◌, [], arith, length, refl}
 use Rattle.std.proofs.lemmas.List.{drop_all, drop_more}
 use Rattle.std.proofs.lemmas.Result.{err_from_is_err_and}
 use Rattle.chip_debug.specs.declared.command.Command.TheVariants.{Power}
-use Rattle.channel_f.proofs.Debuggings.{along_first, along_more, along_cut, along_all, failed_at, total_next, whole_all}
+use Rattle.channel_f.proofs.Debuggings.{along_first, along_more, along_cut, along_all, asked_all, failed_at, total_next, whole_all}
 use Rattle.channel_f.proofs.debugging.carry_out.Goals as goal
 
 pub loop-command-init : goal.loop-command-init
 loop-command-init g c = record {
-  along = λ scene at. along_first c.args.commands.now scene _ _ _ at;
+  along = λ scene at. along_first c.args.commands.now scene _ _ _ _ at;
+  same = refl;
   ranges = c.requires.ranges;
   counted = omega (arith, c.requires.begun);
   fits = c.requires.fits;
@@ -36,7 +37,9 @@ loop-command-preserved g c =
     record {
       along = λ scene at.
           let here = inv.along scene at in
-          along_more _ _ _ _ scene _ _ _ _ _ _ _ here next (new.carried _ here.at) (new.told _ here.at).ok;
+          along_more _ _ _ _ scene _ _ _ _ _ _ _ _ _ _ here next (new.carried _ here.at) (new.told _ here.at).ok
+          (new.asked _ here.at);
+      same = new.patches ∙ inv.same;
       ranges = (rw next at inv.ranges).1;
       counted = omega (arith, inv.counted, counted, new.count);
       fits = new.fits;
@@ -53,13 +56,15 @@ returns-in_err-command g c =
       told = λ scene at.
           let here = inv.along scene at in
           rw p.1
-          (along_cut _ _ _ _ scene _ c.command.new.self _ [] _ _ _ here next p.0 (new.told _ here.at).err (new.told _ here.at).some);
+          (along_cut _ _ _ _ scene _ c.command.new.self _ [] _ _ _ _ _ 0 here next p.0 (new.told _ here.at).err (new.told _ here.at).some);
       whole = λ scene at. rw p.1 tt;
-      failed = λ scene at.
+      asked = λ scene at. rw p.1 tt;
+      patches = new.patches ∙ inv.same;
+      failed = λ scene before at begun.
           let here = inv.along scene at in
           rw p.1
-          (failed_at _ _ _ _ scene _ _ _ _ _ _ _ here next (new.carried _ here.at) (new.told _ here.at).err
-          (new.told _ here.at).some);
+          (failed_at _ _ _ _ scene _ _ _ _ _ _ _ _ _ _ here next (new.carried _ here.at) (new.told _ here.at).err
+          (new.told _ here.at).some (new.asked _ here.at) before begun);
       chips = new.chips ∙ inv.chips;
     }
 
@@ -69,8 +74,10 @@ returns g c =
     let past : length c.args.commands.now ≤ c.loop-command.command-index = omega arith in
     let none = drop_all c.loop-command.command-index c.args.commands.now past in
     record {
-      told = λ scene at. along_all _ _ scene _ _ _ _ (inv.along scene at) none tt;
-      whole = λ scene at. whole_all _ _ scene _ _ _ _ (inv.along scene at) none;
-      failed = λ scene at. tt;
+      told = λ scene at. along_all _ _ scene _ _ _ _ _ _ (inv.along scene at) none tt;
+      whole = λ scene at. whole_all _ _ scene _ _ _ _ _ _ (inv.along scene at) none;
+      failed = λ scene before at begun. tt;
+      asked = λ scene at. asked_all _ _ scene _ _ _ _ _ _ (inv.along scene at) none;
+      patches = inv.same;
       chips = inv.chips;
     }

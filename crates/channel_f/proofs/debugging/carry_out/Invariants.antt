@@ -1,9 +1,10 @@
 -- Some commands were carried out and told, and the others are left.
 use Rattle.std.proofs.Common.{◌≡◌, ◌≤◌, ◌+◌, drop, length, map}
+use Rattle.std.specs.Prelude.{sum_by}
 use Rattle.f8_machine.specs.Fitting.{Fits}
 use Rattle.chip_debug.specs.Limits.{AreCommands, total_of}
 use Rattle.chip_debug.specs.Scenes.{Scene}
-use Rattle.chip_debug.specs.Standing.{IsAt}
+use Rattle.chip_debug.specs.Standing.{IsAt, patches}
 use Rattle.channel_f.proofs.Debuggings.{Along}
 use Rattle.channel_f.proofs.debugging.carry_out.Given as goal
 
@@ -14,7 +15,9 @@ invariant-loop-command g l =
     record {
       along : (scene : Scene) → IsAt l.fn.session olds scene →
           Along l.commands (drop l.command-index l.commands) scene l.session nows (g.K.Sink.output l.fn.sink)
-          (g.K.Sink.output l.sink);
+          (g.K.Sink.output l.sink) (sum_by (λ b. (goal.Chip-dyn g (b.vtable, b.value)).queries b.value) l.fn.rack.items)
+          (sum_by (λ b. (goal.Chip-dyn g (b.vtable, b.value)).queries b.value) l.rack.items);
+      same : patches nows ≡ patches olds;
       ranges : AreCommands (drop l.command-index l.commands);
       counted : l.session.count + total_of (drop l.command-index l.commands) ≤ total_of l.commands;
       fits : Fits l.session.machine nows;

@@ -1,8 +1,8 @@
 -- The session begins at the first scene, and the commands are carried out from there.
-use Rattle.std.proofs.Common.{map}
+use Rattle.std.proofs.Common.{map, arith}
 use Rattle.data_bus.specs.Racks.{views}
 use Rattle.chip_debug.specs.Carried.{first_scene}
-use Rattle.channel_f.proofs.Debuggings.{reports_cut_short, reports_done, starts_at}
+use Rattle.channel_f.proofs.Debuggings.{begun_asks, reports_cut_short, reports_done, starts_at}
 use Rattle.channel_f.proofs.debugging.debug_fitted.Goals as goal
 
 pub returns-in-Ok-clause-reports : goal.returns-in-Ok-clause-reports
@@ -34,5 +34,16 @@ returns-in-Err-clause-failed g c =
     let chips = c.args.asked.now.cart.chips in
     let olds = map (λ b. (goal.Chip-dyn g (b.vtable, b.value)).state b.value) c.args.rack.now.items in
     let first = first_scene chips (views olds) in
-    let done = c.in-Err.ensures.failed first (starts_at chips olds _ _ c.new-session.ensures.at) in
+    let begun = begun_asks chips olds _ _ c.new-session.ensures.asked in
+    let done = c.in-Err.ensures.failed first _ (starts_at chips olds _ _ c.new-session.ensures.at) begun in
     λ by_sink. rw c.as_slice.ensures.commands at done
+
+pub returns-in-Ok-clause-asked : goal.returns-in-Ok-clause-asked
+returns-in-Ok-clause-asked g c =
+    let chips = c.args.asked.now.cart.chips in
+    let olds = map (λ b. (goal.Chip-dyn g (b.vtable, b.value)).state b.value) c.args.rack.now.items in
+    let first = first_scene chips (views olds) in
+    let begun = begun_asks chips olds _ _ c.new-session.ensures.asked in
+    let done = rw c.as_slice.ensures.commands at
+    (c.in-Ok.ensures.asked first (starts_at chips olds _ _ c.new-session.ensures.at)) in
+    λ by_sink. omega (arith, begun, done)
