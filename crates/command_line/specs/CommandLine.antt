@@ -1,6 +1,7 @@
 -- The words of the program and what they ask for. The first word is the command. A word behind it is plain, or the command's flag.
-use Rattle.std.specs.Prelude.{ℕ, Bool, true, false, ◌==◌, ◌&&◌, ◌||◌, if◌then◌else◌, nat_le, List, [], ◌∷◌, length, map}
-use Rattle.std.specs.Prelude.{codes, bytes_eq, Option, Some, None, option_map, option_and_then}
+use Rattle.std.specs.Prelude.{ℕ, Bool, true, false, ◌==◌, ◌&&◌, if◌then◌else◌, nat_le, List, [], ◌∷◌, length, map}
+use Rattle.std.specs.Prelude.{codes, bytes_eq, Option, Some, None, option_map, option_and_then, is_some}
+use Rattle.std.specs.List.{find}
 use Rattle.std.specs.Str.{all_ascii_digits}
 use Rattle.std.specs.Str.Parse.{digits_value}
 
@@ -104,31 +105,33 @@ is_seed text =
 abbrev pub seed_of : List ℕ → Option ℕ
 seed_of text = if is_seed text then Some (digits_value 10 text) else None
 
--- the first word is that of a command
-abbrev pub is_command : List ℕ → Bool
-is_command name =
-    bytes_eq name (codes "play") || bytes_eq name (codes "ref") || bytes_eq name (codes "debug") || bytes_eq name (codes "check")
-    || bytes_eq name (codes "verify") || bytes_eq name (codes "asm") || bytes_eq name (codes "dis")
-    || bytes_eq name (codes "gen")
+-- the word of a command, and what it asks for with the words behind it
+pub record CommandWord : Type 0 where
+  pub name : List ℕ
+  pub asks : List (List ℕ) → Option Command
 
+abbrev pub command_words : List CommandWord
+command_words =
+    record { name = codes "play"; asks = λ words. option_map play_of (run_of words) }
+    ∷ record { name = codes "ref"; asks = λ words. option_map (λ files. Ref files.0 files.1) (two_of words) }
+    ∷ record { name = codes "debug"; asks = λ words. option_map (λ files. Debug files.0 files.1) (two_of words) }
+    ∷ record { name = codes "check"; asks = λ words. option_map check_of (checking_of words) }
+    ∷ record { name = codes "verify"; asks = λ words. option_map (λ files. Verify files.0 files.1) (two_of words) }
+    ∷ record { name = codes "asm"; asks = λ words. option_map Asm (one_of words) }
+    ∷ record { name = codes "dis"; asks = λ words. option_map Dis (one_of words) }
+    ∷ record { name = codes "gen"; asks = λ words. option_map Gen (option_and_then seed_of (one_of words)) }
+    ∷ []
+
+-- the entry of a word, if it is that of a command
+abbrev pub command_word : List ℕ → Option CommandWord
+command_word name = find (λ c. bytes_eq name c.name) command_words
+
+-- the first word is that of a command
 abbrev pub has_command : List (List ℕ) → Bool
 has_command [] = false
-has_command (name ∷ rest) = is_command name
-
--- what a command's word asks for, with the words behind it
-abbrev pub asked_by : List ℕ → List (List ℕ) → Option Command
-asked_by name words =
-    if bytes_eq name (codes "play") then option_map play_of (run_of words)
-    else (if bytes_eq name (codes "ref") then option_map (λ files. Ref files.0 files.1) (two_of words)
-    else (if bytes_eq name (codes "debug") then option_map (λ files. Debug files.0 files.1) (two_of words)
-    else (if bytes_eq name (codes "check") then option_map check_of (checking_of words)
-    else (if bytes_eq name (codes "verify") then option_map (λ files. Verify files.0 files.1) (two_of words)
-    else (if bytes_eq name (codes "asm") then option_map Asm (one_of words)
-    else (if bytes_eq name (codes "dis") then option_map Dis (one_of words)
-    else (if bytes_eq name (codes "gen") then option_map Gen (option_and_then seed_of (one_of words))
-    else None)))))))
+has_command (name ∷ rest) = is_some (command_word name)
 
 -- what the words ask for, and nothing where they are none of the program's
 abbrev pub command_of : List (List ℕ) → Option Command
 command_of [] = None
-command_of (name ∷ rest) = asked_by name rest
+command_of (name ∷ rest) = option_and_then (λ c. c.asks rest) (command_word name)

@@ -1,5 +1,5 @@
 -- What the parser made of the words of a check.
-use Rattle.std.proofs.Common.{◌≡◌, ◌∙◌, ◌⊎◌, rules, List, Bool, true, false, codes, Option, Some, None, map, drop}
+use Rattle.std.proofs.Common.{◌≡◌, ◌∙◌, ◌⊎◌, List, Bool, true, false, codes, Option, Some, None, map, drop}
 use Rattle.std.proofs.Common.{arith, string_bytes, option_map, ap, ap₂, sym, subst}
 use Rattle.std.specs.Borrow.{Bor}
 use Rattle.std.proofs.lemmas.Grind.{common_steps}
