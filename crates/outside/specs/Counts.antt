@@ -1,9 +1,12 @@
 -- Counts that stop at the greatest u64.
 use Rattle.std.specs.Prelude.{◌≡◌, ℕ, ◌+◌, ◌-◌, ◌^◌, ◌<◌, ◌⊎◌, min}
 
--- one more, or the greatest u64
+-- so many more, or the greatest u64
+abbrev pub raised : ℕ → ℕ → ℕ
+raised n by = min (n + by) (2 ^ 64 - 1)
+
 abbrev pub one_more : ℕ → ℕ
-one_more n = min (n + 1) (2 ^ 64 - 1)
+one_more n = raised n 1
 
 -- A count rose in a call: it is greater after it, or stands at the greatest u64.
 abbrev pub Rose : ℕ → ℕ → Type 0

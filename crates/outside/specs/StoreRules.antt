@@ -1,8 +1,8 @@
--- What is said of a store: the files that it has, where it tells them, and its counts of faults and of fetches.
+-- What is said of a store: the files that it has, where it tells them, its count of faults, and what it was asked for.
 use Rattle.std.specs.Prelude.{◌≡◌, ⊤, ℕ, ◌≤◌, ◌<◌, List, length, Option, Some, None, option_map, bytes_eq, IsSome}
 use Rattle.std.specs.Prelude.{Result, Ok, Err}
 use Rattle.std.specs.List.{find}
-use Rattle.outside.specs.Counts.{one_more, Rose}
+use Rattle.outside.specs.Counts.{one_more, raised, Rose}
 use Rattle.outside.specs.declared.store.FetchFault.{FetchFault}
 use Rattle.outside.specs.declared.store.FetchFault.TheVariants.{Failed, TooLong, Memory}
 
@@ -11,11 +11,20 @@ pub record NamedBytes : Type 0 where
   pub name : List ℕ
   pub bytes : List ℕ
 
--- What contracts see of a store: its files, where it tells them, and its counts of faults and of fetches.
+-- What a store was asked for: how many files, and how many bytes they may have had at most, all of them together.
+pub record Asked : Type 0 where
+  pub fetches : ℕ
+  pub allowed : ℕ
+
+-- one file more, with at most so many bytes
+abbrev pub asked_for : ℕ → Asked → Asked
+asked_for limit asked = record { fetches = one_more asked.fetches; allowed = raised asked.allowed limit }
+
+-- What contracts see of a store: its files, where it tells them, its count of faults, and what it was asked for.
 pub record Input : Type 0 where
   pub files : Option (List NamedBytes)
   pub faults : ℕ
-  pub fetches : ℕ
+  pub asked : Asked
 
 -- the bytes of the file of this name
 abbrev pub bytes_of : List NamedBytes → List ℕ → Option (List ℕ)
@@ -28,9 +37,9 @@ CountsFault before now (Err Failed) = Rose before now
 CountsFault before now (Err TooLong) = now ≡ before
 CountsFault before now (Err Memory) = now ≡ before
 
--- What a fetch of a file does to a store.
-pub record Fetches {T : Type 0} (old new : Input) (name : List ℕ) (outcome : Result T FetchFault) : Type 0 where
-  pub counted : new.fetches ≡ one_more old.fetches
+-- What a fetch of a file with at most so many bytes does to a store.
+pub record Fetches {T : Type 0} (old new : Input) (name : List ℕ) (limit : ℕ) (outcome : Result T FetchFault) : Type 0 where
+  pub counted : new.asked ≡ asked_for limit old.asked
   -- the count of faults never falls
   pub later : old.faults ≤ new.faults
   pub cause : CountsFault old.faults new.faults outcome

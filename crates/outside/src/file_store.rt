@@ -99,17 +99,19 @@ fn read_opened<F: Read + Drop>(
 pub struct FileStore<R: Files + Drop> {
     system: R,
     fetches: u64,
+    allowed: u64,
     faults: u64,
 }
 
 impl<R: Files + Drop> FileStore<R> {
     /// A store that was asked for nothing and has met no fault.
     pub fn new(system: R) -> Self
-        ensures { (result.fetches ≡ 0) × (result.faults ≡ 0) }
+        ensures { (result.fetches ≡ 0) × (result.allowed ≡ 0) × (result.faults ≡ 0) }
     {
         FileStore {
             system,
             fetches: 0,
+            allowed: 0,
             faults: 0,
         }
     }
@@ -124,10 +126,15 @@ impl<R: Files + Drop> FileStore<R> {
 impl<R: Files + Drop> Store for FileStore<R> {
     ghost use Rattle.std.specs.Prelude.{None};
 
-    ghost input = { λ s. record { files = None; faults = s.faults; fetches = s.fetches } };
+    ghost input = { λ s. record {
+      files = None;
+      faults = s.faults;
+      asked = record { fetches = s.fetches; allowed = s.allowed };
+    } };
 
     fn fetch(&mut self, alloc: Global, name: &str, limit: u32) -> Result<Vec<u8>, FetchFault> {
         self.fetches = self.fetches.saturating_add(1);
+        self.allowed = self.allowed.saturating_add(u64::from(limit));
         let outcome = self.read(alloc, name, limit);
         if let Err(FetchFault::Failed) = &outcome {
             self.faults = self.faults.saturating_add(1);

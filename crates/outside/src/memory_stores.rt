@@ -28,12 +28,13 @@ fn give(alloc: Global, bytes: &[u8], limit: u32) -> Result<Vec<u8>, FetchFault>
 
 /// A store in memory that can fail: at the calls that are listed, and where a file is missing.
 ///
-/// Contracts see its files, the calls that are to fail, the number of calls and the count of faults.
+/// Contracts see its files, the calls that are to fail, the number of calls, the sum of their limits and the count of faults.
 #[derive(Drop)]
 pub struct MemStore {
     files: FileList,
     failing: CallList,
     calls: u64,
+    allowed: u64,
     faults: u64,
 }
 
@@ -42,18 +43,31 @@ impl Model for MemStore {
 
     ghost Value = { KeptFiles };
 
-    ghost view = { λ s. record { files = s.files; failing = s.failing; calls = s.calls; faults = s.faults } };
+    ghost view = { λ s. record {
+      files = s.files;
+      failing = s.failing;
+      calls = s.calls;
+      allowed = s.allowed;
+      faults = s.faults;
+    } };
 }
 
 impl MemStore {
     /// A store with these files, which fails at these calls.
     pub fn new(files: FileList, failing: CallList) -> MemStore
-        ensures { result ≡ record { files = files; failing = failing; calls = 0; faults = 0 } }
+        ensures { result ≡ record {
+          files = files;
+          failing = failing;
+          calls = 0;
+          allowed = 0;
+          faults = 0;
+        } }
     {
         MemStore {
             files,
             failing,
             calls: 0,
+            allowed: 0,
             faults: 0,
         }
     }
@@ -72,7 +86,8 @@ impl Store for MemStore {
     ghost input = { λ s. kept_input s };
 
     fn fetch(&mut self, alloc: Global, name: &str, limit: u32) -> Result<Vec<u8>, FetchFault>
-        ensures fetched { Fetches (kept_input self.old) (kept_input self.new) name.now result }
+        ensures fetched { Fetches (kept_input self.old) (kept_input self.new) name.now limit
+            result }
         ensures within { IfOk result (λ bytes. length bytes.items ≤ limit) }
         ensures file { IfOk result (λ bytes. IsFile
             (kept_input self.new).files name.now bytes.items) }
@@ -83,6 +98,7 @@ impl Store for MemStore {
         ensures after { self.new ≡ after_fetch self.old name.now limit }
     {
         self.calls = self.calls.saturating_add(1);
+        self.allowed = self.allowed.saturating_add(u64::from(limit));
         if self.failing.has(self.calls) {
             return Err(self.fail());
         }
@@ -95,12 +111,13 @@ impl Store for MemStore {
 
 /// A store in memory that never fails. Where a file is missing it gives an empty one, and no longer tells its files.
 ///
-/// Contracts see its files, whether it was asked for a missing one, and the number of calls.
+/// Contracts see its files, whether it was asked for a missing one, the number of calls and the sum of their limits.
 #[derive(Drop)]
 pub struct SureStore {
     files: FileList,
     strayed: bool,
     calls: u64,
+    allowed: u64,
 }
 
 impl Model for SureStore {
@@ -108,18 +125,24 @@ impl Model for SureStore {
 
     ghost Value = { SureFiles };
 
-    ghost view = { λ s. record { files = s.files; strayed = s.strayed; calls = s.calls } };
+    ghost view = { λ s. record {
+      files = s.files;
+      strayed = s.strayed;
+      calls = s.calls;
+      allowed = s.allowed;
+    } };
 }
 
 impl SureStore {
     /// A store with these files.
     pub fn new(files: FileList) -> SureStore
-        ensures { result ≡ record { files = files; strayed = false; calls = 0 } }
+        ensures { result ≡ record { files = files; strayed = false; calls = 0; allowed = 0 } }
     {
         SureStore {
             files,
             strayed: false,
             calls: 0,
+            allowed: 0,
         }
     }
 }
@@ -128,7 +151,8 @@ impl Store for SureStore {
     ghost input = { λ s. sure_input s };
 
     fn fetch(&mut self, alloc: Global, name: &str, limit: u32) -> Result<Vec<u8>, FetchFault>
-        ensures fetched { Fetches (sure_input self.old) (sure_input self.new) name.now result }
+        ensures fetched { Fetches (sure_input self.old) (sure_input self.new) name.now limit
+            result }
         ensures within { IfOk result (λ bytes. length bytes.items ≤ limit) }
         ensures file { IfOk result (λ bytes. IsFile
             (sure_input self.new).files name.now bytes.items) }
@@ -136,9 +160,10 @@ impl Store for SureStore {
         ensures given { IfOk result (λ bytes. sure_answer self.old name.now limit
             ≡ Gives bytes.items) }
         ensures refused { IsRefused (sure_answer self.old name.now limit) result }
-        ensures after { self.new ≡ after_sure_fetch self.old name.now }
+        ensures after { self.new ≡ after_sure_fetch self.old name.now limit }
     {
         self.calls = self.calls.saturating_add(1);
+        self.allowed = self.allowed.saturating_add(u64::from(limit));
         match self.files.bytes_of(name) {
             Some(bytes) => give(alloc, bytes, limit),
             None => {
