@@ -13,7 +13,7 @@ use Rattle.rack_run.specs.Seating.{kinds_of}
 use Rattle.rack_run.specs.Sockets.{shortage_of}
 use Rattle.rack_run.specs.Texts.{is_traced}
 use Rattle.rack_run.specs.declared.sockets.Shortage.{Shortage}
-use Rattle.report.specs.RefusalLines.{rack_line}
+use Rattle.report.specs.ErrorLines.{rack_line}
 use Rattle.channel_f.specs.Answers.{refusal, shortage_line, status_of, game_chain, game_run}
 use Rattle.channel_f.specs.Manners.{detail_of}
 use Rattle.channel_f.specs.SafeGames.{KeepsVerdict}

@@ -3,7 +3,7 @@ use Rattle.std.proofs.Common.{◌≡◌, List, [], ◌∷◌, refl}
 use Rattle.std.specs.Prelude.{codes}
 use Rattle.f8_spec.specs.ChipState.{ChipState}
 use Rattle.outside.specs.StoreRules.{NamedBytes}
-use Rattle.report.specs.RefusalLines.{words_line}
+use Rattle.report.specs.ErrorLines.{words_line}
 use Rattle.command_line.specs.CommandLine.{command_of}
 use Rattle.loader.specs.Work.{Gives}
 use Rattle.channel_f.specs.Answers.{Plain, due_of}

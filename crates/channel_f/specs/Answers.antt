@@ -13,7 +13,7 @@ use Rattle.rack_run.specs.Seating.{kinds_of, fitted_views}
 use Rattle.rack_run.specs.Sockets.{chain_of, shortage_of}
 use Rattle.rack_run.specs.declared.sockets.Shortage.{Shortage}
 use Rattle.report.specs.CheckLines.{whole_line, agreed_line, refused_line, toomany_line, notclosed_line, unsafe_line}
-use Rattle.report.specs.RefusalLines.{words_line, rack_line, sockets_line}
+use Rattle.report.specs.ErrorLines.{words_line, rack_line, sockets_line}
 use Rattle.cartridge.specs.declared.finish.Cart.{Cart}
 use Rattle.cart_checker.specs.Verdicts.{verdict_word, analysis_of}
 use Rattle.cart_checker.specs.declared.verdict.Verdict.{Verdict}

@@ -6,8 +6,8 @@ use Rattle.certificate.specs.Answers.{cause_number as cert_cause}
 use Rattle.f8_asm.specs.Answers.{cause_number as asm_cause}
 use Rattle.pad_script.specs.Answers.{cause_number as script_cause}
 use Rattle.chip_debug.specs.Answers.{cause_number as debug_cause}
-use Rattle.report.specs.declared.refusal_lines.Reader.TheVariants as reader
-use Rattle.report.specs.RefusalLines.{toml_line, cart_line, asm_line, reader_line, hex_line, long_line, store_line}
+use Rattle.report.specs.declared.error_lines.Reader.TheVariants as reader
+use Rattle.report.specs.ErrorLines.{toml_line, cart_line, asm_line, reader_line, hex_line, long_line, store_line}
 use Rattle.loader.specs.declared.purposes.Purpose.{Purpose}
 use Rattle.loader.specs.declared.purposes.Purpose.TheVariants as purpose
 use Rattle.loader.specs.declared.refusals.Refusal.{Refusal}

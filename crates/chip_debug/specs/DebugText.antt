@@ -3,7 +3,7 @@ use Rattle.std.specs.Prelude.{ℕ, List, [], ◌∷◌, ◌++◌, codes, decimal
 use Rattle.f8_spec.specs.Spelling.{hex2, hex4}
 use Rattle.f8_spec.specs.declared.bus.Counters.{Counters}
 use Rattle.f8_spec.specs.declared.chips.ChipKind.{ChipKind}
-use Rattle.report.specs.RefusalLines.{kind_text}
+use Rattle.report.specs.ErrorLines.{kind_text}
 
 -- power-on and reset are done
 unfoldable pub ready_line : List ℕ

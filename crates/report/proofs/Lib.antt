@@ -1,3 +1,3 @@
 pub mod TextLaws
-mod WorkedRefusals
+mod WorkedErrors
 mod WorkedVerdicts

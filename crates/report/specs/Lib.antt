@@ -1,2 +1,2 @@
-pub mod RefusalLines
+pub mod ErrorLines
 pub mod CheckLines

@@ -5,7 +5,7 @@ ghost use Rattle.report.specs.CheckLines.{whole_line as spelled_whole, agreed_li
 ghost use Rattle.report.specs.CheckLines.{refused_line as spelled_refused, toomany_line as spelled_toomany};
 ghost use Rattle.report.specs.CheckLines.{origin_text, point_in, notclosed_line as spelled_notclosed, unsafe_line as spelled_unsafe};
 
-use super::line_buffer::Line;
+use super::line_buffer::{LINE_ROOM, Line};
 use abs_domain::{Point, Reason};
 use cartridge::Split;
 
@@ -35,7 +35,7 @@ pub fn agreed_line(points: u32) -> Line
 
 /// The return in four hexadecimal digits, or dashes where it is unset.
 fn write_return(line: &mut Line, ret: Option<u16>)
-    requires { length line.old + 4 ≤ 512 }
+    requires { length line.old + 4 ≤ LINE_ROOM }
     ensures text { line.new ≡ line.old ++ return_text ret }
     ensures len { length line.new ≡ length line.old + 4 }
 {
@@ -47,7 +47,7 @@ fn write_return(line: &mut Line, ret: Option<u16>)
 
 /// The byte in a tracked register, or dashes where it is unset.
 fn write_value(line: &mut Line, value: Option<u8>)
-    requires { length line.old + 2 ≤ 512 }
+    requires { length line.old + 2 ≤ LINE_ROOM }
     ensures text { line.new ≡ line.old ++ value_text value }
     ensures len { length line.new ≡ length line.old + 2 }
 {
@@ -60,7 +60,7 @@ fn write_value(line: &mut Line, value: Option<u8>)
 /// The bytes of all tracked registers, at most 8, with commas between, or a full stop where none is tracked.
 fn write_values(line: &mut Line, values: &[Option<u8>])
     requires few { length values.now ≤ 8 }
-    requires room { length line.old + 23 ≤ 512 }
+    requires room { length line.old + 23 ≤ LINE_ROOM }
     ensures text { line.new ≡ line.old ++ values_text values.now }
     ensures len { length line.new ≤ length line.old + 23 }
 {
@@ -79,7 +79,7 @@ fn write_values(line: &mut Line, values: &[Option<u8>])
 /// A point by its address, its return and the bytes of the tracked registers.
 #[tactic(auto, unfolding(crate::specs::CheckLines::point_text))]
 fn write_point(line: &mut Line, point: &Point, split: &Split)
-    requires { length line.old + 33 ≤ 512 }
+    requires { length line.old + 33 ≤ LINE_ROOM }
     ensures text { line.new ≡ line.old ++ point_text split.now point.now }
     ensures len { length line.new ≤ length line.old + 33 }
 {
@@ -117,7 +117,7 @@ pub fn toomany_line() -> Line
 
 /// Where states come from: a point, or the start of a run.
 fn write_origin(line: &mut Line, from: Option<&Point>, split: &Split)
-    requires { length line.old + 33 ≤ 512 }
+    requires { length line.old + 33 ≤ LINE_ROOM }
     ensures text { line.new ≡ line.old ++ origin_text split.now (point_in from.entry) }
     ensures len { length line.new ≤ length line.old + 33 }
 {

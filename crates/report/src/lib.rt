@@ -1,11 +1,11 @@
-//! The lines that the program tells a run and its refusals by (this project's own), each on a buffer of its own, so that no writer takes
+//! The lines that the program tells runs, verdicts and errors by (this project's own), each on a buffer of its own, so that no writer takes
 //! memory. Every line is ASCII and ends with a line feed; numbers are decimal without leading zeros, or have a fixed number of
 //! hexadecimal capitals.
 #![tactic(auto)]
 
 mod check_lines;
 mod line_buffer;
-mod refusal_lines;
+mod error_lines;
 mod run_lines;
 #[cfg(test)]
 mod tests;
@@ -16,7 +16,7 @@ pub use check_lines::{
 };
 pub use console_spec::VerdictWord;
 pub use line_buffer::{LINE_ROOM, Line};
-pub use refusal_lines::{
+pub use error_lines::{
     Reader, error_asm, error_cart, error_hex, error_long, error_rack, error_reader, error_sockets,
     error_store, error_toml, error_words, kind_text,
 };

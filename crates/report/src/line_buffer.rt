@@ -18,12 +18,13 @@ pub struct Line {
 
 impl Model for Line {
     ghost use Rattle.std.specs.Prelude.{ℕ, List, ◌≡◌, ◌≤◌, take, length};
+    ghost use Rattle.report.specs.declared.line_buffer.TheConstants.{LINE_ROOM};
 
     ghost Value = { List ℕ };
 
     ghost view = { λ l. take l.len l.bytes };
 
-    ghost invariant = { λ l. (l.len ≤ 512) × (length l.bytes ≡ 512) };
+    ghost invariant = { λ l. (l.len ≤ LINE_ROOM) × (length l.bytes ≡ LINE_ROOM) };
 }
 
 impl Line {
@@ -37,17 +38,17 @@ impl Line {
         }
     }
 
-    /// The bytes so far, at most 512.
+    /// The bytes so far, at most [`LINE_ROOM`].
     pub fn as_bytes(&self) -> &[u8]
         ensures value { result.now ≡ self.now }
-        ensures room { length result.now ≤ 512 }
+        ensures room { length result.now ≤ LINE_ROOM }
     {
         &self.bytes[..self.len]
     }
 
     /// Writes a byte at the end.
     pub fn byte(&mut self, byte: u8)
-        requires { length self.old < 512 }
+        requires { length self.old < LINE_ROOM }
         ensures text { self.new ≡ self.old ++ byte ∷ [] }
         ensures len { length self.new ≡ length self.old + 1 }
     {
@@ -62,7 +63,7 @@ impl Line {
 
     /// Writes a text at the end.
     pub fn text(&mut self, text: &[u8])
-        requires { length self.old + length text.now ≤ 512 }
+        requires { length self.old + length text.now ≤ LINE_ROOM }
         ensures text { self.new ≡ self.old ++ text.now }
         ensures len { length self.new ≡ length self.old + length text.now }
     {
@@ -73,7 +74,7 @@ impl Line {
 
     /// Writes a byte as two hexadecimal digits.
     pub fn hex2(&mut self, byte: u8)
-        requires { length self.old + 2 ≤ 512 }
+        requires { length self.old + 2 ≤ LINE_ROOM }
         ensures text { self.new ≡ self.old ++ spelled_hex2 byte }
         ensures len { length self.new ≡ length self.old + 2 }
     {
@@ -84,7 +85,7 @@ impl Line {
 
     /// Writes an address as four hexadecimal digits.
     pub fn hex4(&mut self, at: u16)
-        requires { length self.old + 4 ≤ 512 }
+        requires { length self.old + 4 ≤ LINE_ROOM }
         ensures text { self.new ≡ self.old ++ spelled_hex4 at }
         ensures len { length self.new ≡ length self.old + 4 }
     {
@@ -95,7 +96,7 @@ impl Line {
     /// Writes a number below 64 as two octal digits.
     pub fn octal2(&mut self, number: u8)
         requires small { number < 64 }
-        requires room { length self.old + 2 ≤ 512 }
+        requires room { length self.old + 2 ≤ LINE_ROOM }
         ensures text { self.new ≡ self.old ++ spelled_octal2 number }
         ensures len { length self.new ≡ length self.old + 2 }
     {
@@ -105,7 +106,7 @@ impl Line {
 
     /// Writes a number in decimal digits, at most 20.
     pub fn decimal(&mut self, number: u64)
-        requires { length self.old + 20 ≤ 512 }
+        requires { length self.old + 20 ≤ LINE_ROOM }
         ensures text { self.new ≡ self.old ++ decimal number }
         ensures len { length self.new ≤ length self.old + 20 }
     {
@@ -115,7 +116,7 @@ impl Line {
 
     /// Writes a number below 256 in decimal digits, at most three.
     pub fn small(&mut self, number: u8)
-        requires { length self.old + 3 ≤ 512 }
+        requires { length self.old + 3 ≤ LINE_ROOM }
         ensures text { self.new ≡ self.old ++ decimal number }
         ensures len { length self.new ≤ length self.old + 3 }
     {
@@ -125,7 +126,7 @@ impl Line {
 
     /// Writes a signed number in decimal digits, behind `-` where it's negative: at most 20 characters.
     pub fn signed(&mut self, number: i64)
-        requires { length self.old + 20 ≤ 512 }
+        requires { length self.old + 20 ≤ LINE_ROOM }
         ensures text { self.new ≡ self.old ++ signed_decimal number }
         ensures len { length self.new ≤ length self.old + 20 }
     {

@@ -5,7 +5,7 @@ ghost use Rattle.console_spec.specs.declared.PortWrite.{PortWrite};
 ghost use Rattle.f8_machine.specs.HeardSteps.{step_of};
 ghost use Rattle.video.specs.ScreenState.{pixel_in, digits_in, screen_after};
 
-use super::line_buffer::Line;
+use super::line_buffer::{LINE_ROOM, Line};
 use console_board::{PortWrite, Screen};
 use console_spec::Who;
 use f8_machine::Heard;
@@ -21,7 +21,7 @@ fn length_text(long: bool) -> &'static [u8]
 
 /// Writes `cpu`, the number of a socket, or `-`.
 fn write_who(line: &mut Line, who: Who)
-    requires { length line.old + 3 ≤ 512 }
+    requires { length line.old + 3 ≤ LINE_ROOM }
     ensures text { line.new ≡ line.old ++ spelled_who who }
     ensures len { length line.new ≤ length line.old + 3 }
 {

@@ -1,14 +1,14 @@
-// The lines of refusals.
+// The `error` lines: why a command got nothing of its words, its files or its rack.
 ghost use Rattle.std.specs.Prelude.{◌≡◌, ◌+◌, ◌≤◌, ◌++◌, length, IsTrue};
 ghost use Rattle.std.specs.List.{list_all};
 ghost use Rattle.text_lines.specs.Printable.{is_printable};
-ghost use Rattle.report.specs.RefusalLines.{words_line as spelled_words, toml_line as spelled_toml, hex_line as spelled_hex, long_line as spelled_long, store_line as spelled_store, number_text, chip_text, cart_line as spelled_cart, source_text, asm_line as spelled_asm, reader_text as spelled_reader_text, reader_line as spelled_reader, rack_line as spelled_rack, sockets_line as spelled_sockets, kind_text as spelled_kind};
+ghost use Rattle.report.specs.ErrorLines.{words_line as spelled_words, toml_line as spelled_toml, hex_line as spelled_hex, long_line as spelled_long, store_line as spelled_store, number_text, chip_text, cart_line as spelled_cart, source_text, asm_line as spelled_asm, reader_text as spelled_reader_text, reader_line as spelled_reader, rack_line as spelled_rack, sockets_line as spelled_sockets, kind_text as spelled_kind};
 
-use super::line_buffer::Line;
+use super::line_buffer::{LINE_ROOM, Line};
 use f8_spec::ChipKind;
 
 /// `error words`: the words are none of those that the program knows.
-#[tactic(auto, unfolding(crate::specs::RefusalLines::words_line))]
+#[tactic(auto, unfolding(crate::specs::ErrorLines::words_line))]
 pub fn error_words() -> Line
     ensures { result ≡ spelled_words }
 {
@@ -18,7 +18,7 @@ pub fn error_words() -> Line
 }
 
 /// `error cart toml`: the description of the cartridge isn't TOML.
-#[tactic(auto, unfolding(crate::specs::RefusalLines::toml_line))]
+#[tactic(auto, unfolding(crate::specs::ErrorLines::toml_line))]
 pub fn error_toml() -> Line
     ensures { result ≡ spelled_toml }
 {
@@ -28,7 +28,7 @@ pub fn error_toml() -> Line
 }
 
 /// `error hex`: a file isn't the hexadecimal digits that it has to be.
-#[tactic(auto, unfolding(crate::specs::RefusalLines::hex_line))]
+#[tactic(auto, unfolding(crate::specs::ErrorLines::hex_line))]
 pub fn error_hex() -> Line
     ensures { result ≡ spelled_hex }
 {
@@ -39,7 +39,7 @@ pub fn error_hex() -> Line
 
 /// A blank and the number, if there is one.
 fn write_number(line: &mut Line, number: Option<u8>)
-    requires { length line.old + 4 ≤ 512 }
+    requires { length line.old + 4 ≤ LINE_ROOM }
     ensures text { line.new ≡ line.old ++ number_text number }
     ensures len { length line.new ≤ length line.old + 4 }
 {
@@ -50,7 +50,7 @@ fn write_number(line: &mut Line, number: Option<u8>)
 }
 
 /// `error long`: the file that this word and number name is too long. The word has at most 16 characters of printable ASCII.
-#[tactic(auto, unfolding(crate::specs::RefusalLines::long_line))]
+#[tactic(auto, unfolding(crate::specs::ErrorLines::long_line))]
 pub fn error_long(what: &str, number: Option<u8>) -> Line
     requires short { length what.now ≤ 16 }
     requires printable { IsTrue (list_all is_printable what.now) }
@@ -65,7 +65,7 @@ pub fn error_long(what: &str, number: Option<u8>) -> Line
 }
 
 /// `error store`: the file that this word and number name couldn't be read. The word has at most 16 characters of printable ASCII.
-#[tactic(auto, unfolding(crate::specs::RefusalLines::store_line))]
+#[tactic(auto, unfolding(crate::specs::ErrorLines::store_line))]
 pub fn error_store(what: &str, number: Option<u8>) -> Line
     requires short { length what.now ≤ 16 }
     requires printable { IsTrue (list_all is_printable what.now) }
@@ -81,7 +81,7 @@ pub fn error_store(what: &str, number: Option<u8>) -> Line
 
 /// The word `chip` and the chip's number, if there is one.
 fn write_chip(line: &mut Line, chip: Option<u8>)
-    requires { length line.old + 9 ≤ 512 }
+    requires { length line.old + 9 ≤ LINE_ROOM }
     ensures text { line.new ≡ line.old ++ chip_text chip }
     ensures len { length line.new ≤ length line.old + 9 }
 {
@@ -93,7 +93,7 @@ fn write_chip(line: &mut Line, chip: Option<u8>)
 
 /// `error cart`: the description of the cartridge is at fault at this key of this chip, or at its top, with the number of the cause. The
 /// key has at most 16 characters of printable ASCII.
-#[tactic(auto, unfolding(crate::specs::RefusalLines::cart_line))]
+#[tactic(auto, unfolding(crate::specs::ErrorLines::cart_line))]
 pub fn error_cart(chip: Option<u8>, key: &str, cause: u8) -> Line
     requires short { length key.now ≤ 16 }
     requires printable { IsTrue (list_all is_printable key.now) }
@@ -112,7 +112,7 @@ pub fn error_cart(chip: Option<u8>, key: &str, cause: u8) -> Line
 
 /// The word `source` and the source's number, or the word `file`.
 fn write_source(line: &mut Line, source: Option<u8>)
-    requires { length line.old + 11 ≤ 512 }
+    requires { length line.old + 11 ≤ LINE_ROOM }
     ensures text { line.new ≡ line.old ++ source_text source }
     ensures len { length line.new ≤ length line.old + 11 }
 {
@@ -127,7 +127,7 @@ fn write_source(line: &mut Line, source: Option<u8>)
 
 /// `error asm`: the source of a cartridge that has this number, or with `None` the one file that was given, can't be assembled: the place
 /// of its first fault, and the number of the cause. Lines and columns are told as they are passed, so counted from 1.
-#[tactic(auto, unfolding(crate::specs::RefusalLines::asm_line))]
+#[tactic(auto, unfolding(crate::specs::ErrorLines::asm_line))]
 pub fn error_asm(source: Option<u8>, line: u32, column: u32, cause: u8) -> Line
     ensures { result ≡ spelled_asm source line column cause }
 {
@@ -168,7 +168,7 @@ fn reader_text(reader: Reader) -> &'static [u8]
 
 /// `error script`, `error cert` and `error debug`: a text is at fault at this line, with the number of the cause. The line is told as it is
 /// passed, so counted from 1.
-#[tactic(auto, unfolding(crate::specs::RefusalLines::reader_line))]
+#[tactic(auto, unfolding(crate::specs::ErrorLines::reader_line))]
 pub fn error_reader(reader: Reader, line: u32, cause: u8) -> Line
     ensures { result ≡ spelled_reader reader line cause }
 {
@@ -184,7 +184,7 @@ pub fn error_reader(reader: Reader, line: u32, cause: u8) -> Line
 }
 
 /// `error rack`: the rack has so many chips, which are more than 16.
-#[tactic(auto, unfolding(crate::specs::RefusalLines::rack_line))]
+#[tactic(auto, unfolding(crate::specs::ErrorLines::rack_line))]
 pub fn error_rack(count: u64) -> Line
     ensures { result ≡ spelled_rack count }
 {
@@ -208,7 +208,7 @@ pub fn kind_text(kind: ChipKind) -> &'static [u8]
 }
 
 /// `error sockets`: the rack has too few sockets for the chips of a kind: how many are needed, and how many it has.
-#[tactic(auto, unfolding(crate::specs::RefusalLines::sockets_line))]
+#[tactic(auto, unfolding(crate::specs::ErrorLines::sockets_line))]
 pub fn error_sockets(kind: ChipKind, need: u8, have: u8) -> Line
     ensures { result ≡ spelled_sockets kind need have }
 {

@@ -1,9 +1,9 @@
--- The lines of refusals, as bytes. Every line ends with a line feed, and numbers are decimal.
+-- The `error` lines, as bytes. Every line ends with a line feed, and numbers are decimal.
 use Rattle.std.specs.Prelude.{ℕ, List, [], ◌++◌, codes, decimal, Option, Some, None}
 use Rattle.f8_spec.specs.declared.chips.ChipKind.{ChipKind}
 use Rattle.f8_spec.specs.declared.chips.ChipKind.TheVariants.{Psu, Smi, Pio}
-use Rattle.report.specs.declared.refusal_lines.Reader.{Reader}
-use Rattle.report.specs.declared.refusal_lines.Reader.TheVariants.{Script, Cert, Debug}
+use Rattle.report.specs.declared.error_lines.Reader.{Reader}
+use Rattle.report.specs.declared.error_lines.Reader.TheVariants.{Script, Cert, Debug}
 
 -- ---- words, and files as a whole
 

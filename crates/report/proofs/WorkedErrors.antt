@@ -1,10 +1,10 @@
--- Lines of refusals worked out by hand, computed from the definitions.
+-- `error` lines worked out by hand, computed from the definitions.
 use Rattle.std.proofs.Common.{◌≡◌, Some, None, refl}
 use Rattle.std.specs.Prelude.{codes}
 use Rattle.std.specs.Fmt.{digits}
 use Rattle.f8_spec.specs.declared.chips.ChipKind.TheVariants.{Psu, Smi, Pio}
-use Rattle.report.specs.RefusalLines.{asm_line, cart_line, long_line, reader_line, sockets_line, store_line}
-use Rattle.report.specs.declared.refusal_lines.Reader.TheVariants.{Script}
+use Rattle.report.specs.ErrorLines.{asm_line, cart_line, long_line, reader_line, sockets_line, store_line}
+use Rattle.report.specs.declared.error_lines.Reader.TheVariants.{Script}
 
 base_off_its_boundary : cart_line (Some 0) (codes "base") 5 ≡ codes "error cart chip 0 key base cause 5\n"
 unfolding cart_line digits
