@@ -1,12 +1,12 @@
 -- Works one after another.
 use Rattle.std.proofs.Common.{◌≡◌, ℕ, zero, suc, ◌+◌, ◌<◌, ◌≤◌, ◌⊎◌, inl, inr, List, [], ◌∷◌, ◌++◌, length, slice_get}
 use Rattle.std.proofs.Common.{Option, Some, None, Result, Ok, Err, true, false, refl, sym, ap, ◌∙◌, subst, arith}
-use Rattle.std.proofs.Common.{length-append}
+use Rattle.std.proofs.lemmas.List.{append_assoc}
 use Rattle.std.proofs.lemmas.Bool.{le-leb}
 use Rattle.std.proofs.lemmas.Bool.Decides.{leb_tells}
 use Rattle.std.specs.Prelude.{nat_le, if◌then◌else◌, IsSome}
-use Rattle.outside.specs.Counts.{one_more, Rose}
-use Rattle.outside.specs.StoreRules.{NamedBytes, Input, CountsFault, Fetches, IsFile, IsLong, WhereLong, bytes_of}
+use Rattle.outside.specs.Counts.{Rose}
+use Rattle.outside.specs.StoreRules.{NamedBytes, Asked, asked_for, Input, CountsFault, Fetches, IsFile, IsLong, WhereLong, bytes_of}
 use Rattle.outside.specs.declared.store.FetchFault.{FetchFault}
 use Rattle.outside.specs.declared.store.FetchFault.TheVariants as fetch
 use Rattle.loader.specs.declared.purposes.Purpose.{Purpose}
@@ -16,18 +16,17 @@ use Rattle.loader.specs.declared.refusals.Stop.{Stop}
 use Rattle.loader.specs.declared.refusals.Stop.TheVariants.{Refused, Store, Memory}
 use Rattle.loader.specs.Work.{Ask, End, Gives, Refuses, Lacks, Course, Work, gives, reads, end_of, end_for, ask}
 use Rattle.loader.specs.Work.{course_behind, ◌>>=◌}
-use Rattle.loader.specs.Works.{more, IsOutcomeOf, StoreFails, order_of, file_of, RefusesFrom, Misses}
+use Rattle.loader.specs.Works.{after_asking, AsksAll, IsOutcomeOf, StoreFails, order_of, file_of, RefusesFrom, Misses}
 use Rattle.loader.specs.Works.{RefusesBy}
 use Rattle.loader.specs.Works.{HasFiles, Works, outcome_as}
 use Rattle.loader.specs.Readings.{Says}
 
 -- ---- counts
 
-more_behind : (n a b : ℕ) → more (more n a) b ≡ more n (a + b)
-more_behind n a zero = let e : a ≡ a + 0 = omega arith in ap (more n) e
-more_behind n a (suc b) =
-    let e : suc (a + b) ≡ a + suc b = omega arith in
-    ap one_more (more_behind n a b) ∙ ap (more n) e
+asked_behind : (asked : Asked) (asks later : List Ask) →
+    after_asking later (after_asking asks asked) ≡ after_asking (asks ++ later) asked
+asked_behind asked [] later = refl
+asked_behind asked (ask ∷ asks) later = asked_behind (asked_for ask.limit asked) asks later
 
 -- ---- without a file
 
@@ -57,7 +56,7 @@ works_unread now read r e = record {
 pub works_memory : {A : Type 0} (now : Input) (work : Work A) → Works now now work (Err Memory)
 works_memory now work = record {
   same = λ files e. e;
-  follows = λ files e. record { count = 0; few = omega arith; fetches = refl };
+  follows = λ files e. record { first = []; rest = (work files).asks; are = refl; fetches = refl };
   telling = λ files e has. e;
   refused = λ files e. tt;
   fails = refl;
@@ -92,11 +91,11 @@ module _ (old new : Input) (purpose : Purpose) (name : List ℕ) (limit : ℕ) w
   abbrev asked : Ask
   asked = record { purpose = purpose; name = name; limit = limit }
 
-  telling : {T : Type 0} (outcome : Result T FetchFault) → Fetches old new name outcome → (files : List NamedBytes) →
+  telling : {T : Type 0} (outcome : Result T FetchFault) → Fetches old new name limit outcome → (files : List NamedBytes) →
       old.files ≡ Some files → HasFiles (ask purpose name limit files).end → new.files ≡ Some files
   telling outcome fetches files e has = fetches.here files e (found_has (bytes_of files name) has)
 
-  pub ask_ok : {T : Type 0} (outcome : Result T FetchFault) (bytes : List ℕ) → Fetches old new name outcome →
+  pub ask_ok : {T : Type 0} (outcome : Result T FetchFault) (bytes : List ℕ) → Fetches old new name limit outcome →
       new.faults ≡ old.faults → IsFile new.files name bytes → length bytes ≤ limit →
       Works old new (ask purpose name limit) (Ok bytes)
   ask_ok outcome bytes fetches faults file within = record {
@@ -109,23 +108,24 @@ module _ (old new : Input) (purpose : Purpose) (name : List ℕ) (limit : ℕ) w
     fails = faults;
   }
 
-  pub ask_failed : {T : Type 0} (outcome : Result T FetchFault) → Fetches old new name outcome →
+  pub ask_failed : {T : Type 0} (outcome : Result T FetchFault) → Fetches old new name limit outcome →
       Rose old.faults new.faults →
       Works old new (ask purpose name limit) (Err (Store purpose))
   ask_failed outcome fetches rose = record {
     same = fetches.same;
-    follows = λ files e. record { place = 0; ask = asked; here = refl; said = refl; fetches = fetches.counted };
+    follows = λ files e.
+        record { before = []; ask = asked; rest = []; are = refl; said = refl; fetches = fetches.counted };
     telling = telling outcome fetches;
     refused = λ files e. tt;
     fails = rose;
   }
 
-  pub ask_memory : {T : Type 0} (outcome : Result T FetchFault) → Fetches old new name outcome →
+  pub ask_memory : {T : Type 0} (outcome : Result T FetchFault) → Fetches old new name limit outcome →
       new.faults ≡ old.faults →
       Works old new (ask purpose name limit) (Err Memory)
   ask_memory outcome fetches faults = record {
     same = fetches.same;
-    follows = λ files e. record { count = 1; few = omega arith; fetches = fetches.counted };
+    follows = λ files e. record { first = asked ∷ []; rest = []; are = refl; fetches = fetches.counted };
     telling = telling outcome fetches;
     refused = λ files e. tt;
     fails = faults;
@@ -144,7 +144,7 @@ module _ (old new : Input) (purpose : Purpose) (name : List ℕ) (limit : ℕ) w
   refused_here files None is long =
       inr (record { place = 0; ask = asked; here = refl; early = omega arith; missing = is })
 
-  pub ask_long : {T : Type 0} (outcome : Result T FetchFault) → Fetches old new name outcome → new.faults ≡ old.faults →
+  pub ask_long : {T : Type 0} (outcome : Result T FetchFault) → Fetches old new name limit outcome → new.faults ≡ old.faults →
       IsLong new.files name limit → Works old new (ask purpose name limit) (Err (Refused (Long purpose)))
   ask_long outcome fetches faults long = record {
     same = fetches.same;
@@ -155,7 +155,7 @@ module _ (old new : Input) (purpose : Purpose) (name : List ℕ) (limit : ℕ) w
     fails = faults;
   }
 
--- what a failed fetch says, and one of a file that is too long
+-- what a failed fetch says, one of a file that is too long, and one for which memory was wanting
 pub failed_rose : {T : Type 0} (before now : ℕ) (outcome : Result T FetchFault) → outcome ≡ Err fetch.Failed →
     CountsFault before now outcome → Rose before now
 failed_rose {T = T} before now outcome e counts = subst (λ (o : Result T FetchFault). CountsFault before now o) e counts
@@ -163,6 +163,10 @@ failed_rose {T = T} before now outcome e counts = subst (λ (o : Result T FetchF
 pub long_stays : {T : Type 0} (before now : ℕ) (outcome : Result T FetchFault) → outcome ≡ Err fetch.TooLong →
     CountsFault before now outcome → now ≡ before
 long_stays {T = T} before now outcome e counts = subst (λ (o : Result T FetchFault). CountsFault before now o) e counts
+
+pub memory_stays : {T : Type 0} (before now : ℕ) (outcome : Result T FetchFault) → outcome ≡ Err fetch.Memory →
+    CountsFault before now outcome → now ≡ before
+memory_stays {T = T} before now outcome e counts = subst (λ (o : Result T FetchFault). CountsFault before now o) e counts
 
 pub long_said : {T : Type 0} (outcome : Result T FetchFault) (Said : Type 0) → outcome ≡ Err fetch.TooLong →
     WhereLong outcome Said → Said
@@ -188,9 +192,6 @@ in_either P [] ys first second i z here = second i z here
 in_either P (x ∷ xs) ys first second zero z here = first zero z here
 in_either P (x ∷ xs) ys first second (suc i) z here =
     in_either P xs ys (λ j y there. first (suc j) y there) second i z here
-
-one_behind : (n place : ℕ) → (n + place) + 1 ≡ n + (place + 1)
-one_behind n place = omega arith
 
 misses_before : (files : List NamedBytes) (asks later : List Ask) (order : ℕ) → Misses files asks order →
     Misses files (asks ++ later) order
@@ -309,43 +310,41 @@ ordered_then {A = A} {B = B} last work f first second = record {
 
 -- ---- one after another
 
-all_behind : (a b c : Input) (asks later : List Ask) → b.fetches ≡ more a.fetches (length asks) →
-    c.fetches ≡ more b.fetches (length later) → c.fetches ≡ more a.fetches (length (asks ++ later))
-all_behind a b c asks later count all =
-    all
-    ∙ ap (λ (n : ℕ). more n (length later)) count
-    ∙ more_behind a.fetches (length asks) (length later)
-    ∙ ap (more a.fetches) (sym (length-append asks later))
+all_behind : (a b c : Input) (asks later : List Ask) → AsksAll a b asks → AsksAll b c later → AsksAll a c (asks ++ later)
+all_behind a b c asks later first second =
+    second
+    ∙ ap (λ (asked : Asked). after_asking later asked) first
+    ∙ asked_behind a.asked asks later
+
+-- a list that is split stays so behind another one, and before it
+split_behind : (asks later first rest : List Ask) → later ≡ first ++ rest → asks ++ later ≡ (asks ++ first) ++ rest
+split_behind asks later first rest are = ap (λ (l : List Ask). asks ++ l) are ∙ sym (append_assoc asks first rest)
+
+split_before : (asks later first rest : List Ask) → asks ≡ first ++ rest → asks ++ later ≡ first ++ (rest ++ later)
+split_before asks later first rest are = ap (λ (l : List Ask). l ++ later) are ∙ append_assoc first rest later
 
 follows_behind : {B : Type 0} (a b c : Input) (asks : List Ask) (course : Course B) (outcome : Result B Stop) →
-    b.fetches ≡ more a.fetches (length asks) → IsOutcomeOf b c course outcome →
+    AsksAll a b asks → IsOutcomeOf b c course outcome →
     IsOutcomeOf a c (record { asks = asks ++ course.asks; end = course.end }) outcome
-follows_behind a b c asks course (Ok x) count follows =
-    (follows.0, all_behind a b c asks course.asks count follows.1)
-follows_behind a b c asks course (Err (Refused refusal)) count follows =
-    (follows.0, all_behind a b c asks course.asks count follows.1)
-follows_behind a b c asks course (Err (Store purpose)) count follows = record {
-  place = length asks + follows.place;
+follows_behind a b c asks course (Ok x) first follows = (follows.0, all_behind a b c asks course.asks first follows.1)
+follows_behind a b c asks course (Err (Refused refusal)) first follows =
+    (follows.0, all_behind a b c asks course.asks first follows.1)
+follows_behind a b c asks course (Err (Store purpose)) first follows = record {
+  before = asks ++ follows.before;
   ask = follows.ask;
-  here = get_behind asks course.asks follows.place ∙ follows.here;
+  rest = follows.rest;
+  are = split_behind asks course.asks follows.before (follows.ask ∷ follows.rest) follows.are;
   said = follows.said;
   fetches =
-      follows.fetches
-      ∙ ap (λ (n : ℕ). more n (follows.place + 1)) count
-      ∙ more_behind a.fetches (length asks) (follows.place + 1)
-      ∙ ap (more a.fetches) (sym (one_behind (length asks) follows.place));
+      all_behind a b c asks (follows.before ++ follows.ask ∷ []) first follows.fetches
+      ∙ ap (λ (l : List Ask). after_asking l a.asked) (sym (append_assoc asks follows.before (follows.ask ∷ [])));
 }
-follows_behind a b c asks course (Err Memory) count follows =
-    let few = follows.few in
-    let size = length-append asks course.asks in
-    record {
-      count = length asks + follows.count;
-      few = omega (arith, few, size);
-      fetches =
-          follows.fetches
-          ∙ ap (λ (n : ℕ). more n follows.count) count
-          ∙ more_behind a.fetches (length asks) follows.count;
-    }
+follows_behind a b c asks course (Err Memory) first follows = record {
+  first = asks ++ follows.first;
+  rest = follows.rest;
+  are = split_behind asks course.asks follows.first follows.rest follows.are;
+  fetches = all_behind a b c asks follows.first first follows.fetches;
+}
 
 has_first : {A B : Type 0} (asks : List Ask) (end : End A) (f : A → Course B) →
     HasFiles (course_behind asks end f).end →
@@ -439,18 +438,21 @@ stops_first : {A B : Type 0} (old new : Input) (asks : List Ask) (end : End A) (
     IsOutcomeOf old new (course_behind asks end f) (Err stop)
 stops_first old new asks end f (Refused refusal) follows = rw follows.0 (refl, follows.1)
 stops_first old new asks (Gives x) f (Store purpose) follows = record {
-  place = follows.place;
+  before = follows.before;
   ask = follows.ask;
-  here = get_before asks (f x).asks follows.place follows.ask follows.here;
+  rest = follows.rest ++ (f x).asks;
+  are = split_before asks (f x).asks follows.before (follows.ask ∷ follows.rest) follows.are;
   said = follows.said;
   fetches = follows.fetches;
 }
 stops_first old new asks (Refuses refusal) f (Store purpose) follows = follows
 stops_first old new asks Lacks f (Store purpose) follows = follows
-stops_first old new asks (Gives x) f Memory follows =
-    let few = follows.few in
-    let size = length-append asks (f x).asks in
-    record { count = follows.count; few = omega (arith, few, size); fetches = follows.fetches }
+stops_first old new asks (Gives x) f Memory follows = record {
+  first = follows.first;
+  rest = follows.rest ++ (f x).asks;
+  are = split_before asks (f x).asks follows.first follows.rest follows.are;
+  fetches = follows.fetches;
+}
 stops_first old new asks (Refuses refusal) f Memory follows = follows
 stops_first old new asks Lacks f Memory follows = follows
 

@@ -1,8 +1,8 @@
 -- What a call says that does a work over a store, of which contracts see the input, old and new.
-use Rattle.std.specs.Prelude.{◌≡◌, ℕ, zero, suc, ◌+◌, ◌^◌, ◌≤◌, ◌⊎◌, List, length, slice_get}
+use Rattle.std.specs.Prelude.{◌≡◌, ℕ, ◌+◌, ◌^◌, ◌≤◌, ◌⊎◌, List, [], ◌∷◌, ◌++◌, slice_get}
 use Rattle.std.specs.Prelude.{Option, Some, None, Result, Ok, Err}
-use Rattle.outside.specs.Counts.{one_more, Rose}
-use Rattle.outside.specs.StoreRules.{NamedBytes, Input, bytes_of}
+use Rattle.outside.specs.Counts.{Rose}
+use Rattle.outside.specs.StoreRules.{NamedBytes, Asked, asked_for, Input, bytes_of}
 use Rattle.loader.specs.declared.purposes.Purpose.{Purpose}
 use Rattle.loader.specs.declared.purposes.Purpose.TheVariants as purpose
 use Rattle.loader.specs.declared.refusals.Refusal.{Refusal}
@@ -11,29 +11,32 @@ use Rattle.loader.specs.declared.refusals.Stop.{Stop}
 use Rattle.loader.specs.declared.refusals.Stop.TheVariants.{Refused, Store, Memory}
 use Rattle.loader.specs.Work.{Ask, End, Gives, Refuses, Lacks, Course, Work}
 
--- ---- how many files were asked for
+-- ---- how many files were asked for, and how long they may have been
 
--- one more so many times, or the greatest u64
-abbrev pub more : ℕ → ℕ → ℕ
-more n zero = n
-more n (suc by) = one_more (more n by)
+-- what a store was asked for once it was asked for these files, each with its limit
+abbrev pub after_asking : List Ask → Asked → Asked
+after_asking [] asked = asked
+after_asking (ask ∷ asks) asked = after_asking asks (asked_for ask.limit asked)
 
+-- as many files were asked for, with as many bytes all together
 abbrev pub AsksAll : Input → Input → List Ask → Type 0
-AsksAll old new asks = new.fetches ≡ more old.fetches (length asks)
+AsksAll old new asks = new.asked ≡ after_asking asks old.asked
 
--- so many of the files were asked for, or fewer
+-- the same of the first of the files, or of all of them
 pub record AsksFew (old new : Input) (asks : List Ask) : Type 0 where
-  pub count : ℕ
-  pub few : count ≤ length asks
-  pub fetches : new.fetches ≡ more old.fetches count
+  pub first : List Ask
+  pub rest : List Ask
+  pub are : asks ≡ first ++ rest
+  pub fetches : AsksAll old new first
 
 -- the store failed at one of the files that are asked for, and was asked for no other behind it
 pub record FailsAt (old new : Input) (asks : List Ask) (purpose : Purpose) : Type 0 where
-  pub place : ℕ
+  pub before : List Ask
   pub ask : Ask
-  pub here : slice_get asks place ≡ Some ask
+  pub rest : List Ask
+  pub are : asks ≡ before ++ ask ∷ rest
   pub said : purpose ≡ ask.purpose
-  pub fetches : new.fetches ≡ more old.fetches (place + 1)
+  pub fetches : AsksAll old new (before ++ ask ∷ [])
 
 -- ---- outcomes
 
