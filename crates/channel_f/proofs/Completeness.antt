@@ -1,8 +1,8 @@
 -- What a call says, by the files that the store tells.
-use Rattle.std.proofs.Common.{◌≡◌, ◌≢◌, ℕ, ◌+◌, ◌<◌, Bool, true, false, ◌⊎◌, inl, inr, List, [], ◌∷◌, length, Option, Some, None, Result}
+use Rattle.std.proofs.Common.{◌≡◌, ◌≢◌, ℕ, ◌<◌, Bool, true, false, ◌⊎◌, inl, inr, List, [], ◌∷◌, ◌++◌, Option, Some, None, Result}
 use Rattle.std.proofs.Common.{Ok, Err}
 use Rattle.std.proofs.Common.{refl, sym, ◌∙◌, subst, arith}
-use Rattle.std.proofs.lemmas.Option.{slice_get_within}
+use Rattle.std.proofs.lemmas.List.{append_assoc, append-nil}
 use Rattle.f8_spec.specs.ChipState.{ChipState}
 use Rattle.console_spec.specs.Run.{Stop as RunStop, Done, Unserved, Reserved}
 use Rattle.console_spec.specs.RunText.{text_of}
@@ -127,7 +127,12 @@ module _ (old new : Around) (said : Status) (work : Work Due) where
     refused = λ files e none by_input. inr (rack_refused by_input ends.which);
     bound = λ files e either.
         let follows = works.follows files (still_told old new work (Ok due) works files e either) in
-        record { count = length (work files).asks; few = omega arith; fetches = follows.1 };
+        record {
+          first = (work files).asks;
+          rest = [];
+          are = sym (append-nil (work files).asks);
+          fetches = follows.1;
+        };
     store = λ by_store. absurd (not_store by_store ends.which);
     store_told = λ less. absurd (no_rise old.input.faults new.input.faults works.fails less);
     sink = λ by_sink. (ends.part by_sink).rose;
@@ -193,7 +198,12 @@ module _ (old new : Around) (said : Status) (work : Work Due) where
     refused = λ files e none by_input. absurd (input_not_memory said by_input wants.status);
     bound = λ files e either.
         let follows = works.follows files (still_told old new work (Ok due) works files e either) in
-        record { count = length (work files).asks; few = omega arith; fetches = follows.1 };
+        record {
+          first = (work files).asks;
+          rest = [];
+          are = sym (append-nil (work files).asks);
+          fetches = follows.1;
+        };
     store = λ by_store. absurd (store_not_memory said by_store wants.status);
     store_told = λ less. absurd (no_rise old.input.faults new.input.faults works.fails less);
     sink = λ by_sink. absurd (sink_not_memory said by_sink wants.status);
@@ -213,7 +223,12 @@ module _ (old new : Around) (said : Status) (work : Work Due) where
     refused = λ files e none by_input. inl (behind files none by_input (works.refused files e));
     bound = λ files e either.
         let follows = works.follows files (still_told old new work (Err (Refused r)) works files e either) in
-        record { count = length (work files).asks; few = omega arith; fetches = follows.1 };
+        record {
+          first = (work files).asks;
+          rest = [];
+          are = sym (append-nil (work files).asks);
+          fetches = follows.1;
+        };
     store = λ by_store. absurd (not_store by_store ends.which);
     store_told = λ less. absurd (no_rise old.input.faults new.input.faults works.fails less);
     sink = λ by_sink. (ends.part by_sink).rose;
@@ -250,8 +265,12 @@ module _ (old new : Around) (said : Status) (work : Work Due) where
     refused = λ files e none by_input. absurd (not_input by_input ends.which);
     bound = λ files e either.
         let follows = works.follows files (still_told old new work (Err (Store p)) works files e either) in
-        let within = slice_get_within (work files).asks follows.place follows.ask follows.here in
-        record { count = follows.place + 1; few = omega (arith, within); fetches = follows.fetches };
+        record {
+          first = follows.before ++ follows.ask ∷ [];
+          rest = follows.rest;
+          are = follows.are ∙ sym (append_assoc follows.before (follows.ask ∷ []) follows.rest);
+          fetches = follows.fetches;
+        };
     store = λ by_store. works.fails;
     store_told = λ less. ends.which;
     sink = λ by_sink. (ends.part by_sink).rose;

@@ -1,12 +1,12 @@
 -- What a command answers, from what its files came to.
 use Rattle.std.proofs.Common.{◌≡◌, ℕ, Bool, true, false, ◌⊎◌, inl, inr, List, [], ◌∷◌, Option, Some, None, Ok, Err}
 use Rattle.std.proofs.Common.{refl}
-use Rattle.std.specs.Prelude.{◌||◌, if◌then◌else◌, IsTrue, bytes_eq, codes, option_map, option_and_then}
+use Rattle.std.specs.Prelude.{IsTrue, is_some, option_and_then}
 use Rattle.outside.specs.SinkRules.{Output}
 use Rattle.outside.specs.StoreRules.{Input}
 use Rattle.outside.proofs.SinkLaws.{adds_none}
 use Rattle.command_line.specs.CommandLine.{Command, Play, Check, Verify, Ref, Debug, Asm, Dis, Gen, command_of, has_command}
-use Rattle.command_line.specs.CommandLine.{one_of, two_of, run_of, play_of, checking_of, check_of, seed_of}
+use Rattle.command_line.specs.CommandLine.{CommandWord, command_word}
 use Rattle.loader.specs.declared.refusals.Stop.{Stop}
 use Rattle.loader.specs.declared.refusals.Stop.TheVariants.{Memory}
 use Rattle.loader.specs.declared.games.Debugging.{Debugging}
@@ -154,33 +154,16 @@ module _ (now : Around) where
 
 -- ---- words without a command
 
-named_by : (a b c d e f h i : Bool) (play ref debug check verify asm dis gen : Option Command) (command : Command) →
-    Some command ≡
-    (if a then play else (if b then ref else (if c then debug else (if d then check else (if e then verify else (if f then asm
-    else (if h then dis else (if i then gen else None)))))))) →
-    IsTrue (a || b || c || d || e || f || h || i)
-named_by true b c d e f h i play ref debug check verify asm dis gen command is = refl
-named_by false true c d e f h i play ref debug check verify asm dis gen command is = refl
-named_by false false true d e f h i play ref debug check verify asm dis gen command is = refl
-named_by false false false true e f h i play ref debug check verify asm dis gen command is = refl
-named_by false false false false true f h i play ref debug check verify asm dis gen command is = refl
-named_by false false false false false true h i play ref debug check verify asm dis gen command is = refl
-named_by false false false false false false true i play ref debug check verify asm dis gen command is = refl
-named_by false false false false false false false true play ref debug check verify asm dis gen command is = refl
-named_by false false false false false false false false play ref debug check verify asm dis gen command is = cc is
-
 -- what asks for something begins with the word of a command
+by_word : (word : Option CommandWord) (rest : List (List ℕ)) (command : Command) →
+    Some command ≡ option_and_then (λ c. c.asks rest) word → IsTrue (is_some word)
+by_word (Some c) rest command is = refl
+by_word None rest command is = cc is
+
 pub command_named : (words : List (List ℕ)) (command : Command) → Some command ≡ command_of words →
     IsTrue (has_command words)
 command_named [] command is = cc is
-command_named (name ∷ rest) command is =
-    named_by (bytes_eq name (codes "play")) (bytes_eq name (codes "ref")) (bytes_eq name (codes "debug"))
-    (bytes_eq name (codes "check"))
-    (bytes_eq name (codes "verify")) (bytes_eq name (codes "asm")) (bytes_eq name (codes "dis")) (bytes_eq name (codes "gen"))
-    (option_map play_of (run_of rest)) (option_map (λ files. Ref files.0 files.1) (two_of rest))
-    (option_map (λ files. Debug files.0 files.1) (two_of rest)) (option_map check_of (checking_of rest))
-    (option_map (λ files. Verify files.0 files.1) (two_of rest)) (option_map Asm (one_of rest)) (option_map Dis (one_of rest))
-    (option_map Gen (option_and_then seed_of (one_of rest))) command is
+command_named (name ∷ rest) command is = by_word (command_word name) rest command is
 
 -- other words are refused, and take no memory
 pub words_not_memory : {P : Type 0} (a b : Output) (said : Status) (lines : List (List ℕ)) → Reports a b said status.Words lines →

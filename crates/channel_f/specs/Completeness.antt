@@ -63,7 +63,8 @@ pub record IsComplete (old new : Around) (said : Status) (work : Work Due) : Typ
   pub refused : (files : List NamedBytes) → old.input.files ≡ Some files → due_at (work files).end ≡ None →
       said ≡ status.Input →
       RefusesBehind old new files (work files).asks ⊎ RefusesRack old new
-  -- no more files are asked for than there are to be had, with the first that is missing or refused
+  -- No more files are asked for than there are to be had, with the first that is missing or refused, and not for more bytes than each may
+  -- have.
   pub bound : (files : List NamedBytes) → old.input.files ≡ Some files →
       HasFiles (work files).end ⊎ (new.input.files ≡ Some files) → AsksFew old.input new.input (work files).asks
   -- a failing store and a failing sink are told
