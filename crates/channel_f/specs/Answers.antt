@@ -35,7 +35,7 @@ use Rattle.loader.specs.declared.games.Debugging.{Debugging}
 use Rattle.loader.specs.Games.{Game, Claim, game_of, cart_of, claim_of, debugging_of, image_by, bytes_by}
 use Rattle.loader.specs.Work.{Work, gives, ◌>>=◌}
 use Rattle.channel_f.specs.Manners.{run_by, lines_by}
-use Rattle.channel_f.specs.Refusals.{refusal_line, missing_line}
+use Rattle.channel_f.specs.ErrorLines.{refusal_line, missing_line}
 use Rattle.channel_f.specs.declared.manner.Manner.{Manner}
 use Rattle.channel_f.specs.declared.manner.Manner.TheVariants.{Whole, Summary}
 use Rattle.channel_f.specs.declared.status.Status.{Status}

@@ -1,5 +1,5 @@
 pub mod Statuses
-pub mod Refusals
+pub mod ErrorLines
 pub mod Manners
 pub mod Answers
 pub mod Reports

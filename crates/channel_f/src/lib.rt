@@ -7,7 +7,7 @@ mod laws;
 mod lines_out;
 mod manner;
 mod playing;
-mod refused;
+mod error_lines;
 mod status;
 mod top;
 

@@ -1,4 +1,4 @@
--- The lines of refusals: of what is wrong with a file, and of a file that was not had.
+-- The `error` lines of files: what is wrong with one, and that one was not had.
 use Rattle.std.specs.Prelude.{ℕ, List, codes, Option, Some, None}
 use Rattle.cartridge.specs.Faults.{cause_number as cart_cause}
 use Rattle.cartridge.specs.Keys.{key_word}

@@ -1,9 +1,9 @@
-// Why a command didn't get what it wants of its files, told by a line.
+// Why a command did not get what it wants of its files, told by an `error` line.
 ghost use Rattle.std.specs.Prelude.{◌≡◌, ◌≤◌, IsTrue, length};
 ghost use Rattle.std.specs.List.{list_all};
 ghost use Rattle.text_lines.specs.Printable.{is_printable};
-ghost use Rattle.channel_f.specs.Refusals.{purpose_word as spelled_word, purpose_number as told_number};
-ghost use Rattle.channel_f.specs.Refusals.{refusal_line as spelled_refusal, missing_line as spelled_missing};
+ghost use Rattle.channel_f.specs.ErrorLines.{purpose_word as spelled_word, purpose_number as told_number};
+ghost use Rattle.channel_f.specs.ErrorLines.{refusal_line as spelled_refusal, missing_line as spelled_missing};
 ghost use Rattle.channel_f.specs.Reports.{Stops};
 
 use super::lines_out::put_lines;
