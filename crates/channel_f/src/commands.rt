@@ -12,10 +12,10 @@ ghost use Rattle.channel_f.specs.Reports.{Answers, AnswersDue, Reports, Wants};
 ghost use Rattle.channel_f.specs.SafeGames.{KeepsVerdict};
 
 use super::debugging::debug;
+use super::error_lines::put_stop;
 use super::lines_out::{put_found, put_picture, put_text, put_verdict};
 use super::manner::Manner;
 use super::playing::{play_game, refer_game};
-use super::error_lines::put_stop;
 use super::status::Status;
 use cart_checker::{Verdict, check_cart};
 use cartridge::{Cart, Split};

@@ -3,11 +3,11 @@
 
 mod commands;
 mod debugging;
+mod error_lines;
 mod laws;
 mod lines_out;
 mod manner;
 mod playing;
-mod error_lines;
 mod status;
 mod top;
 

@@ -48,6 +48,9 @@ fn agrees_to_what_is_safe(rt: HostRuntime) -> Result<(), Fail> {
 fn refuses_what_is_not(rt: HostRuntime) -> Result<(), Fail> {
     let verdict = verdict_on(rt.alloc(), &[0x2A, 0x00, 0x05, 0x2C, 0x16])?;
     assert_eq!(rt; verdict.word(), VerdictWord::NoVerdict);
-    assert_eq!(rt; refusal_of(&verdict), Some((0x0004, None, Reason::DataCountersApart)));
+    assert_eq!(rt;
+        refusal_of(&verdict),
+        Some((0x0004, None, Reason::DataCountersApart))
+    );
     Ok(())
 }

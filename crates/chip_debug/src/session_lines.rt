@@ -7,7 +7,7 @@ ghost use Rattle.chip_debug.specs.DebugText.{ready_line as spelled_ready, ran_li
 use super::sockets::byte_held;
 use chip_face::{Chip, ChipKind, Counters, MOST_CHIPS};
 use f8_machine::Rack;
-use report::{Line, kind_text};
+use report::{LINE_ROOM, Line, kind_text};
 
 /// `ready`: power-on and reset are done.
 #[tactic(auto, unfolding(crate::specs::DebugText::ready_line))]
@@ -42,7 +42,7 @@ pub(crate) fn break_line() -> Line
 }
 
 fn write_second(line: &mut Line, dc1: Option<u16>)
-    requires { length line.old + 9 ≤ 512 }
+    requires { length line.old + 9 ≤ LINE_ROOM }
     ensures text { line.new ≡ line.old ++ second_text dc1 }
     ensures len { length line.new ≤ length line.old + 9 }
 {
@@ -54,7 +54,7 @@ fn write_second(line: &mut Line, dc1: Option<u16>)
 
 /// Writes the counters of a chip or of the probe.
 fn write_counters(line: &mut Line, counters: &Counters)
-    requires { length line.old + 36 ≤ 512 }
+    requires { length line.old + 36 ≤ LINE_ROOM }
     ensures text { line.new ≡ line.old ++ counters_text counters.now }
     ensures len { length line.new ≤ length line.old + 36 }
 {
@@ -96,7 +96,7 @@ pub(crate) fn probe_line(counters: &Counters) -> Line
 
 /// Writes a byte, or dashes where there is none.
 fn write_byte(line: &mut Line, byte: Option<u8>)
-    requires { length line.old + 3 ≤ 512 }
+    requires { length line.old + 3 ≤ LINE_ROOM }
     ensures text { line.new ≡ line.old ++ byte_text byte }
     ensures len { length line.new ≡ length line.old + 3 }
 {

@@ -4,8 +4,8 @@
 #![tactic(auto)]
 
 mod check_lines;
-mod line_buffer;
 mod error_lines;
+mod line_buffer;
 mod run_lines;
 #[cfg(test)]
 mod tests;
@@ -15,11 +15,11 @@ pub use check_lines::{
     agreed_line, notclosed_line, refused_line, toomany_line, unsafe_line, whole_line,
 };
 pub use console_spec::VerdictWord;
-pub use line_buffer::{LINE_ROOM, Line};
 pub use error_lines::{
     Reader, error_asm, error_cart, error_hex, error_long, error_rack, error_reader, error_sockets,
     error_store, error_toml, error_words, kind_text,
 };
+pub use line_buffer::{LINE_ROOM, Line};
 pub use run_lines::{
     regs_line, scratch_line, stop_done_line, stop_fault_line, stop_reserved_line, total_line,
     verdict_line,
