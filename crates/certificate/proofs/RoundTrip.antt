@@ -1,7 +1,7 @@
 -- What is read of the text of an invariant map is the map.
 use Rattle.std.proofs.Common.{◌≡◌, ℕ, zero, suc, ◌+◌, ◌-◌, ◌*◌, ◌<◌, ◌≤◌, true, List, [], ◌∷◌}
 use Rattle.std.proofs.Common.{length, map, refl, ap, ◌∙◌, arith}
-use Rattle.std.specs.Prelude.{Option, Some, None, Ok, codes, decimal, nat_eq, nat_le, nat_lt, slice_index_or}
+use Rattle.std.specs.Prelude.{Option, Some, None, Ok, codes, decimal, nat_eq, nat_le, slice_index_or}
 use Rattle.std.specs.List.{AllByRecursion, list_all, range_with_len}
 use Rattle.std.specs.List.Sorted.{IsStrictlySortedBy}
 use Rattle.std.specs.Map.{keys_of}

@@ -3,18 +3,13 @@ use Rattle.std.proofs.Common.{◌≡◌, ℕ, zero, suc, ◌+◌, ◌≤◌, ◌
 use Rattle.std.specs.Prelude.{Option, Some, slice_get}
 use Rattle.std.proofs.lemmas.List.{length-map}
 use Rattle.f8_spec.specs.ChipState.{ChipState}
-use Rattle.f8_spec.specs.declared.chips.ChipKind.{ChipKind}
 use Rattle.chip_face.specs.declared.specification.ChipSpec.{ChipSpec}
 use Rattle.data_bus.specs.Racks.{NumberedZip}
-use Rattle.rack_run.specs.Seating.{FitsWhole, RackFits, RackFitsInPart, counted, kinds_of, no_sockets, seated, seated_from}
+use Rattle.rack_run.specs.Seating.{FitsWhole, RackFits, RackFitsInPart, kinds_of, no_sockets, seated}
+use Rattle.rack_run.proofs.Seats.{seated_length}
 use Rattle.chip_debug.specs.Standing.{patches}
 
 -- something sits in each socket
-
-seated_length : (chips : List ChipSpec) (before : ChipKind → ℕ) (kinds : List ChipKind) →
-    length (seated_from chips before kinds) ≡ length kinds
-seated_length chips before [] = refl
-seated_length chips before (kind ∷ kinds) = ap suc (seated_length chips (counted kind before) kinds)
 
 one_there : {A : Type 0} (xs : List A) (place : ℕ) → place < length xs → (x : A) × (slice_get xs place ≡ Some x)
 one_there [] place within = absurd (omega (arith, within))

@@ -1,5 +1,5 @@
 -- A call over a store and a sink that never fail.
-use Rattle.std.proofs.Common.{◌≡◌, ℕ, inl, inr, List, Some, Bool, true, false, None, refl, subst, arith}
+use Rattle.std.proofs.Common.{◌≡◌, ℕ, inl, inr, List, Some, Bool, false, None, refl, subst, arith}
 use Rattle.std.specs.Prelude.{if◌then◌else◌}
 use Rattle.outside.specs.Counts.{Rose}
 use Rattle.outside.specs.StoreRules.{NamedBytes}

@@ -1,5 +1,5 @@
 -- What a verdict promises of a game on a rack, for every script.
-use Rattle.std.specs.Prelude.{◌≡◌, ◌≢◌, ℕ, ◌⊎◌, List, None, Result, Ok, Err}
+use Rattle.std.specs.Prelude.{◌≡◌, ◌≢◌, ◌⊎◌, List, None, Result, Ok, Err}
 use Rattle.f8_spec.specs.ChipState.{ChipState}
 use Rattle.console_spec.specs.Run.{Done}
 use Rattle.console_spec.specs.Telling.{Telling}

@@ -6,24 +6,19 @@ use Rattle.std.proofs.lemmas.List.{append_assoc, append-nil, length-map}
 use Rattle.f8_spec.specs.BusArbitration.{seat_of}
 use Rattle.f8_spec.specs.ChipState.{ChipView, ChipState}
 use Rattle.console_spec.specs.Run.{Stop}
-use Rattle.console_spec.specs.Telling.{code_of as told_code}
 use Rattle.data_bus.specs.KnownAgreement.{no_marks, parts}
 use Rattle.data_bus.specs.PageIndex.{followed, seats}
 use Rattle.data_bus.specs.Racks.{views}
-use Rattle.data_bus.specs.declared.fault.BusFault.{BusFault}
-use Rattle.data_bus.specs.declared.fault.BusFault.TheVariants.{Conflict, Undriven, Astray}
 use Rattle.data_bus.specs.declared.index.Index.{Index}
 use Rattle.data_bus.specs.declared.marks.Marks.{Marks}
-use Rattle.f8_machine.specs.Faults.{fault_of}
 use Rattle.f8_machine.specs.Fitting.{Fits, tried, tried_in}
 use Rattle.f8_machine.specs.MachineState.{MachineState, steps_in}
-use Rattle.f8_machine.specs.Questions.{allowances, allowed, code_of, codes_of, followed_all}
+use Rattle.f8_machine.specs.Questions.{allowances, allowed, codes_of, followed_all}
 use Rattle.f8_machine.specs.declared.heard.Heard.{Heard}
-use Rattle.f8_machine.specs.declared.outcome.Mode.{Mode}
-use Rattle.f8_machine.specs.declared.outcome.Mode.TheVariants.{Powered, Running, Stopped}
 use Rattle.f8_machine.specs.declared.outcome.Outcome.{Outcome}
 use Rattle.f8_machine.specs.declared.outcome.Outcome.TheVariants.{Done, Fault as FaultOutcome, Reserved}
 use Rattle.rack_run.specs.Endings.{stop_of}
+use Rattle.rack_run.proofs.MachineAsking.{allowances-append, code_told, tried_most}
 use Rattle.chip_debug.specs.Asking.{allowed_since_power, tried_codes, unserved_codes}
 use Rattle.chip_debug.specs.Scenes.{Scene}
 use Rattle.chip_debug.specs.Standing.{HasFollowed, halt_in}
@@ -62,11 +57,6 @@ parted_since codes old new is = sym (ap (λ (i : Index). i.is_parted) is ∙ fol
 
 -- ---- the codes of an outcome
 
-code_told : (fault : BusFault) → code_of fault ≡ told_code (fault_of fault)
-code_told (Conflict romc parties) = refl
-code_told (Undriven romc at) = refl
-code_told (Astray romc socket at reference) = refl
-
 tried_told : (outcome : Outcome) →
     tried_in outcome ≡ codes_of (steps_in outcome) ++ unserved_codes (option_map stop_of (halt_in outcome))
 tried_told (Done wrote steps) = sym (append-nil (codes_of steps))
@@ -74,20 +64,6 @@ tried_told (FaultOutcome fault long steps) = ap (λ (romc : ℕ). codes_of steps
 tried_told (Reserved at code) = refl
 
 -- ---- allowances
-
-allowances-append : (chips : ℕ) (first later : List ℕ) (index : Index) →
-    allowances chips index (first ++ later) ≡ allowances chips index first + allowances chips (followed_all first index) later
-allowances-append chips [] later index = omega arith
-allowances-append chips (romc ∷ first) later index =
-    let behind = allowances-append chips first later (followed romc index) in
-    omega (arith, behind)
-
--- a machine that was stopped tries nothing
-tried_most : (chips p q : ℕ) (index : Index) (outcome : Outcome) (mode : Mode) →
-    q ≤ p + allowances chips index (tried mode outcome) → q ≤ p + allowances chips index (tried_in outcome)
-tried_most chips p q index outcome Powered few = few
-tried_most chips p q index outcome Running few = few
-tried_most chips p q index outcome (Stopped why) few = omega (arith, few)
 
 -- what is allowed since power-on, by the index of then
 since_power : (n : ℕ) (states : List ChipState) (scene : Scene) (first : Index) → length states ≡ n → views states ≡ scene.chips →

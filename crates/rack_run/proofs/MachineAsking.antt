@@ -34,7 +34,7 @@ codes_told : (steps : List TracedStep) → codes_of (map heard_of steps) ≡ ser
 codes_told [] = refl
 codes_told (s ∷ steps) = ap (λ (l : List ℕ). s.romc ∷ l) (codes_told steps)
 
-code_told : (fault : BusFault) → code_of fault ≡ told_code (fault_of fault)
+pub code_told : (fault : BusFault) → code_of fault ≡ told_code (fault_of fault)
 code_told (Conflict romc parties) = refl
 code_told (Undriven romc at) = refl
 code_told (Astray romc socket at reference) = refl
@@ -81,7 +81,7 @@ reset_tried (Reserved at code) before after states x is = absurd is
 
 -- ---- allowances, one after another
 
-allowances-append : (chips : ℕ) (first later : List ℕ) (index : Index) →
+pub allowances-append : (chips : ℕ) (first later : List ℕ) (index : Index) →
     allowances chips index (first ++ later) ≡ allowances chips index first + allowances chips (followed_all first index) later
 allowances-append chips [] later index = omega arith
 allowances-append chips (romc ∷ first) later index =
@@ -100,7 +100,7 @@ served_asks chips p q old new codes follows few = record {
 }
 
 -- a machine that was stopped tries none, and no machine more than its outcome tells
-tried_most : (chips p q : ℕ) (index : Index) (outcome : Outcome) (mode : Mode) → q ≤ p + allowances chips index (tried mode outcome) →
+pub tried_most : (chips p q : ℕ) (index : Index) (outcome : Outcome) (mode : Mode) → q ≤ p + allowances chips index (tried mode outcome) →
     q ≤ p + allowances chips index (tried_in outcome)
 tried_most chips p q index outcome Powered few = few
 tried_most chips p q index outcome Running few = few

@@ -116,7 +116,7 @@ all_leave specs olds news all = leave_own_ports news (ports_from specs 0 olds ne
 
 -- ---- the views of a rack that is fitted
 
-seated_length : (chips : List ChipSpec) (before : ChipKind → ℕ) (kinds : List ChipKind) →
+pub seated_length : (chips : List ChipSpec) (before : ChipKind → ℕ) (kinds : List ChipKind) →
     length (seated_from chips before kinds) ≡ length kinds
 seated_length chips before [] = refl
 seated_length chips before (kind ∷ kinds) = ap suc (seated_length chips (counted kind before) kinds)

@@ -1,5 +1,5 @@
 -- The verdict that is told is right, and has what shows it; so has that of which the certificate is told.
-use Rattle.std.proofs.Common.{ℕ, ◌⊎◌, inl, inr}
+use Rattle.std.proofs.Common.{◌⊎◌, inl, inr}
 use Rattle.outside.specs.SinkRules.{Output}
 use Rattle.cartridge.specs.declared.finish.Cart.{Cart}
 use Rattle.cart_checker.specs.Verdicts.{RightVerdict}
