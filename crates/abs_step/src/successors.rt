@@ -29,7 +29,7 @@ impl Model for Successors {
 }
 
 impl Successors {
-    ghost use Rattle.std.specs.Prelude.{◌≡◌, ◌<◌, ◌≤◌, ◌+◌, length, map, []};
+    ghost use Rattle.std.specs.Prelude.{◌≡◌, ◌<◌, ◌≤◌, ◌==◌, ◌+◌, length, map, [], option_map, slice_get};
     ghost use Rattle.abs_step.specs.Successors.{with_invariant};
     ghost use Rattle.abs_step.specs.StepView.{invariant_of, invariant_at};
 
@@ -48,6 +48,27 @@ impl Successors {
         ensures { map invariant_of result.now ≡ self.now }
     {
         &self.list[..self.len]
+    }
+
+    /// How many there are.
+    pub fn len(&self) -> usize
+        ensures { result ≡ length self.now }
+    {
+        self.len
+    }
+
+    /// There is none.
+    pub fn is_empty(&self) -> bool
+        ensures { result ≡ (length self.now == 0) }
+    {
+        self.len == 0
+    }
+
+    /// The point at a place with its state, and `None` past the last.
+    pub fn get(&self, place: usize) -> Option<(Point, Abs)>
+        ensures { option_map invariant_of result ≡ slice_get self.now place }
+    {
+        self.as_slice().get(place).copied()
     }
 
     /// Adds a state at a point. Where the point is there already, both states are joined.

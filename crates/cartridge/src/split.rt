@@ -1,5 +1,5 @@
 // The tracked registers of a cartridge.
-ghost use Rattle.std.specs.Prelude.{◌≡◌, ◌<◌, ◌≤◌, ◌++◌, [], ◌∷◌, length, false};
+ghost use Rattle.std.specs.Prelude.{◌≡◌, ◌<◌, ◌≤◌, ◌==◌, ◌++◌, [], ◌∷◌, length, slice_get, false};
 ghost use Rattle.cartridge.specs.Values.{is_among};
 ghost use Rattle.cartridge.specs.Splits.{IsSplit};
 
@@ -49,6 +49,20 @@ impl Split {
         ensures limit { result ≤ 8 }
     {
         self.len
+    }
+
+    /// There is no register.
+    pub fn is_empty(&self) -> bool
+        ensures { result ≡ (length self.now == 0) }
+    {
+        self.len == 0
+    }
+
+    /// The register at a place, and `None` past the last.
+    pub fn get(&self, place: usize) -> Option<u8>
+        ensures { result ≡ slice_get self.now place }
+    {
+        self.as_slice().get(place).copied()
     }
 
     /// The register is one of them.

@@ -1,5 +1,5 @@
 // The chips that drive or take in one bus step.
-ghost use Rattle.std.specs.Prelude.{◌≡◌, ◌<◌, ◌≤◌, ◌+◌, ◌==◌, ◌++◌, [], ◌∷◌, length};
+ghost use Rattle.std.specs.Prelude.{◌≡◌, ◌<◌, ◌≤◌, ◌+◌, ◌==◌, ◌++◌, [], ◌∷◌, length, slice_get};
 
 use chip_face::MOST_CHIPS;
 use f8_spec::Party;
@@ -79,6 +79,13 @@ impl Parties {
         ensures { result ≡ (length self.now == 0) }
     {
         self.len == 0
+    }
+
+    /// The chip at a place, and `None` past the last.
+    pub fn get(&self, place: usize) -> Option<Party>
+        ensures { result ≡ slice_get self.now place }
+    {
+        self.as_slice().get(place).copied()
     }
 
     /// The same parties.

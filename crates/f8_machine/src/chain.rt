@@ -75,6 +75,21 @@ impl Chain {
         &self.sockets[..len]
     }
 
+    /// How many there are.
+    pub fn len(&self) -> usize
+        ensures value { result ≡ length self.now }
+        ensures few { result ≤ MOST_CHIPS }
+    {
+        self.len
+    }
+
+    /// There is none.
+    pub fn is_empty(&self) -> bool
+        ensures { result ≡ (length self.now == 0) }
+    {
+        self.len == 0
+    }
+
     /// The socket in a place, and `None` past the last.
     pub fn get(&self, place: usize) -> Option<u8>
         ensures { result ≡ slice_get self.now place }

@@ -1,5 +1,5 @@
 //! The bus steps of an instruction, in a record of its own.
-ghost use Rattle.std.specs.Prelude.{◌≡◌, ◌<◌, ◌≤◌, ◌==◌, ◌++◌, [], ◌∷◌, length};
+ghost use Rattle.std.specs.Prelude.{◌≡◌, ◌<◌, ◌≤◌, ◌==◌, ◌++◌, [], ◌∷◌, length, slice_get};
 ghost use Rattle.f8_machine.specs.HeardSteps.{HaveBytes};
 
 use super::Heard;
@@ -89,5 +89,12 @@ impl Record {
         ensures { result ≡ (length self.now == 0) }
     {
         self.len == 0
+    }
+
+    /// The step at a place, and `None` past the last.
+    pub fn get(&self, place: usize) -> Option<Heard>
+        ensures { result ≡ slice_get self.now place }
+    {
+        self.as_slice().get(place).copied()
     }
 }
