@@ -1,5 +1,5 @@
 // What holds next: a short list of points with their states, each point once.
-ghost use Rattle.std.specs.Prelude.{◌≡◌};
+ghost use Rattle.std.specs.Prelude.{◌≡◌, slice_get};
 ghost use Rattle.abs_step.specs.Successors.{same_point};
 
 use abs_domain::{Abs, Point, point_law};
@@ -68,7 +68,7 @@ impl Successors {
     pub fn get(&self, place: usize) -> Option<(Point, Abs)>
         ensures { option_map invariant_of result ≡ slice_get self.now place }
     {
-        self.as_slice().get(place).copied()
+        item_at(self.as_slice(), place)
     }
 
     /// Adds a state at a point. Where the point is there already, both states are joined.
@@ -87,6 +87,13 @@ impl Successors {
         self.list[self.len] = (point, state);
         self.len += 1;
     }
+}
+
+/// The item at a place, and `None` past the last.
+fn item_at(items: &[(Point, Abs)], place: usize) -> Option<(Point, Abs)>
+    ensures { result ≡ slice_get items.now place }
+{
+    items.get(place).copied()
 }
 
 /// Two points are one.
