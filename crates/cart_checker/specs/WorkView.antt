@@ -27,7 +27,7 @@ work_of w = record { notes = states_of w.notes.entries; due = w.due.keys }
 abbrev pub IsFullFor : Work Point AbstractState → Point → Type 0
 IsFullFor w q = (65536 ≤ length w.notes) × (state_by point_cmp w.notes q ≡ None)
 
--- A state is added in vain where there is no room for its point, and else only for want of memory.
+-- A state is added in vain where there is no room for its point, or for want of memory, which isn't told where there is no room.
 abbrev pub AddHalts : Work Point AbstractState → Point → Halt → Type 0
 AddHalts w q Memory = IsFullFor w q → ⊥
 AddHalts w q TooMany = IsFullFor w q

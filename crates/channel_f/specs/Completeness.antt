@@ -63,8 +63,8 @@ pub record IsComplete (old new : Around) (said : Status) (work : Work Due) : Typ
   pub refused : (files : List NamedBytes) → old.input.files ≡ Some files → due_at (work files).end ≡ None →
       said ≡ status.Input →
       RefusesBehind old new files (work files).asks ⊎ RefusesRack old new
-  -- No more files are asked for than there are to be had, with the first that is missing or refused, and not for more bytes than each may
-  -- have.
+  -- No more files are asked for than there are to be had, with the first that is missing or refused, and the limits with which they are
+  -- asked for add up to those of these files.
   pub bound : (files : List NamedBytes) → old.input.files ≡ Some files →
       HasFiles (work files).end ⊎ (new.input.files ≡ Some files) → AsksFew old.input new.input (work files).asks
   -- a failing store and a failing sink are told
@@ -82,7 +82,8 @@ pub record IsSurelyComplete (old new : Around) (said : Status) (files : List Nam
   -- where a file is missing the store made an empty one up for it, and no file before it is refused
   pub refused : due_at (work files).end ≡ None → said ≡ status.Input →
       RefusesBehind old new files (work files).asks ⊎ RefusesRack old new
-  -- where none is missing, no more files are asked for than there are to be had, with the first that is refused
+  -- where none is missing, no more files are asked for than there are to be had, with the first that is refused, nor with other limits in
+  -- sum
   pub bound : HasFiles (work files).end → AsksFew old.input new.input (work files).asks
   pub store : said ≢ status.Store
   pub sink : said ≢ status.Sink

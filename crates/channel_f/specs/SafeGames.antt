@@ -17,7 +17,7 @@ use Rattle.channel_f.specs.declared.status.Status.TheVariants as status
 
 -- What the verdict on a cartridge promises of a run.
 pub record GoesWell (said : Status) (cart : Cart) (run : Telling) : Type 0 where
-  -- where it is whole, every bus step is served and no opcode is reserved: the run is done, and so is all that was asked for, unless the sink failed
+  -- where it is whole, every bus step is served and no opcode is reserved: the run is done, and the status says so unless the sink failed
   pub done : IsFaultFreeCart cart → run.ending.stop ≡ Done
   pub status : IsFaultFreeCart cart → (said ≡ status.Done) ⊎ (said ≡ status.Sink)
   -- where it is whole or agreed, nothing stops the run but a read at D0 that no chip answers

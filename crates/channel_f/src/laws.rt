@@ -51,9 +51,9 @@ pub fn checked_certificate_law()
     closed_map_law();
 }
 
-/// Over a store and a sink that never fail, [`console`] doesn't end with the status of either. Where the store was asked for none but its own
-/// files before, and has each one that is asked for now, what is due comes, with its status, unless memory is wanting (clause `complete`). This
-/// call is that one; its contract is the law.
+/// Over a store and a sink that never fail, [`console`] doesn't end with the status of a failed store or of a failed sink. Where the store
+/// was asked for none but its own files before, and has each one that is asked for now, what is due comes, with its status, unless memory is
+/// wanting (clause `complete`). This call is that one; its contract is the law.
 pub fn sure_console_law(
     alloc: Global,
     words: &[String],

@@ -81,9 +81,9 @@ fn answer_words<S: Store, K: Sink>(
 /// The first refusal ends the call with its one line. Each line is one put.
 ///
 /// Where the store tells its files and has those that are asked for, neither count of faults rose, and memory wasn't wanting, what is
-/// written is exactly what is due; with `play` and `gen` that is what the flat machine's run says, with `play` over the bytes of the fitted
-/// chips, up to the first bus step that isn't served by one chip at the flat machine's address (clause `says`, and by the files alone
-/// clause `complete`). Before the run a line tells the verdict on the description; where that is `whole`, and no chip has other bytes in
+/// written is exactly what is due; with `play` and `gen` that is what the flat machine's run over the bytes of the fitted chips says, up to
+/// the first bus step that isn't served by one chip at the flat machine's address (clause `says`, and by the files alone clause
+/// `complete`). Before the run a line tells the verdict on the description; where that is `whole`, and no chip has other bytes in
 /// its ROM than are described, the status is 0 for every script, unless the sink failed or memory was wanting. The status is
 ///
 /// - 0 where all is done,
@@ -96,13 +96,14 @@ fn answer_words<S: Store, K: Sink>(
 /// - 7 where `check` can't show that the cartridge is safe, or `verify` finds that the certificate doesn't,
 /// - 8 at a reserved opcode.
 ///
-/// Where a run of `play` or `gen` began, each chip has heard its bus steps and has taken its key bytes and pulses, and nothing else. Where
-/// the sink failed at a line of the run, that is so up to the end of the instruction, or of the reset, whose line it was. The chips were put
-/// in all at most 512 questions for each, and the allowances of the bus steps that were tried (clause `says`). After a session of `debug`
-/// they are as its commands left them, up to the one whose line failed. From each power-on on they were put as many questions at most as in
-/// a run, and besides those of the commands themselves: `show chips` puts one to each chip, `mem` one to each chip for each byte, and `run`
-/// one to each chip described behind each instruction, where counters that part are a break. Where neither a run nor a session began, they
-/// were put none. Each chip counts its questions up to the greatest `u64`, and the clause goes by these counts.
+/// Where a run of `play` or `gen` began, each chip has heard its bus steps and has taken its key bytes and pulses, and nothing else.
+/// Where the sink failed at a line of the run, that is so up to the end of the instruction, or of the reset, whose line it was. The
+/// chips were put in all at most 512 questions for each, and the allowances of the bus steps that were tried (clause `says`). After a
+/// session of `debug` they are as its commands left them, up to the one whose line failed. From each power-on on they were put as many
+/// questions at most as in a run, and besides those of the commands themselves: `show chips` puts at most one to each chip, `mem` at
+/// most one to each chip for each byte, and `run` one to each chip described behind each instruction, where counters that part are a
+/// break. Where neither a run nor a session began, they were put none. Each chip counts its questions up to the greatest `u64`, and the
+/// clause goes by these counts.
 #[tactic(auto, using(crate::proofs::Completeness::completed))]
 pub fn console<S: Store, K: Sink>(
     alloc: Global,

@@ -48,7 +48,7 @@ going_allowed heeds count s =
     allowed_between s (going heeds count s).scene
     + (going heeds count s).ran * behind_allowed heeds s.breaks s.position.chain
 
--- Each chip is asked for its counters where the chips are shown, and for each byte of memory that is told.
+-- Each chip may be asked once for its counters where the chips are shown, and once for each byte of memory that is told.
 abbrev pub command_allowed : Command → Scene → ℕ
 command_allowed (Power fill) s = allowed_since_power (restarted fill s)
 command_allowed (Keys port byte) s = 0

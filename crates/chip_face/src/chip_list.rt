@@ -5,7 +5,7 @@ ghost use Rattle.chip_face.specs.Fitting.{IsChipList, IsSpec, is_blank};
 use super::ChipSpec;
 use std::marker::Model;
 
-/// The storage chips of a description, in its order: at most 16, none of them blank, and each as a specification has to be. Contracts
+/// The chips of a description, in its order: at most 16, none of them blank, and each as a specification has to be. Contracts
 /// see the list of their specifications.
 #[derive(Debug, Drop)]
 pub struct ChipList {

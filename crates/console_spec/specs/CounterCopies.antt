@@ -26,7 +26,8 @@ unreset c = record { pc0 = c.p1; pc1 = c.p1; dc0 = c.d0; dc1 = c.d1 }
 -- ---- copies
 
 -- A chip's own counters, with what the bus reads of the chip. One without counters has a set too, which is moved as the others are, so that
--- the sets of a rack stand in the order of its chips; nothing reads it but `own_counts`, which gives 0 there.
+-- the sets of a rack stand in the order of its chips. What it holds decides nothing: `own_counts` gives 0 there, and `own_place` goes by it
+-- for the port alone, which is the same in every set.
 pub record Copy : Type 0 where
   pub seat : Seat
   pub flow : Flow

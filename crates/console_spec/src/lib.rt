@@ -39,7 +39,7 @@ pub enum Sort {
 pub enum Who {
     /// The 3850.
     Cpu,
-    /// The storage chip in this socket.
+    /// The chip in this socket.
     Socket(u8),
     /// Nobody: the byte is 00.
     Nobody,

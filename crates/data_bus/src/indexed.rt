@@ -215,8 +215,8 @@ pub fn step_asking(
 /// probe before and after. Where the step is served the index goes on by the table of marks, and else it stays.
 ///
 /// No more questions are put than the step's allowance: none where no chip takes part, and one where a chip is named, or where both
-/// halves of the step's counter are known; at the codes 1A and 1B one to each chip, and else four times as many as there are chips, of which
-/// no chip is put more than three.
+/// halves of the step's counter are known; at the codes 1A and 1B one to each chip, and else at most three to each, where the allowance is
+/// four.
 #[tactic(auto, using(crate::proofs::Questions::asked_since))]
 #[inline(always)]
 pub fn step_by(

@@ -1,4 +1,4 @@
-//! The data bus of a rack of storage chips: one bus step asks the chips, decides by the bus rule, and either every chip and the probe
+//! The data bus of a rack of chips: one bus step asks the chips, decides by the bus rule, and either every chip and the probe
 //! settle the step, or none does.
 #![tactic(auto)]
 

@@ -1,4 +1,4 @@
-// Control, timer and request of a storage chip.
+// Control, timer and request of a chip.
 ghost use Rattle.std.specs.Prelude.{◌≡◌, ◌<◌, ◌+◌, ◌*◌, ◌/◌, ◌%◌, ◌==◌, ◌&&◌, ◌||◌, true, false, if◌then◌else◌};
 ghost use Rattle.f8_spec.specs.ChipState.{admits_pulses, admits_expiries, vector_under};
 ghost use Rattle.f8_spec.specs.ShiftTimer.{idle_timer, timer_loaded, timer_after, expires_within, step_period};
@@ -10,7 +10,7 @@ const PULSES: u8 = 1;
 
 const EXPIRIES: u8 = 3;
 
-/// Control, timer and request of a storage chip (Mostek 3851 and 3853 data sheets; the rules of requests are this project's own).
+/// Control, timer and request of a chip (Mostek 3851, 3853 and 3861 data sheets; the rules of requests are this project's own).
 #[derive(Clone, Copy, Debug, PartialEq, Eq)]
 pub struct Interrupts {
     /// The last byte written to the control port.

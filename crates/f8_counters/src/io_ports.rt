@@ -7,7 +7,7 @@ use super::interrupts::Interrupts;
 use super::ports::port_offset;
 
 /// The four ports of a 3851 and of a 3861, two data ports, control and timer, with the interrupt and its vector (Mostek 3851 and 3861 data
-/// sheets). Contracts see them as the ports of a chip that has nothing else (`ports_view`).
+/// sheets). What calls do to them is said by the view of a chip that has these ports and nothing else (`ports_view`).
 #[derive(Clone, Copy, Debug, PartialEq, Eq)]
 pub struct IoPorts {
     /// The first of the four, and none of a blank chip.

@@ -1,4 +1,4 @@
-//! What the kinds of chip have alike: the counters and what each bus step does to them, control, timer and request, and four ports of which
+//! What several kinds of chip have alike: the counters and what each bus step does to them, control, timer and request, and four ports of which
 //! two are data ports (Mostek 3851, 3853 and 3861 data sheets).
 #![tactic(auto)]
 

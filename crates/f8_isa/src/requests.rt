@@ -10,7 +10,7 @@ use f8_timer::{CYCLE_PHI, Timer};
 use std::alloc::{AllocError, Global};
 use std::marker::Model;
 
-/// The places of the control and of the timer among a chip's four ports (Mostek 3851 and 3853 data sheets).
+/// The places of the control and of the timer among a chip's four ports (Mostek 3851, 3853 and 3861 data sheets).
 const CONTROL_PLACE: u16 = 2;
 
 const TIMER_PLACE: u16 = 3;

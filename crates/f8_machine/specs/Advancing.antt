@@ -29,8 +29,8 @@ pub record Advances (result : Outcome) (old new : MachineState) (olds news : Lis
   pub clocks : new.phi ≤ old.phi + MOST_INTERRUPTED_PHI
   pub onward : old.phi ≤ new.phi
 
--- What is done leaves the machine running. What isn't stops it with what it tells, and leaves it the registers, the counters and the
--- clocks.
+-- What is done leaves the machine running. What isn't stops it with what it tells, and leaves it the registers, the counters of the last
+-- instruction that was done and the clocks; the probe and the index are as the served steps left them.
 abbrev pub Halts : Outcome → MachineState → MachineState → Type 0
 Halts (Done wrote steps) old new = new.mode ≡ Running
 Halts (Fault fault long steps) old new = new ≡ halted (ByFault fault long) new.probe new.index old

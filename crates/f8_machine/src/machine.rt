@@ -19,7 +19,7 @@ use f8_ops::{OWN_PORTS, RESET_PHI, Reserved};
 use probe::Probe;
 use std::marker::Model;
 
-/// The 3850 with the probe, on a rack of storage chips that is lent to each call. Contracts see a `MachineState`.
+/// The 3850 with the probe, on a rack of chips that is lent to each call. Contracts see a `MachineState`.
 ///
 /// It carries out the F8 instruction set up to the first bus step that isn't served by exactly one chip at the probe's address. Then it
 /// is stopped, and answers the same again.
@@ -88,8 +88,9 @@ impl Machine {
     /// ISAR modulo 64, in the scratchpad and in all RAM, and the counters of the chip in a socket stand at the power byte in both
     /// halves, and the socket added; the probe's stand at 0. `chain` has the sockets of the chips described, and `powers` what is said
     /// of the power-on of each, in the same order: a chip of which another byte or another address is said has that one in its RAM or
-    /// its counters. The counters of a chip that has none are 0. Power-on contents are this project's own. Each chip is put at most 512
-    /// questions, by which the index of the rack is made; of the chips' counters the index knows nothing then.
+    /// its counters, and of a chip behind the last of them nothing is said. The counters of a chip that has none are 0. Power-on contents
+    /// are this project's own. Each chip is put at most 512 questions, by which the index of the rack is made; of the chips' counters the
+    /// index knows nothing then.
     pub fn power(fill: u8, chain: Chain, powers: &Powers, rack: &mut Rack) -> Machine
         requires few { length rack.old.items ≤ MOST_CHIPS }
         ensures machine { result ≡ powered_machine fill chain result.index }

@@ -1,4 +1,4 @@
--- Bus arbitration: which storage chips drive the byte of a bus step or take it, and whether the step is served. The roles of the chips
+-- Bus arbitration: which chips drive the byte of a bus step or take it, and whether the step is served. The roles of the chips
 -- are those of the Mostek 3850, 3851 and 3853 data sheets. That a step in which the chips do not agree with the probe is refused, and
 -- how, is this project's own.
 --

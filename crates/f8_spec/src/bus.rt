@@ -12,9 +12,9 @@ pub enum Driver {
     Memory,
     /// The storage chip that holds the address in the step's counter, with a byte of that counter.
     CounterByte,
-    /// The storage chip whose interrupt is acknowledged, with a byte of its vector.
+    /// The chip whose interrupt is acknowledged, with a byte of its vector.
     Vector,
-    /// The storage chip that has the port as a data port.
+    /// The chip that has the port as a data port.
     Port,
     /// The 3850.
     Cpu,
@@ -22,7 +22,7 @@ pub enum Driver {
     Nobody,
 }
 
-/// How a bus step is arbitrated among the storage chips. That a step is served only where exactly one chip answers in it, at the address
+/// How a bus step is arbitrated among the chips. That a step is served only where exactly one chip answers in it, at the address
 /// of the probe's counter, is this project's own.
 #[derive(Clone, Copy, Debug, PartialEq, Eq)]
 pub enum BusRule {
@@ -36,7 +36,7 @@ pub enum BusRule {
     PortWrite,
     /// The chip whose interrupt is acknowledged drives the byte: codes 0F and 13.
     Vector,
-    /// No storage chip drives or takes a byte: all other codes.
+    /// No chip drives or takes a byte: all other codes.
     NoChip,
 }
 

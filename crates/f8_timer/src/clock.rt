@@ -14,7 +14,7 @@ pub const CYCLE_PHI: u16 = 255 * 31;
 /// The place of FE, the state after the expiry: a whole cycle before the next one.
 const FIRST_PLACE: u8 = 255;
 
-/// The timer of a storage chip (Mostek 3851 data sheet in outline; the step's rule and its period are this project's own). It counts the
+/// The timer of a chip (Mostek 3851 data sheet in outline; the step's rule and its period are this project's own). It counts the
 /// steps down to its expiry, so that no step shifts. Contracts see its state and the clocks since its last step.
 #[derive(Clone, Copy, Debug, PartialEq, Eq)]
 pub struct Timer {

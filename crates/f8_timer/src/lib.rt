@@ -1,4 +1,4 @@
-//! The timer of a storage chip (Mostek 3851 and 3853 data sheets in outline), kept as its place in the cycle of its states.
+//! The timer of a chip (Mostek 3851, 3853 and 3861 data sheets in outline), kept as its place in the cycle of its states.
 #![tactic(auto)]
 
 mod clock;

@@ -1,4 +1,4 @@
-//! The chain of the storage chips that can interrupt: which of those that ask comes first (Mostek 3851 data sheet, interrupt priority in
+//! The chain of chips that can interrupt: which of those that ask comes first (Mostek 3851 data sheet, interrupt priority in
 //! and out).
 #![tactic(auto)]
 

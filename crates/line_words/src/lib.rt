@@ -1,5 +1,5 @@
-//! The words of a line and the numbers that they spell, as the files have them that are read line by line (the form is this project's
-//! own): single blanks part words, and blank lines and comments are skipped.
+//! Files that are read line by line (the form is this project's own): the words of a line, the numbers that they spell, and the loop over
+//! the lines, up to the first fault. Single blanks part words, and blank lines and comments are skipped.
 #![tactic(auto)]
 
 mod line_draft;

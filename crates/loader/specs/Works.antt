@@ -11,14 +11,14 @@ use Rattle.loader.specs.declared.refusals.Stop.{Stop}
 use Rattle.loader.specs.declared.refusals.Stop.TheVariants.{Refused, Store, Memory}
 use Rattle.loader.specs.Work.{Ask, End, Gives, Refuses, Lacks, Course, Work}
 
--- ---- how many files were asked for, and how long they may have been
+-- ---- how many files were asked for, and the sum of their limits
 
 -- what a store was asked for once it was asked for these files, each with its limit
 abbrev pub after_asking : List Ask → Asked → Asked
 after_asking [] asked = asked
 after_asking (ask ∷ asks) asked = after_asking asks (asked_for ask.limit asked)
 
--- as many files were asked for, with as many bytes all together
+-- as many files were asked for, and their limits have the same sum, up to the greatest u64
 abbrev pub AsksAll : Input → Input → List Ask → Type 0
 AsksAll old new asks = new.asked ≡ after_asking asks old.asked
 

@@ -1,4 +1,4 @@
--- The causes by number, and those of numbers.
+-- The causes by number, the cause where a word is no number within limits, and the fault of a text.
 use Rattle.std.specs.Prelude.{ℕ, Result}
 use Rattle.std.specs.Result.{result_map_both}
 use Rattle.line_words.specs.declared.numbers.NumberFault.{NumberFault}

@@ -15,8 +15,8 @@ use std::alloc::Global;
 
 /// The script of a text, or the text's first fault: that of the first line that has one, and of such a line's faults the first in the
 /// order Word, Number, Range, Twice, TooMany. A text without an end of the run is at fault at the line after its last. `Memory`: memory
-/// is missing, at a line of an event or a shown frame, before which no line is at fault. The run of a script ends at frame 600 at the latest, or after 1,000,000
-/// instructions at most.
+/// is missing, at a line of an event or a shown frame, before which no line is at fault. The run of a script ends
+/// at frame 600 at the latest, or after 1,000,000 instructions at most.
 pub fn read_script(alloc: Global, text: &[u8]) -> Result<Script, ScriptAnswer>
     requires { length text.now ≤ 16777216 }
     ensures script { SaysSeen seen result (script_of text.now) }

@@ -52,7 +52,7 @@ TellsEnd told ending = Tells told ending.position.flat.state ending.stop
 
 -- ---- on a rack
 
--- nothing is said of the power-on of a chip of its own
+-- nothing is said of the power-on of any chip
 abbrev pub run_on : Detail → Script → List ℕ → List ChipState → Telling
 run_on detail script chain states = played_by (views states) chain [] (is_traced detail) script
 

@@ -69,8 +69,8 @@ fn shortage_in_kind(chips: &[ChipSpec], rack: &Rack, kind: ChipKind) -> Option<S
     (have < need).then(|| Shortage { kind, need, have })
 }
 
-/// The first kind, of the 3851, the 3853 and the 3861 in this order, of which a description has more chips than a rack of at most 16 chips has sockets. That each
-/// chip needs a socket of its kind is this project's own.
+/// The first kind, of the 3851, the 3853 and the 3861 in this order, of which a description has more chips than a rack of at most 16 chips
+/// has sockets. That each chip needs a socket of its kind is this project's own.
 pub fn first_shortage(chips: &ChipList, rack: &Rack) -> Option<Shortage>
     requires few { length rack.now.items ≤ MOST_CHIPS }
     ensures { result ≡ shortage_of chips.now (kinds_of (map state rack.now.items)) }
