@@ -14,7 +14,7 @@ use Rattle.f8_machine.specs.Refinement.{Represents}
 use Rattle.f8_machine.specs.RequestsHeld.{PulsesIf, PulsesInSocket, RackPulsed}
 use Rattle.f8_machine.specs.declared.heard.Heard.{Heard}
 use Rattle.chip_debug.specs.Scenes.{Scene, chips_with, happened, happening, pulsed_in}
-use Rattle.chip_debug.specs.Standing.{SessionState, HasFollowed, HaveHeard, IsAt, IsReady}
+use Rattle.chip_debug.specs.Standing.{SessionState, HasFollowed, HaveHeard, IsAt, IsReady, RunsAt}
 use Rattle.chip_debug.proofs.KeptChips.{keys_keeps, pulses_keeps}
 use Rattle.chip_debug.proofs.KeptHearing.{heard_stays, keys_heard, pulses_heard}
 use Rattle.chip_debug.proofs.KeptRacks.{views_by, ready_stays}
@@ -98,13 +98,16 @@ event_count (Pulse chip) x = pulse_count (slice_get x.chain chip) x
 
 module _ (s : SessionState) (after : MachineState) (olds news : List ChipState) (scene : Scene) (at : IsAt s olds scene)
     (halt : s.halt ≡ None) (running : scene.stop ≡ None) where
-  came_at : (event : Event) → Represents after news (with_event event scene.position) →
+  runs : RunsAt s.machine olds scene.position
+  runs = rw running at at.machine
+
+  came_at : (event : Event) → Represents after news (with_event event scene.position) → after.mode ≡ s.machine.mode →
       after.probe ≡ s.machine.probe → after.index ≡ s.machine.index →
       Comes (chips_with scene.position.chain event scene.chips) olds news →
       IsAt (record s { machine = after }) news (happened event scene)
-  came_at event represents probe index comes =
+  came_at event represents mode probe index comes =
       let came : IsAt (record s { machine = after }) news (happening None event scene) = record {
-        machine = rw running represents;
+        machine = rw running (record { represents = represents; running = mode ∙ runs.running });
         chain = represents.stands.chain;
         probe = probe ∙ at.probe;
         chips = comes.are;
@@ -122,7 +125,8 @@ module _ (s : SessionState) (after : MachineState) (olds news : List ChipState) 
       Represents after news (with_event (Keys port byte) scene.position)) →
       IsAt (record s { machine = after }) news (happened (Keys port byte) scene)
   keys_at port byte is keyed_all goes =
-      came_at (Keys port byte) (goes (rw running at at.machine)) (keyed_same port byte s.machine after is).probe
+      came_at (Keys port byte) (goes runs.represents) (keyed_same port byte s.machine after is).mode
+      (keyed_same port byte s.machine after is).probe
       (keyed_same port byte s.machine after is).index
       (subst (λ (vs : List ChipView). Comes (if is_own port then vs else map (keyed port byte) vs) olds news) at.chips
       (keys_by (is_own port) port byte olds news keyed_all at.ready))
@@ -132,7 +136,7 @@ module _ (s : SessionState) (after : MachineState) (olds news : List ChipState) 
       Represents after news (with_event (Pulse chip) scene.position)) →
       IsAt (record s { machine = after }) news (happened (Pulse chip) scene)
   pulse_at chip is pulsed_all goes =
-      came_at (Pulse chip) (goes (rw running at at.machine)) (ap (λ (m : MachineState). m.probe) is)
+      came_at (Pulse chip) (goes runs.represents) (ap (λ (m : MachineState). m.mode) is) (ap (λ (m : MachineState). m.probe) is)
       (ap (λ (m : MachineState). m.index) is)
       (subst (λ (vs : List ChipView). Comes (pulsed_in (slice_get scene.position.chain chip) vs) olds news) at.chips
       (pulses_by (slice_get scene.position.chain chip) olds news

@@ -9,7 +9,6 @@ use Rattle.data_bus.specs.Racks.{views}
 use Rattle.f8_machine.specs.Advancing.{Follows}
 use Rattle.f8_machine.specs.HeardSteps.{HaveBytes}
 use Rattle.f8_machine.specs.MachineState.{MachineState, probe_after_steps, steps_in}
-use Rattle.f8_machine.specs.Refinement.{Represents}
 use Rattle.f8_machine.specs.Rounds.{Runs, after_steps}
 use Rattle.f8_machine.specs.declared.heard.Heard.{Heard}
 use Rattle.f8_machine.specs.declared.outcome.Outcome.{Outcome}
@@ -20,7 +19,7 @@ use Rattle.rack_run.specs.declared.ending.Halt.{Halt}
 use Rattle.chip_debug.specs.declared.breaks.Breaks.{Breaks}
 use Rattle.chip_debug.specs.Asking.{allowed_since_power}
 use Rattle.chip_debug.specs.Scenes.{Scene, chips_after, hearing, led_by, served_steps}
-use Rattle.chip_debug.specs.Standing.{SessionState, HasFollowed, HaveHeard, IsAt, IsReady}
+use Rattle.chip_debug.specs.Standing.{SessionState, HasFollowed, HaveHeard, IsAt, IsReady, RunsAt}
 use Rattle.chip_debug.proofs.AskingLaws.{followed_more}
 use Rattle.chip_debug.proofs.KeptChips.{runs_keeps}
 use Rattle.chip_debug.proofs.KeptHearing.{heard_stays, runs_heard}
@@ -92,14 +91,14 @@ led_chain (Stops stop) s same = refl
 -- the flat machine goes on
 pub goes_at : (m : MachineState) (states : List ChipState) (scene : Scene) (turn : Turn) (y : Position) (count : ℕ)
     (breaks : Breaks) →
-    turn ≡ Goes y → Shows m states scene → scene.stop ≡ None → Represents m states y → count ≡ y.flat.state.count →
+    turn ≡ Goes y → Shows m states scene → scene.stop ≡ None → RunsAt m states y → count ≡ y.flat.state.count →
     breaks ≡ scene.breaks →
     IsAt (record { machine = m; halt = None; count = count; breaks = breaks }) states (led_by turn scene)
-goes_at m states scene turn y count breaks goes shows running represents counts same =
+goes_at m states scene turn y count breaks goes shows running runs counts same =
     let went : IsAt (record { machine = m; halt = None; count = count; breaks = breaks }) states (led_by (Goes y) scene) =
     record {
-      machine = rw running represents;
-      chain = represents.stands.chain;
+      machine = rw running runs;
+      chain = runs.represents.stands.chain;
       probe = shows.probe;
       chips = shows.chips;
       heard = shows.heard;

@@ -112,7 +112,7 @@ module _ (scene : Scene) (m after : MachineState) (mids news : List ChipState) (
   reset_by (Done wrote steps) follows done heard =
       goes_at after news (hearing (served_steps (reset_course scene.position)) scene)
       (goes_unless (reset_fault scene.position) (position_after_reset scene.position)) done.after 0 breaks done.turns heard
-      running done.represents
+      running (record { represents = done.represents; running = done.running })
       (none ∙ goes_none (reset_fault scene.position) scene.position done.after done.turns) same
   reset_by (FaultOutcome fault long steps) follows faulted heard =
       stops_at after news (hearing (served_steps (reset_course scene.position)) scene)

@@ -29,7 +29,7 @@ use Rattle.chip_debug.specs.declared.breaks.Breaks.{Breaks}
 use Rattle.chip_debug.specs.Breaks.{are_met, meets_behind, meets_step}
 use Rattle.chip_debug.specs.Asking.{allowed_since_power, behind_allowed}
 use Rattle.chip_debug.specs.Scenes.{Scene, hearing, is_met, next_steps, turned}
-use Rattle.chip_debug.specs.Standing.{SessionState, IsAt, came_of, halt_in}
+use Rattle.chip_debug.specs.Standing.{SessionState, IsAt, RunsAt, came_of, halt_in}
 use Rattle.chip_debug.specs.declared.session.Came.{Came}
 use Rattle.chip_debug.specs.declared.session.Came.TheVariants.{Done as DoneCame, Met, Stopped}
 use Rattle.chip_debug.proofs.Halts.{runs_at, stops_as}
@@ -91,14 +91,14 @@ session_with after halt s =
 module _ (s : SessionState) (after : MachineState) (olds news : List ChipState) (scene : Scene) (at : IsAt s olds scene)
     (running : scene.stop ≡ None) where
   pub represents : Represents s.machine olds scene.position
-  represents = rw running at at.machine
+  represents = let runs : RunsAt s.machine olds scene.position = rw running at at.machine in runs.represents
 
   turned_by : (outcome : Outcome) → Refines outcome s.machine after news scene.position →
       Shows after news (hearing (next_steps scene) scene) →
       IsAt (session_with after (halt_in outcome) s) news (turned scene)
   turned_by (Done wrote steps) done heard =
       goes_at after news (hearing (next_steps scene) scene) (next scene.position) done.after (s.count + 1) s.breaks
-      done.turns heard running done.represents
+      done.turns heard running (record { represents = done.represents; running = done.running })
       (ap (λ n. n + 1) at.count ∙ sym (next_count scene.position done.after done.turns)) at.breaks
   turned_by (FaultOutcome fault long steps) faulted heard =
       stops_at after news (hearing (next_steps scene) scene) (next scene.position) (FaultHalt fault) s.count s.breaks
@@ -180,9 +180,9 @@ pub met_at : (s : SessionState) (states : List ChipState) (scene : Scene) (steps
 met_at s states scene steps at running =
     let met : Breaks → ℕ → ProbeState → List ℕ → List ChipView → Bool =
     λ breaks p probe chain vs. are_met breaks steps p (probe_counters probe) chain vs in
-    let here : Represents s.machine states scene.position = rw running at at.machine in
+    let here : RunsAt s.machine states scene.position = rw running at at.machine in
     ap (λ (b : Breaks). met b s.machine.flow.p s.machine.probe s.machine.chain (views states)) at.breaks
-    ∙ ap (λ (c : Flow). met scene.breaks c.p s.machine.probe s.machine.chain (views states)) here.stands.flow
+    ∙ ap (λ (c : Flow). met scene.breaks c.p s.machine.probe s.machine.chain (views states)) here.represents.stands.flow
     ∙ ap (λ (p : ProbeState). met scene.breaks scene.position.flat.state.flow.p p s.machine.chain (views states)) at.probe
     ∙ ap (λ (l : List ℕ). met scene.breaks scene.position.flat.state.flow.p scene.probe l (views states)) at.chain
     ∙ ap (λ (vs : List ChipView). met scene.breaks scene.position.flat.state.flow.p scene.probe scene.position.chain vs) at.chips

@@ -10,6 +10,7 @@ use Rattle.data_bus.specs.Racks.{views}
 use Rattle.data_bus.specs.declared.index.Index.{Index}
 use Rattle.f8_machine.specs.Questions.{codes_of, followed_all}
 use Rattle.f8_machine.specs.MachineState.{MachineState, IsReset}
+use Rattle.f8_machine.specs.declared.outcome.Mode.TheVariants.{Running}
 use Rattle.f8_machine.specs.declared.outcome.Outcome.{Outcome}
 use Rattle.f8_machine.specs.declared.outcome.Outcome.TheVariants.{Done as DoneOutcome, Fault as FaultOutcome, Reserved as ReservedOutcome}
 use Rattle.f8_ops.specs.declared.table.TheConstants.{MOST_INTERRUPTED_PHI, RESET_PHI}
@@ -62,9 +63,14 @@ pub record HasFollowed (steps : List Heard) (index : Index) : Type 0 where
   pub unknown : first.marks ≡ no_marks
   pub is : index ≡ followed_all (codes_of steps) first
 
--- The machine and its rack represent the position as long as nothing stopped them, and then the machine tells the state before.
+-- a machine that runs, and its rack, represent a position
+pub record RunsAt (m : MachineState) (states : List ChipState) (x : Position) : Type 0 where
+  pub represents : Represents m states x
+  pub running : m.mode ≡ Running
+
+-- The machine runs and represents the position as long as nothing stopped it, and then it tells the state before.
 abbrev pub MachineAt : Option Stop → MachineState → List ChipState → Position → Type 0
-MachineAt None m states x = Represents m states x
+MachineAt None m states x = RunsAt m states x
 MachineAt (Some stop) m states x = machine_readout m ≡ readout_of x.flat.state
 
 -- every chip has 256 bytes for each of its pages, and none has the port 0 or 1

@@ -1,7 +1,7 @@
 -- The byte that fills the RAM of a chip and the address at which its counters stand are a byte and an address, where what is said is.
 use Rattle.std.proofs.Common.{◌≡◌, ℕ, ◌<◌, List, refl, arith}
-use Rattle.std.specs.Prelude.{◌==◌, Option, Some, None, option_and_then, position, slice_get, unwrap_or}
-use Rattle.f8_spec.specs.Powers.{ArePowers, IsPower, usual_power}
+use Rattle.std.specs.Prelude.{◌==◌, Option, Some, None, option_map, position, slice_get, unwrap_or}
+use Rattle.f8_spec.specs.Powers.{ArePowers, IsPower, said_of, usual_power}
 use Rattle.f8_spec.specs.declared.chips.PowerOn.{PowerOn}
 use Rattle.console_spec.specs.Powering.{fill_in, power_in, power_start, start_in}
 
@@ -9,7 +9,7 @@ usual_is : IsPower usual_power
 usual_is = record { fill = λ byte e. cc; start = λ at e. cc }
 
 said_is : (powers : List PowerOn) → ArePowers powers → (place : Option ℕ) →
-    IsPower (unwrap_or (option_and_then (λ k. slice_get powers k) place) usual_power)
+    IsPower (unwrap_or (option_map (said_of powers) place) usual_power)
 said_is powers are None = usual_is
 said_is powers are (Some k) = by (slice_get powers k) refl
   where

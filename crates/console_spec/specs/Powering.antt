@@ -1,13 +1,12 @@
 -- How the chip in a socket is powered on: as its description says, and where that says nothing, as all chips are. That counters begin by the
 -- socket is this project's own.
-use Rattle.std.specs.Prelude.{ℕ, ◌+◌, ◌*◌, ◌%◌, ◌==◌, List, position, slice_get, option_and_then, unwrap_or}
-use Rattle.f8_spec.specs.Powers.{usual_power}
+use Rattle.std.specs.Prelude.{ℕ, ◌+◌, ◌*◌, ◌%◌, ◌==◌, List, position, option_map, unwrap_or}
+use Rattle.f8_spec.specs.Powers.{said_of, usual_power}
 use Rattle.f8_spec.specs.declared.chips.PowerOn.{PowerOn}
 
 -- what is said of the chip in a socket, by the chain, which has the sockets of the chips described in the order of what is said of them
 abbrev pub power_in : List ℕ → List PowerOn → ℕ → PowerOn
-power_in chain powers socket =
-    unwrap_or (option_and_then (λ place. slice_get powers place) (position (λ s. s == socket) chain)) usual_power
+power_in chain powers socket = unwrap_or (option_map (said_of powers) (position (λ s. s == socket) chain)) usual_power
 
 -- the address at which every counter of a chip stands where nothing is said: the power byte in both halves, and the socket added
 abbrev pub power_start : ℕ → ℕ → ℕ

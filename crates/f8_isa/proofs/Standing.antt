@@ -1,21 +1,20 @@
 -- The instruction set beside the flat machine.
 use Rattle.std.proofs.Common.{◌≡◌, ◌≢◌, ℕ, ◌+◌, ◌-◌, ◌/◌, ◌%◌, ◌<◌, ◌≤◌, List, [], ◌∷◌, length, map, refl, sym, ap, subst, ◌∙◌, get_or}
 use Rattle.std.proofs.Common.{arith, inl, inr, get_or-set_other, get_or-set_same, eq-eqb}
-use Rattle.std.specs.Prelude.{Bool, true, false, Option, Some, None, ◌⊎◌, ◌==◌, if◌then◌else◌, is_some, slice_get, slice_index, slice_set, unwrap_or}
-use Rattle.std.specs.List.{enumerate_from, position_or_len, range_with_len}
+use Rattle.std.specs.Prelude.{Bool, true, false, Option, Some, None, ◌⊎◌, ◌==◌, if◌then◌else◌, filter_map, is_some, slice_index, slice_set, unwrap_or}
+use Rattle.std.specs.List.{AllByRecursion, cons_option, enumerate_from, position_or_len, range_with_len}
 use Rattle.std.proofs.lemmas.List.FromFn.{get_or-range_with_len, length-range_with_len}
 use Rattle.std.proofs.lemmas.List.Sums.{position_or_len_is}
-use Rattle.std.proofs.lemmas.Option.{slice_get_past}
 use Rattle.std.proofs.lemmas.List.{get_or-replicate, length-map, length-replicate, length-set}
 use Rattle.std.proofs.lemmas.List.FromFn.{fill_by_all}
-use Rattle.std.proofs.lemmas.Bool.{cases_eq, cases_lt, le-ltb, lt-ltb, ne_eqb}
+use Rattle.std.proofs.lemmas.Bool.{cases_eq, lt-ltb, ne_eqb}
 use Rattle.f8_spec.specs.Instructions.{InRange, decoded, row_of, row_clocks, clocks_before_fetch, is_shielding}
 use Rattle.f8_spec.specs.Words.{places_on, word}
-use Rattle.f8_spec.specs.Powers.{usual_power}
+use Rattle.f8_spec.specs.Powers.{said_of}
 use Rattle.f8_spec.specs.declared.chips.PowerOn.{PowerOn}
 use Rattle.console_spec.specs.Powering.{fill_in, power_in, start_in}
 use Rattle.f8_spec.specs.ChipState.{ChipView}
-use Rattle.f8_spec.specs.BusArbitration.{Seat}
+use Rattle.f8_spec.specs.BusArbitration.{Seat, seat_holds, seat_of}
 use Rattle.f8_spec.specs.declared.instructions.Op.{Op}
 use Rattle.f8_spec.specs.declared.instructions.Op.TheVariants.{In, Out, Ins, Outs}
 use Rattle.f8_spec.specs.declared.instructions.Row.{Row}
@@ -30,7 +29,7 @@ use Rattle.console_spec.specs.Processor.{counters_after, registers_after}
 use Rattle.console_spec.specs.FlatStep.{after_instruction, chosen_at, chosen_in, clocks_by, inputs_of, with_acknowledged, with_chosen}
 use Rattle.console_spec.specs.InterruptChoice.{vector_of}
 use Rattle.console_spec.proofs.InputLaws.{flow_after-with_interrupt, result_of-with_interrupt}
-use Rattle.console_spec.specs.FlatMemory.{fill_of_owner, first_byte, first_memory, is_ram_sort, owner_of}
+use Rattle.console_spec.specs.FlatMemory.{fill_of_owner, first_byte, first_memory, holding, is_ram_sort, only_of, owner_of}
 use Rattle.console_spec.specs.FlatMachine.{FlatState, memory_after}
 use Rattle.console_spec.specs.CounterCopies.{Copy, copies_after, reset_copy}
 use Rattle.console_spec.specs.Run.{Position, gets_at, seats_of, position_after, position_after_reset, power_position, chain_in_order}
@@ -42,7 +41,7 @@ use Rattle.f8_isa.specs.IsaState.{IsaState, KnowsRam, StandsAt, LeadsTo, GoesTo,
 use Rattle.f8_isa.specs.IsaState.{phi_after, isa_after}
 use Rattle.f8_isa.specs.IsaState.{sample_time, chosen_place, with_interrupt, finished, VectorFits, TellsInterrupt}
 use Rattle.f8_isa.specs.Requests.{KnowsChain, first_requests, asking_place, place_vector}
-use Rattle.chip_face.specs.Fitting.{IsChipList, fitted}
+use Rattle.chip_face.specs.Fitting.{IsChipList}
 use Rattle.f8_isa.proofs.RequestChains.{chain-written, chain-acknowledged, chain-first}
 use Rattle.f8_isa.proofs.Choices.{IsChosen, AreChosen, some_alike, first_alike, chosen_alike, open_end, vector_alike, requests_left, latch_left}
 use Rattle.f8_isa.proofs.Choices.{sample_alike}
@@ -68,42 +67,58 @@ first_memory-from_bytes : (views : List ChipView) (fill : ℕ → ℕ) (bytes : 
 unfolding first_memory
 first_memory-from_bytes views fill bytes size each = fill_by_all (first_byte views fill) bytes 65536 0 size each
 
--- two fills that are alike in each place
-fill_of_owner-alike : (fill other : ℕ → ℕ) (owner : Option ℕ) → ((place : ℕ) → fill place ≡ other place) → fill_of_owner fill owner ≡ fill_of_owner other owner
-fill_of_owner-alike fill other None alike = refl
-fill_of_owner-alike fill other (Some place) alike = alike place
+-- The place of an address's owner is one of the chips'. So it is of each chip that holds it, where the first is in a place.
+abbrev AllBelow : ℕ → List ℕ → Type 0
+AllBelow bound places = AllByRecursion (λ place. place < bound) places
+
+holders_below : (place bound : ℕ) (seats : List Seat) (at : ℕ) → place + length seats ≤ bound →
+    AllBelow bound (filter_map (holding at) (enumerate_from place seats))
+holders_below place bound [] at few = tt
+holders_below place bound (s ∷ seats) at few =
+    by (seat_holds s at) (holders_below (place + 1) bound seats at (omega arith))
+  where
+    by : (holds : Bool) → AllBelow bound (filter_map (holding at) (enumerate_from (place + 1) seats)) →
+        AllBelow bound (cons_option (if holds then Some place else None) (filter_map (holding at) (enumerate_from (place + 1) seats)))
+    by true later = (omega arith, later)
+    by false later = later
+
+-- two fills that are alike in the place of each chip
+alike_of_one : (fill other : ℕ → ℕ) (bound : ℕ) (places : List ℕ) → AllBelow bound places →
+    ((place : ℕ) → place < bound → fill place ≡ other place) → fill_of_owner fill (only_of places) ≡ fill_of_owner other (only_of places)
+alike_of_one fill other bound [] below alike = refl
+alike_of_one fill other bound (place ∷ []) below alike = alike place below.0
+alike_of_one fill other bound (place ∷ (second ∷ later)) below alike = refl
+
+alike_of_owner : (fill other : ℕ → ℕ) (seats : List Seat) (at : ℕ) →
+    ((place : ℕ) → place < length seats → fill place ≡ other place) → fill_of_owner fill (owner_of seats at) ≡ fill_of_owner other (owner_of seats at)
+alike_of_owner fill other seats at alike =
+    alike_of_one fill other (length seats) (filter_map (holding at) (enumerate_from 0 seats))
+    (holders_below 0 (length seats) seats at (omega arith)) alike
 
 first_memory-mapped : (table : MapTable) (chips : List ChipSpec) (fill other : ℕ → ℕ) (memory : KeptMemory) → IsMapOf table chips →
-    IsFirstMemory table fill memory → ((place : ℕ) → fill place ≡ other place) → memory.bytes ≡ first_memory (views_of chips) other
+    IsFirstMemory table fill memory → ((place : ℕ) → place < length (seats_of_chips chips) → fill place ≡ other place) →
+    memory.bytes ≡ first_memory (views_of chips) other
 first_memory-mapped table chips fill other memory mapped first alike =
     first_memory-from_bytes (views_of chips) other memory.bytes first.bytes.size
     (λ at below.
     let tells = mapped.tells at below in
-    rw (tells.sort, tells.owner, tells.byte, fill_of_owner-alike fill other (owner_of (seats_of_chips chips) at) alike) at (first.bytes.byte at below))
+    rw (tells.sort, tells.owner, tells.byte, alike_of_owner fill other (seats_of_chips chips) at alike) at (first.bytes.byte at below))
 
--- In a chain of the places in order, what is said of the chip in a socket stands in that place, where as much is said as there are chips.
-power_in-order : (powers : List PowerOn) (count socket : ℕ) → length powers ≡ count →
-    power_in (range_with_len 0 count) powers socket ≡ unwrap_or (slice_get powers socket) usual_power
-power_in-order powers count socket many = elim (cases_lt socket count) [
-  | inl within ↦
-      let found : position_or_len (λ s. s == socket) (range_with_len 0 count) ≡ socket =
-      position_or_len_is (λ s. s == socket) (range_with_len 0 count) socket 0 (omega (arith, length-range_with_len 0 count))
-      (λ k before. rw (place k (omega arith)) (ne_eqb k socket (λ same. omega (arith, same))))
-      (λ below. rw (place socket within) (eq-eqb socket socket refl)) in
-      rw (found, length-range_with_len 0 count, lt-ltb socket count within) refl
-  | inr past ↦
-      let none : position_or_len (λ s. s == socket) (range_with_len 0 count) ≡ count =
-      position_or_len_is (λ s. s == socket) (range_with_len 0 count) count 0 (omega (arith, length-range_with_len 0 count))
-      (λ k before. rw (place k before) (ne_eqb k socket (λ same. omega (arith, same))))
-      (λ below. absurd (omega (arith, length-range_with_len 0 count, below))) in
-      rw (none, length-range_with_len 0 count, le-ltb count count (omega arith), slice_get_past powers socket (omega arith)) refl
-]
+-- In a chain of the places in order, what is said of the chip in a socket stands in that place.
+power_in-order : (powers : List PowerOn) (count socket : ℕ) → socket < count →
+    power_in (range_with_len 0 count) powers socket ≡ said_of powers socket
+power_in-order powers count socket within =
+    let found : position_or_len (λ s. s == socket) (range_with_len 0 count) ≡ socket =
+    position_or_len_is (λ s. s == socket) (range_with_len 0 count) socket 0 (omega (arith, length-range_with_len 0 count))
+    (λ k before. rw (place k (omega arith)) (ne_eqb k socket (λ same. omega (arith, same))))
+    (λ below. rw (place socket within) (eq-eqb socket socket refl)) in
+    rw (found, length-range_with_len 0 count, lt-ltb socket count within) refl
   where
     place : (k : ℕ) → k < count → slice_index (range_with_len 0 count) k ≡ k
     place k within = omega (arith, get_or-range_with_len 0 count k 0 within)
 
 pub StandsAt-at_power : (table : MapTable) (chips : List ChipSpec) (powers : List PowerOn) (fill : ℕ) (memory : KeptMemory) (ports : PortState) →
-    IsMapOf table chips → length powers ≡ length chips → IsFirstMemory table (placed_fill fill powers) memory → AreFirstPorts table ports →
+    IsMapOf table chips → IsFirstMemory table (placed_fill fill powers) memory → AreFirstPorts table ports →
     IsChipList chips →
     StandsAt
     (record {
@@ -116,7 +131,7 @@ pub StandsAt-at_power : (table : MapTable) (chips : List ChipSpec) (powers : Lis
       requests = map first_requests chips;
     })
     0 (position_after_reset (power_position (views_of chips) (chain_in_order (views_of chips)) powers fill))
-StandsAt-at_power table chips powers fill memory ports mapped many first ports_first limits = record {
+StandsAt-at_power table chips powers fill memory ports mapped first ports_first limits = record {
   flat = rw (first_memory-mapped table chips (placed_fill fill powers) filled memory mapped first alike, ports_first.keys) refl;
   ram = record {
     page = λ at below.
@@ -141,10 +156,10 @@ StandsAt-at_power table chips powers fill memory ports mapped many first ports_f
     starts : ℕ → ℕ
     starts = start_in fill (chain_in_order (views_of chips)) powers
 
-    alike : (place : ℕ) → placed_fill fill powers place ≡ filled place
-    alike place =
-        let count : length powers ≡ length (views_of chips) = many ∙ sym (length-map chips (fitted None)) in
-        ap (λ (p : PowerOn). unwrap_or p.fill fill) (sym (power_in-order powers (length (views_of chips)) place count))
+    alike : (place : ℕ) → place < length (seats_of_chips chips) → placed_fill fill powers place ≡ filled place
+    alike place within =
+        ap (λ (p : PowerOn). unwrap_or p.fill fill)
+        (sym (power_in-order powers (length (views_of chips)) place (rw (length-map (views_of chips) seat_of) at within)))
 
 -- ---- ports
 

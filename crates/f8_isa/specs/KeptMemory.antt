@@ -1,6 +1,6 @@
 -- The flat memory, and that it is the one at power-on that a map tells.
-use Rattle.std.specs.Prelude.{◌≡◌, ℕ, ◌<◌, Bool, List, length, slice_get, slice_index, unwrap_or}
-use Rattle.f8_spec.specs.Powers.{usual_power}
+use Rattle.std.specs.Prelude.{◌≡◌, ℕ, ◌<◌, Bool, List, length, slice_index, unwrap_or}
+use Rattle.f8_spec.specs.Powers.{said_of}
 use Rattle.f8_spec.specs.declared.chips.PowerOn.{PowerOn}
 use Rattle.console_spec.specs.FlatMemory.{fill_of_owner, first_byte_by, is_ram_sort}
 use Rattle.memory_map.specs.MapOf.{MapTable, mapped_sort, mapped_owner, mapped_byte}
@@ -12,7 +12,7 @@ pub record KeptMemory : Type 0 where
 
 -- the byte in all RAM of the chip in a place of the description
 abbrev pub placed_fill : ℕ → List PowerOn → ℕ → ℕ
-placed_fill fill powers place = unwrap_or (unwrap_or (slice_get powers place) usual_power).fill fill
+placed_fill fill powers place = unwrap_or (said_of powers place).fill fill
 
 -- the byte at an address at power-on, by the byte in the RAM of each chip
 abbrev pub mapped_first : MapTable → (ℕ → ℕ) → ℕ → ℕ

@@ -69,7 +69,7 @@ impl Isa {
     ghost use Rattle.f8_isa.specs.IsaState.{GoesTo, TellsInterrupt, StopsBy, StandsAt, InReach, TakesKey, TakesPulse, TakesEarlyPulse};
 
     /// A program on some chips, after power-on with a byte and reset, or want of memory. The map is that of the chips; what it tells is
-    /// copied. How each chip is powered on is said in the order of the chips.
+    /// copied. How each chip is powered on is said in the order of the chips; of a chip behind the last of them nothing is said.
     pub fn new(
         alloc: Global,
         map: &Map,
@@ -78,7 +78,6 @@ impl Isa {
         fill: u8,
     ) -> Result<Isa, Memory>
         requires map { IsMapOf map.now chips.now }
-        requires powers { length powers.now ≡ length chips.now }
         ensures { let vs = views_of chips.now in IfOk result (λ isa. StandsAt isa 0
             (position_after_reset (power_position vs (chain_in_order vs) powers.now fill))) }
     {

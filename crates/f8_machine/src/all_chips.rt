@@ -1,7 +1,7 @@
 //! What comes to every chip of a rack beside the bus: power, and key bytes from outside.
-ghost use Rattle.std.specs.Prelude.{◌≡◌, ◌≤◌, ◌==◌, length, map, position, slice_get, unwrap_or};
+ghost use Rattle.std.specs.Prelude.{◌≡◌, ◌≤◌, ◌==◌, length, map, position, unwrap_or};
 ghost use Rattle.f8_spec.specs.ChipState.{PowersOn};
-ghost use Rattle.f8_spec.specs.Powers.{usual_power};
+ghost use Rattle.f8_spec.specs.Powers.{said_of};
 ghost use Rattle.console_spec.specs.Powering.{power_in, power_start};
 ghost use Rattle.f8_machine.specs.Keying.{KeysInSocket, RackTakesKeys};
 ghost use Rattle.f8_machine.specs.Rounds.{RackPowers};
@@ -17,8 +17,8 @@ fn place_of(socket: u8, chain: &[u8]) -> Option<usize>
 }
 
 /// What is said of the chip in a place of the description.
-fn power_of(place: usize, powers: &[PowerOn]) -> PowerOn
-    ensures { result ≡ unwrap_or (slice_get powers.now place) usual_power }
+fn said_of(place: usize, powers: &[PowerOn]) -> PowerOn
+    ensures { result ≡ said_of powers.now place }
 {
     powers.get(place).copied().unwrap_or(USUAL_POWER)
 }
@@ -28,7 +28,7 @@ fn power_for(socket: u8, chain: &[u8], powers: &[PowerOn]) -> PowerOn
     ensures { result ≡ power_in chain.now powers.now socket }
 {
     match place_of(socket, chain) {
-        Some(place) => power_of(place, powers),
+        Some(place) => said_of(place, powers),
         None => USUAL_POWER,
     }
 }

@@ -269,9 +269,13 @@ is_asking v = v.wired && v.request
 abbrev pub fixed_vector : ChipView → ℕ
 fixed_vector v = if has_fixed_vector v.kind then v.vector else 0
 
--- a vector as it is given under a control: bit 7 of its low byte is clear for the timer and set for a pulse
+-- a vector as it is given: bit 7 of its low byte is clear for the timer, and set for a pulse
+abbrev pub vector_for : Bool → ℕ → ℕ
+vector_for timer vector = vector / 256 * 256 + (if timer then 0 else 128) + vector % 128
+
+-- and so under a control
 abbrev pub vector_under : ℕ → ℕ → ℕ
-vector_under control vector = vector / 256 * 256 + (if admits_expiries control then 0 else 128) + vector % 128
+vector_under control vector = vector_for (admits_expiries control) vector
 
 -- the vector given for a request
 abbrev pub given_vector : ChipView → ℕ

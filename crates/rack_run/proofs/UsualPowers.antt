@@ -1,10 +1,10 @@
 -- Where nothing is said of how a chip is powered on, it makes no difference of how many chips nothing is said.
 use Rattle.std.proofs.Common.{◌≡◌, ℕ, zero, suc, List, [], map, refl, ap}
-use Rattle.std.specs.Prelude.{◌==◌, Option, Some, None, option_and_then, position, replicate, slice_get, unwrap_or}
+use Rattle.std.specs.Prelude.{◌==◌, Option, Some, None, option_map, position, replicate, unwrap_or}
 use Rattle.std.specs.List.{enumerate_from}
 use Rattle.f8_spec.specs.BusArbitration.{seat_of}
 use Rattle.f8_spec.specs.ChipState.{ChipView}
-use Rattle.f8_spec.specs.Powers.{usual_power}
+use Rattle.f8_spec.specs.Powers.{said_of, usual_power}
 use Rattle.f8_spec.specs.declared.chips.PowerOn.{PowerOn}
 use Rattle.console_spec.specs.CounterCopies.{reset_copy}
 use Rattle.console_spec.specs.FlatMemory.{first_memory}
@@ -12,7 +12,7 @@ use Rattle.console_spec.specs.Powering.{power_in, power_start}
 use Rattle.console_spec.specs.Processor.{at_power}
 use Rattle.console_spec.specs.Run.{Position, power_position}
 
-usual_at : (n k : ℕ) → unwrap_or (slice_get (replicate n usual_power) k) usual_power ≡ usual_power
+usual_at : (n k : ℕ) → said_of (replicate n usual_power) k ≡ usual_power
 usual_at zero k = refl
 usual_at (suc n) zero = refl
 usual_at (suc n) (suc k) = usual_at n k
@@ -21,8 +21,8 @@ usual_in : (chain : List ℕ) (n socket : ℕ) → power_in chain (replicate n u
 usual_in chain n socket = by (position (λ s. s == socket) chain)
   where
     by : (place : Option ℕ) →
-        unwrap_or (option_and_then (λ k. slice_get (replicate n usual_power) k) place) usual_power
-        ≡ unwrap_or (option_and_then (λ k. slice_get {X = PowerOn} [] k) place) usual_power
+        unwrap_or (option_map (said_of (replicate n usual_power)) place) usual_power
+        ≡ unwrap_or (option_map (said_of []) place) usual_power
     by None = refl
     by (Some k) = usual_at n k
 
