@@ -3,7 +3,7 @@ use Rattle.std.specs.Prelude.{ℕ}
 use Rattle.abs_domain.specs.declared.reason.Reason.{Reason}
 use Rattle.abs_domain.specs.declared.reason.Reason.TheVariants.{CodeNotHeldOnce, CodeInRam, ReservedOpcode, UnknownJump, UnknownReturn}
 use Rattle.abs_domain.specs.declared.reason.Reason.TheVariants.{UnsetReturn, DataCountersApart, ReturnNotHeldOnce, BadPort}
-use Rattle.abs_domain.specs.declared.reason.Reason.TheVariants.{InterruptPossible, SharedDataAddress, TrackedRegisterBlurred}
+use Rattle.abs_domain.specs.declared.reason.Reason.TheVariants.{UnknownVector, SharedDataAddress, TrackedRegisterBlurred}
 
 abbrev pub reason_number : Reason → ℕ
 reason_number CodeNotHeldOnce = 1
@@ -15,6 +15,6 @@ reason_number UnsetReturn = 6
 reason_number DataCountersApart = 7
 reason_number ReturnNotHeldOnce = 8
 reason_number BadPort = 9
-reason_number InterruptPossible = 10
+reason_number UnknownVector = 10
 reason_number SharedDataAddress = 11
 reason_number TrackedRegisterBlurred = 12

@@ -33,8 +33,8 @@ pub enum Reason {
     /// A read of a port that isn't a data port of exactly one chip, or a write to a port of several.
     BadPort,
 
-    /// An interrupt may be taken at the end.
-    InterruptPossible,
+    /// An interrupt may be taken at the end, and its vector isn't known, since ports write it.
+    UnknownVector,
 
     /// The bus goes by D0, which several chips may hold.
     SharedDataAddress,
@@ -58,7 +58,7 @@ impl Reason {
             Reason::DataCountersApart => 7,
             Reason::ReturnNotHeldOnce => 8,
             Reason::BadPort => 9,
-            Reason::InterruptPossible => 10,
+            Reason::UnknownVector => 10,
             Reason::SharedDataAddress => 11,
             Reason::TrackedRegisterBlurred => 12,
         }

@@ -19,26 +19,10 @@ use Rattle.abs_step.specs.Soundness.{op_at, Covers}
 use Rattle.abs_step.specs.StepOrder.{IsOrdered}
 use Rattle.abs_step.specs.Analysis.{LeadsBelow, AnalysisLaws}
 use Rattle.abs_step.specs.CartridgeAnalysis.{FitsPoint, TellsBytes, entry_of, answer_by, answer_at, analysis}
-use Rattle.abs_step.proofs.Members.{IsIn, from_all, all_map, all_mapped}
+use Rattle.abs_step.proofs.Members.{IsIn, contains_of_in, from_all, in_of_contains, all_map, all_mapped}
 use Rattle.abs_step.proofs.Reasons.{safe_state}
 use Rattle.abs_step.proofs.SuccessorOrder.{step_order}
 use Rattle.abs_step.proofs.PointFits.{start_fits, joined_fits, successors_fit}
-
--- ---- elements of a list
-
-module _ {A : Type 0} where
-  pub in_of_contains : (xs : List A) (x : A) → Contains xs x → IsIn x xs
-  in_of_contains [] x has = absurd (omega (arith, has.1))
-  in_of_contains (y ∷ ys) x (zero, within, is) = inl is
-  in_of_contains (y ∷ ys) x (suc k, within, is) = inr (in_of_contains ys x (k, omega arith, is))
-
-  pub contains_of_in : (xs : List A) (x : A) → IsIn x xs → Contains xs x
-  contains_of_in [] x is = absurd is
-  contains_of_in (y ∷ ys) x (inl here) = (0, omega arith, here)
-  contains_of_in (y ∷ ys) x (inr later) =
-      let rest = contains_of_in ys x later in
-      let within : rest.0 < length ys = rest.1 in
-      (suc rest.0, omega arith, rest.2)
 
 -- ---- a safe state has an instruction, and what holds next is that of it
 

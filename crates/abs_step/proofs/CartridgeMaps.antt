@@ -27,8 +27,8 @@ use Rattle.abs_step.specs.Successors.{start_invariant, successors}
 use Rattle.abs_step.specs.Soundness.{Covers, LeadsInto, IsClosed, IsSafe, IsFaultFree}
 use Rattle.abs_step.specs.ReachedStates.{CoversAt, IsClosedMap, HoldsSafeStates, HoldsFaultFreeStates}
 use Rattle.abs_step.specs.CartridgeAnalysis.{TellsBytes, entry_of, as_invariant, analysis, AnalysisLaw}
-use Rattle.abs_step.proofs.Members.{IsIn, all_of, all_mapped, all_unmapped}
-use Rattle.abs_step.proofs.CartridgeLaws.{in_of_contains, contains_of_in, IsNext, next_is, cartridge_laws}
+use Rattle.abs_step.proofs.Members.{IsIn, all_of, all_mapped, all_unmapped, contains_of_in, in_of_contains}
+use Rattle.abs_step.proofs.CartridgeLaws.{IsNext, next_is, cartridge_laws}
 
 -- ---- bytes
 

@@ -1,5 +1,5 @@
 -- Invariants that cover others: what holds next is covered where the invariant map is closed, and what covers stands for no less.
-use Rattle.std.proofs.Common.{◌≡◌, ℕ, suc, ◌+◌, Bool, true, false, List, [], ◌∷◌, length, map, refl, ap, sym, ◌∙◌, subst, inl, inr}
+use Rattle.std.proofs.Common.{◌≡◌, ℕ, suc, ◌+◌, Bool, true, false, List, [], ◌∷◌, ◌++◌, length, map, refl, ap, sym, ◌∙◌, subst, inl, inr}
 use Rattle.std.specs.Prelude.{Option, Some, if◌then◌else◌, flat_map}
 use Rattle.std.specs.List.{AllByRecursion, AllZip}
 use Rattle.std.specs.declared.cmp.Ordering.{Ordering}
@@ -20,14 +20,16 @@ use Rattle.abs_domain.proofs.Orders.{below_trans, registers_trans, order_laws}
 use Rattle.abs_domain.proofs.Bounds.{join_laws}
 use Rattle.abs_domain.proofs.PointOrders.{point_laws}
 use Rattle.abs_step.specs.RegisterWrites.{RegisterWrite, written_from, written_all}
-use Rattle.abs_step.specs.KnownFlow.{Exit}
+use Rattle.abs_step.specs.declared.exits.Exit.{Exit}
 use Rattle.abs_step.specs.MapView.{MapView}
-use Rattle.abs_step.specs.Successors.{Invariant, state_after, exits_of, at_exit, along, all_along, is_equal, same_point}
+use Rattle.abs_step.specs.Successors.{Invariant, state_after, exits_of, at_exit, at_vector, along, all_along, is_equal, same_point}
 use Rattle.abs_step.specs.Successors.{with_invariant, with_invariants, successors}
 use Rattle.abs_step.specs.Safety.{writes_of}
 use Rattle.abs_step.specs.Concretization.{Holds, ChipTells, CopyTells, StandsFor}
+use Rattle.abs_step.specs.Vectors.{vector_exit, vectors_let_in, with_interrupts_off}
 use Rattle.abs_step.specs.Soundness.{Covers}
 use Rattle.abs_step.proofs.Members.{IsIn, all_map}
+use Rattle.abs_step.proofs.Vectoring.{in_flat}
 
 -- ---- covers
 
@@ -111,24 +113,44 @@ all_added (y ∷ ys) done x more pads (inr later) =
 
 -- ---- successors
 
-pub in_along : (tracked : List ℕ) (s : AbstractState) (e : Exit) (es : List Exit) → IsIn e es →
-    IsIn (at_exit tracked s e) (flat_map (along tracked s) es)
-in_along tracked s e [] is = absurd is
-in_along tracked s e (f ∷ fs) (inl here) = inl (ap (at_exit tracked s) here)
-in_along tracked s e (f ∷ fs) (inr later) = inr (in_along tracked s e fs later)
+pub both_hold : {A : Type 0} → (P : A → Type 0) (xs ys : List A) → AllByRecursion P xs → AllByRecursion P ys → AllByRecursion P (xs ++ ys)
+both_hold P [] ys p q = q
+both_hold P (x ∷ xs) ys p q = (p.0, both_hold P xs ys p.1 q)
 
-pub pads_along : (tracked : List ℕ) (s : AbstractState) (es : List Exit) → HasScratchpad s →
-    AllByRecursion HasPad (flat_map (along tracked s) es)
-pads_along tracked s [] pad = tt
-pads_along tracked s (e ∷ es) pad = (pad, pads_along tracked s es pad)
+pub all_flat : {A B : Type 0} → (P : B → Type 0) (f : A → List B) (xs : List A) → AllByRecursion (λ x. AllByRecursion P (f x)) xs →
+    AllByRecursion P (flat_map f xs)
+all_flat P f [] all = tt
+all_flat P f (x ∷ xs) all = both_hold P (f x) (flat_map f xs) all.0 (all_flat P f xs all.1)
 
--- what holds at an exit is covered by the successors
-pub exit_covered : (op : Op) (m : MapView) (tracked : List ℕ) (x : Invariant) (e : Exit) → HasScratchpad (state_after op m x) →
-    IsIn e (exits_of op m x) → Covers (successors op m tracked x) (at_exit tracked (state_after op m x) e)
+-- what holds at an exit and at each vector behind it holds along the way
+pub along_holds : (P : Invariant → Type 0) (tracked vectors : List ℕ) (s : AbstractState) (e : Exit) → P (at_exit tracked s e) →
+    ((timer : Bool) (vector : ℕ) → P (at_exit tracked (with_interrupts_off s) (vector_exit timer vector e))) →
+    AllByRecursion P (along tracked vectors s e)
+along_holds P tracked vectors s e own each = (own, all_flat P (at_vector tracked s e) vectors (by vectors))
+  where
+    by : (vs : List ℕ) → AllByRecursion (λ v. AllByRecursion P (at_vector tracked s e v)) vs
+    by [] = tt
+    by (v ∷ vs) = ((each true v, (each false v, tt)), by vs)
+
+pub pads_along : (tracked vectors : List ℕ) (s : AbstractState) (es : List Exit) → HasScratchpad s →
+    AllByRecursion HasPad (flat_map (along tracked vectors s) es)
+pads_along tracked vectors s es pad = all_flat HasPad (along tracked vectors s) es (by es)
+  where
+    by : (fs : List Exit) → AllByRecursion (λ f. AllByRecursion HasPad (along tracked vectors s f)) fs
+    by [] = tt
+    by (f ∷ fs) = (along_holds HasPad tracked vectors s f pad (λ timer vector. pad), by fs)
+
+-- what holds along a way is covered by the successors
+pub way_covered : (op : Op) (m : MapView) (tracked : List ℕ) (x : Invariant) (e : Exit) (y : Invariant) → HasScratchpad (state_after op m x) →
+    IsIn e (exits_of op m x) →
+    IsIn y (along tracked (vectors_let_in op m (state_after op m x).registers.status.icb) (state_after op m x) e) →
+    Covers (successors op m tracked x) y
 unfolding successors
-exit_covered op m tracked x e pad is =
-    all_added (all_along op m tracked x) [] _ (pads_along tracked (state_after op m x) (exits_of op m x) pad) tt
-    (in_along tracked (state_after op m x) e (exits_of op m x) is)
+way_covered op m tracked x e y pad is among =
+    let s = state_after op m x in
+    let vectors = vectors_let_in op m s.registers.status.icb in
+    all_added (all_along op m tracked x) [] y (pads_along tracked vectors s (exits_of op m x) pad) tt
+    (in_flat (along tracked vectors s) y (exits_of op m x) e is among)
 
 -- the scratchpad keeps its registers
 length-written_from : (n : ℕ) (w : RegisterWrite) (xs : List (Option ℕ)) → length (written_from n w xs) ≡ length xs

@@ -11,7 +11,8 @@ use Rattle.f8_spec.specs.declared.instructions.Row.TheVariants.{Jump, Exchange, 
 use Rattle.console_spec.specs.Processor.{Flow, Inputs, flow_after}
 use Rattle.abs_domain.specs.Lattice.{Below}
 use Rattle.abs_step.specs.Known.{known_word}
-use Rattle.abs_step.specs.KnownFlow.{KnownInputs, Exit, exit_to, branch_exits, branch_target, exits}
+use Rattle.abs_step.specs.KnownFlow.{KnownInputs, exit_to, branch_exits, branch_target, exits}
+use Rattle.abs_step.specs.declared.exits.Exit.{Exit}
 use Rattle.abs_step.proofs.Knowing.{below_map, below_word}
 use Rattle.abs_step.proofs.InputLaws.{whole_inputs, InputsBelow}
 

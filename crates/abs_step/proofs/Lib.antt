@@ -18,6 +18,7 @@ pub mod SafeRows
 pub mod Opcodes
 pub mod Reasons
 pub mod Standing
+pub mod Vectoring
 pub mod SafeSteps
 pub mod Leads
 pub mod Covering
@@ -38,6 +39,7 @@ pub mod WorkedMaps
 pub mod TrackedFits
 pub mod WorkedChecks
 pub mod WorkedCartridges
+pub mod WorkedVectors
 pub mod WorkedReasons
 pub mod WorkedReads
 pub mod WorkedWhole
@@ -47,12 +49,14 @@ pub mod KnownRanges
 pub mod PointFits
 pub mod CartridgeLaws
 pub mod CartridgeMaps
+pub mod EarlierSteps
 pub mod SeatSums
 pub mod SeatedViews
 pub mod WorkedAnalyses
 pub mod WrittenRegisters
 pub mod KnownSums
-pub mod Joinings
+pub mod AddedWays
+pub mod JoinedWays
 pub mod Fitting
 pub mod StepParts
 pub mod SomeSuccessor

@@ -1,12 +1,12 @@
 -- The view of the map of some chips is right of them, and so is what is known of them, which is the same.
 use Rattle.std.proofs.Common.{◌≡◌, ℕ, zero, suc, ◌/◌, ◌<◌, ◌≤◌, Bool, true, false, ◌||◌}
-use Rattle.std.proofs.Common.{List, [], ◌∷◌, length, map, refl, ap, sym, ◌∙◌, arith}
+use Rattle.std.proofs.Common.{List, [], ◌∷◌, length, map, refl, ap, sym, ◌∙◌, subst, arith, inl, inr}
 use Rattle.std.specs.Prelude.{Option, Some, None, is_some, slice_get, option_map, option_and_then, if◌then◌else◌, nat_lt, ◌&&◌, slice_index}
 use Rattle.std.proofs.lemmas.Bool.{ltb-true, ltb-false, lt-ltb}
 use Rattle.std.proofs.lemmas.List.{get_or_past}
-use Rattle.std.specs.List.{AllByRecursion, list_any}
-use Rattle.f8_spec.specs.ChipState.{ChipView, is_ram, is_sort_at, place_of}
-use Rattle.f8_spec.specs.BusArbitration.{Seat, seat_of}
+use Rattle.std.specs.List.{AllByRecursion, cons_option, list_any}
+use Rattle.f8_spec.specs.ChipState.{ChipView, has_fixed_vector, is_ram, is_sort_at, place_of}
+use Rattle.f8_spec.specs.BusArbitration.{seat_of}
 use Rattle.f8_spec.specs.declared.chips.ChipKind.{ChipKind}
 use Rattle.f8_spec.specs.declared.chips.ChipKind.TheVariants.{Psu as PsuKind, Smi as SmiKind, Pio as PioKind}
 use Rattle.f8_spec.specs.declared.chips.Page.{Page}
@@ -18,12 +18,13 @@ use Rattle.console_spec.specs.declared.Sort.TheVariants.{Rom, Ram, Void, Nothing
 use Rattle.chip_face.specs.Fitting.{fitted, psu_pages}
 use Rattle.chip_face.specs.declared.specification.ChipSpec.{ChipSpec}
 use Rattle.chip_face.specs.declared.specification.ChipSpec.TheVariants.{Blank, Psu, Smi, Pio}
-use Rattle.memory_map.specs.MapKinds.{is_held_once, kind_holds, some_wired}
+use Rattle.memory_map.specs.MapKinds.{is_held_once, is_written, kind_holds, some_written, told_vectors}
 use Rattle.memory_map.specs.MapOf.{MapTable, mapped_sort, mapped_byte, mapped_held, mapped_readers, mapped_takers, mapped_overlaps}
 use Rattle.memory_map.specs.MapOf.{views_of, seats_of, IsMapOf, IsWholeMap, sort_by, entry_at, kind_pages}
 use Rattle.memory_map.specs.declared.entry.Entry.TheVariants.{Nothing as NoChip}
-use Rattle.abs_step.specs.MapView.{IsViewOf, HasOwnRam, HoldsByCounters, view_of, has_shared_page, chips_view, MapViewLaw}
+use Rattle.abs_step.specs.MapView.{IsViewOf, HasOwnRam, HasVectorAmong, HoldsByCounters, is_seat_written, view_of, has_shared_page, chips_view, MapViewLaw}
 use Rattle.abs_step.proofs.ChipPages.{byte_of_one, page_of_shared, shared_of_page}
+use Rattle.abs_step.proofs.Members.{IsIn, contains_of_in, same_tests}
 
 -- ---- bytes
 
@@ -94,9 +95,35 @@ all_by_counters (c ∷ cs) = (by_counters c, all_by_counters cs)
 
 -- ---- interrupts
 
-wired_seats : (vs : List ChipView) → some_wired vs ≡ list_any (λ (s : Seat). s.wired) (map seat_of vs)
-wired_seats [] = refl
-wired_seats (v ∷ vs) = ap (λ (b : Bool). v.wired || b) (wired_seats vs)
+written_seats : (vs : List ChipView) → some_written vs ≡ list_any is_seat_written (map seat_of vs)
+written_seats [] = refl
+written_seats (v ∷ vs) = ap (λ (b : Bool). is_written v || b) (written_seats vs)
+
+-- a vector that is told stays so where more chips come before it, or behind it
+module _ (vs : List ChipView) where
+  told_behind : (v : ChipView) (vector : ℕ) → IsIn vector (told_vectors vs) → IsIn vector (told_vectors (v ∷ vs))
+  told_behind v vector is = by (v.wired && has_fixed_vector v.kind)
+    where
+      by : (b : Bool) → IsIn vector (cons_option (if b then Some v.vector else None) (told_vectors vs))
+      by true = inr is
+      by false = is
+
+  told_first : (v : ChipView) → v.wired ≡ true → (fixed : Bool) → has_fixed_vector v.kind ≡ fixed → fixed ≡ true →
+      IsIn (if fixed then v.vector else 0) (told_vectors (v ∷ vs))
+  told_first v wired true kind fixed = rw (wired, kind) (inl refl)
+  told_first v wired false kind fixed = absurd (cc)
+
+all_told : (all vs : List ChipView) → ((vector : ℕ) → IsIn vector (told_vectors vs) → IsIn vector (told_vectors all)) →
+    AllByRecursion (HasVectorAmong (told_vectors all)) (map seat_of vs)
+all_told all [] within = tt
+all_told all (v ∷ vs) within = (
+  λ wired fixed. contains_of_in (told_vectors all) (seat_of v).vector
+      (within (seat_of v).vector (told_first vs v wired (has_fixed_vector v.kind) refl fixed)),
+  all_told all vs (λ vector is. within vector (told_behind vs v vector is)),
+)
+
+told_seats : (vs : List ChipView) → AllByRecursion (HasVectorAmong (told_vectors vs)) (map seat_of vs)
+told_seats vs = all_told vs vs (λ vector is. is)
 
 -- ---- the view
 
@@ -110,7 +137,9 @@ view_is m chips h = record {
   takers = λ port small. (h.ports port small).takers;
   any = h.all.any;
   overlaps = λ at small shared. h.all.overlaps.1 (at, small, shared);
-  wired = h.all.wired ∙ wired_seats (views_of chips);
+  vectors = subst (λ (vectors : List ℕ). AllByRecursion (HasVectorAmong vectors) (seats_of chips)) (sym h.all.vectors)
+      (told_seats (views_of chips));
+  written = h.all.written ∙ written_seats (views_of chips);
   ram = all_own_ram chips;
   counted = all_by_counters chips;
 }
@@ -138,7 +167,8 @@ right_is chips = record {
   takers = λ port small. rw (lt-ltb port 256 small) refl;
   any = λ kind. refl;
   overlaps = λ at small shared. page_of_shared (seats_of chips) at small shared;
-  wired = wired_seats (views_of chips);
+  vectors = told_seats (views_of chips);
+  written = written_seats (views_of chips);
   ram = all_own_ram chips;
   counted = all_by_counters chips;
 }
@@ -158,11 +188,6 @@ below_alone f g none size below past at = by (nat_lt at size) refl
 both_or_false : (b c : Bool) → (if b then c else false) ≡ (b && c)
 both_or_false true c = refl
 both_or_false false c = refl
-
-same_tests : (b c : Bool) → (b ≡ true → c ≡ true) → (c ≡ true → b ≡ true) → b ≡ c
-same_tests true c to from = sym (to refl)
-same_tests false true to from = from refl
-same_tests false false to from = refl
 
 module _ (m : MapTable) (chips : List ChipSpec) (h : IsMapOf m chips) (whole : IsWholeMap m) where
   no_entry : (at : ℕ) → 65536 ≤ at → entry_at m at ≡ NoChip
@@ -215,7 +240,8 @@ module _ (m : MapTable) (chips : List ChipSpec) (h : IsMapOf m chips) (whole : I
     takers = λ port. takers_told port i;
     any = λ kind. h.all.any kind i;
     overlaps = overlaps_told i;
-    wired = h.all.wired i;
+    vectors = h.all.vectors i;
+    written = h.all.written i;
   }
 
 pub map_view : MapViewLaw

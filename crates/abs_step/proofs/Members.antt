@@ -1,6 +1,12 @@
 -- What holds of each element of a list, and of some element.
-use Rattle.std.proofs.Common.{◌≡◌, Bool, true, false, ◌||◌, List, [], ◌∷◌, map, refl, subst, ◌⊎◌, inl, inr}
-use Rattle.std.specs.List.{AllByRecursion, list_any}
+use Rattle.std.proofs.Common.{◌≡◌, ◌<◌, zero, suc, Bool, true, false, ◌||◌, List, [], ◌∷◌, length, map, refl, sym, subst, ◌⊎◌, inl, inr, arith}
+use Rattle.std.specs.List.{AllByRecursion, Contains, list_any}
+
+-- tests that hold of each other
+pub same_tests : (b c : Bool) → (b ≡ true → c ≡ true) → (c ≡ true → b ≡ true) → b ≡ c
+same_tests true c to from = sym (to refl)
+same_tests false true to from = from refl
+same_tests false false to from = refl
 
 -- x is in the list
 abbrev pub IsIn : {A : Type 0} → A → List A → Type 0
@@ -13,6 +19,19 @@ SomeOf P [] = ⊥
 SomeOf P (x ∷ xs) = P x ⊎ SomeOf P xs
 
 module _ {A : Type 0} where
+  pub in_of_contains : (xs : List A) (x : A) → Contains xs x → IsIn x xs
+  in_of_contains [] x has = absurd (omega (arith, has.1))
+  in_of_contains (y ∷ ys) x (zero, within, is) = inl is
+  in_of_contains (y ∷ ys) x (suc k, within, is) = inr (in_of_contains ys x (k, omega arith, is))
+
+  pub contains_of_in : (xs : List A) (x : A) → IsIn x xs → Contains xs x
+  contains_of_in [] x is = absurd is
+  contains_of_in (y ∷ ys) x (inl here) = (0, omega arith, here)
+  contains_of_in (y ∷ ys) x (inr later) =
+      let rest = contains_of_in ys x later in
+      let within : rest.0 < length ys = rest.1 in
+      (suc rest.0, omega arith, rest.2)
+
   pub all_of : (P : A → Type 0) (xs : List A) → ((x : A) → IsIn x xs → P x) → AllByRecursion P xs
   all_of P [] each = tt
   all_of P (x ∷ xs) each = (each x (inl refl), all_of P xs (λ y later. each y (inr later)))

@@ -11,13 +11,15 @@ use Rattle.abs_domain.specs.AbstractState.{AbstractState, HasScratchpad}
 use Rattle.abs_domain.specs.Joins.{joined_state}
 use Rattle.abs_domain.specs.declared.points.Point.{Point}
 use Rattle.abs_domain.proofs.Bounds.{join_laws}
-use Rattle.abs_step.specs.KnownFlow.{KnownInputs, Exit, exit_to, branch_exits, branch_target, exits}
+use Rattle.abs_step.specs.KnownFlow.{KnownInputs, exit_to, branch_exits, branch_target, exits}
+use Rattle.abs_step.specs.declared.exits.Exit.{Exit}
 use Rattle.abs_step.specs.MapView.{MapView}
 use Rattle.abs_step.specs.Successors.{Invariant, start_point, start_state, state_after, exits_of, inputs_at, along, all_along}
 use Rattle.abs_step.specs.Successors.{same_point, with_invariant, with_invariants, successors}
 use Rattle.abs_step.specs.Soundness.{op_at}
 use Rattle.abs_step.specs.CartridgeAnalysis.{IsWithinRange, FitsPoint, TellsBytes}
-use Rattle.abs_step.proofs.Covering.{same_by, pad_after}
+use Rattle.abs_step.specs.Vectors.{with_interrupts_off}
+use Rattle.abs_step.proofs.Covering.{all_flat, along_holds, same_by, pad_after}
 use Rattle.abs_step.proofs.TrackedFits.{fits}
 use Rattle.abs_step.proofs.Ranges.{GetsBytes, displaced_small}
 use Rattle.abs_step.proofs.KnownNumbers.{IsBelow, none_below, some_below, common_below, common_each_below, word_below}
@@ -134,11 +136,29 @@ module _ (tracked : List ℕ) where
   all_fit [] done more all = all
   all_fit (x ∷ xs) done more all = all_fit xs (with_invariant x done) more.1 (one_fits x done more.0 all)
 
-  along_fits : (s : AbstractState) (es : List Exit) → HasScratchpad s → IsWithinRange s → AllByRecursion IsSmallExit es →
-      AllByRecursion IsFitting (flat_map (along tracked s) es)
-  along_fits s [] pad range small = tt
-  along_fits s (e ∷ es) pad range small =
-      (record { split = refl; scratchpad = pad; range = range; at = small.0.at; ret = small.0.ret }, along_fits s es pad range small.1)
+  off_range : (s : AbstractState) → IsWithinRange s → IsWithinRange (with_interrupts_off s)
+  off_range s range = record {
+    accumulator = range.accumulator;
+    high = range.high;
+    low = range.low;
+    scratchpad = range.scratchpad;
+    d0 = range.d0;
+    d1 = range.d1;
+    c = range.c;
+  }
+
+  along_fits : (vectors : List ℕ) (s : AbstractState) (es : List Exit) → HasScratchpad s → IsWithinRange s →
+      AllByRecursion IsSmallExit es → AllByRecursion IsFitting (flat_map (along tracked vectors s) es)
+  along_fits vectors s es pad range small = all_flat IsFitting (along tracked vectors s) es (by es small)
+    where
+      by : (fs : List Exit) → AllByRecursion IsSmallExit fs → AllByRecursion (λ f. AllByRecursion IsFitting (along tracked vectors s f)) fs
+      by [] h = tt
+      by (f ∷ fs) h = (
+        along_holds IsFitting tracked vectors s f (record { split = refl; scratchpad = pad; range = range; at = h.0.at; ret = h.0.ret })
+            (λ timer vector.
+            record { split = refl; scratchpad = pad; range = off_range s range; at = omega arith; ret = some_below 65536 f.at h.0.at }),
+        by fs h.1,
+      )
 
   pub successors_fit : (m : MapView) → TellsBytes m → (x : Invariant) → IsFitting x → (op : Op) → op_at m x ≡ Some op →
       AllByRecursion IsFitting (successors op m tracked x)
@@ -146,5 +166,5 @@ module _ (tracked : List ℕ) where
   successors_fit m tells x h op is =
       let small =
       exits_small (row_of op) (inputs_at op m x) x.point.at x.point.ret (inputs_small m tells tracked x.point x.state h op is) h.ret in
-      all_fit (all_along op m tracked x) [] (along_fits (state_after op m x) (exits_of op m x) (pad_after op m x h.scratchpad)
+      all_fit (all_along op m tracked x) [] (along_fits _ (state_after op m x) (exits_of op m x) (pad_after op m x h.scratchpad)
       (after_in_range m tells tracked x.point x.state h op is) small) tt

@@ -1,9 +1,9 @@
 -- In a run everything stays in its range, the bytes that stay are kept, and so are the chips.
-use Rattle.std.proofs.Common.{◌≡◌, ℕ, ◌<◌, Bool, true, false, List, [], ◌∷◌, refl, ap, sym, subst, arith}
+use Rattle.std.proofs.Common.{◌≡◌, ℕ, ◌<◌, Bool, true, false, List, [], ◌∷◌, refl, ap, arith}
 use Rattle.std.specs.Prelude.{Option, Some, None, slice_set, if◌then◌else◌, ◌==◌, nat_lt}
 use Rattle.std.specs.List.{AllByRecursion}
 use Rattle.std.proofs.lemmas.List.{get_or-set_other}
-use Rattle.f8_spec.specs.Words.{places_on}
+use Rattle.f8_spec.specs.Words.{places_on, word}
 use Rattle.f8_spec.specs.ChipState.{has_second_counter}
 use Rattle.f8_spec.specs.Instructions.{InRange, row_of}
 use Rattle.f8_spec.specs.BusArbitration.{Seat}
@@ -15,15 +15,13 @@ use Rattle.console_spec.specs.AddressSpace.{byte_at}
 use Rattle.console_spec.specs.Writes.{latch_of, port_value, chip_port_byte, readers}
 use Rattle.console_spec.specs.FlatMemory.{sort_of, is_ram_sort, stored_at}
 use Rattle.console_spec.specs.FlatMachine.{memory_after}
-use Rattle.console_spec.specs.Processor.{Flow, Inputs, State, own_inputs, read_port}
+use Rattle.console_spec.specs.Processor.{Flow, Inputs, Registers, State, interrupted_by, own_inputs, read_port, vectored_by}
 use Rattle.console_spec.specs.Processor.{write_at, with_write, written_port}
 use Rattle.console_spec.specs.CounterCopies.{Copy, copy_after, copies_after}
 use Rattle.console_spec.specs.Run.{Position, seats_of, gets_at, position_after}
 use Rattle.console_spec.specs.declared.PortWrite.{PortWrite}
 use Rattle.console_spec.specs.FreeRuns.{AreBytes, HasBytes, AreAddresses, IsInRange}
 use Rattle.abs_step.proofs.Members.{all_map, all_mapped}
-use Rattle.abs_step.proofs.SafeRows.{uninterrupted}
-use Rattle.abs_step.proofs.Leads.{unvectored}
 use Rattle.abs_step.proofs.Ranges.{GetsBytes, set_memory, or_small, result_small, flow_small}
 
 -- ---- ports
@@ -123,24 +121,33 @@ pub memory_keeps : (row : Row) (seats : List Seat) (i : Inputs) (c : Flow) (a : 
 memory_keeps StoreData seats i c a memory stays = stored_keeps seats c.d0 i.accumulator a memory stays
 memory_keeps row seats i c a memory stays = refl
 
--- ---- an instruction without an interrupt
+-- ---- an instruction, with the interrupt at its end
 
-pub range_after : (op : Op) (here : Position) → InRange op → (gets_at op here).chosen ≡ None → IsInRange here →
+vectored_bytes : (chosen : Option ℕ) (m : Registers) → HasBytes m → HasBytes (vectored_by chosen m)
+vectored_bytes None m h = h
+vectored_bytes (Some socket) m h =
+    record { accumulator = h.accumulator; isar = h.isar; size = h.size; scratchpad = h.scratchpad }
+
+interrupted_small : (chosen : Option ℕ) (vector : ℕ) (c : Flow) → vector < 65536 → AreAddresses c → AreAddresses (interrupted_by chosen vector c)
+interrupted_small None vector c small h = h
+interrupted_small (Some socket) vector c small h = record { p = small; p1 = h.p; d0 = h.d0; d1 = h.d1 }
+
+pub range_after : (op : Op) (here : Position) → InRange op → IsInRange here →
     IsInRange (position_after op here)
-range_after op here in_range none h =
+range_after op here in_range h =
     let i = gets_at op here in
     let gets = gets_bytes op here h in
     let accumulator : i.accumulator < 256 = rw (gets_accumulator op here) h.registers.accumulator in
+    let vector = word i.vector_high i.vector_low in
+    let small : vector < 65536 = omega arith in
     record {
-      registers = subst HasBytes (sym (unvectored op i here.flat.state.registers none))
-          (result_small op i here.flat.state.registers in_range gets h.registers);
+      registers = vectored_bytes i.chosen _ (result_small op i here.flat.state.registers in_range gets h.registers);
       keys = h.keys;
       writes = writes_small (written_port op i.operand (seats_of here.copies)) _ i.accumulator here.flat.state.writes accumulator h.writes;
       memory = memory_small (row_of op) (seats_of here.copies) i here.flat.state.flow here.flat.memory accumulator h.memory;
-      counters = subst AreAddresses (sym (uninterrupted (row_of op) i true here.flat.state.flow none))
-          (flow_small (row_of op) i true here.flat.state.flow gets h.counters);
+      counters = interrupted_small i.chosen vector _ small (flow_small (row_of op) i true here.flat.state.flow gets h.counters);
       copies = all_mapped (copy_after (row_of op) i) _ here.copies (all_map (λ (c : Copy). AreAddresses c.flow) _ here.copies
-          (λ c addresses. subst AreAddresses (sym (uninterrupted (row_of op) i (has_second_counter c.seat.kind) c.flow none))
+          (λ c addresses. interrupted_small i.chosen vector _ small
           (flow_small (row_of op) i (has_second_counter c.seat.kind) c.flow gets addresses)) h.copies);
     }
 

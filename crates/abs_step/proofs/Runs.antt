@@ -14,21 +14,23 @@ use Rattle.console_spec.specs.Run.{Position, seats_of, opcode_at, gets_at, posit
 use Rattle.console_spec.specs.Telling.{with_event, with_events}
 use Rattle.console_spec.specs.declared.Event.{Event}
 use Rattle.console_spec.specs.declared.Event.TheVariants.{Keys, Pulse}
+use Rattle.abs_domain.specs.AbstractState.{StateBelow}
 use Rattle.abs_domain.specs.Lattice.{Below}
 use Rattle.abs_domain.proofs.Orders.{status_refl}
 use Rattle.abs_step.specs.MapView.{MapView, IsViewOf}
-use Rattle.abs_step.specs.Successors.{Invariant, start_invariant, start_state, state_after, at_exit, successors}
+use Rattle.abs_step.specs.Successors.{Invariant, start_invariant, start_state, successors}
 use Rattle.abs_step.specs.Safety.{unsafe_reason}
 use Rattle.abs_step.specs.Concretization.{ChipTells, StandsFor, whole_status}
 use Rattle.console_spec.specs.FreeRuns.{IsFreeStart, HasByte, IsReached}
 use Rattle.abs_step.specs.Soundness.{Covers, LeadsInto, IsSafeMap}
-use Rattle.abs_step.proofs.Members.{IsIn, from_all, all_map}
+use Rattle.abs_step.specs.SoundSteps.{IsBeside, IsLedTo, SoundStepLaw}
+use Rattle.abs_step.proofs.Members.{IsIn, all_map, contains_of_in, from_all, in_of_contains}
 use Rattle.abs_step.proofs.Opcodes.{decoded_in_range}
 use Rattle.abs_step.proofs.Reasons.{safe_state}
-use Rattle.abs_step.proofs.Standing.{IsBeside, opcode_told}
-use Rattle.abs_step.proofs.SafeSteps.{IsSafeHere, chosen_none}
-use Rattle.abs_step.proofs.Leads.{Taken, taken, stands}
-use Rattle.abs_step.proofs.Covering.{found_cover, cover_through, exit_covered, pad_of, pad_after, stands_above}
+use Rattle.abs_step.proofs.Standing.{opcode_told}
+use Rattle.abs_step.proofs.SafeSteps.{IsSafeHere}
+use Rattle.abs_step.proofs.Leads.{led, taken}
+use Rattle.abs_step.proofs.Covering.{found_cover, pad_of, pad_after, stands_above, way_covered}
 use Rattle.abs_step.proofs.Ranges.{set_bytes}
 use Rattle.abs_step.proofs.RunRanges.{range_after, memory_keeps, seats_after}
 
@@ -141,75 +143,106 @@ safe_here m tracked x here none beside =
       },
     )
 
-module _ (m : MapView) (seats : List Seat) (tracked : List ℕ) (notes : List Invariant) (map_safe : IsSafeMap m seats tracked notes) where
-  -- one that covers what stands for a position
-  stands_by : (x : Invariant) (here : Position) → Covers notes x → IsBeside m x here → seats_of here.copies ≡ seats →
-      Stands m seats tracked notes here
-  stands_by x here covers beside chips =
-      let above = found_cover notes x covers in
-      let higher : IsBeside m above.0 here = record {
-        view = beside.view;
-        tells = stands_above x above.0 here beside.tells above.2 above.3;
-        range = beside.range;
-        fixed = beside.fixed;
-      } in
-      let safe = safe_here m tracked above.0 here
-      (from_all (λ (y : Invariant). unsafe_reason m tracked y ≡ None) notes above.0 map_safe.safe above.1) higher in
-      record { note = above.0; is = above.1; op = safe.0; safe = safe.1; chips = chips }
+-- ---- one step
 
-  pub at_start : (here : Position) → IsFreeStart m.byte seats here → Stands m seats tracked notes here
-  at_start here h = stands_by start_invariant here map_safe.closed.start (record {
-    view = subst (IsViewOf m) (sym h.chips) map_safe.view;
-    tells = start_stands m.byte seats here h;
-    range = h.range;
-    fixed = λ at byte small is. h.fixed at byte small is;
-  }) h.chips
+same_op : (here : Position) (op other : Op) → decoded (opcode_at here) ≡ Some op → decoded (opcode_at here) ≡ Some other → op ≡ other
+same_op here op other p q = cc
 
-  -- ---- an instruction
+start_beside : (m : MapView) (seats : List Seat) (here : Position) → IsViewOf m seats → IsFreeStart m.byte seats here →
+    IsBeside m start_invariant here
+start_beside m seats here view h = record {
+  view = subst (IsViewOf m) (sym h.chips) view;
+  tells = start_stands m.byte seats here h;
+  range = h.range;
+  fixed = λ at byte small is. h.fixed at byte small is;
+}
 
-  -- what holds at the exit that is taken is beside the position there
-  exit_beside : (x : Invariant) (op : Op) (here : Position) → (safe : IsSafeHere m tracked x op here) →
-      (way : Taken m tracked x op here safe) →
-      IsBeside m (at_exit tracked (state_after op m x) way.exit) (position_after op here)
-  exit_beside x op here safe way =
+-- one that covers what is beside a position is beside it
+above_beside : (m : MapView) (x above : Invariant) (here : Position) → above.point ≡ x.point → StateBelow x.state above.state →
+    IsBeside m x here → IsBeside m above here
+above_beside m x above here point below beside = record {
+  view = beside.view;
+  tells = stands_above x above here beside.tells point below;
+  range = beside.range;
+  fixed = beside.fixed;
+}
+
+module _ (m : MapView) (tracked : List ℕ) (x : Invariant) (op : Op) (here : Position) (safe : IsSafeHere m tracked x op here) where
+  -- what holds along the way that is taken is beside the position there
+  led_beside : (y : Invariant) → StandsFor y (position_after op here) → IsBeside m y (position_after op here)
+  led_beside y stands =
       let i = gets_at op here in
       record {
         view = subst (IsViewOf m) (sym (seats_after (row_of op) i here.copies)) safe.beside.view;
-        tells = stands m tracked x op here safe way;
-        range = range_after op here safe.range (chosen_none m tracked x op here safe) safe.beside.range;
+        tells = stands;
+        range = range_after op here safe.range safe.beside.range;
         fixed = λ at byte small is.
             memory_keeps (row_of op) (seats_of here.copies) i here.flat.state.flow at here.flat.memory
             (safe.beside.view.stays at byte small is)
             ∙ safe.beside.fixed at byte small is;
       }
 
-  exit_is_covered : (here : Position) (s : Stands m seats tracked notes here) → (way : Taken m tracked s.note s.op here s.safe) →
-      Covers notes (at_exit tracked (state_after s.op m s.note) way.exit)
-  exit_is_covered here s way =
-      let pad = pad_after s.op m s.note (pad_of s.note here s.safe.beside.tells s.safe.beside.range.registers.size) in
-      let leads = from_all (LeadsInto m tracked notes) notes s.note map_safe.closed.each s.is in
-      cover_through notes (successors s.op m tracked s.note) _ (leads s.op s.safe.state.is)
-      (exit_covered s.op m tracked s.note way.exit pad way.is)
+  -- an invariant that holds next is beside it
+  pub led_to : IsLedTo m tracked x op (position_after op here)
+  led_to =
+      let way = led m tracked x op here safe (taken m tracked x op here safe) in
+      let pad = pad_after op m x (pad_of x here safe.beside.tells safe.beside.range.registers.size) in
+      let above = found_cover (successors op m tracked x) way.to
+      (way_covered op m tracked x (taken m tracked x op here safe).exit way.to pad (taken m tracked x op here safe).is way.is) in
+      record {
+        to = above.0;
+        is = contains_of_in (successors op m tracked x) above.0 above.1;
+        beside = above_beside m way.to above.0 (position_after op here) above.2 above.3 (led_beside way.to way.stands);
+      }
 
-  -- some invariant stands for the position after it, and so before the events behind it
-  pub after_stands : (here : Position) → (s : Stands m seats tracked notes here) → Stands m seats tracked notes (position_after s.op here)
-  after_stands here s =
-      let way = taken m tracked s.note s.op here s.safe in
-      stands_by _ (position_after s.op here) (exit_is_covered here s way) (exit_beside s.note s.op here s.safe way)
-      (seats_after (row_of s.op) (gets_at s.op here) here.copies ∙ s.chips)
+-- and beside the position with any events behind the instruction
+step_sound : (m : MapView) (tracked : List ℕ) (x : Invariant) (here : Position) (op : Op) (events : List Event) →
+    unsafe_reason m tracked x ≡ None → IsBeside m x here → decoded (opcode_at here) ≡ Some op → AllByRecursion HasByte events →
+    IsLedTo m tracked x op (with_events events (position_after op here))
+step_sound m tracked x here op events none beside is small =
+    let found = safe_here m tracked x here none beside in
+    let same : found.0 ≡ op = same_op here found.0 op (opcode_told m x here found.0 beside found.1.state.is) is in
+    let safe : IsSafeHere m tracked x op here = subst (λ (o : Op). IsSafeHere m tracked x o here) same found.1 in
+    let there = led_to m tracked x op here safe in
+    record { to = there.to; is = there.is; beside = events_beside m there.to events (position_after op here) small there.beside }
 
-  next_stands : (here : Position) → (s : Stands m seats tracked notes here) → (es : List Event) → AllByRecursion HasByte es →
+pub sound_steps : SoundStepLaw
+sound_steps = record {
+  start = start_beside;
+  next = λ m tracked x here op events none beside is small. step_sound m tracked x here op events none beside is small;
+}
+
+-- ---- over a closed and safe map
+
+module _ (m : MapView) (seats : List Seat) (tracked : List ℕ) (notes : List Invariant) (map_safe : IsSafeMap m seats tracked notes) where
+  -- one that covers what is beside a position
+  stands_by : (x : Invariant) (here : Position) → Covers notes x → IsBeside m x here → seats_of here.copies ≡ seats →
+      Stands m seats tracked notes here
+  stands_by x here covers beside chips =
+      let above = found_cover notes x covers in
+      let safe = safe_here m tracked above.0 here
+      (from_all (λ (y : Invariant). unsafe_reason m tracked y ≡ None) notes above.0 map_safe.safe above.1)
+      (above_beside m x above.0 here above.2 above.3 beside) in
+      record { note = above.0; is = above.1; op = safe.0; safe = safe.1; chips = chips }
+
+  pub at_start : (here : Position) → IsFreeStart m.byte seats here → Stands m seats tracked notes here
+  at_start here h = stands_by start_invariant here map_safe.closed.start (start_beside m seats here map_safe.view h) h.chips
+
+  -- some invariant stands for the position after an instruction and the events behind it
+  pub next_stands : (here : Position) → (s : Stands m seats tracked notes here) → (es : List Event) → AllByRecursion HasByte es →
       Stands m seats tracked notes (with_events es (position_after s.op here))
   next_stands here s es small =
-      let way = taken m tracked s.note s.op here s.safe in
       let there = position_after s.op here in
-      stands_by _ (with_events es there) (exit_is_covered here s way)
-      (events_beside m _ es there small (exit_beside s.note s.op here s.safe way))
+      let led = led_to m tracked s.note s.op here s.safe in
+      let leads = from_all (LeadsInto m tracked notes) notes s.note map_safe.closed.each s.is in
+      let next = successors s.op m tracked s.note in
+      stands_by led.to (with_events es there)
+      (from_all (Covers notes) next led.to (leads s.op s.safe.state.is) (in_of_contains next led.to led.is))
+      (events_beside m led.to es there small led.beside)
       (events_seats es there ∙ seats_after (row_of s.op) (gets_at s.op here) here.copies ∙ s.chips)
 
-  -- an instruction is the one of its opcode
-  same_op : (here : Position) (op other : Op) → decoded (opcode_at here) ≡ Some op → decoded (opcode_at here) ≡ Some other → op ≡ other
-  same_op here op other p q = cc
+  pub after_stands : (here : Position) → (s : Stands m seats tracked notes here) → Stands m seats tracked notes (position_after s.op here)
+  after_stands here s = next_stands here s [] tt
 
   pub reached_stands : (n : ℕ) (here : Position) → IsReached m.byte seats n here → Stands m seats tracked notes here
   reached_stands zero here h = at_start here h

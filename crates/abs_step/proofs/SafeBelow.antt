@@ -23,7 +23,7 @@ use Rattle.abs_step.specs.Known.{is_known_false}
 use Rattle.abs_step.specs.MapView.{MapView, IsViewOf, is_shared, holds_every_address}
 use Rattle.abs_step.specs.Successors.{Invariant, inputs_at, state_after}
 use Rattle.abs_step.specs.Safety.{first_reason, code_reasons, reasons, unsafe_reason, jump_is_lost, return_is_lost}
-use Rattle.abs_step.specs.Safety.{reads_at_data, goes_by_data, may_be_held_by_psu, may_part, may_be_shared, may_be_interrupted, writes_of}
+use Rattle.abs_step.specs.Safety.{reads_at_data, goes_by_data, may_be_held_by_psu, may_part, may_be_shared, vector_is_lost, writes_of}
 use Rattle.abs_step.specs.Safety.{is_answered, is_op_fault_free, is_fault_free}
 use Rattle.abs_step.specs.Soundness.{op_at}
 use Rattle.abs_step.proofs.Knowing.{all_and_any, below_word}
@@ -132,15 +132,13 @@ shared_falls m seats (Some at) None view small p e = by (is_shared (m.sort at)) 
         let overlap = view.overlaps at (small at refl) shared in
         absurd (cc)
 
-clear_falls : (x y : Option Bool) → Below x y → Falls (not (is_known_false x)) (not (is_known_false y))
-clear_falls x None p e = absurd (cc)
-clear_falls x (Some y) p e = rw p e
+open_falls : (shields : Bool) (x y : Option Bool) → Below x y → Falls (not (shields || is_known_false x)) (not (shields || is_known_false y))
+open_falls true x y p e = refl
+open_falls false x None p e = absurd (cc)
+open_falls false x (Some y) p e = rw p e
 
-interrupted_falls : (op : Op) (m : MapView) (s t : AbstractState) → StateBelow s t →
-    Falls (may_be_interrupted op m s) (may_be_interrupted op m t)
-interrupted_falls op m s t h = and_falls _ m.wired _ m.wired
-    (and_falls (not (is_shielding op)) _ (not (is_shielding op)) _ (same_falls (not (is_shielding op)))
-    (clear_falls s.registers.status.icb t.registers.status.icb h.registers.status.icb)) (same_falls m.wired)
+vector_falls : (op : Op) (m : MapView) (x y : Option Bool) → Below x y → Falls (vector_is_lost op m x) (vector_is_lost op m y)
+vector_falls op m x y p = and_falls _ m.written _ m.written (open_falls (is_shielding op) x y p) (same_falls m.written)
 
 -- ---- safety
 
@@ -155,7 +153,7 @@ none_both (r ∷ rs) ss p q = (p.0, none_both rs ss p.1 q)
 not_true : (b : Bool) → b ≡ true → not b ≡ false
 not_true b e = rw e refl
 
-safe_of : (m : MapView) (tracked : List ℕ) (x : Invariant) (op : Op) → IsSafeState m tracked x op → unsafe_reason m tracked x ≡ None
+pub safe_of : (m : MapView) (tracked : List ℕ) (x : Invariant) (op : Op) → IsSafeState m tracked x op → unsafe_reason m tracked x ≡ None
 unfolding unsafe_reason reasons
 safe_of m tracked x op h =
     let code : first_reason (code_reasons m x.point.at) ≡ None =
@@ -185,7 +183,7 @@ safe_below m seats tracked p s t op view h small safe =
                 (
                   l.1.1.1.1.1.0,
                   (
-                    interrupted_falls op m _ _ (after_ordered m p s t h op) l.1.1.1.1.1.1.0,
+                    vector_falls op m _ _ (after_ordered m p s t h op).registers.status.icb l.1.1.1.1.1.1.0,
                     (
                       and_falls _ _ _ _ (same_falls (goes_by_data (row_of op)))
                           (shared_falls m seats s.counters.d0 t.counters.d0 view small h.counters.d0) l.1.1.1.1.1.1.1.0,

@@ -11,7 +11,7 @@ use Rattle.f8_spec.specs.declared.instructions.Row.{Row}
 use Rattle.f8_spec.specs.declared.instructions.Row.TheVariants.{StackToK, DataToPair, ReadData, StoreData, Return, Immediate}
 use Rattle.f8_spec.specs.declared.instructions.Row.TheVariants.{PortIn, PortOut, Call, Jump, LoadData}
 use Rattle.f8_spec.specs.declared.instructions.Row.TheVariants.{Branch, BranchIsar, ShortIn, ShortOut}
-use Rattle.console_spec.specs.Processor.{Flow, Inputs, flow_after, counters_after}
+use Rattle.console_spec.specs.Processor.{Flow, Inputs, interrupted_by, flow_after, counters_after}
 use Rattle.console_spec.specs.CounterCopies.{Copy}
 use Rattle.console_spec.specs.FlatMemory.{sort_of}
 use Rattle.console_spec.specs.BusAccesses.{ahead, at_data, at_stack, at_port, accesses_before_fetch, last_access}
@@ -52,7 +52,6 @@ pub record IsSafeRow (Q : Option Fault → Type 0) (row : Row) (m : MapView) (re
   pub stack_small : r.p1 < 65536
   pub operand_small : i.operand < 256
   pub port_small : i.port < 256
-  pub chosen : i.chosen ≡ None
   pub operands : NoneHold (operand_reasons (row_length row) m r.p)
   pub set : return_is_unset row ret ≡ false
   pub held : return_is_unheld row m ret ≡ false
@@ -60,7 +59,7 @@ pub record IsSafeRow (Q : Option Fault → Type 0) (row : Row) (m : MapView) (re
   pub stores : goes_by_data row ≡ true → StoresAlike m k
   pub unshared : goes_by_data row ≡ true → sort_of (seats_of cs) r.d0 ≡ Shared → ⊥
   pub reads : reads_at_data row ≡ true → (romc : ℕ) → IsDataRead romc → Q (access_fault r cs (at_data romc))
-  pub next : is_held_once (sort_of (seats_of cs) (flow_after row i true r).p) ≡ true
+  pub next : is_held_once (sort_of (seats_of cs) (counters_after row i true r).p) ≡ true
 
 -- ---- booleans
 
@@ -70,10 +69,10 @@ holds_if_known (Some v) e h = h
 
 -- ---- the last fetch
 
--- without an interrupt the counters are those of the instruction's own table
-pub uninterrupted : (row : Row) (i : Inputs) (second : Bool) (c : Flow) → i.chosen ≡ None →
-    counters_after row i second c ≡ flow_after row i second c
-uninterrupted row i second c none = rw none refl
+-- where two sets of counters lead to one address, an interrupt leads both to one
+same_fetch : (chosen : Option ℕ) (vector : ℕ) (c r : Flow) → c.p ≡ r.p → (interrupted_by chosen vector c).p ≡ (interrupted_by chosen vector r).p
+same_fetch None vector c r same = same
+same_fetch (Some socket) vector c r same = refl
 
 module _ (Q : Option Fault → Type 0) (q : Lasts Q) (m : MapView) (ret : Option ℕ) (k : KnownCounters) (i : Inputs) (r : Flow)
     (cs : List Copy) where
@@ -85,13 +84,11 @@ module _ (Q : Option Fault → Type 0) (q : Lasts Q) (m : MapView) (ret : Option
   last_served : (row : Row) → IsSafeRow Q row m ret k i r cs → access_fault r cs (last_access row i) ≡ None
   last_served row h = all_at_served r cs (last_access row i) refl
       (all_map (IsTold m ret k r) _ cs (λ c t. record {
-        same =
-            ap (λ (f : Flow). f.p) (uninterrupted row i (has_second_counter c.seat.kind) c.flow h.chosen)
-            ∙ same_next row i true (has_second_counter c.seat.kind) r c.flow t.tells.at (back_at_return row h.set c t)
-            ∙ sym (ap (λ (f : Flow). f.p) (uninterrupted row i true r h.chosen));
+        same = same_fetch i.chosen _ (flow_after row i (has_second_counter c.seat.kind) c.flow) (flow_after row i true r)
+            (same_next row i true (has_second_counter c.seat.kind) r c.flow t.tells.at (back_at_return row h.set c t));
         counted = t.mapped.counted;
       }) h.told)
-      (rw (uninterrupted row i true r h.chosen) h.next)
+      h.next
 
   -- ---- one after another
 

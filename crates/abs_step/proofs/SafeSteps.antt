@@ -9,7 +9,7 @@ use Rattle.f8_spec.specs.declared.instructions.Op.{Op}
 use Rattle.f8_spec.specs.declared.instructions.Op.TheVariants.{Ins, Outs}
 use Rattle.f8_spec.specs.declared.instructions.Row.{Row}
 use Rattle.f8_spec.specs.declared.instructions.Row.TheVariants.{StoreData, PortIn, PortOut}
-use Rattle.console_spec.specs.Processor.{Inputs, own_inputs, port_field, flow_after}
+use Rattle.console_spec.specs.Processor.{Inputs, own_inputs, port_field, counters_after}
 use Rattle.console_spec.specs.CounterCopies.{Copy}
 use Rattle.console_spec.specs.FlatMemory.{sort_of}
 use Rattle.console_spec.specs.Services.{Fault, access_fault}
@@ -20,7 +20,9 @@ use Rattle.memory_map.specs.MapKinds.{is_held_once}
 use Rattle.abs_domain.specs.Lattice.{Below}
 use Rattle.abs_domain.specs.AbstractState.{KnownCounters}
 use Rattle.abs_step.specs.MapView.{MapView, IsViewOf}
+use Rattle.abs_step.specs.SoundSteps.{IsBeside}
 use Rattle.abs_step.specs.Successors.{Invariant, inputs_at, state_after}
+use Rattle.abs_step.specs.Vectors.{vectors_let_in}
 use Rattle.abs_step.specs.Safety.{code_reasons, operand_reasons, may_part}
 use Rattle.abs_step.specs.Safety.{port_is_bad, goes_by_data, reads_at_data, may_be_shared, may_be_held_by_psu}
 use Rattle.abs_step.specs.Concretization.{CopyTells}
@@ -33,7 +35,8 @@ use Rattle.abs_step.proofs.MapLaws.{IsMapped, all_mapped_seats}
 use Rattle.abs_step.proofs.Services.{IsTold, StoresAlike, ReadsAlike}
 use Rattle.abs_step.proofs.SafeRows.{NoneHold, IsSafeRow}
 use Rattle.abs_step.proofs.Reasons.{IsCode, IsSafeState, code_of}
-use Rattle.abs_step.proofs.Standing.{IsBeside, inputs_tell, not_chosen}
+use Rattle.abs_step.proofs.Standing.{inputs_tell}
+use Rattle.abs_step.proofs.Vectoring.{IsFollowed, chosen_followed}
 
 -- ---- the data counters
 
@@ -132,13 +135,15 @@ module _ (m : MapView) (tracked : List ℕ) (x : Invariant) (op : Op) (here : Po
       all_map _ (IsTold m x.point.ret x.state.counters here.flat.state.flow) here.copies
       (λ c h. record { mapped = h.0.0; addresses = h.0.1; tells = h.1 }) all
 
-  pub chosen_none : (gets_at op here).chosen ≡ None
-  chosen_none =
+  -- the chip whose interrupt is taken at the end is one whose vector is followed
+  pub chosen_is_followed : (socket : ℕ) → (gets_at op here).chosen ≡ Some socket →
+      IsFollowed (vectors_let_in op m (state_after op m x).registers.status.icb) (seats_of here.copies) socket
+  chosen_is_followed socket is =
       let own = inputs_tell op m x here safe.beside in
       let registers = results_tell op (own_at op here) here.flat.state.registers _ _ _ x.state.registers safe.range
       (used_tells (row_of op) (own_at op here) (inputs_at op m x) own) own.stack_bytes own.counter_bytes safe.beside.tells.registers in
-      not_chosen op m (state_after op m x) _ (seats_of here.copies) here.chain _ _
-      safe.state.later.1.1.1.1.1.1.0 registers.status.icb safe.beside.view.wired
+      chosen_followed op m (state_after op m x).registers.status.icb _ (seats_of here.copies) here.chain _ _ socket
+      safe.state.later.1.1.1.1.1.1.0 registers.status.icb safe.beside.view is
 
   port_told : (gets_at op here).port ≡ port_field op
   unfolding own_inputs
@@ -146,7 +151,7 @@ module _ (m : MapView) (tracked : List ℕ) (x : Invariant) (op : Op) (here : Po
 
   pub safe_row : (Q : Option Fault → Type 0) →
       (reads_at_data (row_of op) ≡ true → (romc : ℕ) → IsDataRead romc → Q (access_fault here.flat.state.flow here.copies (at_data romc))) →
-      is_held_once (sort_of (seats_of here.copies) (flow_after (row_of op) (gets_at op here) true here.flat.state.flow).p) ≡ true →
+      is_held_once (sort_of (seats_of here.copies) (counters_after (row_of op) (gets_at op here) true here.flat.state.flow).p) ≡ true →
       IsSafeRow Q (row_of op) m x.point.ret x.state.counters (gets_at op here) here.flat.state.flow here.copies
   unfolding own_inputs
   safe_row Q reads next = record {
@@ -156,7 +161,6 @@ module _ (m : MapView) (tracked : List ℕ) (x : Invariant) (op : Op) (here : Po
     stack_small = safe.beside.range.counters.p1;
     operand_small = safe.beside.range.memory (places_on here.flat.state.flow.p 1);
     port_small = small_port op safe.range;
-    chosen = chosen_none;
     operands = rw safe.beside.tells.at safe.state.operands;
     set = safe.state.later.1.1.0;
     held = safe.state.later.1.1.1.1.0;

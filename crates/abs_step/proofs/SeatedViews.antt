@@ -9,7 +9,7 @@ use Rattle.chip_face.specs.Fitting.{fitted}
 use Rattle.chip_face.specs.declared.specification.ChipSpec.{ChipSpec}
 use Rattle.chip_face.specs.declared.specification.ChipSpec.TheVariants.{Blank, Psu, Smi, Pio}
 use Rattle.memory_map.specs.MapKinds.{has_kind_and_page, has_kind_and_pages}
-use Rattle.abs_step.specs.MapView.{MapView, IsViewOf, HasOwnRam, HoldsByCounters}
+use Rattle.abs_step.specs.MapView.{MapView, IsViewOf, HasOwnRam, HasVectorAmong, HoldsByCounters, is_seat_written}
 use Rattle.abs_step.specs.RackSeats.{IsBlank, AreSeated, none_left, blank, chip, SeatedViewLaw}
 use Rattle.abs_step.proofs.SeatSums.{same_some, same_count, same_sort}
 
@@ -39,6 +39,16 @@ own_ram_of_blank s is = λ at ram. absurd (cc (rw is.pages at ram))
 counters_of_blank : (s : Seat) → IsBlank s → HoldsByCounters s
 counters_of_blank s is = λ at holds. absurd (cc (rw is.pages at holds))
 
+-- ---- interrupts
+
+vector_of_blank : (vectors : List ℕ) (s : Seat) → IsBlank s → HasVectorAmong vectors s
+vector_of_blank vectors s is = λ wired fixed. absurd (cc (rw is.wired at wired))
+
+unwritten : (s : Seat) → IsBlank s → is_seat_written s ≡ false
+unwritten s is = rw is.wired refl
+
+-- ---- the chips of a rack
+
 all_but : (P : Seat → Type 0) (before : List Seat) (s : Seat) (after : List Seat) → AllByRecursion P (before ++ s ∷ after) →
     P s × AllByRecursion P (before ++ after)
 all_but P [] s after all = all
@@ -64,7 +74,8 @@ seated_view m chips sockets seated h = record {
   takers = λ port small. h.takers port small ∙ sym (same_count (λ s. seat_has_port s port) (no_port port) seated);
   any = λ kind. h.any kind ∙ sym (same_some (has_kind_and_pages kind) (no_pages kind) seated);
   overlaps = λ at small shared. h.overlaps at small (sym (same_sort at seated) ∙ shared);
-  wired = h.wired ∙ sym (same_some (λ s. s.wired) (λ s is. is.wired) seated);
+  vectors = all_seated (HasVectorAmong m.vectors) (vector_of_blank m.vectors) seated h.vectors;
+  written = h.written ∙ sym (same_some is_seat_written unwritten seated);
   ram = all_seated HasOwnRam own_ram_of_blank seated h.ram;
   counted = all_seated HoldsByCounters counters_of_blank seated h.counted;
 }

@@ -1,5 +1,5 @@
 -- Something holds next after each safe state.
-use Rattle.std.proofs.Common.{◌≡◌, ◌<◌, ℕ, Bool, true, false, List, [], ◌∷◌, length, refl, arith}
+use Rattle.std.proofs.Common.{◌≡◌, ◌<◌, ℕ, Bool, true, false, List, [], ◌∷◌, ◌++◌, length, refl, arith}
 use Rattle.std.specs.Prelude.{Option, Some, None, is_some, option_map, if◌then◌else◌, flat_map}
 use Rattle.f8_spec.specs.Words.{displaced, places_on}
 use Rattle.f8_spec.specs.Instructions.{row_of}
@@ -9,10 +9,11 @@ use Rattle.f8_spec.specs.declared.instructions.Row.TheVariants.{CallK, JumpQ, Re
 use Rattle.memory_map.specs.MapOf.{MapTable}
 use Rattle.abs_domain.specs.AbstractState.{AbstractState}
 use Rattle.abs_domain.specs.Joins.{joined_state}
-use Rattle.abs_step.specs.KnownFlow.{KnownInputs, Exit, exit_to, branch_exits, exits}
+use Rattle.abs_step.specs.KnownFlow.{KnownInputs, exit_to, branch_exits, exits}
+use Rattle.abs_step.specs.declared.exits.Exit.{Exit}
 use Rattle.abs_step.specs.MapView.{view_of}
 use Rattle.abs_step.specs.Successors.{Invariant, inputs_at, state_after, exits_of, at_exit}
-use Rattle.abs_step.specs.Successors.{along, same_point, with_invariant, with_invariants, successors}
+use Rattle.abs_step.specs.Successors.{along, at_vector, same_point, with_invariant, with_invariants, successors}
 use Rattle.abs_step.specs.Safety.{first_reason, reasons}
 use Rattle.abs_step.proofs.ExitLaws.{is_ready}
 use Rattle.abs_step.proofs.MapViews.{byte_told}
@@ -60,16 +61,17 @@ some_kept : (xs done : List Invariant) → 0 < length done → 0 < length (with_
 some_kept [] done some = some
 some_kept (x ∷ xs) done some = some_kept xs (with_invariant x done) (some_with x done)
 
-some_along : (tracked : List ℕ) (s : AbstractState) (es : List Exit) → 0 < length es →
-    0 < length (with_invariants (flat_map (along tracked s) es) [])
-some_along tracked s [] some = absurd (omega arith)
-some_along tracked s (e ∷ es) some = some_kept (flat_map (along tracked s) es) (at_exit tracked s e ∷ []) (omega arith)
+some_along : (tracked vectors : List ℕ) (s : AbstractState) (es : List Exit) → 0 < length es →
+    0 < length (with_invariants (flat_map (along tracked vectors s) es) [])
+some_along tracked vectors s [] some = absurd (omega arith)
+some_along tracked vectors s (e ∷ es) some =
+    some_kept (flat_map (at_vector tracked s e) vectors ++ flat_map (along tracked vectors s) es) (at_exit tracked s e ∷ []) (omega arith)
 
 pub some_successor : (op : Op) (m : MapTable) (tracked : List ℕ) (x : Invariant) → first_reason (reasons op (view_of m) tracked x) ≡ None →
     0 < length (successors op (view_of m) tracked x)
 unfolding successors
 some_successor op m tracked x none =
     let parts = no_reason op (view_of m) tracked x none in
-    some_along tracked (state_after op (view_of m) x) (exits_of op (view_of m) x)
+    some_along tracked _ (state_after op (view_of m) x) (exits_of op (view_of m) x)
     (some_exit (row_of op) (inputs_at op (view_of m) x) x.point.at x.point.ret
     (ready (view_of m) (λ at small once stays. byte_told m at once stays) tracked x op parts.0 parts.1))

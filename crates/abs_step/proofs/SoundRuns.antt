@@ -3,7 +3,7 @@ use Rattle.std.proofs.Common.{◌≡◌, ℕ, ◌<◌, true, List, refl, sym, su
 use Rattle.std.specs.Prelude.{Option, Some, None}
 use Rattle.f8_spec.specs.Instructions.{row_of}
 use Rattle.f8_spec.specs.BusArbitration.{Seat}
-use Rattle.console_spec.specs.Processor.{Flow, flow_after, counters_after}
+use Rattle.console_spec.specs.Processor.{Flow, counters_after}
 use Rattle.console_spec.specs.CounterCopies.{Copy}
 use Rattle.console_spec.specs.FlatMemory.{sort_of}
 use Rattle.console_spec.specs.BusAccesses.{at_data}
@@ -17,9 +17,9 @@ use Rattle.console_spec.specs.FreeRuns.{IsFreeStart, IsReached}
 use Rattle.abs_step.specs.Soundness.{IsSafeMap, IsFaultFree, IsDataRead, OnlyUndriven, GoesOn, SoundnessLaw}
 use Rattle.abs_step.proofs.Members.{from_all, all_map, all_unmapped}
 use Rattle.abs_step.proofs.Services.{IsAt, all_at_served, DataOutcome, NoFault, NoAnswer}
-use Rattle.abs_step.proofs.SafeRows.{Lasts, fine, uninterrupted}
+use Rattle.abs_step.proofs.SafeRows.{Lasts, fine}
 use Rattle.abs_step.proofs.Standing.{opcode_told}
-use Rattle.abs_step.proofs.SafeSteps.{chosen_none, safe_row}
+use Rattle.abs_step.proofs.SafeSteps.{safe_row}
 use Rattle.abs_step.proofs.RunRanges.{seats_after}
 use Rattle.abs_step.proofs.Answered.{read_outcome_here, read_served_here}
 use Rattle.abs_step.proofs.Runs.{Stands, at_start, after_stands, reached_stands}
@@ -58,17 +58,13 @@ module _ (m : MapView) (seats : List Seat) (tracked : List ℕ) (notes : List In
       let once : is_held_once (sort_of (seats_of here.copies) s.note.point.at) ≡ true = rw sort at s.safe.state.code.once in
       subst (λ (at : ℕ). is_held_once (sort_of (seats_of here.copies) at) ≡ true) (sym beside.tells.at) once
 
-  -- the address to which an instruction leads is held by one chip alone
+  -- the address to which an instruction leads, or an interrupt at its end, is held by one chip alone
   next_held : (here : Position) → (s : Stands m seats tracked notes here) →
-      is_held_once (sort_of (seats_of here.copies) (flow_after (row_of s.op) (gets_at s.op here) true here.flat.state.flow).p) ≡ true
+      is_held_once (sort_of (seats_of here.copies) (counters_after (row_of s.op) (gets_at s.op here) true here.flat.state.flow).p) ≡ true
   next_held here s =
-      let i = gets_at s.op here in
-      let row = row_of s.op in
-      let there = held_there (position_after s.op here) (after_stands m seats tracked notes map_safe here s) in
-      let same = seats_after row i here.copies in
-      let flow = uninterrupted row i true here.flat.state.flow (chosen_none m tracked s.note s.op here s.safe) in
-      subst (λ (c : Flow). is_held_once (sort_of (seats_of here.copies) c.p) ≡ true) flow
-      (subst (λ (ss : List Seat). is_held_once (sort_of ss (counters_after row i true here.flat.state.flow).p) ≡ true) same there)
+      subst (λ (ss : List Seat). is_held_once (sort_of ss (counters_after (row_of s.op) (gets_at s.op here) true here.flat.state.flow).p) ≡ true)
+      (seats_after (row_of s.op) (gets_at s.op here) here.copies)
+      (held_there (position_after s.op here) (after_stands m seats tracked notes map_safe here s))
 
   -- an instruction goes on, with whatever is claimed of reads at D0
   goes_on : (Q : Option Fault → Type 0) → Lasts Q → (here : Position) → (s : Stands m seats tracked notes here) →
@@ -80,7 +76,6 @@ module _ (m : MapView) (seats : List Seat) (tracked : List ℕ) (notes : List In
     is = opcode_told m s.note here s.op s.safe.beside s.safe.state.is;
     fault = fine Q lasts m s.note.point.ret s.note.state.counters (gets_at s.op here) here.flat.state.flow here.copies (row_of s.op)
         (safe_row m tracked s.note s.op here s.safe Q reads (next_held here s));
-    chosen = chosen_none m tracked s.note s.op here s.safe;
   }
 
   reset_served : (here : Position) → IsFreeStart m.byte seats here → reset_fault here ≡ None

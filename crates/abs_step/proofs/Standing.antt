@@ -1,38 +1,22 @@
--- A position beside an invariant that stands for it: what the instruction there gets, and that no interrupt is taken at its end.
-use Rattle.std.proofs.Common.{◌≡◌, ℕ, zero, suc, ◌<◌, Bool, true, false, ◌&&◌, ◌||◌, List, [], ◌∷◌, refl, ap, sym, ◌∙◌, arith}
-use Rattle.std.specs.Prelude.{Option, Some, None, not, slice_get, option_and_then, if◌then◌else◌}
-use Rattle.std.specs.List.{AllByRecursion, list_any}
+-- A position beside an invariant that stands for it: what the instruction there gets.
+use Rattle.std.proofs.Common.{◌≡◌, ℕ, ◌<◌, refl, ap, sym, arith}
+use Rattle.std.specs.Prelude.{Option, Some, None, option_and_then}
 use Rattle.f8_spec.specs.Words.{places_on}
-use Rattle.f8_spec.specs.Instructions.{decoded, is_shielding}
-use Rattle.f8_spec.specs.BusArbitration.{Seat}
+use Rattle.f8_spec.specs.Instructions.{decoded}
 use Rattle.f8_spec.specs.declared.instructions.Op.{Op}
 use Rattle.console_spec.specs.AddressSpace.{byte_at}
-use Rattle.console_spec.specs.InterruptRequests.{History}
-use Rattle.console_spec.specs.InterruptChoice.{is_asking_in, first_asking}
 use Rattle.console_spec.specs.Processor.{own_inputs}
-use Rattle.console_spec.specs.FlatStep.{chosen_at}
 use Rattle.console_spec.specs.Run.{Position, seats_of, opcode_at}
 use Rattle.abs_domain.specs.Lattice.{Below}
-use Rattle.abs_domain.specs.AbstractState.{AbstractState}
 use Rattle.abs_domain.proofs.Orders.{below_trans}
-use Rattle.abs_step.specs.Known.{is_known_false}
-use Rattle.abs_step.specs.MapView.{MapView, IsViewOf}
+use Rattle.abs_step.specs.MapView.{MapView}
 use Rattle.abs_step.specs.Successors.{Invariant, inputs_at}
-use Rattle.abs_step.specs.Safety.{may_be_interrupted}
-use Rattle.abs_step.specs.Concretization.{whole_registers, StandsFor}
-use Rattle.console_spec.specs.FreeRuns.{IsInRange}
+use Rattle.abs_step.specs.Concretization.{whole_registers}
+use Rattle.abs_step.specs.SoundSteps.{IsBeside}
 use Rattle.abs_step.specs.Soundness.{op_at}
-use Rattle.abs_step.proofs.Members.{none_of_any}
 use Rattle.abs_step.proofs.Scratchpads.{register_below}
 use Rattle.abs_step.proofs.Exact.{register_whole}
 use Rattle.abs_step.proofs.InputLaws.{whole_inputs, InputsBelow, taken_tells, pair_of_below}
-
--- the invariant stands for the position, over a map of its chips; all is in its range, and the bytes that stay are there
-pub record IsBeside (m : MapView) (x : Invariant) (here : Position) : Type 0 where
-  pub view : IsViewOf m (seats_of here.copies)
-  pub tells : StandsFor x here
-  pub range : IsInRange here
-  pub fixed : (at byte : ℕ) → at < 65536 → m.byte at ≡ Some byte → byte_at here.flat.memory at ≡ byte
 
 -- ---- bytes of the map
 
@@ -91,45 +75,3 @@ inputs_tell op m x here h =
       h_high = known 10;
       h_low = known 11;
     }
-
--- ---- interrupts
-
-unwired_asks_not : (seats : List Seat) (k socket : ℕ) (h : History) (time : ℕ) → AllByRecursion (λ (s : Seat). s.wired ≡ false) seats →
-    is_asking_in (slice_get seats k) socket h time ≡ false
-unwired_asks_not [] k socket h time none = refl
-unwired_asks_not (s ∷ ss) zero socket h time none = rw none.0 refl
-unwired_asks_not (s ∷ ss) (suc k) socket h time none = unwired_asks_not ss k socket h time none.1
-
-unwired_choose_not : (seats : List Seat) (h : History) (time : ℕ) (chain : List ℕ) → AllByRecursion (λ (s : Seat). s.wired ≡ false) seats →
-    first_asking seats h time chain ≡ None
-unwired_choose_not seats h time [] none = refl
-unwired_choose_not seats h time (socket ∷ later) none =
-    rw (unwired_asks_not seats socket socket h time none) (unwired_choose_not seats h time later none)
-
--- a set bit isn't known to be clear
-set_is_not_clear : (o : Option Bool) → Below (Some true) o → is_known_false o ≡ false
-set_is_not_clear None p = refl
-set_is_not_clear (Some true) p = refl
-set_is_not_clear (Some false) p = absurd (cc)
-
-third : (w : Bool) → (true && true && w) ≡ false → w ≡ false
-third true e = e
-third false e = refl
-
--- the instruction shields its end, or interrupts are off after it, or no chip can ask
-pub not_chosen : (op : Op) (m : MapView) (after : AbstractState) (icb : Bool) (seats : List Seat) (chain : List ℕ) (h : History)
-    (time : ℕ) →
-    may_be_interrupted op m after ≡ false → Below (Some icb) after.registers.status.icb → m.wired ≡ list_any (λ s. s.wired) seats →
-    chosen_at op icb seats chain h time ≡ None
-unfolding chosen_at
-not_chosen op m after icb seats chain h time safe told wired = by (is_shielding op) icb refl told
-  where
-    by : (s i : Bool) → is_shielding op ≡ s → Below (Some i) after.registers.status.icb →
-        (if is_shielding op || not i then None else first_asking seats h time chain) ≡ None
-    by true i e t = rw e refl
-    by false false e t = rw e refl
-    by false true e t =
-        let clear : is_known_false after.registers.status.icb ≡ false = set_is_not_clear _ t in
-        let none : m.wired ≡ false = third m.wired (rw (e, clear) at safe) in
-        let unwired : list_any (λ (s : Seat). s.wired) seats ≡ false = sym wired ∙ none in
-        rw e (unwired_choose_not seats h time chain (none_of_any (λ (s : Seat). s.wired) seats unwired))

@@ -9,11 +9,13 @@ use Rattle.abs_domain.specs.AbstractState.{KnownRegisters, KnownCounters}
 use Rattle.abs_domain.specs.declared.reason.Reason.{Reason}
 use Rattle.abs_step.specs.RegisterWrites.{RegisterWrite, written_all}
 use Rattle.abs_step.specs.KnownResults.{known_effect, register_writes}
-use Rattle.abs_step.specs.KnownFlow.{KnownInputs, Exit, known_inputs, known_used_byte, known_counters, exits}
+use Rattle.abs_step.specs.KnownFlow.{KnownInputs, known_inputs, known_used_byte, known_counters, exits}
+use Rattle.abs_step.specs.declared.exits.Exit.{Exit}
 use Rattle.abs_step.specs.MapView.{MapView}
 use Rattle.abs_step.specs.Successors.{Invariant, inputs_at, state_after, successors}
 use Rattle.abs_step.specs.Safety.{first_reason, operand_reasons, later_reasons, writes_of, reasons}
 use Rattle.abs_step.specs.StepView.{reasons_before, reasons_after, joined_along}
+use Rattle.abs_step.specs.Vectors.{vectors_let_in}
 
 first_left : (rs ss : List (Bool × Reason)) (reason : Reason) → first_reason rs ≡ Some reason → first_reason (rs ++ ss) ≡ Some reason
 first_left [] ss reason is = absurd (cc)
@@ -99,9 +101,9 @@ module _ (op : Op) (m : MapView) (tracked : List ℕ) (x : Invariant) where
           rw (icb_is, registers_are, writes_are, known.counters) refl in
           later none ∙ first_right before behind (sym same_before ∙ none_before) ∙ sym same ∙ is
 
-      pub next_are : (ls : KnownCounters) (es : List Exit) → ls ≡ known_counters (row_of op) i l →
-          es ≡ exits (row_of op) i x.point.at x.point.ret →
-          joined_along tracked r ls es ≡ successors op m tracked x
+      pub next_are : (vectors : List ℕ) (icb : Option Bool) (ls : KnownCounters) (es : List Exit) → vectors ≡ vectors_let_in op m icb →
+          icb ≡ r.status.icb → ls ≡ known_counters (row_of op) i l → es ≡ exits (row_of op) i x.point.at x.point.ret →
+          joined_along tracked vectors r ls es ≡ successors op m tracked x
       unfolding successors
-      next_are ls es counters_are exits_are =
-          rw (counters_are, exits_are, registers_are, known.inputs, known.counters) refl
+      next_are vectors icb ls es vectors_are icb_is counters_are exits_are =
+          rw (vectors_are, icb_is, counters_are, exits_are, registers_are, known.inputs, known.counters) refl

@@ -1,24 +1,27 @@
 -- What holds next after a state that says more is covered by what holds next after one that says less.
-use Rattle.std.proofs.Common.{◌≡◌, ℕ, Bool, true, false, List, [], ◌∷◌, refl, sym, ◌∙◌, subst, ◌⊎◌, inl, inr}
-use Rattle.std.specs.Prelude.{Option, Some, if◌then◌else◌, flat_map}
+use Rattle.std.proofs.Common.{◌≡◌, ℕ, Bool, true, false, List, [], ◌∷◌, refl, sym, ap, ◌∙◌, subst, ◌⊎◌, inl, inr}
+use Rattle.std.specs.Prelude.{Option, Some, None, ◌||◌, if◌then◌else◌, flat_map}
 use Rattle.std.specs.List.{AllByRecursion}
 use Rattle.std.specs.declared.cmp.Ordering.{Ordering}
 use Rattle.std.specs.declared.cmp.Ordering.TheVariants.{Less, Equal, Greater}
 use Rattle.std.specs.Ordering.{ordering_reverse}
-use Rattle.f8_spec.specs.Instructions.{row_of}
+use Rattle.f8_spec.specs.Instructions.{is_shielding, row_of}
 use Rattle.f8_spec.specs.BusArbitration.{Seat}
 use Rattle.f8_spec.specs.declared.instructions.Op.{Op}
 use Rattle.abs_domain.specs.AbstractState.{AbstractState, StateBelow}
+use Rattle.abs_domain.specs.Lattice.{Below}
 use Rattle.abs_domain.specs.Joins.{joined_state}
 use Rattle.abs_domain.specs.PointOrder.{point_cmp}
 use Rattle.abs_domain.specs.declared.points.Point.{Point}
 use Rattle.abs_domain.proofs.Orders.{below_refl, order_laws}
 use Rattle.abs_domain.proofs.Bounds.{join_laws}
 use Rattle.abs_domain.proofs.PointOrders.{point_laws}
-use Rattle.abs_step.specs.KnownFlow.{Exit}
+use Rattle.abs_step.specs.declared.exits.Exit.{Exit}
 use Rattle.abs_step.specs.MapView.{MapView, IsViewOf}
+use Rattle.abs_step.specs.Known.{is_known_false}
 use Rattle.abs_step.specs.Safety.{writes_of}
-use Rattle.abs_step.specs.Successors.{Invariant, tracked_bytes, inputs_at, state_after, exits_of, at_exit, along, all_along}
+use Rattle.abs_step.specs.Vectors.{vector_address, vector_exit, vectors_let_in, with_interrupts_off}
+use Rattle.abs_step.specs.Successors.{Invariant, tracked_bytes, inputs_at, state_after, exits_of, at_exit, at_vector, along, all_along}
 use Rattle.abs_step.specs.Successors.{same_point, with_invariant, with_invariants, successors}
 use Rattle.abs_step.specs.Soundness.{Covers, op_at}
 use Rattle.abs_step.specs.StepOrder.{IsOrdered, StepOrderLaw}
@@ -26,7 +29,8 @@ use Rattle.abs_step.proofs.Members.{IsIn, all_map}
 use Rattle.abs_step.proofs.ExitLaws.{HasMatch, Matched, ExitBelow, exits_below}
 use Rattle.abs_step.proofs.Reasons.{IsSafeState, safe_state}
 use Rattle.abs_step.proofs.Ready.{ready}
-use Rattle.abs_step.proofs.Covering.{HasPad, same_by, pads_kept, in_along, pads_along, pad_after}
+use Rattle.abs_step.proofs.Covering.{HasPad, both_hold, same_by, pads_kept, pads_along, pad_after}
+use Rattle.abs_step.proofs.Vectoring.{in_along_vector, in_flat}
 use Rattle.abs_step.proofs.Blurs.{tracked_after}
 use Rattle.abs_step.proofs.SafeBelow.{at_point, inputs_ordered, after_ordered, writes_ordered, reason_below, free_below}
 
@@ -37,7 +41,7 @@ itself Less e = absurd (cc)
 itself Equal e = refl
 itself Greater e = absurd (cc)
 
-equal_itself : (p : Point) → point_cmp p p ≡ Equal
+pub equal_itself : (p : Point) → point_cmp p p ≡ Equal
 equal_itself p = itself (point_cmp p p) (point_laws.total.antisymm p p)
 
 different : (p q : Point) → same_point p q ≡ false → p ≡ q → ⊥
@@ -127,26 +131,87 @@ module _ (notes : List Invariant) where
 
 -- ---- successors
 
--- where an exit is matched, what holds there is covered
-module _ (tracked : List ℕ) (s t : AbstractState) (fs : List Exit) (notes : List Invariant) (below : StateBelow s t)
+-- what is let in where more is known is let in where less is, or it is nothing
+let_in_below : (op : Op) (m : MapView) (x y : Option Bool) → Below x y →
+    (vectors_let_in op m x ≡ []) ⊎ (vectors_let_in op m x ≡ vectors_let_in op m y)
+let_in_below op m x (Some b) below = inr (ap (vectors_let_in op m) below)
+let_in_below op m (Some b) None below = by (is_shielding op) b
+  where
+    by : (shields set : Bool) →
+        ((if shields || is_known_false (Some set) then [] else m.vectors) ≡ [])
+        ⊎ ((if shields || is_known_false (Some set) then [] else m.vectors) ≡ (if shields || is_known_false None then [] else m.vectors))
+    by true set = inl refl
+    by false true = inr refl
+    by false false = inl refl
+let_in_below op m None None below = inr refl
+
+off_ordered : (s t : AbstractState) → StateBelow s t → StateBelow (with_interrupts_off s) (with_interrupts_off t)
+off_ordered s t h = record {
+  registers = record {
+    accumulator = h.registers.accumulator;
+    high = h.registers.high;
+    low = h.registers.low;
+    status = record {
+      sign = h.registers.status.sign;
+      carry = h.registers.status.carry;
+      zero = h.registers.status.zero;
+      overflow = h.registers.status.overflow;
+      icb = refl;
+    };
+    scratchpad = h.registers.scratchpad;
+  };
+  counters = h.counters;
+}
+
+-- where an exit is matched, what holds along its way is covered
+module _ (tracked vectors : List ℕ) (s t : AbstractState) (fs : List Exit) (notes : List Invariant) (below : StateBelow s t)
     (same : tracked_bytes tracked s.registers ≡ tracked_bytes tracked t.registers)
-    (covered : (f : Exit) → IsIn f fs → FirstCovers notes (at_exit tracked t f)) where
+    (covered : (f : Exit) → IsIn f fs → (y : Invariant) → IsIn y (along tracked vectors t f) → FirstCovers notes y) where
   abbrev Same : Option ℕ → Option ℕ → Type 0
   Same x y = x ≡ y
 
-  match_covered : (e : Exit) (gs : List Exit) → ((f : Exit) → IsIn f gs → IsIn f fs) → HasMatch (ExitBelow Same (λ v. refl)) e gs →
-      FirstCovers notes (at_exit tracked s e)
-  match_covered e [] within h = absurd h
-  match_covered e (f ∷ gs) within (inl here) =
-      let point : (at_exit tracked t f).point ≡ (at_exit tracked s e).point =
-      λ i. record { at = sym here.at i; ret = sym here.ret i; split = sym same i } in
-      first_below notes (at_exit tracked t f) (at_exit tracked s e) point below (covered f (within f (inl refl)))
-  match_covered e (f ∷ gs) within (inr later) = match_covered e gs (λ g is. within g (inr is)) later
+  record Match (e : Exit) : Type 0 where
+    pub exit : Exit
+    pub is : IsIn exit fs
+    pub at : e.at ≡ exit.at
+    pub ret : e.ret ≡ exit.ret
 
-  along_covered : (es : List Exit) → Matched (ExitBelow Same (λ v. refl)) es fs →
-      AllByRecursion (FirstCovers notes) (flat_map (along tracked s) es)
-  along_covered [] h = tt
-  along_covered (e ∷ es) h = (match_covered e fs (λ f is. is) h.0, along_covered es h.1)
+  match_of : (e : Exit) (gs : List Exit) → ((f : Exit) → IsIn f gs → IsIn f fs) → HasMatch (ExitBelow Same (λ v. refl)) e gs → Match e
+  match_of e [] within h = absurd h
+  match_of e (f ∷ gs) within (inl here) = record { exit = f; is = within f (inl refl); at = here.at; ret = here.ret }
+  match_of e (f ∷ gs) within (inr later) = match_of e gs (λ g is. within g (inr is)) later
+
+  own_covered : (e : Exit) → Match e → FirstCovers notes (at_exit tracked s e)
+  own_covered e f =
+      let point : (at_exit tracked t f.exit).point ≡ (at_exit tracked s e).point =
+      λ i. record { at = sym f.at i; ret = sym f.ret i; split = sym same i } in
+      first_below notes (at_exit tracked t f.exit) (at_exit tracked s e) point below (covered f.exit f.is _ (inl refl))
+
+  vector_covered : (e : Exit) → Match e → (timer : Bool) (vector : ℕ) → IsIn vector vectors →
+      FirstCovers notes (at_exit tracked (with_interrupts_off s) (vector_exit timer vector e))
+  vector_covered e f timer vector among =
+      let point : (at_exit tracked (with_interrupts_off t) (vector_exit timer vector f.exit)).point
+      ≡ (at_exit tracked (with_interrupts_off s) (vector_exit timer vector e)).point =
+      λ i. record { at = vector_address timer vector; ret = Some (sym f.at i); split = sym same i } in
+      first_below notes _ _ point (off_ordered s t below)
+      (covered f.exit f.is _ (in_along_vector tracked vectors t f.exit timer vector among))
+
+  vectors_covered : (e : Exit) → Match e → (vs : List ℕ) → ((v : ℕ) → IsIn v vs → IsIn v vectors) →
+      AllByRecursion (FirstCovers notes) (flat_map (at_vector tracked s e) vs)
+  vectors_covered e f [] within = tt
+  vectors_covered e f (v ∷ vs) within =
+      let among = within v (inl refl) in (
+        vector_covered e f true v among,
+        (vector_covered e f false v among, vectors_covered e f vs (λ w is. within w (inr is))),
+      )
+
+  -- by vectors of which each is among those
+  along_covered : (vs : List ℕ) → ((v : ℕ) → IsIn v vs → IsIn v vectors) → (es : List Exit) →
+      Matched (ExitBelow Same (λ v. refl)) es fs → AllByRecursion (FirstCovers notes) (flat_map (along tracked vs s) es)
+  along_covered vs within [] h = tt
+  along_covered vs within (e ∷ es) h =
+      let f = match_of e fs (λ g is. is) h.0 in
+      (own_covered e f, both_hold (FirstCovers notes) _ _ (vectors_covered e f vs within) (along_covered vs within es h.1))
 
 module _ (m : MapView) (seats : List Seat) (tracked : List ℕ) (p : Point) (s t : AbstractState) (view : IsViewOf m seats)
     (ordered : IsOrdered tracked p s t) (op : Op) (safe : IsSafeState m tracked (at_point p t) op) where
@@ -156,13 +221,26 @@ module _ (m : MapView) (seats : List Seat) (tracked : List ℕ) (p : Point) (s t
       (writes_ordered m p s t ordered.below op) ordered.below.registers.scratchpad safe.later.1.1.1.1.1.1.1.1.0
       (sym ordered.lower_fits ∙ ordered.upper_fits)
 
-  upper_covered : (f : Exit) → IsIn f (exits_of op m (at_point p t)) →
-      FirstCovers (successors op m tracked (at_point p t)) (at_exit tracked (state_after op m (at_point p t)) f)
+  abbrev upper_vectors : List ℕ
+  upper_vectors = vectors_let_in op m (state_after op m (at_point p t)).registers.status.icb
+
+  abbrev lower_vectors : List ℕ
+  lower_vectors = vectors_let_in op m (state_after op m (at_point p s)).registers.status.icb
+
+  fewer_vectors : (v : ℕ) → IsIn v lower_vectors → IsIn v upper_vectors
+  fewer_vectors v is = by (let_in_below op m _ _ (after_ordered m p s t ordered.below op).registers.status.icb)
+    where
+      by : (lower_vectors ≡ []) ⊎ (lower_vectors ≡ upper_vectors) → IsIn v upper_vectors
+      by (inl none) = absurd (rw none at is)
+      by (inr all) = rw all at is
+
+  upper_covered : (f : Exit) → IsIn f (exits_of op m (at_point p t)) → (y : Invariant) →
+      IsIn y (along tracked upper_vectors (state_after op m (at_point p t)) f) → FirstCovers (successors op m tracked (at_point p t)) y
   unfolding successors
-  upper_covered f is = all_first_added (all_along op m tracked (at_point p t)) [] _
-      (pads_along tracked (state_after op m (at_point p t)) (exits_of op m (at_point p t))
+  upper_covered f is y among = all_first_added (all_along op m tracked (at_point p t)) [] y
+      (pads_along tracked upper_vectors (state_after op m (at_point p t)) (exits_of op m (at_point p t))
       (pad_after op m (at_point p t) ordered.scratchpad)) tt
-      (in_along tracked (state_after op m (at_point p t)) f (exits_of op m (at_point p t)) is)
+      (in_flat (along tracked upper_vectors (state_after op m (at_point p t))) y (exits_of op m (at_point p t)) f is among)
 
   successors_covered : AllByRecursion (Covers (successors op m tracked (at_point p t))) (successors op m tracked (at_point p s))
   unfolding successors
@@ -173,8 +251,9 @@ module _ (m : MapView) (seats : List Seat) (tracked : List ℕ) (p : Point) (s t
       p.at p.ret p.ret (inputs_ordered m p s t ordered.below op) (below_refl p.ret) refl
       (ready m view.told tracked (at_point p t) op safe.operands safe.later) in
       let each =
-      along_covered tracked (state_after op m (at_point p s)) (state_after op m (at_point p t)) (exits_of op m (at_point p t)) upper
-      (after_ordered m p s t ordered.below op) same_after upper_covered (exits_of op m (at_point p s)) matched in
+      along_covered tracked upper_vectors (state_after op m (at_point p s)) (state_after op m (at_point p t)) (exits_of op m (at_point p t))
+      upper (after_ordered m p s t ordered.below op) same_after upper_covered lower_vectors fewer_vectors (exits_of op m (at_point p s))
+      matched in
       all_map (FirstCovers upper) (Covers upper) _ (λ y h. first_covers upper y h)
       (all_covered upper (all_along op m tracked (at_point p s)) [] each tt)
 

@@ -11,13 +11,13 @@ use Rattle.abs_domain.specs.Joins.{joined_state}
 use Rattle.abs_domain.specs.declared.points.Point.{Point}
 use Rattle.abs_domain.proofs.Bounds.{join_laws}
 use Rattle.abs_step.specs.RegisterWrites.{known_register}
-use Rattle.abs_step.specs.KnownFlow.{Exit}
+use Rattle.abs_step.specs.declared.exits.Exit.{Exit}
 use Rattle.abs_step.specs.MapView.{MapView}
 use Rattle.abs_step.specs.Successors.{Invariant, HasTrackedBytes, tracked_byte, tracked_bytes, start_state}
 use Rattle.abs_step.specs.Successors.{start_invariant, state_after, exits_of, along}
 use Rattle.abs_step.specs.Successors.{all_along, same_point, with_invariant, with_invariants, successors}
 use Rattle.abs_step.specs.FitLaws.{FitLaw}
-use Rattle.abs_step.proofs.Covering.{same_by, pad_after}
+use Rattle.abs_step.proofs.Covering.{all_flat, along_holds, same_by, pad_after}
 
 -- ---- the start
 
@@ -42,7 +42,7 @@ start_fits tracked = all_none (tracked_byte tracked start_state.registers) 0 8 (
 
 -- ---- joins
 
-common_itself : (o : Option ℕ) → common same_number o o ≡ o
+pub common_itself : (o : Option ℕ) → common same_number o o ≡ o
 common_itself None = refl
 common_itself (Some x) = let same : (x == x) ≡ true = grind (arith, nat_tests) in rw same refl
 
@@ -103,16 +103,19 @@ all_fits : (tracked : List ℕ) (xs done : List Invariant) → AllByRecursion (I
 all_fits tracked [] done more all = all
 all_fits tracked (x ∷ xs) done more all = all_fits tracked xs (with_invariant x done) more.1 (with_fits tracked x done more.0 all)
 
-along_fits : (tracked : List ℕ) (s : AbstractState) (es : List Exit) → HasScratchpad s →
-    AllByRecursion (IsWhole tracked) (flat_map (along tracked s) es)
-along_fits tracked s [] pad = tt
-along_fits tracked s (e ∷ es) pad = ((refl, pad), along_fits tracked s es pad)
+along_fits : (tracked vectors : List ℕ) (s : AbstractState) (es : List Exit) → HasScratchpad s →
+    AllByRecursion (IsWhole tracked) (flat_map (along tracked vectors s) es)
+along_fits tracked vectors s es pad = all_flat (IsWhole tracked) (along tracked vectors s) es (by es)
+  where
+    by : (fs : List Exit) → AllByRecursion (λ f. AllByRecursion (IsWhole tracked) (along tracked vectors s f)) fs
+    by [] = tt
+    by (f ∷ fs) = (along_holds (IsWhole tracked) tracked vectors s f (refl, pad) (λ timer vector. (refl, pad)), by fs)
 
 successors_fit : (op : Op) (m : MapView) (tracked : List ℕ) (x : Invariant) → HasScratchpad x.state →
     AllByRecursion (IsWhole tracked) (successors op m tracked x)
 unfolding successors
 successors_fit op m tracked x pad =
-    all_fits tracked (all_along op m tracked x) [] (along_fits tracked (state_after op m x) (exits_of op m x) (pad_after op m x pad)) tt
+    all_fits tracked (all_along op m tracked x) [] (along_fits tracked _ (state_after op m x) (exits_of op m x) (pad_after op m x pad)) tt
 
 pub fits : FitLaw
 fits = record { start = start_fits; joined = joined_fits; successors = successors_fit }

@@ -4,17 +4,16 @@ use Rattle.std.proofs.Common.{◌≡◌, ℕ, zero, suc, Bool, true, false, List
 use Rattle.std.specs.Prelude.{Option, Some, None, if◌then◌else◌}
 use Rattle.std.specs.List.{list_all, fold}
 use Rattle.f8_spec.specs.Instructions.{decoded}
-use Rattle.f8_spec.specs.ChipState.{ChipView}
 use Rattle.f8_spec.specs.declared.chips.PageSort.TheVariants.{Rom, Ram}
 use Rattle.abs_domain.specs.Joins.{joined_state, is_state_below}
 use Rattle.abs_domain.specs.declared.points.Point.{Point}
 use Rattle.abs_domain.specs.declared.reason.Reason.{Reason}
-use Rattle.abs_domain.specs.declared.reason.Reason.TheVariants.{UnknownJump, DataCountersApart, InterruptPossible}
+use Rattle.abs_domain.specs.declared.reason.Reason.TheVariants.{UnknownJump, DataCountersApart}
 use Rattle.abs_step.specs.KnownResults.{known_effect, register_writes}
-use Rattle.abs_step.specs.MapView.{MapView, holds_every_address}
+use Rattle.abs_step.specs.MapView.{MapView, chips_view, holds_every_address}
 use Rattle.abs_step.specs.Successors.{Invariant, same_point, start_point, start_invariant, successors}
 use Rattle.abs_step.specs.Safety.{unsafe_reason, reasons, is_fault_free}
-use Rattle.abs_step.proofs.WorkedSteps.{page, psu, smi, map_of}
+use Rattle.abs_step.proofs.WorkedSteps.{page, psu, smi}
 use Rattle.abs_step.specs.StepView.{next_at}
 
 -- ---- what is reached
@@ -79,80 +78,70 @@ check m tracked n = let s : Search = from_start m tracked n in told_of m s s.uns
 
 -- ---- a load and a branch back to it
 
-branch_back : check (map_of (psu 0 4 (0x71 ∷ 0x2B ∷ 0x90 ∷ 0xFE ∷ []) ∷ [])) [] 20 ≡ Safe 3 true
-unfolding decoded known_effect register_writes successors unsafe_reason reasons is_fault_free holds_every_address
+branch_back : check (chips_view (psu 0 4 (0x71 ∷ 0x2B ∷ 0x90 ∷ 0xFE ∷ []) ∷ [])) [] 20 ≡ Safe 3 true
+unfolding decoded known_effect register_writes successors unsafe_reason reasons is_fault_free holds_every_address chips_view
 branch_back = refl
 
 -- ---- reads of the RAM alone, the second data counter being elsewhere
 
-only_ram : check (map_of (
+only_ram : check (chips_view (
     psu 0 4 (0x2A ∷ 0x28 ∷ 0x00 ∷ 0x2C ∷ 0x2A ∷ 0x28 ∷ 0x01 ∷ 0x2C ∷ 0x16 ∷ 0x90 ∷ 0xFF ∷ []) ∷ smi (page Ram 0x28 ∷ []) ∷ []
     )) [] 30 ≡ Safe 6 true
-unfolding decoded known_effect register_writes successors unsafe_reason reasons is_fault_free holds_every_address
+unfolding decoded known_effect register_writes successors unsafe_reason reasons is_fault_free holds_every_address chips_view
 only_ram = refl
 
 -- ---- a call within a call by K: known at the second return only where K is tracked
 
-nested_unsplit : check (map_of (
+nested_unsplit : check (chips_view (
     psu 0 4 (0x28 ∷ 0x00 ∷ 0x10 ∷ 0x28 ∷ 0x00 ∷ 0x10 ∷ 0x90 ∷ 0xFF ∷ 0xFF ∷ 0xFF ∷ 0xFF ∷ 0xFF ∷ 0xFF ∷ 0xFF ∷ 0xFF ∷ 0xFF ∷ 0x08 ∷ 0x28
     ∷ 0x00 ∷ 0x20
     ∷ 0x0C ∷ 0xFF ∷ 0xFF ∷ 0xFF ∷ 0xFF ∷ 0xFF ∷ 0xFF ∷ 0xFF ∷ 0xFF ∷ 0xFF ∷ 0xFF ∷ 0xFF ∷ 0x1C ∷ []) ∷ []
     )) [] 60 ≡ Unsafe 0x14 (Some 0x14) UnknownJump
-unfolding decoded known_effect register_writes successors unsafe_reason reasons is_fault_free holds_every_address
+unfolding decoded known_effect register_writes successors unsafe_reason reasons is_fault_free holds_every_address chips_view
 nested_unsplit = refl
 
-nested_split : check (map_of (
+nested_split : check (chips_view (
     psu 0 4 (0x28 ∷ 0x00 ∷ 0x10 ∷ 0x28 ∷ 0x00 ∷ 0x10 ∷ 0x90 ∷ 0xFF ∷ 0xFF ∷ 0xFF ∷ 0xFF ∷ 0xFF ∷ 0xFF ∷ 0xFF ∷ 0xFF ∷ 0xFF ∷ 0x08 ∷ 0x28
     ∷ 0x00 ∷ 0x20
     ∷ 0x0C ∷ 0xFF ∷ 0xFF ∷ 0xFF ∷ 0xFF ∷ 0xFF ∷ 0xFF ∷ 0xFF ∷ 0xFF ∷ 0xFF ∷ 0xFF ∷ 0xFF ∷ 0x1C ∷ []) ∷ []
     )) (12 ∷ 13 ∷ []) 60 ≡ Safe 11 true
-unfolding decoded known_effect register_writes successors unsafe_reason reasons is_fault_free holds_every_address
+unfolding decoded known_effect register_writes successors unsafe_reason reasons is_fault_free holds_every_address chips_view
 nested_split = refl
 
 -- ---- a loop that copies 16 bytes between two data counters
 
 -- where the 3851's own one is in it is known only while r0, which counts, is tracked
 
-copy_unsplit : check (map_of (
+copy_unsplit : check (chips_view (
     psu 0 4 (0x2A ∷ 0x28 ∷ 0x00 ∷ 0x2C ∷ 0x2A ∷ 0x20 ∷ 0x00 ∷ 0x20 ∷ 0x10 ∷ 0x50 ∷ 0x16 ∷ 0x2C ∷ 0x17 ∷ 0x2C ∷ 0x30 ∷ 0x94 ∷ 0xFA ∷ 0x90
     ∷ 0xFF ∷ [])
     ∷ smi (page Rom 0x20 ∷ page Ram 0x28 ∷ []) ∷ []
     )) [] 200 ≡ Unsafe 0x0A None DataCountersApart
-unfolding decoded known_effect register_writes successors unsafe_reason reasons is_fault_free holds_every_address
+unfolding decoded known_effect register_writes successors unsafe_reason reasons is_fault_free holds_every_address chips_view
 copy_unsplit = refl
 
-copy_split : check (map_of (
+copy_split : check (chips_view (
     psu 0 4 (0x2A ∷ 0x28 ∷ 0x00 ∷ 0x2C ∷ 0x2A ∷ 0x20 ∷ 0x00 ∷ 0x20 ∷ 0x10 ∷ 0x50 ∷ 0x16 ∷ 0x2C ∷ 0x17 ∷ 0x2C ∷ 0x30 ∷ 0x94 ∷ 0xFA ∷ 0x90
     ∷ 0xFF ∷ [])
     ∷ smi (page Rom 0x20 ∷ page Ram 0x28 ∷ []) ∷ []
     )) (0 ∷ []) 400 ≡ Safe 102 true
-unfolding decoded known_effect register_writes successors unsafe_reason reasons is_fault_free holds_every_address
+unfolding decoded known_effect register_writes successors unsafe_reason reasons is_fault_free holds_every_address chips_view
 copy_split = refl
 
 -- ---- reads that go on past the ROM: safe, and not free of faults
 
-read_on : check (map_of (
+read_on : check (chips_view (
     psu 0 4 (0x2A ∷ 0x00 ∷ 0x00 ∷ 0x16 ∷ 0x90 ∷ 0xFE ∷ []) ∷ []
     )) [] 60 ≡ Safe 3 false
-unfolding decoded known_effect register_writes successors unsafe_reason reasons is_fault_free holds_every_address
+unfolding decoded known_effect register_writes successors unsafe_reason reasons is_fault_free holds_every_address chips_view
 read_on = refl
 
 -- ---- three chips, with a routine in the third
 
-ordinary : check (map_of (
+ordinary : check (chips_view (
     psu 0 4 (0x2A ∷ 0x08 ∷ 0x00 ∷ 0x16 ∷ 0x25 ∷ 0x55 ∷ 0x94 ∷ 0x04 ∷ 0x29 ∷ 0x08 ∷ 0x02 ∷ 0x90 ∷ 0xFF ∷ []) ∷ psu 0x400 8 []
     ∷ psu 0x800 32 (0x55 ∷ 0x2B ∷ 0x28 ∷ 0x08 ∷ 0x10 ∷ 0x90 ∷ 0xFC ∷ 0xFF ∷ 0xFF ∷ 0xFF ∷ 0xFF ∷ 0xFF ∷ 0xFF ∷ 0xFF ∷ 0xFF ∷ 0xFF
     ∷ 0x08 ∷ 0x70 ∷ 0xB4 ∷ 0xB0 ∷ 0xA4 ∷ 0x18 ∷ 0xB4 ∷ 0x20 ∷ 0x37 ∷ 0xB5 ∷ 0x20 ∷ 0x20 ∷ 0xB0 ∷ 0x0C ∷ []) ∷ []
     )) [] 200 ≡ Safe 20 true
-unfolding decoded known_effect register_writes successors unsafe_reason reasons is_fault_free holds_every_address
+unfolding decoded known_effect register_writes successors unsafe_reason reasons is_fault_free holds_every_address chips_view
 ordinary = refl
-
--- ---- two chips that can interrupt, and interrupts that are on behind EI and the branch
-
-abbrev wired_psu : ℕ → ℕ → List ℕ → ChipView
-wired_psu base ports bytes = record (psu base ports bytes) { wired = true }
-
-interrupts_on : check (map_of (wired_psu 0 4 (0x71 ∷ 0xB6 ∷ 0xBA ∷ 0x1B ∷ 0x90 ∷ 0xFF ∷ []) ∷ wired_psu 0x400 8 [] ∷ [])) [] 30
-    ≡ Unsafe 4 None InterruptPossible
-unfolding decoded known_effect register_writes successors unsafe_reason reasons is_fault_free holds_every_address
-interrupts_on = refl

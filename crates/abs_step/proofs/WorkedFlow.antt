@@ -5,7 +5,8 @@ use Rattle.f8_spec.specs.Instructions.{row_of}
 use Rattle.f8_spec.specs.declared.instructions.Op.{Op}
 use Rattle.f8_spec.specs.declared.instructions.Op.TheVariants.{LrPK, Pk, LrP0Q, LrDcQ, Lm, St, Pop, Pi, Jmp, Dci, Xdc, Bt, Adc, Br7, Bf}
 use Rattle.abs_domain.specs.AbstractState.{KnownStatus, KnownRegisters, KnownCounters}
-use Rattle.abs_step.specs.KnownFlow.{KnownInputs, Exit, known_inputs, known_counters, exits}
+use Rattle.abs_step.specs.KnownFlow.{KnownInputs, known_inputs, known_counters, exits}
+use Rattle.abs_step.specs.declared.exits.Exit.{Exit}
 
 abbrev counters : Option ℕ → Option ℕ → Option ℕ → Bool → Bool → Bool → Bool → KnownCounters
 counters d0 d1 c s0 s1 p0 p1 = record { d0 = d0; d1 = d1; c = c; s0 = s0; s1 = s1; p0 = p0; p1 = p1 }

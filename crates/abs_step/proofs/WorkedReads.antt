@@ -11,12 +11,11 @@ use Rattle.abs_step.specs.KnownResults.{known_effect, register_writes}
 use Rattle.abs_step.specs.MapView.{chips_view}
 use Rattle.abs_step.specs.Successors.{Invariant, start_point, start_state, successors}
 use Rattle.abs_step.specs.StepView.{next_at}
-use Rattle.abs_step.proofs.WorkedSteps.{page}
-use Rattle.abs_step.proofs.WorkedCartridges.{described}
+use Rattle.abs_step.proofs.WorkedSteps.{page, psu}
 
 -- a 3851 at 0 with these bytes; a 3853 with ROM 77 at 20, RAM at 28, nothing at 30, and ROM at 03, which the 3851 has too
 abbrev chips : List ℕ → List ChipSpec
-chips bytes = described 0 4 bytes ∷ Smi (page Rom 3 ∷ page Rom 0x20 ∷ page Ram 0x28 ∷ page Void 0x30 ∷ []) (replicate 512 0x77) false ∷ []
+chips bytes = psu 0 4 bytes ∷ Smi (page Rom 3 ∷ page Rom 0x20 ∷ page Ram 0x28 ∷ page Void 0x30 ∷ []) (replicate 512 0x77) false ∷ []
 
 -- what holds behind these bytes at 0
 abbrev behind : List ℕ → List ℕ → AbstractState → List Invariant

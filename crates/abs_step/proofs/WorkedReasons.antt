@@ -11,13 +11,12 @@ use Rattle.abs_domain.specs.AbstractState.{KnownRegisters, KnownCounters}
 use Rattle.abs_domain.specs.declared.reason.Reason.{Reason}
 use Rattle.abs_domain.specs.declared.reason.Reason.TheVariants.{CodeNotHeldOnce, CodeInRam, ReservedOpcode, UnknownJump, UnknownReturn}
 use Rattle.abs_domain.specs.declared.reason.Reason.TheVariants.{UnsetReturn, DataCountersApart, ReturnNotHeldOnce, BadPort}
-use Rattle.abs_domain.specs.declared.reason.Reason.TheVariants.{InterruptPossible, SharedDataAddress, TrackedRegisterBlurred}
+use Rattle.abs_domain.specs.declared.reason.Reason.TheVariants.{UnknownVector, SharedDataAddress, TrackedRegisterBlurred}
 use Rattle.abs_step.specs.KnownResults.{known_effect, register_writes}
 use Rattle.abs_step.specs.MapView.{chips_view, holds_every_address}
 use Rattle.abs_step.specs.Successors.{Invariant, start_point, start_state}
 use Rattle.abs_step.specs.Safety.{unsafe_reason, reasons, is_fault_free}
-use Rattle.abs_step.proofs.WorkedSteps.{page}
-use Rattle.abs_step.proofs.WorkedCartridges.{described}
+use Rattle.abs_step.proofs.WorkedSteps.{page, psu}
 
 -- ---- states, and the chips around one instruction
 
@@ -47,30 +46,30 @@ perhaps_on = record registers { status = record registers.status { icb = None } 
 
 -- the reason by a 3851 at 0 with these bytes and some more chips
 abbrev reason : List ℕ → List ChipSpec → List ℕ → Invariant → Option Reason
-reason bytes more tracked x = unsafe_reason (chips_view (described 0 4 bytes ∷ more)) tracked x
+reason bytes more tracked x = unsafe_reason (chips_view (psu 0 4 bytes ∷ more)) tracked x
 
 abbrev ram : ChipSpec
 ram = Smi (page Ram 0x28 ∷ []) [] false
 
--- a 3851 at 0 that can interrupt
+-- a 3851 at 0, and a 3853 that can interrupt
 abbrev wired : List ℕ → List ChipSpec
-wired bytes = Psu 0 (bytes ++ replicate (1024 - length bytes) 255) 4 0 true ∷ []
+wired bytes = psu 0 4 bytes ∷ Smi [] [] true ∷ []
 
 -- ---- 1, 2 and 3: bytes of code
 
 -- the operand of LI lies behind the chip, and in RAM
-operand_nowhere : unsafe_reason (chips_view (described 0x2400 4 (replicate 1023 0 ++ 0x20 ∷ []) ∷ [])) []
+operand_nowhere : unsafe_reason (chips_view (psu 0x2400 4 (replicate 1023 0 ++ 0x20 ∷ []) ∷ [])) []
     (at 0x27FF None registers (counters None None false false)) ≡ Some CodeNotHeldOnce
 unfolding decoded known_effect register_writes unsafe_reason reasons chips_view
 operand_nowhere = refl
 
-operand_in_ram : unsafe_reason (chips_view (described 0x2400 4 (replicate 1023 0 ++ 0x20 ∷ []) ∷ ram ∷ [])) []
+operand_in_ram : unsafe_reason (chips_view (psu 0x2400 4 (replicate 1023 0 ++ 0x20 ∷ []) ∷ ram ∷ [])) []
     (at 0x27FF None registers (counters None None false false)) ≡ Some CodeInRam
 unfolding decoded known_effect register_writes unsafe_reason reasons chips_view
 operand_in_ram = refl
 
 -- behind FFFF comes 0000
-operand_at_zero : unsafe_reason (chips_view (described 0xFC00 4 (replicate 1023 0 ++ 0x20 ∷ []) ∷ described 0 8 [] ∷ [])) []
+operand_at_zero : unsafe_reason (chips_view (psu 0xFC00 4 (replicate 1023 0 ++ 0x20 ∷ []) ∷ psu 0 8 [] ∷ [])) []
     (at 0xFFFF None registers (counters None None false false)) ≡ None
 unfolding decoded known_effect register_writes unsafe_reason reasons chips_view
 operand_at_zero = refl
@@ -80,7 +79,7 @@ opcode_in_void : unsafe_reason (chips_view (Smi (page Void 0 ∷ []) [] false �
 unfolding decoded known_effect register_writes unsafe_reason reasons chips_view
 opcode_in_void = refl
 
-operand_in_void : unsafe_reason (chips_view (described 0x2400 4 (replicate 1023 0 ++ 0x20 ∷ []) ∷ Smi (page Void 0x28 ∷ []) [] false ∷ []))
+operand_in_void : unsafe_reason (chips_view (psu 0x2400 4 (replicate 1023 0 ++ 0x20 ∷ []) ∷ Smi (page Void 0x28 ∷ []) [] false ∷ []))
     [] (at 0x27FF None registers (counters None None false false)) ≡ None
 unfolding decoded known_effect register_writes unsafe_reason reasons chips_view
 operand_in_void = refl
@@ -186,7 +185,7 @@ read_of_control : reason (0xA6 ∷ []) [] [] at_start ≡ Some BadPort
 unfolding decoded known_effect register_writes unsafe_reason reasons chips_view
 read_of_control = refl
 
-read_of_two : reason (0x26 ∷ 0x04 ∷ []) (described 0x400 4 [] ∷ []) [] at_start ≡ Some BadPort
+read_of_two : reason (0x26 ∷ 0x04 ∷ []) (psu 0x400 4 [] ∷ []) [] at_start ≡ Some BadPort
 unfolding decoded known_effect register_writes unsafe_reason reasons chips_view
 read_of_two = refl
 
@@ -194,7 +193,7 @@ write_of_nobody : reason (0x27 ∷ 0x20 ∷ []) [] [] at_start ≡ None
 unfolding decoded known_effect register_writes unsafe_reason reasons chips_view
 write_of_nobody = refl
 
-write_of_timers : reason (0x27 ∷ 0x07 ∷ []) (described 0x400 4 [] ∷ []) [] at_start ≡ Some BadPort
+write_of_timers : reason (0x27 ∷ 0x07 ∷ []) (psu 0x400 4 [] ∷ []) [] at_start ≡ Some BadPort
 unfolding decoded known_effect register_writes unsafe_reason reasons chips_view
 write_of_timers = refl
 
@@ -218,7 +217,7 @@ unfolding decoded known_effect register_writes unsafe_reason reasons chips_view
 plain_when_off = refl
 
 plain_perhaps_on : unsafe_reason (chips_view (wired (0x2B ∷ []))) [] (at 0 None perhaps_on (counters None None false false))
-    ≡ Some InterruptPossible
+    ≡ Some UnknownVector
 unfolding decoded known_effect register_writes unsafe_reason reasons chips_view
 plain_perhaps_on = refl
 
@@ -236,7 +235,7 @@ unfolding decoded known_effect register_writes unsafe_reason reasons chips_view
 long_write_shields = refl
 
 short_write_does_not : unsafe_reason (chips_view (wired (0xB0 ∷ []))) [] (at 0 None perhaps_on (counters None None false false))
-    ≡ Some InterruptPossible
+    ≡ Some UnknownVector
 unfolding decoded known_effect register_writes unsafe_reason reasons chips_view
 short_write_does_not = refl
 
@@ -318,7 +317,7 @@ unfolding decoded known_effect register_writes unsafe_reason reasons chips_view
 all_four = refl
 
 last_three : unsafe_reason (chips_view (wired (0x0E ∷ []) ++ over)) (14 ∷ []) (at 0 None perhaps_on (counters None None true true))
-    ≡ Some InterruptPossible
+    ≡ Some UnknownVector
 unfolding decoded known_effect register_writes unsafe_reason reasons chips_view
 last_three = refl
 
@@ -327,7 +326,7 @@ unfolding decoded known_effect register_writes unsafe_reason reasons chips_view
 last_two = refl
 
 -- IN of port 2 with its operand behind the chip: 1 and 9
-port_behind_chip : unsafe_reason (chips_view (described 0x2400 4 (replicate 1023 0 ++ 0x26 ∷ []) ∷ [])) []
+port_behind_chip : unsafe_reason (chips_view (psu 0x2400 4 (replicate 1023 0 ++ 0x26 ∷ []) ∷ [])) []
     (at 0x27FF None registers (counters None None false false)) ≡ Some CodeNotHeldOnce
 unfolding decoded known_effect register_writes unsafe_reason reasons chips_view
 port_behind_chip = refl
@@ -335,7 +334,7 @@ port_behind_chip = refl
 -- ---- whether reads are answered
 
 abbrev answered : List ℕ → List ChipSpec → Option ℕ → Bool → Bool
-answered bytes more d0 p0 = is_fault_free (chips_view (described 0 4 bytes ∷ more)) (at 0 None registers (counters d0 None true p0))
+answered bytes more d0 p0 = is_fault_free (chips_view (psu 0 4 bytes ∷ more)) (at 0 None registers (counters d0 None true p0))
 
 -- by a 3853 whether p0 holds or not, by a 3851 where it does, and by nobody
 answered_by_smi : answered (0x16 ∷ []) (ram ∷ []) (Some 0x28FF) false ≡ true

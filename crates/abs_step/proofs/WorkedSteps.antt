@@ -1,23 +1,18 @@
 -- Steps of small cartridges, worked out by hand and computed from the definitions: what holds next, and the reasons against a state.
-use Rattle.std.proofs.Common.{◌≡◌, ℕ, zero, suc, true, false, ◌-◌, ◌+◌, ◌/◌, List, [], ◌∷◌, ◌++◌, length, map, replicate, refl}
+use Rattle.std.proofs.Common.{◌≡◌, ℕ, zero, suc, true, false, ◌-◌, List, [], ◌∷◌, ◌++◌, length, replicate, refl}
 use Rattle.std.specs.Prelude.{Option, Some, None, option_and_then, slice_get}
-use Rattle.std.specs.List.{list_any}
 use Rattle.f8_spec.specs.Instructions.{decoded}
-use Rattle.f8_spec.specs.ChipState.{ChipView, blank_view}
-use Rattle.f8_spec.specs.BusArbitration.{Seat, seat_of}
-use Rattle.f8_spec.specs.declared.chips.ChipKind.TheVariants.{Psu, Smi}
 use Rattle.f8_spec.specs.declared.chips.PageSort.{PageSort}
 use Rattle.f8_spec.specs.declared.chips.PageSort.TheVariants.{Rom, Ram}
 use Rattle.f8_spec.specs.declared.chips.Page.{Page}
-use Rattle.console_spec.specs.FlatMemory.{sort_of, fixed_byte}
-use Rattle.console_spec.specs.Writes.{readers, takers}
-use Rattle.memory_map.specs.MapKinds.{kind_holds, kind_has_pages}
+use Rattle.chip_face.specs.declared.specification.ChipSpec.{ChipSpec}
+use Rattle.chip_face.specs.declared.specification.ChipSpec.TheVariants.{Psu, Smi}
 use Rattle.abs_domain.specs.declared.points.Point.{Point}
 use Rattle.abs_domain.specs.declared.reason.Reason.{Reason}
 use Rattle.abs_domain.specs.declared.reason.Reason.TheVariants.{CodeNotHeldOnce, CodeInRam, ReservedOpcode, UnsetReturn, DataCountersApart}
-use Rattle.abs_domain.specs.declared.reason.Reason.TheVariants.{BadPort, InterruptPossible, TrackedRegisterBlurred}
+use Rattle.abs_domain.specs.declared.reason.Reason.TheVariants.{BadPort, UnknownVector, TrackedRegisterBlurred}
 use Rattle.abs_step.specs.KnownResults.{known_effect, register_writes}
-use Rattle.abs_step.specs.MapView.{MapView}
+use Rattle.abs_step.specs.MapView.{MapView, chips_view}
 use Rattle.abs_step.specs.StepView.{next_at}
 use Rattle.abs_step.specs.Successors.{Invariant, start_point, start_state, start_invariant, successors}
 use Rattle.abs_step.specs.Safety.{unsafe_reason, reasons, is_fault_free}
@@ -27,32 +22,20 @@ use Rattle.abs_step.specs.Safety.{unsafe_reason, reasons, is_fault_free}
 abbrev pub page : PageSort → ℕ → Page
 page sort number = record { number = number; sort = sort }
 
--- a 3851 with these bytes, and FF behind them
-abbrev pub psu : ℕ → ℕ → List ℕ → ChipView
-psu base ports bytes = record (blank_view Psu) {
-  pages = page Rom (base / 256) ∷ page Rom (base / 256 + 1) ∷ page Rom (base / 256 + 2) ∷ page Rom (base / 256 + 3) ∷ [];
-  bytes = bytes ++ replicate (1024 - length bytes) 255;
-  ports = Some ports;
-}
+-- a 3851 of a description with these bytes, and FF behind them, and one that can interrupt, with its vector
+abbrev pub psu : ℕ → ℕ → List ℕ → ChipSpec
+psu base ports bytes = Psu base (bytes ++ replicate (1024 - length bytes) 255) ports 0 false
+
+abbrev pub wired_psu : ℕ → ℕ → ℕ → List ℕ → ChipSpec
+wired_psu base ports vector bytes = Psu base (bytes ++ replicate (1024 - length bytes) 255) ports vector true
 
 -- a 3853 with these pages, of 255 each
-abbrev pub smi : List Page → ChipView
-smi pages = record (blank_view Smi) { pages = pages; bytes = replicate 512 255; ports = Some 0x0C }
+abbrev pub smi : List Page → ChipSpec
+smi pages = Smi pages (replicate 512 255) false
 
--- the map of some chips, of which no two hold an address
-abbrev pub map_of : List ChipView → MapView
-map_of vs =
-    let seats : List Seat = map seat_of vs in
-    record {
-      sort = sort_of seats;
-      byte = fixed_byte vs;
-      held = λ at kind. kind_holds kind seats at;
-      readers = λ port. readers port seats;
-      takers = λ port. takers port seats;
-      any = λ kind. kind_has_pages kind seats;
-      overlaps = false;
-      wired = list_any (λ s. s.wired) seats;
-    }
+-- and one that can interrupt, with a page of RAM
+abbrev pub wired_smi : ChipSpec
+wired_smi = Smi (page Ram 0x28 ∷ []) [] true
 
 -- ---- walks
 
@@ -74,10 +57,10 @@ point at ret = record start_point { at = at; ret = ret }
 -- ---- a load of D0 at the start, XDC and a read
 
 abbrev exchange_alone : MapView
-exchange_alone = map_of (psu 0 4 (0x2A ∷ 0x00 ∷ 0x05 ∷ 0x2C ∷ 0x16 ∷ []) ∷ [])
+exchange_alone = chips_view (psu 0 4 (0x2A ∷ 0x00 ∷ 0x05 ∷ 0x2C ∷ 0x16 ∷ []) ∷ [])
 
 start_is_safe : unsafe_reason exchange_alone [] start_invariant ≡ None
-unfolding decoded known_effect register_writes unsafe_reason reasons
+unfolding decoded known_effect register_writes unsafe_reason reasons chips_view
 start_is_safe = refl
 
 -- one successor: D0 and every 3851's counter are 0005, and alike
@@ -87,22 +70,22 @@ load_at_start : next_at exchange_alone [] start_invariant ≡ record {
     counters = record { d0 = Some 5; d1 = Some 0; c = Some 5; s0 = true; s1 = false; p0 = true; p1 = false };
   };
 } ∷ []
-unfolding decoded known_effect register_writes successors
+unfolding decoded known_effect register_writes successors chips_view
 load_at_start = refl
 
 -- the read after XDC, at which the 3851's own counter is away from D0
 read_after_exchange : reason_after exchange_alone [] 2 ≡ Some DataCountersApart
-unfolding decoded known_effect register_writes successors unsafe_reason reasons
+unfolding decoded known_effect register_writes successors unsafe_reason reasons chips_view
 read_after_exchange = refl
 
 point_of_read : point_after exchange_alone [] 2 ≡ Some (point 4 None)
-unfolding decoded known_effect register_writes successors
+unfolding decoded known_effect register_writes successors chips_view
 point_of_read = refl
 
 -- ---- ROM and RAM may both answer a read
 
 abbrev rom_and_ram : MapView
-rom_and_ram = map_of (psu 0 4 (0x2A ∷ 0x28 ∷ 0x00 ∷ 0x2C ∷ 0x2A ∷ 0x00 ∷ 0x10 ∷ 0x2C ∷ 0x16 ∷ []) ∷ smi (page Ram 0x28 ∷ []) ∷ [])
+rom_and_ram = chips_view (psu 0 4 (0x2A ∷ 0x28 ∷ 0x00 ∷ 0x2C ∷ 0x2A ∷ 0x00 ∷ 0x10 ∷ 0x2C ∷ 0x16 ∷ []) ∷ smi (page Ram 0x28 ∷ []) ∷ [])
 
 read_of_both : unsafe_reason rom_and_ram [] (record {
   point = point 8 None;
@@ -110,112 +93,113 @@ read_of_both : unsafe_reason rom_and_ram [] (record {
     counters = record { d0 = Some 0x2800; d1 = Some 0x10; c = Some 0x10; s0 = true; s1 = true; p0 = false; p1 = true };
   };
 }) ≡ Some DataCountersApart
-unfolding decoded known_effect register_writes unsafe_reason reasons
+unfolding decoded known_effect register_writes unsafe_reason reasons chips_view
 read_of_both = refl
 
 walk_to_both : reason_after rom_and_ram [] 4 ≡ Some DataCountersApart
-unfolding decoded known_effect register_writes successors unsafe_reason reasons
+unfolding decoded known_effect register_writes successors unsafe_reason reasons chips_view
 walk_to_both = refl
 
 -- ---- other reasons at once
 
 -- a return at which the copies may differ
-return_at_start : unsafe_reason (map_of (psu 0 4 (0x1C ∷ []) ∷ psu 0x400 8 [] ∷ [])) [] start_invariant ≡ Some UnsetReturn
-unfolding decoded known_effect register_writes unsafe_reason reasons
+return_at_start : unsafe_reason (chips_view (psu 0 4 (0x1C ∷ []) ∷ psu 0x400 8 [] ∷ [])) [] start_invariant ≡ Some UnsetReturn
+unfolding decoded known_effect register_writes unsafe_reason reasons chips_view
 return_at_start = refl
 
 -- a write to a port that two chips have
 abbrev shared_port : MapView
-shared_port = map_of (psu 0 4 (0x70 ∷ 0xB4 ∷ []) ∷ psu 0x400 4 [] ∷ [])
+shared_port = chips_view (psu 0 4 (0x70 ∷ 0xB4 ∷ []) ∷ psu 0x400 4 [] ∷ [])
 
 write_to_shared_port : reason_after shared_port [] 1 ≡ Some BadPort
-unfolding decoded known_effect register_writes successors unsafe_reason reasons
+unfolding decoded known_effect register_writes successors unsafe_reason reasons chips_view
 write_to_shared_port = refl
 
 -- no chip, an opcode in RAM, and one that no instruction has
-nothing_held : unsafe_reason (map_of []) [] start_invariant ≡ Some CodeNotHeldOnce
-unfolding decoded known_effect register_writes unsafe_reason reasons
+nothing_held : unsafe_reason (chips_view []) [] start_invariant ≡ Some CodeNotHeldOnce
+unfolding decoded known_effect register_writes unsafe_reason reasons chips_view
 nothing_held = refl
 
-code_in_ram : unsafe_reason (map_of (smi (page Ram 0 ∷ []) ∷ [])) [] start_invariant ≡ Some CodeInRam
-unfolding decoded known_effect register_writes unsafe_reason reasons
+code_in_ram : unsafe_reason (chips_view (smi (page Ram 0 ∷ []) ∷ [])) [] start_invariant ≡ Some CodeInRam
+unfolding decoded known_effect register_writes unsafe_reason reasons chips_view
 code_in_ram = refl
 
-reserved_opcode : unsafe_reason (map_of (psu 0 4 [] ∷ [])) [] start_invariant ≡ Some ReservedOpcode
-unfolding decoded known_effect register_writes unsafe_reason reasons
+reserved_opcode : unsafe_reason (chips_view (psu 0 4 [] ∷ [])) [] start_invariant ≡ Some ReservedOpcode
+unfolding decoded known_effect register_writes unsafe_reason reasons chips_view
 reserved_opcode = refl
 
 -- interrupts are on after EI, which shields its own end; the branch after it doesn't
-abbrev wired_psu : ChipView
-wired_psu = record (psu 0 4 (0x1B ∷ 0x90 ∷ 0xFF ∷ [])) { wired = true }
+abbrev enabling : List ℕ
+enabling = 0x1B ∷ 0x90 ∷ 0xFF ∷ []
 
-enabled : unsafe_reason (map_of (wired_psu ∷ [])) [] start_invariant ≡ None
-unfolding decoded known_effect register_writes unsafe_reason reasons
+enabled : unsafe_reason (chips_view (psu 0 4 enabling ∷ wired_smi ∷ [])) [] start_invariant ≡ None
+unfolding decoded known_effect register_writes unsafe_reason reasons chips_view
 enabled = refl
 
-interrupt_after_enable : reason_after (map_of (wired_psu ∷ [])) [] 1 ≡ Some InterruptPossible
-unfolding decoded known_effect register_writes successors unsafe_reason reasons
+interrupt_after_enable : reason_after (chips_view (psu 0 4 enabling ∷ wired_smi ∷ [])) [] 1 ≡ Some UnknownVector
+unfolding decoded known_effect register_writes successors unsafe_reason reasons chips_view
 interrupt_after_enable = refl
 
-no_wired_chip : reason_after (map_of (psu 0 4 (0x1B ∷ 0x90 ∷ 0xFF ∷ []) ∷ [])) [] 1 ≡ None
-unfolding decoded known_effect register_writes successors unsafe_reason reasons
-no_wired_chip = refl
+-- the vector of a 3851 is known, and an unwired 3853 has none
+known_vector : reason_after (chips_view (wired_psu 0 4 0x0100 enabling ∷ smi [] ∷ [])) [] 1 ≡ None
+unfolding decoded known_effect register_writes successors unsafe_reason reasons chips_view
+known_vector = refl
 
 -- ---- tracked registers: the byte loaded into r0 stands in the point
 
 abbrev load_tracked : MapView
-load_tracked = map_of (psu 0 4 (0x75 ∷ 0x50 ∷ 0xA0 ∷ 0x50 ∷ []) ∷ [])
+load_tracked = chips_view (psu 0 4 (0x75 ∷ 0x50 ∷ 0xA0 ∷ 0x50 ∷ []) ∷ [])
 
 point_of_tracked : point_after load_tracked (0 ∷ []) 2 ≡ Some (record {
   at = 2;
   ret = None;
   split = Some 5 ∷ replicate 7 None;
 })
-unfolding decoded known_effect register_writes successors
+unfolding decoded known_effect register_writes successors chips_view
 point_of_tracked = refl
 
 -- what came in from a port is written to it
 tracked_is_blurred : reason_after load_tracked (0 ∷ []) 3 ≡ Some TrackedRegisterBlurred
-unfolding decoded known_effect register_writes successors unsafe_reason reasons
+unfolding decoded known_effect register_writes successors unsafe_reason reasons chips_view
 tracked_is_blurred = refl
 
 not_tracked : reason_after load_tracked [] 3 ≡ None
-unfolding decoded known_effect register_writes successors unsafe_reason reasons
+unfolding decoded known_effect register_writes successors unsafe_reason reasons chips_view
 not_tracked = refl
 
 -- ---- a call within a call, by K: the second return to K is known only while K is tracked
 
 abbrev nested_call : MapView
-nested_call = map_of (psu 0 4 (
+nested_call = chips_view (psu 0 4 (
     0x28 ∷ 0x00 ∷ 0x10 ∷ 0x28 ∷ 0x00 ∷ 0x10 ∷ 0x90 ∷ 0xFF ∷ replicate 8 0xFF
     ++ 0x08 ∷ 0x28 ∷ 0x00 ∷ 0x20 ∷ 0x0C ∷ replicate 11 0xFF ++ 0x1C ∷ []
     ) ∷ [])
 
 call_in_call : point_after nested_call [] 4 ≡ Some (point 0x14 (Some 0x14))
-unfolding decoded known_effect register_writes successors
+unfolding decoded known_effect register_writes successors chips_view
 call_in_call = refl
 
 -- at the first call K is known
 return_by_k : point_after nested_call [] 5 ≡ Some (point 3 (Some 0x15))
-unfolding decoded known_effect register_writes successors
+unfolding decoded known_effect register_writes successors chips_view
 return_by_k = refl
 
 -- ---- reads past the ROM: safe, and not free of faults
 
 abbrev read_past : MapView
-read_past = map_of (psu 0 4 (0x2A ∷ 0x04 ∷ 0x00 ∷ 0x16 ∷ []) ∷ [])
+read_past = chips_view (psu 0 4 (0x2A ∷ 0x04 ∷ 0x00 ∷ 0x16 ∷ []) ∷ [])
 
 read_past_is_safe : reason_after read_past [] 1 ≡ None
-unfolding decoded known_effect register_writes successors unsafe_reason reasons
+unfolding decoded known_effect register_writes successors unsafe_reason reasons chips_view
 read_past_is_safe = refl
 
 read_past_is_not_free : option_and_then (λ x. Some (is_fault_free read_past x)) (walked read_past [] 1) ≡ Some false
-unfolding decoded known_effect register_writes successors is_fault_free
+unfolding decoded known_effect register_writes successors is_fault_free chips_view
 read_past_is_not_free = refl
 
 abbrev read_within : MapView
-read_within = map_of (psu 0 4 (0x2A ∷ 0x03 ∷ 0xFF ∷ 0x16 ∷ []) ∷ [])
+read_within = chips_view (psu 0 4 (0x2A ∷ 0x03 ∷ 0xFF ∷ 0x16 ∷ []) ∷ [])
 
 read_within_is_free : option_and_then (λ x. Some (is_fault_free read_within x)) (walked read_within [] 1) ≡ Some true
-unfolding decoded known_effect register_writes successors is_fault_free
+unfolding decoded known_effect register_writes successors is_fault_free chips_view
 read_within_is_free = refl

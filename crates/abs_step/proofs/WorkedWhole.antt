@@ -12,7 +12,8 @@ use Rattle.console_spec.specs.Processor.{Flow, Registers, Inputs, scratch_byte, 
 use Rattle.abs_domain.specs.AbstractState.{KnownRegisters, KnownCounters}
 use Rattle.abs_domain.specs.Joins.{are_registers_below}
 use Rattle.abs_step.specs.KnownResults.{known_effect, register_writes, known_result}
-use Rattle.abs_step.specs.KnownFlow.{KnownInputs, Exit, known_inputs, known_used_byte, known_counters, exits}
+use Rattle.abs_step.specs.KnownFlow.{KnownInputs, known_inputs, known_used_byte, known_counters, exits}
+use Rattle.abs_step.specs.declared.exits.Exit.{Exit}
 use Rattle.abs_step.specs.Concretization.{whole_registers}
 
 -- ---- a byte at each address, and a machine there

@@ -14,6 +14,7 @@ use Rattle.abs_domain.specs.AbstractState.{KnownStatus, KnownRegisters, KnownCou
 use Rattle.abs_step.specs.Known.{known_word, agree, known_or, known_not}
 use Rattle.abs_step.specs.RegisterWrites.{known_register}
 use Rattle.abs_step.specs.KnownResults.{BytePair}
+use Rattle.abs_step.specs.declared.exits.Exit.{Exit}
 
 -- ---- branches
 
@@ -107,11 +108,6 @@ known_counters Exchange i k = with_exchanged k
 known_counters row i k = k
 
 -- ---- where an instruction may lead
-
--- an address, with the return there
-pub record Exit : Type 0 where
-  pub at : ℕ
-  pub ret : Option ℕ
 
 -- none where the address isn't known
 abbrev pub exit_to : Option ℕ → Option ℕ → List Exit

@@ -1,7 +1,7 @@
 -- What the checker knows of the chips: what a map tells of addresses, ports and kinds of chip, and that it is so of some chips.
-use Rattle.std.specs.Prelude.{◌≡◌, ℕ, ◌<◌, ◌*◌, nat_lt, Bool, true, false, ◌&&◌, if◌then◌else◌, List, Option, Some, None, is_some}
-use Rattle.std.specs.List.{AllByRecursion, list_any, list_all, range_with_len}
-use Rattle.f8_spec.specs.ChipState.{has_counters}
+use Rattle.std.specs.Prelude.{◌≡◌, ℕ, ◌<◌, ◌*◌, nat_lt, Bool, true, false, ◌&&◌, not, if◌then◌else◌, List, Option, Some, None, is_some}
+use Rattle.std.specs.List.{AllByRecursion, Contains, list_any, list_all, range_with_len}
+use Rattle.f8_spec.specs.ChipState.{has_counters, has_fixed_vector}
 use Rattle.f8_spec.specs.BusArbitration.{Seat, seat_has_ram, seat_holds}
 use Rattle.f8_spec.specs.declared.chips.ChipKind.{ChipKind}
 use Rattle.f8_spec.specs.declared.chips.ChipKind.TheVariants.{Smi}
@@ -11,11 +11,12 @@ use Rattle.console_spec.specs.declared.Sort.{Sort}
 use Rattle.console_spec.specs.declared.Sort.TheVariants.{Rom, Ram, Void, Nothing, Shared}
 use Rattle.chip_face.specs.declared.specification.ChipSpec.{ChipSpec}
 use Rattle.memory_map.specs.MapOf.{MapTable, mapped_sort, mapped_byte, mapped_held, mapped_readers, mapped_takers, mapped_any}
-use Rattle.memory_map.specs.MapOf.{mapped_overlaps, mapped_wired, views_of, seats_of, IsMapOf, IsWholeMap}
-use Rattle.memory_map.specs.MapKinds.{is_held, is_held_once, kind_holds, kind_has_pages, some_wired}
+use Rattle.memory_map.specs.MapOf.{mapped_overlaps, mapped_vectors, mapped_written, views_of, seats_of, IsMapOf, IsWholeMap}
+use Rattle.memory_map.specs.MapKinds.{is_held, is_held_once, kind_holds, kind_has_pages, some_written, told_vectors}
 
 -- by address what it is, the byte that stays there, and whether a chip of a kind holds it; how many chips have a port as a data port, and
--- how many have it at all; whether some chip of a kind has pages; whether two chips hold an address; and whether some chip can interrupt
+-- how many have it at all; whether some chip of a kind has pages; and whether two chips hold an address. Of the chips that can interrupt,
+-- the vectors that no port writes, and whether some has one that ports write.
 pub record MapView : Type 0 where
   pub sort : ℕ → Sort
   pub byte : ℕ → Option ℕ
@@ -24,7 +25,8 @@ pub record MapView : Type 0 where
   pub takers : ℕ → ℕ
   pub any : ChipKind → Bool
   pub overlaps : Bool
-  pub wired : Bool
+  pub vectors : List ℕ
+  pub written : Bool
 
 abbrev pub is_shared : Sort → Bool
 is_shared Rom = false
@@ -45,6 +47,14 @@ HasOwnRam s = (at : ℕ) → seat_has_ram s at ≡ true → s.kind ≡ Smi
 abbrev pub HoldsByCounters : Seat → Type 0
 HoldsByCounters s = (at : ℕ) → seat_holds s at ≡ true → has_counters s.kind ≡ true
 
+-- where a chip can interrupt, and no port writes its vector, that is among these
+abbrev pub HasVectorAmong : List ℕ → Seat → Type 0
+HasVectorAmong vectors s = s.wired ≡ true → has_fixed_vector s.kind ≡ true → Contains vectors s.vector
+
+-- a chip can interrupt, and ports write its vector
+abbrev pub is_seat_written : Seat → Bool
+is_seat_written s = s.wired && not (has_fixed_vector s.kind)
+
 -- The map is right of some chips. It tells the byte of each address that one chip alone holds and no store changes, and none that a store
 -- changes. Only 3853s have RAM, and no chip without counters holds an address.
 pub record IsViewOf (m : MapView) (seats : List Seat) : Type 0 where
@@ -56,7 +66,8 @@ pub record IsViewOf (m : MapView) (seats : List Seat) : Type 0 where
   pub takers : (port : ℕ) → port < 256 → m.takers port ≡ takers port seats
   pub any : (kind : ChipKind) → m.any kind ≡ kind_has_pages kind seats
   pub overlaps : (at : ℕ) → at < 65536 → sort_of seats at ≡ Shared → m.overlaps ≡ true
-  pub wired : m.wired ≡ list_any (λ s. s.wired) seats
+  pub vectors : AllByRecursion (HasVectorAmong m.vectors) seats
+  pub written : m.written ≡ list_any is_seat_written seats
   pub ram : AllByRecursion HasOwnRam seats
   pub counted : AllByRecursion HoldsByCounters seats
 
@@ -70,7 +81,8 @@ view_of m = record {
   takers = mapped_takers m;
   any = mapped_any m;
   overlaps = mapped_overlaps m;
-  wired = mapped_wired m;
+  vectors = mapped_vectors m;
+  written = mapped_written m;
 }
 
 -- ---- what is known of the chips of a description
@@ -89,7 +101,8 @@ chips_view chips = record {
   takers = λ port. if nat_lt port 256 then takers port (seats_of chips) else 0;
   any = λ kind. kind_has_pages kind (seats_of chips);
   overlaps = has_shared_page (seats_of chips);
-  wired = some_wired (views_of chips);
+  vectors = told_vectors (views_of chips);
+  written = some_written (views_of chips);
 }
 
 -- ---- the law

@@ -4,7 +4,7 @@ use Rattle.std.specs.Prelude.{ℕ, Bool, true, false, not, ◌&&◌, ◌||◌, �
 use Rattle.std.specs.Prelude.{Option, Some, None, is_none, option_and_then}
 use Rattle.std.specs.List.{list_any}
 use Rattle.f8_spec.specs.Words.{places_on}
-use Rattle.f8_spec.specs.Instructions.{decoded, row_of, row_length, is_shielding}
+use Rattle.f8_spec.specs.Instructions.{decoded, row_of, row_length}
 use Rattle.f8_spec.specs.RegisterNumbers.{register_ku, register_kl, register_qu, register_ql}
 use Rattle.f8_spec.specs.declared.chips.ChipKind.TheVariants.{Psu, Smi}
 use Rattle.f8_spec.specs.declared.instructions.Op.{Op}
@@ -18,12 +18,13 @@ use Rattle.abs_domain.specs.AbstractState.{KnownRegisters, KnownCounters, Abstra
 use Rattle.abs_domain.specs.declared.reason.Reason.{Reason}
 use Rattle.abs_domain.specs.declared.reason.Reason.TheVariants.{CodeNotHeldOnce, CodeInRam, ReservedOpcode, UnknownJump, UnknownReturn}
 use Rattle.abs_domain.specs.declared.reason.Reason.TheVariants.{UnsetReturn, DataCountersApart, ReturnNotHeldOnce, BadPort}
-use Rattle.abs_domain.specs.declared.reason.Reason.TheVariants.{InterruptPossible, SharedDataAddress, TrackedRegisterBlurred}
-use Rattle.abs_step.specs.Known.{known_word, is_known_false}
+use Rattle.abs_domain.specs.declared.reason.Reason.TheVariants.{UnknownVector, SharedDataAddress, TrackedRegisterBlurred}
+use Rattle.abs_step.specs.Known.{known_word}
 use Rattle.abs_step.specs.RegisterWrites.{RegisterWrite, known_register, target_allows, is_exact}
 use Rattle.abs_step.specs.KnownResults.{register_writes}
 use Rattle.abs_step.specs.MapView.{MapView, is_shared, holds_every_address}
 use Rattle.abs_step.specs.Successors.{Invariant, inputs_at, state_after}
+use Rattle.abs_step.specs.Vectors.{keeps_interrupts_out}
 
 -- the first reason whose test holds
 abbrev pub first_reason : List (Bool × Reason) → Option Reason
@@ -107,9 +108,9 @@ port_is_bad PortOut m operand field = port_fails (λ port. nat_le 2 (m.takers po
 port_is_bad ShortOut m operand field = nat_le 2 (m.takers field)
 port_is_bad row m operand field = false
 
--- an interrupt may be taken at the end
-abbrev pub may_be_interrupted : Op → MapView → AbstractState → Bool
-may_be_interrupted op m after = not (is_shielding op) && not (is_known_false after.registers.status.icb) && m.wired
+-- at the end an interrupt may be taken whose vector ports write
+abbrev pub vector_is_lost : Op → MapView → Option Bool → Bool
+vector_is_lost op m icb = not (keeps_interrupts_out op icb) && m.written
 
 -- ---- tracked registers
 
@@ -134,7 +135,7 @@ later_reasons op m tracked x =
     ∷ (may_part (row_of op) m x.state.counters, DataCountersApart)
     ∷ (return_is_unheld (row_of op) m x.point.ret, ReturnNotHeldOnce)
     ∷ (port_is_bad (row_of op) m (m.byte (places_on x.point.at 1)) (port_field op), BadPort)
-    ∷ (may_be_interrupted op m (state_after op m x), InterruptPossible)
+    ∷ (vector_is_lost op m (state_after op m x).registers.status.icb, UnknownVector)
     ∷ (goes_by_data (row_of op) && may_be_shared m x.state.counters.d0, SharedDataAddress)
     ∷ (any_blurred (writes_of op m x) tracked, TrackedRegisterBlurred)
     ∷ []

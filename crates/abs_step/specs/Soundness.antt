@@ -5,7 +5,7 @@ use Rattle.f8_spec.specs.Instructions.{decoded}
 use Rattle.f8_spec.specs.BusArbitration.{Seat}
 use Rattle.f8_spec.specs.declared.instructions.Op.{Op}
 use Rattle.console_spec.specs.Services.{Fault, Conflict, Undriven, Astray}
-use Rattle.console_spec.specs.Run.{Position, opcode_at, gets_at, instruction_fault, reset_fault}
+use Rattle.console_spec.specs.Run.{Position, opcode_at, instruction_fault, reset_fault}
 use Rattle.abs_domain.specs.AbstractState.{StateBelow}
 use Rattle.abs_step.specs.MapView.{MapView, IsViewOf}
 use Rattle.abs_step.specs.Successors.{Invariant, start_invariant, successors}
@@ -50,12 +50,11 @@ OnlyUndriven d0 (Some (Undriven romc at)) = IsDataRead romc × (at ≡ d0)
 OnlyUndriven d0 (Some (Conflict romc parties)) = ⊥
 OnlyUndriven d0 (Some (Astray romc socket at reference)) = ⊥
 
--- The next instruction isn't reserved, a claim holds of its fault, and no interrupt is taken at its end.
+-- The next instruction isn't reserved, and a claim holds of its fault.
 pub record GoesOn (claim : Option Fault → Type 0) (here : Position) : Type 0 where
   pub op : Op
   pub is : decoded (opcode_at here) ≡ Some op
   pub fault : claim (instruction_fault op here)
-  pub chosen : (gets_at op here).chosen ≡ None
 
 -- ---- the laws
 

@@ -1,4 +1,5 @@
--- What holds next: the points to which an instruction may lead, with what is known there. A branch narrows nothing.
+-- What holds next: the points to which an instruction may lead, and an interrupt at its end, with what is known there. A branch narrows
+-- nothing.
 use Rattle.std.specs.Prelude.{◌≡◌, ℕ, Bool, true, false, if◌then◌else◌, List, [], ◌∷◌, map, flat_map, replicate, slice_get}
 use Rattle.std.specs.Prelude.{Option, Some, None, option_and_then}
 use Rattle.std.specs.List.{range_with_len}
@@ -12,8 +13,10 @@ use Rattle.abs_domain.specs.PointOrder.{point_cmp}
 use Rattle.abs_domain.specs.declared.points.Point.{Point}
 use Rattle.abs_step.specs.RegisterWrites.{known_register}
 use Rattle.abs_step.specs.KnownResults.{known_result}
-use Rattle.abs_step.specs.KnownFlow.{KnownInputs, Exit, known_inputs, known_used_byte, known_counters, exits}
+use Rattle.abs_step.specs.KnownFlow.{KnownInputs, known_inputs, known_used_byte, known_counters, exits}
 use Rattle.abs_step.specs.MapView.{MapView}
+use Rattle.abs_step.specs.declared.exits.Exit.{Exit}
+use Rattle.abs_step.specs.Vectors.{vectors_let_in, vector_exit, with_interrupts_off}
 
 -- an abstract state that holds at a point
 pub record Invariant : Type 0 where
@@ -78,9 +81,16 @@ at_exit tracked s e = record {
   state = s;
 }
 
--- the invariants of one way of an instruction
-abbrev pub along : List ℕ → AbstractState → Exit → List Invariant
-along tracked s e = at_exit tracked s e ∷ []
+-- what holds where an interrupt leads from there, by the vector of a chip: for its timer, and for a pulse
+abbrev pub at_vector : List ℕ → AbstractState → Exit → ℕ → List Invariant
+at_vector tracked s e vector =
+    at_exit tracked (with_interrupts_off s) (vector_exit true vector e)
+    ∷ at_exit tracked (with_interrupts_off s) (vector_exit false vector e)
+    ∷ []
+
+-- the invariants of one way of an instruction: that of its exit, and those of the vectors to which an interrupt may lead from there
+abbrev pub along : List ℕ → List ℕ → AbstractState → Exit → List Invariant
+along tracked vectors s e = at_exit tracked s e ∷ flat_map (at_vector tracked s e) vectors
 
 -- ---- each point once
 
@@ -106,7 +116,9 @@ with_invariants (x ∷ xs) done = with_invariants xs (with_invariant x done)
 
 -- the ways of an instruction one after another, in their order
 abbrev pub all_along : Op → MapView → List ℕ → Invariant → List Invariant
-all_along op m tracked x = flat_map (along tracked (state_after op m x)) (exits_of op m x)
+all_along op m tracked x =
+    let s = state_after op m x in
+    flat_map (along tracked (vectors_let_in op m s.registers.status.icb) s) (exits_of op m x)
 
 -- what holds next, each point once
 unfoldable pub successors : Op → MapView → List ℕ → Invariant → List Invariant

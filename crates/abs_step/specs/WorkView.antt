@@ -12,11 +12,11 @@ use Rattle.abs_step.specs.declared.writes.Writes.TheVariants.{Nothing, One, Two}
 use Rattle.abs_step.specs.declared.pairs.Pair.{Pair}
 use Rattle.abs_step.specs.declared.inputs.Inputs.{Inputs}
 use Rattle.abs_step.specs.declared.counters.Counters.{Counters}
-use Rattle.abs_step.specs.declared.exits.Exit.{Exit as WayOut}
+use Rattle.abs_step.specs.declared.exits.Exit.{Exit}
 use Rattle.abs_step.specs.declared.exits.Exits.{Exits}
 use Rattle.abs_step.specs.declared.exits.Exits.TheVariants.{Nowhere, One as OneExit, Two as TwoExits}
 use Rattle.abs_step.specs.KnownResults.{BytePair}
-use Rattle.abs_step.specs.KnownFlow.{KnownInputs, Exit}
+use Rattle.abs_step.specs.KnownFlow.{KnownInputs}
 
 -- ---- registers
 
@@ -68,10 +68,7 @@ inputs_view i = record {
 abbrev pub counters_view : Counters → KnownCounters
 counters_view k = record { d0 = k.d0; d1 = k.d1; c = k.c; s0 = k.s0; s1 = k.s1; p0 = k.p0; p1 = k.p1 }
 
-abbrev pub exit_view : WayOut → Exit
-exit_view e = record { at = e.at; ret = e.ret }
-
 abbrev pub exits_view : Exits → List Exit
 exits_view Nowhere = []
-exits_view (OneExit e) = exit_view e ∷ []
-exits_view (TwoExits d e) = exit_view d ∷ exit_view e ∷ []
+exits_view (OneExit e) = e ∷ []
+exits_view (TwoExits d e) = d ∷ e ∷ []

@@ -8,7 +8,7 @@ use super::inputs::{Inputs, ahead};
 use f8_ops::{Op, Row, length, row_of};
 
 /// An address, with the return there.
-#[derive(Clone, Copy)]
+#[derive(Clone, Copy, Default)]
 pub struct Exit {
     pub at: u16,
     pub ret: Option<u16>,

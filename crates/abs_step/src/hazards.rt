@@ -1,14 +1,14 @@
 // The reasons against a state at its point, of which the first counts.
-ghost use Rattle.std.specs.Prelude.{◌≡◌, not, ◌&&◌};
-ghost use Rattle.f8_spec.specs.Instructions.{length_of, row_of, is_shielding};
+ghost use Rattle.std.specs.Prelude.{◌≡◌};
+ghost use Rattle.f8_spec.specs.Instructions.{length_of, row_of};
 ghost use Rattle.memory_map.specs.MapKinds.{is_held_once};
 ghost use Rattle.console_spec.specs.Processor.{port_field};
 ghost use Rattle.abs_step.specs.Safety.{first_reason, code_reasons, operand_reasons};
 ghost use Rattle.abs_step.specs.Safety.{jump_is_lost, return_is_lost, return_is_unset};
 ghost use Rattle.abs_step.specs.Safety.{reads_at_data, goes_by_data, may_be_held_by_psu};
 ghost use Rattle.abs_step.specs.Safety.{may_part, may_be_shared};
-ghost use Rattle.abs_step.specs.Safety.{return_is_unheld, port_is_bad, any_blurred};
-ghost use Rattle.abs_step.specs.Known.{is_known_false};
+ghost use Rattle.abs_step.specs.Safety.{return_is_unheld, port_is_bad, vector_is_lost, any_blurred};
+ghost use Rattle.abs_step.specs.Vectors.{keeps_interrupts_out};
 ghost use Rattle.abs_step.specs.MapView.{view_of};
 ghost use Rattle.abs_step.specs.WorkView.{counters_view, writes_view};
 
@@ -184,12 +184,18 @@ fn port_field(op: Op) -> u8
     }
 }
 
-/// An interrupt may be taken at the end, with the interrupt control bit there.
-pub fn may_be_interrupted(op: Op, map: &Map, icb: Option<bool>) -> bool
-    ensures { result ≡ (not (is_shielding op) && not (is_known_false icb)
-        && (view_of map.now).wired) }
+/// No interrupt is taken at the end of an instruction, by what is known of the interrupt control bit after it.
+pub fn keeps_interrupts_out(op: Op, icb: Option<bool>) -> bool
+    ensures { result ≡ keeps_interrupts_out op icb }
 {
-    !shields(op) && icb != Some(false) && map.wired()
+    shields(op) || icb == Some(false)
+}
+
+/// An interrupt may be taken there whose vector ports write.
+pub fn vector_is_lost(op: Op, map: &Map, icb: Option<bool>) -> bool
+    ensures { result ≡ vector_is_lost op (view_of map.now) icb }
+{
+    !keeps_interrupts_out(op, icb) && map.wired_smi()
 }
 
 /// Some tracked register is written so that it isn't known any more what it holds.

@@ -1,10 +1,12 @@
 // The laws of the checker's step.
 ghost use Rattle.abs_step.specs.CartridgeAnalysis.{AnalysisLaw};
+ghost use Rattle.abs_step.specs.EarlierSteps.{EarlierStepLaw};
 ghost use Rattle.abs_step.specs.FitLaws.{FitLaw};
 ghost use Rattle.abs_step.specs.MapView.{MapViewLaw};
 ghost use Rattle.abs_step.specs.RackSeats.{SeatedViewLaw};
 ghost use Rattle.abs_step.specs.ScriptRuns.{ScriptRunLaw};
 ghost use Rattle.abs_step.specs.Soundness.{SoundnessLaw};
+ghost use Rattle.abs_step.specs.SoundSteps.{SoundStepLaw};
 ghost use Rattle.abs_step.specs.StepOrder.{StepOrderLaw};
 
 /// The map of the chips of a description tells the checker what is so of them: sorts, bytes that stay, holders by kind, ports, and whether
@@ -21,13 +23,29 @@ pub fn seated_view_law()
     ensures { SeatedViewLaw }
 {}
 
-/// Where an invariant map is closed and safe, no run meets a reserved opcode, takes an interrupt, or has a bus step that isn't served, but
-/// for reads at D0 that no chip answers; and where it is free of faults as well, none at all. A run begins with any accumulator,
-/// scratchpad, ISAR, RAM and counters of chips, and takes any key bytes and pulses (this project's own). This call does nothing; its
-/// contract is the law.
+/// Where an invariant map is closed and safe, no run meets a reserved opcode, or has a bus step that isn't served, but for reads at D0 that
+/// no chip answers; and where it is free of faults as well, none at all. A run begins with any accumulator, scratchpad, ISAR, RAM and
+/// counters of chips, takes any key bytes and pulses, and follows each interrupt (this project's own). This call does nothing; its contract
+/// is the law.
 #[tactic(auto, using(crate::proofs::SoundRuns::soundness))]
 pub fn soundness_law()
     ensures { SoundnessLaw }
+{}
+
+/// One step of the checker is right of one instruction of a run: the start stands for each position in which a run may begin; and from a safe
+/// state that stands for a position, some state that holds next stands for the position after the instruction, its interrupt and any events
+/// (this project's own). This call does nothing; its contract is the law.
+#[tactic(auto, using(crate::proofs::Runs::sound_steps))]
+pub fn sound_step_law()
+    ensures { SoundStepLaw }
+{}
+
+/// What an analysis shows to be safe that follows no vector, and refuses every chip that can interrupt where an interrupt may be taken, is
+/// shown to be safe, and leads to the same points, where vectors are followed (this project's own). This call does nothing; its contract is
+/// the law.
+#[tactic(auto, using(crate::proofs::EarlierSteps::earlier_steps))]
+pub fn earlier_step_law()
+    ensures { EarlierStepLaw }
 {}
 
 /// Over a closed and safe invariant map of the chips a run by a script is done, or it stops at a read at D0 that no chip answers; and where

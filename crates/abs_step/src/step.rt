@@ -9,19 +9,21 @@ ghost use Rattle.abs_step.specs.Successors.{successors};
 ghost use Rattle.abs_step.specs.Safety.{first_reason, reasons, unsafe_reason};
 ghost use Rattle.abs_step.specs.MapView.{view_of};
 ghost use Rattle.abs_step.specs.StepView.{invariant_at, next_at};
-ghost use Rattle.abs_step.specs.StepView.{joined_along, reasons_before, reasons_after};
-ghost use Rattle.abs_step.specs.WorkView.{counters_view, writes_view, exits_view};
+ghost use Rattle.abs_step.specs.StepView.{reasons_before, reasons_after};
+ghost use Rattle.abs_step.specs.WorkView.{counters_view, writes_view};
 
 use super::counters::Counters;
-use super::exits::{Exit, Exits};
+use super::exits::Exits;
 use super::hazards::{
-    any_blurred, code_reason, goes_by_data, jump_is_lost, may_be_interrupted, may_be_shared,
+    any_blurred, code_reason, goes_by_data, jump_is_lost, keeps_interrupts_out, may_be_shared,
     may_part, operand_reason, port_is_bad, return_is_lost, return_is_unheld, return_is_unset,
+    vector_is_lost,
 };
 use super::inputs::Inputs;
 use super::registers::Registers;
 use super::successors::Successors;
 use super::tracked::tracked_bytes;
+use super::ways::ways_of;
 use super::writes::Writes;
 use abs_domain::{Abs, Bit, Digit, MOST_TRACKED, Point, Reason, SCRATCHPAD_SIZE, Val, Word};
 use cartridge::Split;
@@ -120,12 +122,14 @@ fn after_instruction(
         return Err(reason);
     }
     registers.step(op, inputs.used_byte(row_of(op)), writes);
-    if let Some(reason) = reason_after(op, map, split, registers.icb(), counters.d0, writes) {
+    let icb = registers.icb();
+    if let Some(reason) = reason_after(op, map, split, icb, counters.d0, writes) {
         return Err(reason);
     }
     let exits = Exits::of(op, &inputs, point.at, point.ret);
-    let counters = counters.after(row_of(op), &inputs);
-    Ok(joined_along(split, &registers, counters, exits))
+    let ways = ways_of(exits, icb, keeps_interrupts_out(op, icb), map);
+    let state = registers.state_with(counters.after(row_of(op), &inputs));
+    Ok(Successors::along(ways, state, tracked_bytes(split, &registers)))
 }
 
 /// The first reason against an instruction, by what holds before it, behind those of its bytes.
@@ -170,48 +174,13 @@ fn reason_after(
     ensures { result ≡ first_reason (reasons_after op (view_of map.now) split.now icb d0
         (writes_view writes)) }
 {
-    if may_be_interrupted(op, map, icb) {
-        Some(Reason::InterruptPossible)
+    if vector_is_lost(op, map, icb) {
+        Some(Reason::UnknownVector)
     } else if goes_by_data(row_of(op)) && may_be_shared(map, d0) {
         Some(Reason::SharedDataAddress)
     } else if any_blurred(writes, split) {
         Some(Reason::TrackedRegisterBlurred)
     } else {
         None
-    }
-}
-
-/// What holds at each exit, with each point once.
-fn joined_along(
-    split: &Split,
-    registers: &Registers,
-    counters: Counters,
-    exits: Exits,
-) -> Successors
-    ensures { result ≡ joined_along split.now registers.now (counters_view counters)
-        (exits_view exits) }
-{
-    let state = registers.state_with(counters);
-    let bytes = tracked_bytes(split, registers);
-    let mut ways = Successors::empty(point_at(Exit { at: 0, ret: None }, bytes), state);
-    match exits {
-        Exits::Nowhere => {},
-        Exits::One(exit) => ways.add(point_at(exit, bytes), state),
-        Exits::Two(first, second) => {
-            ways.add(point_at(first, bytes), state);
-            ways.add(point_at(second, bytes), state);
-        },
-    }
-    ways
-}
-
-/// The point to which an exit leads.
-fn point_at(exit: Exit, split: [Option<u8>; MOST_TRACKED]) -> Point
-    ensures { result ≡ record { at = exit.at; ret = exit.ret; split = split } }
-{
-    Point {
-        at: exit.at,
-        ret: exit.ret,
-        split,
     }
 }

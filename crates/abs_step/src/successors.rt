@@ -1,108 +1,108 @@
 // What holds next: a short list of points with their states, each point once.
 ghost use Rattle.std.specs.Prelude.{◌≡◌, slice_get};
-ghost use Rattle.abs_step.specs.Successors.{same_point};
+ghost use Rattle.abs_domain.specs.StateView.{state_of};
+ghost use Rattle.abs_step.specs.StepView.{invariant_of};
+ghost use Rattle.abs_step.specs.Vectors.{with_icb};
+ghost use Rattle.abs_step.specs.WaysOn.{at_way};
 
-use abs_domain::{Abs, Point, point_law};
-use std::cmp::Ordering;
+use super::status::Status;
+use super::ways::{Way, Ways};
+use abs_domain::{Abs, MOST_TRACKED, Point};
 use std::marker::Model;
 
-/// The most points to which one instruction leads.
-pub(crate) const MOST_SUCCESSORS: usize = 2;
-
-/// What holds next: one or two points with their states, that of a taken branch first. Contracts see the list of them.
+/// What holds next: from one to 66 points with their states, each point once. For each way of an instruction, that of a taken branch first,
+/// there is its exit, and then two vectors for each chip whose interrupt may be taken there. All points have the same tracked bytes, and
+/// all states are one but for the interrupt control bit, so that no state is copied before it is asked for. Contracts see the list.
 #[derive(Drop)]
 pub struct Successors {
-    list: [(Point, Abs); MOST_SUCCESSORS],
-    len: usize,
+    ways: Ways,
+    state: Abs,
+    bytes: [Option<u8>; MOST_TRACKED],
 }
 
 impl Model for Successors {
-    ghost use Rattle.std.specs.Prelude.{List, ◌≡◌, ◌≤◌, length, map, take};
+    ghost use Rattle.std.specs.Prelude.{List, map};
+    ghost use Rattle.abs_domain.specs.StateView.{state_of};
     ghost use Rattle.abs_step.specs.Successors.{Invariant};
-    ghost use Rattle.abs_step.specs.StepView.{invariant_of};
+    ghost use Rattle.abs_step.specs.WaysOn.{at_way};
 
     ghost Value = { List Invariant };
 
-    ghost view = { λ s. map invariant_of (take s.len s.list) };
-
-    ghost invariant = { λ s. (s.len ≤ 2) × (length s.list ≡ 2) };
+    ghost view = { λ s. map (at_way s.bytes (state_of s.state)) s.ways.items };
 }
 
 impl Successors {
-    ghost use Rattle.std.specs.Prelude.{◌≡◌, ◌<◌, ◌≤◌, ◌==◌, ◌+◌, length, map, [], option_map, slice_get};
-    ghost use Rattle.abs_step.specs.Successors.{with_invariant};
-    ghost use Rattle.abs_step.specs.StepView.{invariant_of, invariant_at};
+    ghost use Rattle.std.specs.Prelude.{◌==◌, length, map, option_map};
+    ghost use Rattle.abs_domain.specs.StateView.{state_of};
+    ghost use Rattle.abs_step.specs.StepView.{invariant_of};
+    ghost use Rattle.abs_step.specs.WaysOn.{at_way};
 
-    /// No point. The list is filled up with a point and a state that don't count.
-    pub(crate) fn empty(point: Point, state: Abs) -> Successors
-        ensures { result ≡ [] }
+    /// What holds along some ways, by what is known of all, and of the tracked registers.
+    pub(crate) fn along(
+        ways: Ways,
+        state: Abs,
+        bytes: [Option<u8>; MOST_TRACKED],
+    ) -> Successors
+        ensures { result ≡ map (at_way bytes (state_of state)) ways.items }
     {
-        Successors {
-            list: [(point, state); MOST_SUCCESSORS],
-            len: 0,
-        }
-    }
-
-    /// All of them.
-    pub fn as_slice(&self) -> &[(Point, Abs)]
-        ensures { map invariant_of result.now ≡ self.now }
-    {
-        &self.list[..self.len]
+        Successors { ways, state, bytes }
     }
 
     /// How many there are.
     pub fn len(&self) -> usize
         ensures { result ≡ length self.now }
     {
-        self.len
+        self.ways.len()
     }
 
     /// There is none.
     pub fn is_empty(&self) -> bool
         ensures { result ≡ (length self.now == 0) }
     {
-        self.len == 0
+        self.ways.is_empty()
     }
 
     /// The point at a place with its state, and `None` past the last.
     pub fn get(&self, place: usize) -> Option<(Point, Abs)>
         ensures { option_map invariant_of result ≡ slice_get self.now place }
     {
-        item_at(self.as_slice(), place)
-    }
-
-    /// Adds a state at a point. Where the point is there already, both states are joined.
-    pub(crate) fn add(&mut self, point: Point, state: Abs)
-        requires { length self.old < 2 }
-        ensures list { self.new ≡ with_invariant (invariant_at point state) self.old }
-        ensures count { length self.new ≤ length self.old + 1 }
-    {
-        for place in 0..self.len {
-            let (other, old) = self.list[place];
-            if is_same(&point, &other) {
-                self.list[place] = (other, old.join(&state));
-                return;
-            }
+        match self.ways.as_slice().get(place) {
+            Some(way) => Some(at_way(self.bytes, self.state, *way)),
+            None => None,
         }
-        self.list[self.len] = (point, state);
-        self.len += 1;
     }
 }
 
-/// The item at a place, and `None` past the last.
-fn item_at(items: &[(Point, Abs)], place: usize) -> Option<(Point, Abs)>
-    ensures { result ≡ slice_get items.now place }
+/// What holds along a way.
+fn at_way(bytes: [Option<u8>; MOST_TRACKED], state: Abs, way: Way) -> (Point, Abs)
+    ensures { invariant_of result ≡ at_way bytes (state_of state) way }
 {
-    items.get(place).copied()
+    let point = Point {
+        at: way.exit.at,
+        ret: way.exit.ret,
+        split: bytes,
+    };
+    (point, with_icb(state, way.icb))
 }
 
-/// Two points are one.
-fn is_same(first: &Point, second: &Point) -> bool
-    ensures { result ≡ same_point first.now second.now }
+/// A state of which this is known of the interrupt control bit.
+fn with_icb(state: Abs, icb: Option<bool>) -> Abs
+    ensures { state_of result ≡ with_icb icb (state_of state) }
 {
-    point_law();
-    match first.cmp(second) {
-        Ordering::Equal => true,
-        _ => false,
+    let mut status = Status::of(&state.w);
+    status.icb = icb;
+    Abs {
+        a: state.a,
+        regs: state.regs,
+        hi: state.hi,
+        lo: state.lo,
+        w: status.bits(),
+        d0: state.d0,
+        d1: state.d1,
+        c: state.c,
+        s0: state.s0,
+        s1: state.s1,
+        p0: state.p0,
+        p1: state.p1,
     }
 }

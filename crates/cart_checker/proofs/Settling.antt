@@ -1,9 +1,9 @@
 -- A state is settled: all that holds next is added, one after the other.
 use Rattle.std.proofs.Common.{◌≡◌, ℕ, zero, suc, ◌+◌, ◌<◌, ◌≤◌, List, [], ◌∷◌}
-use Rattle.std.proofs.Common.{length, map, slice_index_or, refl, sym, ap, ◌∙◌, subst, arith}
-use Rattle.std.specs.Prelude.{Option, Some, None, Ok, Err}
-use Rattle.std.specs.List.{All, AllWithin}
-use Rattle.std.proofs.lemmas.List.{get_or_read, length-map}
+use Rattle.std.proofs.Common.{length, map, slice_index_or, get_or, refl, sym, ap, ◌∙◌, subst, arith}
+use Rattle.std.specs.Prelude.{Option, Some, None, option_map, slice_get, Ok, Err}
+use Rattle.std.specs.List.{All, AllWithin, Contains}
+use Rattle.std.proofs.lemmas.Option.{get_or_from_slice_get, slice_get-get_or}
 use Rattle.std.proofs.lemmas.List.Elements.{AllWithin-none, AllWithin-more, AllWithin-upto, All-from_all_within, All-map, All-contains}
 use Rattle.f8_spec.specs.declared.instructions.Op.{Op}
 use Rattle.memory_map.specs.MapOf.{MapTable}
@@ -15,11 +15,10 @@ use Rattle.abs_domain.specs.declared.points.Point.{Point}
 use Rattle.abs_domain.specs.declared.state.Abs.{Abs}
 use Rattle.abs_domain.specs.declared.reason.Reason.{Reason}
 use Rattle.abs_step.specs.MapView.{MapView, view_of}
-use Rattle.abs_step.specs.Successors.{Invariant}
+use Rattle.abs_step.specs.Successors.{Invariant, start_invariant}
 use Rattle.abs_step.specs.Safety.{unsafe_reason}
 use Rattle.abs_step.specs.Soundness.{op_at}
 use Rattle.abs_step.specs.StepView.{invariant_at, invariant_of, next_by, next_at}
-use Rattle.abs_step.specs.StatesAtPoints.{state_in, states_of}
 use Rattle.abs_step.specs.Analysis.{AnalysisLaws}
 use Rattle.abs_step.specs.CartridgeAnalysis.{entry_of, answer_by, answer_at}
 use Rattle.abs_step.specs.ReachedStates.{Reached, next, CoversAt}
@@ -28,11 +27,7 @@ use Rattle.cart_checker.specs.WorkView.{map_analysis}
 use Rattle.cart_checker.proofs.Rounds.{added_holds, settled_by_all}
 use Rattle.cart_checker.proofs.Efforts.{added_falls}
 
--- ---- what holds next, as the program holds it
-
-entries_as : (ways : List (Point × Abs)) → map entry_of (map invariant_of ways) ≡ states_of ways
-entries_as [] = refl
-entries_as (w ∷ ws) = ap (λ (es : List (Point × AbstractState)). state_in w ∷ es) (entries_as ws)
+-- ---- what holds next
 
 safe_answer : (o : Option Op) (m : MapView) (tracked : List ℕ) (x : Invariant) →
     answer_by None o m tracked x ≡ Ok (map entry_of (next_by o m tracked x))
@@ -40,18 +35,17 @@ safe_answer None m tracked x = refl
 safe_answer (Some op) m tracked x = refl
 
 -- what a safe state leads to
-pub record IsAnswer (m : MapTable) (tracked : List ℕ) (p : Point) (s : Abs) (ways : List (Point × Abs)) : Type 0 where
+pub record IsAnswer (m : MapTable) (tracked : List ℕ) (p : Point) (s : Abs) (ways : List Invariant) : Type 0 where
   pub safe : unsafe_reason (view_of m) tracked (invariant_at p s) ≡ None
-  pub leads : map invariant_of ways ≡ next_at (view_of m) tracked (invariant_at p s)
+  pub leads : ways ≡ next_at (view_of m) tracked (invariant_at p s)
 
-pub next_ok : (m : MapTable) (tracked : List ℕ) (p : Point) (s : Abs) (ways : List (Point × Abs)) → IsAnswer m tracked p s ways →
-    answer_at (view_of m) tracked (invariant_at p s) ≡ Ok (states_of ways)
+pub next_ok : (m : MapTable) (tracked : List ℕ) (p : Point) (s : Abs) (ways : List Invariant) → IsAnswer m tracked p s ways →
+    answer_at (view_of m) tracked (invariant_at p s) ≡ Ok (map entry_of ways)
 next_ok m tracked p s ways answer =
     let x = invariant_at p s in
     ap (λ (r : Option Reason). answer_by r (op_at (view_of m) x) (view_of m) tracked x) answer.safe
     ∙ safe_answer (op_at (view_of m) x) (view_of m) tracked x
     ∙ ap (λ (xs : List Invariant). Ok (map entry_of xs)) (sym answer.leads)
-    ∙ ap Ok (entries_as ways)
 
 pub next_err : (m : MapTable) (tracked : List ℕ) (p : Point) (s : Abs) (reason : Reason) →
     unsafe_reason (view_of m) tracked (invariant_at p s) ≡ Some reason → answer_at (view_of m) tracked (invariant_at p s) ≡ Err reason
@@ -61,41 +55,51 @@ next_err m tracked p s reason is =
 
 -- ---- turn by turn
 
--- the way at a turn
-pub record IsWay (ways : List (Point × Abs)) (k : ℕ) (way : Point × Abs) : Type 0 where
-  pub within : k < length ways
-  pub is : way ≡ slice_index_or ways k way
+-- the way at a turn, as the program gets it
+abbrev pub IsWay : List Invariant → ℕ → Point × Abs → Type 0
+IsWay ways k way = slice_get ways k ≡ Some (invariant_of way)
 
-state_at_place : (ways : List (Point × Abs)) (k : ℕ) (d : Point × Abs) →
-    slice_index_or (map state_in ways) k (state_in d) ≡ state_in (slice_index_or ways k d)
-state_at_place [] k d = refl
-state_at_place (w ∷ ws) zero d = refl
-state_at_place (w ∷ ws) (suc k) d = state_at_place ws k d
+pub way_of : (ways : List Invariant) (k : ℕ) (way : Point × Abs) (got : Option (Point × Abs)) → option_map invariant_of got ≡ slice_get ways k →
+    got ≡ Some way → IsWay ways k way
+way_of ways k way got gets is = sym gets ∙ ap (option_map invariant_of) is
+
+pub no_way : (got : Option (Point × Abs)) (ways : List Invariant) (k : ℕ) → option_map invariant_of got ≡ slice_get ways k → got ≡ None →
+    k < length ways → ⊥
+no_way got ways k gets none within =
+    let some : slice_get ways k ≡ Some (get_or ways k start_invariant) = slice_get-get_or ways k start_invariant within in
+    let nothing : None ≡ slice_get ways k = ap (option_map invariant_of) (sym none) ∙ gets in
+    absurd (cc)
+
+contained : (ways : List Invariant) (k : ℕ) (x : Invariant) → slice_get ways k ≡ Some x → Contains (map entry_of ways) (entry_of x)
+contained [] k x is = absurd (cc)
+contained (y ∷ ys) zero x is = let same : y ≡ x = cc in (0, omega arith, ap entry_of same)
+contained (y ∷ ys) (suc k) x is =
+    let rest = contained ys k x is in
+    let within : rest.0 < length (map entry_of ys) = rest.1 in
+    (suc rest.0, omega arith, rest.2)
 
 module _ (m : MapTable) (tracked : List ℕ) where
-  abbrev IsCovered : Work Point AbstractState → Point × Abs → Type 0
-  IsCovered w e = CoversAt (map_analysis m tracked) w.notes e.0 (state_of e.1)
+  abbrev IsCovered : Work Point AbstractState → Invariant → Type 0
+  IsCovered w x = CoversAt (map_analysis m tracked) w.notes x.point x.state
 
   -- the first k ways are covered, and there is no more work than before
-  pub record Settling (old w : Work Point AbstractState) (p : Point) (s : Abs) (ways : List (Point × Abs)) (k : ℕ) : Type 0 where
+  pub record Settling (old w : Work Point AbstractState) (p : Point) (s : Abs) (ways : List Invariant) (k : ℕ) : Type 0 where
     pub holds : Holds (map_analysis m tracked) w (Only (map_analysis m tracked) p (state_of s))
-    pub covered : AllWithin (λ (e : Point × Abs). CoversAt (map_analysis m tracked) w.notes e.0 (state_of e.1)) ways 0 k
+    pub covered : AllWithin (λ (x : Invariant). CoversAt (map_analysis m tracked) w.notes x.point x.state) ways 0 k
     pub falls : effort (map_analysis m tracked) w ≤ effort (map_analysis m tracked) old
 
-  pub settling_none : (w : Work Point AbstractState) (p : Point) (s : Abs) (ways : List (Point × Abs)) →
+  pub settling_none : (w : Work Point AbstractState) (p : Point) (s : Abs) (ways : List Invariant) →
       Holds (map_analysis m tracked) w (Only (map_analysis m tracked) p (state_of s)) → Settling w w p s ways 0
   settling_none w p s ways holds = record { holds = holds; covered = AllWithin-none (IsCovered w) ways 0; falls = omega arith }
 
-  pub way_reached : (p : Point) (s : Abs) (ways : List (Point × Abs)) (k : ℕ) (way : Point × Abs) → IsAnswer m tracked p s ways →
+  pub way_reached : (p : Point) (s : Abs) (ways : List Invariant) (k : ℕ) (way : Point × Abs) → IsAnswer m tracked p s ways →
       IsWay ways k way →
       Reached (map_analysis m tracked) p (state_of s) → Reached (map_analysis m tracked) way.0 (state_of way.1)
   way_reached p s ways k way answer is reached =
-      let count : length (states_of ways) ≡ length ways = length-map ways state_in in
-      let within = is.within in
-      next reached (next_ok m tracked p s ways answer) (k, omega arith, state_at_place ways k way ∙ ap state_in (sym is.is))
+      next reached (next_ok m tracked p s ways answer) (contained ways k (invariant_of way) is)
 
   module _ (laws : AnalysisLaws (map_analysis m tracked)) where
-    pub settling_more : (old w new : Work Point AbstractState) (p : Point) (s : Abs) (ways : List (Point × Abs)) (k : ℕ)
+    pub settling_more : (old w new : Work Point AbstractState) (p : Point) (s : Abs) (ways : List Invariant) (k : ℕ)
         (way : Point × Abs) →
         Settling old w p s ways k → IsWay ways k way → Reached (map_analysis m tracked) way.0 (state_of way.1) →
         Added point_cmp is_state_below joined_state w new way.0 (state_of way.1) → length new.notes ≤ 65536 →
@@ -108,19 +112,19 @@ module _ (m : MapTable) (tracked : List ℕ) where
         record {
           holds = step.holds;
           covered = AllWithin-more (IsCovered new) ways 0 k
-              (λ i d low high. step.grows (slice_index_or ways i d).0 (state_of (slice_index_or ways i d).1) (so.covered i d low high))
-              (λ d. subst (IsCovered new) (get_or_read ways k way is.within is.is d) step.covered);
+              (λ i d low high. step.grows (slice_index_or ways i d).point (slice_index_or ways i d).state (so.covered i d low high))
+              (λ d. subst (IsCovered new) (sym (get_or_from_slice_get ways k (invariant_of way) d is)) step.covered);
           falls = omega arith;
         }
 
-    pub settling_all : (old w : Work Point AbstractState) (p : Point) (s : Abs) (ways : List (Point × Abs)) (k : ℕ) →
+    pub settling_all : (old w : Work Point AbstractState) (p : Point) (s : Abs) (ways : List Invariant) (k : ℕ) →
         Settling old w p s ways k →
         length ways ≤ k → IsAnswer m tracked p s ways → Holds (map_analysis m tracked) w (Nothing (map_analysis m tracked))
     settling_all old w p s ways k so end answer =
         let an = map_analysis m tracked in
         let all : All (IsCovered w) ways =
         All-from_all_within (IsCovered w) ways (AllWithin-upto (IsCovered w) ways 0 k (length ways) end so.covered) in
-        let read : All (λ (e : Point × AbstractState). CoversAt an w.notes e.0 e.1) (states_of ways) =
-        All-map (λ (e : Point × AbstractState). CoversAt an w.notes e.0 e.1) state_in ways all in
-        settled_by_all an laws w p (state_of s) (states_of ways) so.holds (next_ok m tracked p s ways answer)
-        (λ q t way. All-contains (λ (e : Point × AbstractState). CoversAt an w.notes e.0 e.1) (states_of ways) (q, t) read way)
+        let read : All (λ (e : Point × AbstractState). CoversAt an w.notes e.0 e.1) (map entry_of ways) =
+        All-map (λ (e : Point × AbstractState). CoversAt an w.notes e.0 e.1) entry_of ways all in
+        settled_by_all an laws w p (state_of s) (map entry_of ways) so.holds (next_ok m tracked p s ways answer)
+        (λ q t way. All-contains (λ (e : Point × AbstractState). CoversAt an w.notes e.0 e.1) (map entry_of ways) (q, t) read way)

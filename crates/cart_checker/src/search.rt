@@ -52,8 +52,10 @@ impl Worklist {
     {
         match after(&state, &point, split, map) {
             Ok(ways) => {
-                for way in ways.as_slice() {
-                    self.add(&way.0, &way.1)?;
+                for place in 0..ways.len() {
+                    if let Some((point, state)) = ways.get(place) {
+                        self.add(&point, &state)?;
+                    }
                 }
                 Ok(())
             },

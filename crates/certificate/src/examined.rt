@@ -1,5 +1,5 @@
 // What is found of an invariant map, whoever made it.
-ghost use Rattle.std.specs.Prelude.{◌≡◌, ◌↔◌, IfOk};
+ghost use Rattle.std.specs.Prelude.{◌≡◌, ◌↔◌, IfOk, map};
 ghost use Rattle.std.specs.List.{list_all};
 ghost use Rattle.abs_domain.specs.Joins.{is_state_below};
 ghost use Rattle.abs_domain.specs.PointOrder.{point_cmp};
@@ -9,7 +9,7 @@ ghost use Rattle.abs_step.specs.Safety.{is_fault_free as spelled_freedom};
 ghost use Rattle.abs_step.specs.StepView.{invariant_at, invariant_of};
 ghost use Rattle.abs_step.specs.StatesAtPoints.{states_of};
 ghost use Rattle.abs_step.specs.Successors.{HasTrackedBytes, start_point, start_state};
-ghost use Rattle.abs_step.specs.CartridgeAnalysis.{analysis};
+ghost use Rattle.abs_step.specs.CartridgeAnalysis.{analysis, entry_of};
 ghost use Rattle.abs_step.specs.ReachedStates.{IsSafelyClosed, HoldsFaultFreeStates};
 ghost use Rattle.certificate.specs.CertificateLaws.{HaveSplit, AllFit};
 ghost use Rattle.certificate.specs.Examination.{covers as spelled_cover, first_open as spelled_open, failure_at as spelled_failure};
@@ -17,7 +17,7 @@ ghost use Rattle.certificate.specs.Examination.{first_failure as spelled_first, 
 ghost use Rattle.certificate.specs.declared.examined.VerifyAnswer.TheVariants.{Whole, Agreed};
 
 use abs_domain::{Abs, Point, Reason};
-use abs_step::{Annotation, after, analysis_law, map_view_law, start, whole};
+use abs_step::{Annotation, Successors, after, analysis_law, map_view_law, start, whole};
 use cartridge::{Cart, Split};
 use f8_spec::Memory;
 use memory_map::Map;
@@ -61,13 +61,15 @@ fn covers_start(notes: &BTreeMap<Point, Abs>, split: &Split) -> bool
 }
 
 /// The point of the first state that isn't covered.
-fn first_open(notes: &BTreeMap<Point, Abs>, ways: &[(Point, Abs)]) -> Option<Point>
+fn first_open(notes: &BTreeMap<Point, Abs>, ways: &Successors) -> Option<Point>
     ensures { result ≡ spelled_open point_cmp is_state_below (states_of notes.now.entries)
-        (states_of ways.now) }
+        (map entry_of ways.now) }
 {
-    for way in ways {
-        if !covers(notes, &way.0, &way.1) {
-            return Some(way.0);
+    for place in 0..ways.len() {
+        if let Some((point, state)) = ways.get(place) {
+            if !covers(notes, &point, &state) {
+                return Some(point);
+            }
         }
     }
     None
@@ -87,7 +89,7 @@ fn failure_at(
 {
     match after(state, point, split, map) {
         Ok(ways) => {
-            let to = first_open(notes, ways.as_slice())?;
+            let to = first_open(notes, &ways)?;
             Some(VerifyAnswer::NotClosed {
                 from: Some(*point),
                 to,

@@ -10,11 +10,11 @@ pub returns-in_err-to-in-Ok : goal.returns-in_err-to-in-Ok
 returns-in_err-to-in-Ok c =
     c.from_residual.ensures
     ∙ failure_safe (view_of c.args.map.now) c.args.split.now (states_of c.args.notes.now.entries)
-    (invariant_at c.args.point.now c.args.state.now) c.as_slice.result.now _ c.in-Ok.ensures.safe
-    (c.as_slice.ensures ∙ c.in-Ok.ensures.successors) (sym c.first_open.ensures ∙ c.in_err-to-in-Ok.was)
+    (invariant_at c.args.point.now c.args.state.now) c.in-Ok.ways _ c.in-Ok.ensures.safe
+    c.in-Ok.ensures.successors (sym c.first_open.ensures ∙ c.in_err-to-in-Ok.was)
 
 pub returns-in_ok-to-in-Ok : goal.returns-in_ok-to-in-Ok
 returns-in_ok-to-in-Ok c =
     failure_safe (view_of c.args.map.now) c.args.split.now (states_of c.args.notes.now.entries)
-    (invariant_at c.args.point.now c.args.state.now) c.as_slice.result.now _ c.in-Ok.ensures.safe
-    (c.as_slice.ensures ∙ c.in-Ok.ensures.successors) (sym c.first_open.ensures ∙ c.in_ok-to-in-Ok.was)
+    (invariant_at c.args.point.now c.args.state.now) c.in-Ok.ways _ c.in-Ok.ensures.safe
+    c.in-Ok.ensures.successors (sym c.first_open.ensures ∙ c.in_ok-to-in-Ok.was)
