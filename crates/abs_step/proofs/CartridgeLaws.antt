@@ -14,9 +14,8 @@ use Rattle.abs_domain.proofs.PointOrders.{point_laws}
 use Rattle.abs_domain.specs.declared.reason.Reason.{Reason}
 use Rattle.abs_step.specs.MapView.{MapView, IsViewOf}
 use Rattle.abs_step.specs.Successors.{Invariant, successors}
-use Rattle.abs_step.specs.Safety.{unsafe_reason}
-use Rattle.abs_step.specs.Soundness.{op_at, Covers}
-use Rattle.abs_step.specs.StepOrder.{IsOrdered}
+use Rattle.abs_step.specs.Safety.{unsafe_reason, op_at}
+use Rattle.abs_step.specs.StepOrder.{IsOrdered, Covers}
 use Rattle.abs_step.specs.Analysis.{LeadsBelow, AnalysisLaws}
 use Rattle.abs_step.specs.CartridgeAnalysis.{FitsPoint, TellsBytes, entry_of, answer_by, answer_at, analysis}
 use Rattle.abs_step.proofs.Members.{IsIn, contains_of_in, from_all, in_of_contains, all_map, all_mapped}

@@ -27,7 +27,7 @@ use Rattle.abs_step.specs.Successors.{with_invariant, with_invariants, successor
 use Rattle.abs_step.specs.Safety.{writes_of}
 use Rattle.abs_step.specs.Concretization.{Holds, ChipTells, CopyTells, StandsFor}
 use Rattle.abs_step.specs.Vectors.{vector_exit, vectors_let_in, with_interrupts_off}
-use Rattle.abs_step.specs.Soundness.{Covers}
+use Rattle.abs_step.specs.StepOrder.{Covers}
 use Rattle.abs_step.proofs.Members.{IsIn, all_map}
 use Rattle.abs_step.proofs.Vectoring.{in_flat}
 

@@ -22,7 +22,7 @@ use Rattle.abs_step.specs.KnownFlow.{KnownInputs, known_counters}
 use Rattle.abs_step.specs.MapView.{MapView}
 use Rattle.abs_step.specs.Successors.{Invariant, inputs_at, state_after}
 use Rattle.abs_step.specs.Concretization.{whole_registers}
-use Rattle.abs_step.specs.Soundness.{op_at}
+use Rattle.abs_step.specs.Safety.{op_at}
 use Rattle.abs_step.specs.CartridgeAnalysis.{IsWithinRange, FitsPoint, TellsBytes}
 use Rattle.abs_step.proofs.Scratchpads.{register_below}
 use Rattle.abs_step.proofs.Exact.{register_whole, results_tell}

@@ -16,7 +16,7 @@ use Rattle.abs_step.specs.declared.exits.Exit.{Exit}
 use Rattle.abs_step.specs.MapView.{MapView}
 use Rattle.abs_step.specs.Successors.{Invariant, start_point, start_state, state_after, exits_of, inputs_at, along, all_along}
 use Rattle.abs_step.specs.Successors.{same_point, with_invariant, with_invariants, successors}
-use Rattle.abs_step.specs.Soundness.{op_at}
+use Rattle.abs_step.specs.Safety.{op_at}
 use Rattle.abs_step.specs.CartridgeAnalysis.{IsWithinRange, FitsPoint, TellsBytes}
 use Rattle.abs_step.specs.Vectors.{with_interrupts_off}
 use Rattle.abs_step.proofs.Covering.{all_flat, along_holds, same_by, pad_after}

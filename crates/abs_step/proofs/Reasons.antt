@@ -8,9 +8,8 @@ use Rattle.memory_map.specs.MapKinds.{is_held_once}
 use Rattle.abs_domain.specs.declared.reason.Reason.{Reason}
 use Rattle.abs_step.specs.MapView.{MapView}
 use Rattle.abs_step.specs.Successors.{Invariant}
-use Rattle.abs_step.specs.Safety.{first_reason, code_reasons, operand_reasons, later_reasons}
+use Rattle.abs_step.specs.Safety.{first_reason, code_reasons, operand_reasons, later_reasons, op_at}
 use Rattle.abs_step.specs.Safety.{reasons, instruction_reason, reason_behind, unsafe_reason}
-use Rattle.abs_step.specs.Soundness.{op_at}
 use Rattle.abs_step.proofs.Knowing.{is_not}
 use Rattle.abs_step.proofs.SafeRows.{NoneHold}
 

@@ -1,7 +1,7 @@
 -- Runs with free inputs over a closed and safe invariant map: at every position some invariant of the map stands for it.
-use Rattle.std.proofs.Common.{◌≡◌, ℕ, zero, suc, List, [], ◌∷◌, length, map, replicate, refl, ap, sym, ◌∙◌, subst}
+use Rattle.std.proofs.Common.{◌≡◌, ℕ, zero, suc, List, [], ◌∷◌, length, map, replicate, refl, ap, sym, ◌∙◌, subst, inl, inr}
 use Rattle.std.specs.Prelude.{Option, Some, None, slice_get}
-use Rattle.std.specs.List.{AllByRecursion, AllZip}
+use Rattle.std.specs.List.{AllByRecursion, AllZip, Contains}
 use Rattle.f8_spec.specs.Instructions.{decoded, row_of}
 use Rattle.f8_spec.specs.Flags.{clear_status}
 use Rattle.f8_spec.specs.BusArbitration.{Seat}
@@ -14,17 +14,21 @@ use Rattle.console_spec.specs.Run.{Position, seats_of, opcode_at, gets_at, posit
 use Rattle.console_spec.specs.Telling.{with_event, with_events}
 use Rattle.console_spec.specs.declared.Event.{Event}
 use Rattle.console_spec.specs.declared.Event.TheVariants.{Keys, Pulse}
-use Rattle.abs_domain.specs.AbstractState.{StateBelow}
+use Rattle.abs_domain.specs.AbstractState.{AbstractState, StateBelow}
+use Rattle.abs_domain.specs.declared.points.Point.{Point}
 use Rattle.abs_domain.specs.Lattice.{Below}
-use Rattle.abs_domain.proofs.Orders.{status_refl}
+use Rattle.abs_domain.proofs.Orders.{order_laws, status_refl}
+use Rattle.abs_step.proofs.CartridgeLaws.{next_is}
 use Rattle.abs_step.specs.MapView.{MapView, IsViewOf}
 use Rattle.abs_step.specs.Successors.{Invariant, start_invariant, start_state, successors}
 use Rattle.abs_step.specs.Safety.{unsafe_reason}
 use Rattle.abs_step.specs.Concretization.{ChipTells, StandsFor, whole_status}
 use Rattle.console_spec.specs.FreeRuns.{IsFreeStart, HasByte, IsReached}
-use Rattle.abs_step.specs.Soundness.{Covers, LeadsInto, IsSafeMap}
+use Rattle.abs_step.specs.CartridgeAnalysis.{analysis, entry_of}
+use Rattle.abs_step.specs.ReachedStates.{CoversAt, state_at}
+use Rattle.abs_step.specs.Soundness.{IsSafeMap}
 use Rattle.abs_step.specs.SoundSteps.{IsBeside, IsLedTo, SoundStepLaw}
-use Rattle.abs_step.proofs.Members.{IsIn, all_map, contains_of_in, from_all, in_of_contains}
+use Rattle.abs_step.proofs.Members.{IsIn, all_map, contains_of_in, in_of_contains}
 use Rattle.abs_step.proofs.Opcodes.{decoded_in_range}
 use Rattle.abs_step.proofs.Reasons.{safe_state}
 use Rattle.abs_step.proofs.Standing.{opcode_told}
@@ -121,10 +125,10 @@ events_seats (e ∷ es) here = events_seats es (with_event e here) ∙ event_sea
 
 -- ---- a position of a run
 
--- an invariant of the map stands for it, and no reason holds against it
-pub record Stands (m : MapView) (seats : List Seat) (tracked : List ℕ) (notes : List Invariant) (here : Position) : Type 0 where
+-- a state of the map stands for it, and no reason holds against it
+pub record Stands (m : MapView) (seats : List Seat) (tracked : List ℕ) (notes : List (Point × AbstractState)) (here : Position) : Type 0 where
   pub note : Invariant
-  pub is : IsIn note notes
+  pub noted : state_at (analysis m tracked) notes note.point ≡ Some note.state
   pub op : Op
   pub safe : IsSafeHere m tracked note op here
   pub chips : seats_of here.copies ≡ seats
@@ -214,19 +218,43 @@ sound_steps = record {
 
 -- ---- over a closed and safe map
 
-module _ (m : MapView) (seats : List Seat) (tracked : List ℕ) (notes : List Invariant) (map_safe : IsSafeMap m seats tracked notes) where
+in_mapped : {A B : Type 0} → (f : A → B) (x : A) (xs : List A) → IsIn x xs → IsIn (f x) (map f xs)
+in_mapped f x [] is = absurd is
+in_mapped f x (y ∷ ys) (inl here) = inl (ap f here)
+in_mapped f x (y ∷ ys) (inr later) = inr (in_mapped f x ys later)
+
+module _ (m : MapView) (seats : List Seat) (tracked : List ℕ) (notes : List (Point × AbstractState))
+    (map_safe : IsSafeMap m seats tracked notes) where
   -- one that covers what is beside a position
-  stands_by : (x : Invariant) (here : Position) → Covers notes x → IsBeside m x here → seats_of here.copies ≡ seats →
-      Stands m seats tracked notes here
+  stands_by : (x : Invariant) (here : Position) → CoversAt (analysis m tracked) notes x.point x.state → IsBeside m x here →
+      seats_of here.copies ≡ seats → Stands m seats tracked notes here
   stands_by x here covers beside chips =
-      let above = found_cover notes x covers in
-      let safe = safe_here m tracked above.0 here
-      (from_all (λ (y : Invariant). unsafe_reason m tracked y ≡ None) notes above.0 map_safe.safe above.1)
-      (above_beside m x above.0 here above.2 above.3 beside) in
-      record { note = above.0; is = above.1; op = safe.0; safe = safe.1; chips = chips }
+      let above : Invariant = record { point = x.point; state = covers.upper } in
+      let ways = map_safe.safe x.point covers.upper covers.noted in
+      let none = (next_is m tracked above ways.0 ways.1).safe in
+      let safe = safe_here m tracked above here none
+      (above_beside m x above here refl ((order_laws.test x.state covers.upper).0 covers.below) beside) in
+      record { note = above; noted = covers.noted; op = safe.0; safe = safe.1; chips = chips }
 
   pub at_start : (here : Position) → IsFreeStart m.byte seats here → Stands m seats tracked notes here
   at_start here h = stands_by start_invariant here map_safe.closed.start (start_beside m seats here map_safe.view h) h.chips
+
+  -- what holds next is covered
+  next_covered : (here : Position) (s : Stands m seats tracked notes here) (to : Invariant) →
+      Contains (successors s.op m tracked s.note) to → CoversAt (analysis m tracked) notes to.point to.state
+  next_covered here s to among =
+      let ways = map_safe.safe s.note.point s.note.state s.noted in
+      let next = next_is m tracked s.note ways.0 ways.1 in
+      let same : next.op ≡ s.op = one_op next.is s.safe.state.is in
+      let all : map entry_of (successors s.op m tracked s.note) ≡ ways.0 =
+      subst (λ (o : Op). map entry_of (successors o m tracked s.note) ≡ ways.0) same next.same in
+      let entry = contains_of_in (map entry_of (successors s.op m tracked s.note)) (entry_of to)
+      (in_mapped entry_of to (successors s.op m tracked s.note) (in_of_contains (successors s.op m tracked s.note) to among)) in
+      map_safe.closed.next s.note.point s.note.state ways.0 s.noted ways.1 to.point to.state
+      (subst (λ (es : List (Point × AbstractState)). Contains es (entry_of to)) all entry)
+    where
+      one_op : {x : Option Op} {op other : Op} → x ≡ Some op → x ≡ Some other → op ≡ other
+      one_op p q = cc
 
   -- some invariant stands for the position after an instruction and the events behind it
   pub next_stands : (here : Position) → (s : Stands m seats tracked notes here) → (es : List Event) → AllByRecursion HasByte es →
@@ -234,11 +262,7 @@ module _ (m : MapView) (seats : List Seat) (tracked : List ℕ) (notes : List In
   next_stands here s es small =
       let there = position_after s.op here in
       let led = led_to m tracked s.note s.op here s.safe in
-      let leads = from_all (LeadsInto m tracked notes) notes s.note map_safe.closed.each s.is in
-      let next = successors s.op m tracked s.note in
-      stands_by led.to (with_events es there)
-      (from_all (Covers notes) next led.to (leads s.op s.safe.state.is) (in_of_contains next led.to led.is))
-      (events_beside m led.to es there small led.beside)
+      stands_by led.to (with_events es there) (next_covered here s led.to led.is) (events_beside m led.to es there small led.beside)
       (events_seats es there ∙ seats_after (row_of s.op) (gets_at s.op here) here.copies ∙ s.chips)
 
   pub after_stands : (here : Position) → (s : Stands m seats tracked notes here) → Stands m seats tracked notes (position_after s.op here)

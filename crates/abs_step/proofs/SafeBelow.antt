@@ -22,10 +22,9 @@ use Rattle.abs_domain.specs.declared.reason.Reason.{Reason}
 use Rattle.abs_step.specs.Known.{is_known_false}
 use Rattle.abs_step.specs.MapView.{MapView, IsViewOf, is_shared, holds_every_address}
 use Rattle.abs_step.specs.Successors.{Invariant, inputs_at, state_after}
-use Rattle.abs_step.specs.Safety.{first_reason, code_reasons, reasons, unsafe_reason, jump_is_lost, return_is_lost}
+use Rattle.abs_step.specs.Safety.{first_reason, code_reasons, reasons, unsafe_reason, jump_is_lost, return_is_lost, op_at}
 use Rattle.abs_step.specs.Safety.{reads_at_data, goes_by_data, may_be_held_by_psu, may_part, may_be_shared, vector_is_lost, writes_of}
 use Rattle.abs_step.specs.Safety.{is_answered, is_op_fault_free, is_fault_free}
-use Rattle.abs_step.specs.Soundness.{op_at}
 use Rattle.abs_step.proofs.Knowing.{all_and_any, below_word}
 use Rattle.abs_step.proofs.Members.{SomeOf}
 use Rattle.abs_step.proofs.Scratchpads.{WriteBelow, register_below}

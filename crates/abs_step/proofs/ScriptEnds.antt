@@ -17,8 +17,9 @@ use Rattle.console_spec.specs.Telling.{events_fallen, events_behind, moment_of, 
 use Rattle.console_spec.specs.Telling.{on_rack, begun, telling_behind, played_by}
 use Rattle.console_spec.specs.declared.At.{At}
 use Rattle.console_spec.specs.declared.Event.{Event}
+use Rattle.abs_domain.specs.AbstractState.{AbstractState}
+use Rattle.abs_domain.specs.declared.points.Point.{Point}
 use Rattle.abs_step.specs.MapView.{MapView}
-use Rattle.abs_step.specs.Successors.{Invariant}
 use Rattle.console_spec.specs.FreeRuns.{HasByte, IsReached}
 use Rattle.abs_step.specs.Soundness.{IsSafeMap, OnlyUndriven, GoesOn}
 use Rattle.abs_step.specs.ScriptRuns.{IsScriptFor, EndsBy, ScriptRunLaw}
@@ -79,7 +80,7 @@ module _ (bytes : ℕ → Option ℕ) (seats : List Seat) (claim : Position → 
 
 -- ---- whole runs
 
-module _ (m : MapView) (tracked : List ℕ) (notes : List Invariant) (vs : List ChipView) (chain : List ℕ) (powers : List PowerOn)
+module _ (m : MapView) (tracked : List ℕ) (notes : List (Point × AbstractState)) (vs : List ChipView) (chain : List ℕ) (powers : List PowerOn)
     (traced : Bool) (script : Script) (safe : IsSafeMap m (map seat_of vs) tracked notes) (are : ArePowers powers)
     (for : IsScriptFor m.byte vs script) where
   reset_goes : reset_fault (begun vs chain powers script) ≡ None

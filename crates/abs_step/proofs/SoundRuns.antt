@@ -10,12 +10,15 @@ use Rattle.console_spec.specs.BusAccesses.{at_data}
 use Rattle.console_spec.specs.Services.{Fault, access_fault, or_later}
 use Rattle.console_spec.specs.Run.{Position, seats_of, gets_at, position_after, reset_fault, reset_access}
 use Rattle.memory_map.specs.MapKinds.{is_held_once}
+use Rattle.abs_domain.specs.AbstractState.{AbstractState}
+use Rattle.abs_domain.specs.declared.points.Point.{Point}
 use Rattle.abs_step.specs.MapView.{MapView, HoldsByCounters}
-use Rattle.abs_step.specs.Successors.{Invariant}
-use Rattle.abs_step.specs.Safety.{is_fault_free, reads_at_data}
+use Rattle.abs_step.specs.CartridgeAnalysis.{analysis}
+use Rattle.abs_step.specs.ReachedStates.{HoldsFaultFreeStates}
+use Rattle.abs_step.specs.Safety.{reads_at_data}
 use Rattle.console_spec.specs.FreeRuns.{IsFreeStart, IsReached}
-use Rattle.abs_step.specs.Soundness.{IsSafeMap, IsFaultFree, IsDataRead, OnlyUndriven, GoesOn, SoundnessLaw}
-use Rattle.abs_step.proofs.Members.{from_all, all_map, all_unmapped}
+use Rattle.abs_step.specs.Soundness.{IsSafeMap, IsDataRead, OnlyUndriven, GoesOn, SoundnessLaw}
+use Rattle.abs_step.proofs.Members.{all_map, all_unmapped}
 use Rattle.abs_step.proofs.Services.{IsAt, all_at_served, DataOutcome, NoFault, NoAnswer}
 use Rattle.abs_step.proofs.SafeRows.{Lasts, fine}
 use Rattle.abs_step.proofs.Standing.{opcode_told}
@@ -47,7 +50,8 @@ undriven_of romc d0 f is (NoAnswer undriven) = rw undriven (is, refl)
 
 -- ---- a position of a run
 
-module _ (m : MapView) (seats : List Seat) (tracked : List ℕ) (notes : List Invariant) (map_safe : IsSafeMap m seats tracked notes) where
+module _ (m : MapView) (seats : List Seat) (tracked : List ℕ) (notes : List (Point × AbstractState))
+    (map_safe : IsSafeMap m seats tracked notes) where
   -- one chip holds the address at which an invariant of the map stands
   held_there : (here : Position) → (s : Stands m seats tracked notes here) →
       is_held_once (sort_of (seats_of here.copies) here.flat.state.flow.p) ≡ true
@@ -94,11 +98,11 @@ module _ (m : MapView) (seats : List Seat) (tracked : List ℕ) (notes : List In
       goes_on (OnlyUndriven here.flat.state.flow.d0) (undriven_lasts here.flat.state.flow.d0) here s
       (λ reads romc is. undriven_of romc _ _ is (read_outcome_here m tracked s.note s.op here s.safe reads romc is))
 
-  all_served : IsFaultFree m notes → (n : ℕ) (here : Position) → IsReached m.byte seats n here → GoesOn (λ fault. fault ≡ None) here
+  all_served : HoldsFaultFreeStates (analysis m tracked) notes → (n : ℕ) (here : Position) → IsReached m.byte seats n here → GoesOn (λ fault. fault ≡ None) here
   all_served free n here h =
       let s = reached_stands m seats tracked notes map_safe n here h in
       goes_on (λ fault. fault ≡ None) none_lasts here s
-      (read_served_here m tracked s.note s.op here s.safe (from_all (λ (x : Invariant). is_fault_free m x ≡ true) notes s.note free s.is))
+      (read_served_here m tracked s.note s.op here s.safe (free s.note.point s.note.state s.noted))
 
 pub soundness : SoundnessLaw
 soundness = record {

@@ -13,7 +13,7 @@ use Rattle.abs_step.specs.MapView.{MapView}
 use Rattle.abs_step.specs.Successors.{Invariant, inputs_at}
 use Rattle.abs_step.specs.Concretization.{whole_registers}
 use Rattle.abs_step.specs.SoundSteps.{IsBeside}
-use Rattle.abs_step.specs.Soundness.{op_at}
+use Rattle.abs_step.specs.Safety.{op_at}
 use Rattle.abs_step.proofs.Scratchpads.{register_below}
 use Rattle.abs_step.proofs.Exact.{register_whole}
 use Rattle.abs_step.proofs.InputLaws.{whole_inputs, InputsBelow, taken_tells, pair_of_below}

@@ -19,12 +19,11 @@ use Rattle.abs_domain.proofs.PointOrders.{point_laws}
 use Rattle.abs_step.specs.declared.exits.Exit.{Exit}
 use Rattle.abs_step.specs.MapView.{MapView, IsViewOf}
 use Rattle.abs_step.specs.Known.{is_known_false}
-use Rattle.abs_step.specs.Safety.{writes_of}
+use Rattle.abs_step.specs.Safety.{writes_of, op_at}
 use Rattle.abs_step.specs.Vectors.{vector_address, vector_exit, vectors_let_in, with_interrupts_off}
 use Rattle.abs_step.specs.Successors.{Invariant, tracked_bytes, inputs_at, state_after, exits_of, at_exit, at_vector, along, all_along}
 use Rattle.abs_step.specs.Successors.{same_point, with_invariant, with_invariants, successors}
-use Rattle.abs_step.specs.Soundness.{Covers, op_at}
-use Rattle.abs_step.specs.StepOrder.{IsOrdered, StepOrderLaw}
+use Rattle.abs_step.specs.StepOrder.{IsOrdered, StepOrderLaw, Covers}
 use Rattle.abs_step.proofs.Members.{IsIn, all_map}
 use Rattle.abs_step.proofs.ExitLaws.{HasMatch, Matched, ExitBelow, exits_below}
 use Rattle.abs_step.proofs.Reasons.{IsSafeState, safe_state}

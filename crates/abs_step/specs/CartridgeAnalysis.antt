@@ -1,7 +1,5 @@
 -- The analysis of a cartridge: abstract states at points, over what is known of the chips; and that it meets the laws of an analysis.
 use Rattle.std.specs.Prelude.{◌≡◌, ℕ, ◌<◌, List, [], map, Option, Some, None, Result, Ok, Err}
-use Rattle.std.specs.List.Sorted.{IsStrictlySortedBy}
-use Rattle.std.specs.Map.{keys_of}
 use Rattle.std.specs.Option.{ForSome}
 use Rattle.f8_spec.specs.BusArbitration.{Seat}
 use Rattle.f8_spec.specs.declared.instructions.Op.{Op}
@@ -15,10 +13,8 @@ use Rattle.abs_domain.specs.declared.reason.Reason.{Reason}
 use Rattle.abs_step.specs.RegisterWrites.{known_register}
 use Rattle.abs_step.specs.MapView.{MapView, IsViewOf, view_of}
 use Rattle.abs_step.specs.Successors.{Invariant, HasTrackedBytes, start_point, start_state, successors}
-use Rattle.abs_step.specs.Safety.{unsafe_reason, is_fault_free}
-use Rattle.abs_step.specs.Soundness.{op_at, IsSafeMap, IsFaultFree}
+use Rattle.abs_step.specs.Safety.{op_at, unsafe_reason, is_fault_free}
 use Rattle.abs_step.specs.Analysis.{Analysis, AnalysisLaws}
-use Rattle.abs_step.specs.ReachedStates.{IsClosedMap, HoldsSafeStates, HoldsFaultFreeStates}
 
 -- ---- states that fit a point
 
@@ -81,10 +77,3 @@ pub record AnalysisLaw : Type 0 where
   pub laws : (m : MapView) (seats : List Seat) (tracked : List ℕ) → IsViewOf m seats → TellsBytes m → AnalysisLaws (analysis m tracked)
   -- a map of bytes tells bytes
   pub bytes : (m : MapTable) → AreBytes m.bytes → TellsBytes (view_of m)
-  -- a map that is closed and safe in the analysis is one of which soundness speaks
-  pub sound : (m : MapView) (seats : List Seat) (tracked : List ℕ) (notes : List (Point × AbstractState)) → IsViewOf m seats →
-      IsStrictlySortedBy point_cmp (keys_of notes) → IsClosedMap (analysis m tracked) notes → HoldsSafeStates (analysis m tracked) notes →
-      IsSafeMap m seats tracked (map as_invariant notes)
-  pub fault_free : (m : MapView) (tracked : List ℕ) (notes : List (Point × AbstractState)) →
-      IsStrictlySortedBy point_cmp (keys_of notes) → HoldsFaultFreeStates (analysis m tracked) notes →
-      IsFaultFree m (map as_invariant notes)

@@ -7,14 +7,14 @@ pub mod Vectors
 pub mod Successors
 pub mod Safety
 pub mod Concretization
-pub mod Soundness
 pub mod StepOrder
 pub mod FitLaws
 pub mod SoundSteps
-pub mod ScriptRuns
 pub mod Analysis
 pub mod ReachedStates
 pub mod CartridgeAnalysis
+pub mod Soundness
+pub mod ScriptRuns
 pub mod EarlierSteps
 pub mod RackSeats
 pub mod StepView

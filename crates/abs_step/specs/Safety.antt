@@ -127,6 +127,10 @@ writes_of op m x = let i = inputs_at op m x in register_writes op i.stack_bytes 
 
 -- ---- the reasons against an instruction, in their order
 
+-- the instruction at a point, where there is one
+abbrev pub op_at : MapView → Invariant → Option Op
+op_at m x = option_and_then decoded (m.byte x.point.at)
+
 abbrev pub later_reasons : Op → MapView → List ℕ → Invariant → List (Bool × Reason)
 later_reasons op m tracked x =
     (jump_is_lost (row_of op) x.state.registers, UnknownJump)
@@ -149,7 +153,7 @@ instruction_reason None m tracked x = Some ReservedOpcode
 instruction_reason (Some op) m tracked x = first_reason (reasons op m tracked x)
 
 abbrev pub reason_behind : Option Reason → MapView → List ℕ → Invariant → Option Reason
-reason_behind None m tracked x = instruction_reason (option_and_then decoded (m.byte x.point.at)) m tracked x
+reason_behind None m tracked x = instruction_reason (op_at m x) m tracked x
 reason_behind (Some reason) m tracked x = Some reason
 
 -- The first reason against a state at its point. It is safe where there is none.
@@ -172,4 +176,4 @@ is_op_fault_free (Some op) m k = is_row_fault_free (row_of op) m k
 
 -- A safe state is free of faults where each read at D0 is answered. Without an instruction there is no read.
 unfoldable pub is_fault_free : MapView → Invariant → Bool
-is_fault_free m x = is_op_fault_free (option_and_then decoded (m.byte x.point.at)) m x.state.counters
+is_fault_free m x = is_op_fault_free (op_at m x) m x.state.counters

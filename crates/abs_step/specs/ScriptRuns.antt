@@ -11,10 +11,13 @@ use Rattle.console_spec.specs.Run.{Position, Ending, Done, Unserved}
 use Rattle.console_spec.specs.Scripts.{Script}
 use Rattle.console_spec.specs.Telling.{played_by}
 use Rattle.console_spec.specs.declared.At.{At}
+use Rattle.abs_domain.specs.AbstractState.{AbstractState}
+use Rattle.abs_domain.specs.declared.points.Point.{Point}
+use Rattle.abs_step.specs.CartridgeAnalysis.{analysis}
 use Rattle.abs_step.specs.MapView.{MapView}
-use Rattle.abs_step.specs.Successors.{Invariant}
+use Rattle.abs_step.specs.ReachedStates.{HoldsFaultFreeStates}
 use Rattle.console_spec.specs.FreeRuns.{HasByte}
-use Rattle.abs_step.specs.Soundness.{IsSafeMap, IsFaultFree, OnlyUndriven}
+use Rattle.abs_step.specs.Soundness.{IsSafeMap, OnlyUndriven}
 
 -- a script for some chips: what is told by address stays there in them, and all bytes are bytes
 pub record IsScriptFor (bytes : ℕ → Option ℕ) (vs : List ChipView) (script : Script) : Type 0 where
@@ -29,10 +32,10 @@ EndsBy claim e = (e.stop ≡ Done) ⊎ ((fault : Fault) × (e.stop ≡ Unserved 
 
 pub record ScriptRunLaw : Type 0 where
   -- where the map is safe, nothing stops a run but a read at D0 that no chip answers
-  pub sound : (m : MapView) (tracked : List ℕ) (notes : List Invariant) (vs : List ChipView) (chain : List ℕ) (powers : List PowerOn)
+  pub sound : (m : MapView) (tracked : List ℕ) (notes : List (Point × AbstractState)) (vs : List ChipView) (chain : List ℕ) (powers : List PowerOn)
       (traced : Bool) (script : Script) → IsSafeMap m (map seat_of vs) tracked notes → ArePowers powers → IsScriptFor m.byte vs script →
       EndsBy (λ here fault. OnlyUndriven here.flat.state.flow.d0 fault) (played_by vs chain powers traced script).ending
   -- where it is free of faults too, nothing does
-  pub fault_free : (m : MapView) (tracked : List ℕ) (notes : List Invariant) (vs : List ChipView) (chain : List ℕ) (powers : List PowerOn)
-      (traced : Bool) (script : Script) → IsSafeMap m (map seat_of vs) tracked notes → IsFaultFree m notes → ArePowers powers →
+  pub fault_free : (m : MapView) (tracked : List ℕ) (notes : List (Point × AbstractState)) (vs : List ChipView) (chain : List ℕ) (powers : List PowerOn)
+      (traced : Bool) (script : Script) → IsSafeMap m (map seat_of vs) tracked notes → HoldsFaultFreeStates (analysis m tracked) notes → ArePowers powers →
       IsScriptFor m.byte vs script → (played_by vs chain powers traced script).ending.stop ≡ Done

@@ -1,5 +1,5 @@
 -- A step keeps the order of states: from a state that says more, no less is safe, and what holds next says no less.
-use Rattle.std.specs.Prelude.{◌≡◌, ℕ, ◌<◌, true, List, Some, None}
+use Rattle.std.specs.Prelude.{◌≡◌, ℕ, ◌<◌, ◌⊎◌, true, List, [], ◌∷◌, Some, None}
 use Rattle.std.specs.List.{AllByRecursion}
 use Rattle.std.specs.Option.{ForSome}
 use Rattle.f8_spec.specs.BusArbitration.{Seat}
@@ -7,9 +7,13 @@ use Rattle.f8_spec.specs.declared.instructions.Op.{Op}
 use Rattle.abs_domain.specs.AbstractState.{AbstractState, HasScratchpad, StateBelow}
 use Rattle.abs_domain.specs.declared.points.Point.{Point}
 use Rattle.abs_step.specs.MapView.{MapView, IsViewOf}
-use Rattle.abs_step.specs.Successors.{HasTrackedBytes, successors}
-use Rattle.abs_step.specs.Safety.{unsafe_reason, is_fault_free}
-use Rattle.abs_step.specs.Soundness.{op_at, Covers}
+use Rattle.abs_step.specs.Successors.{HasTrackedBytes, Invariant, successors}
+use Rattle.abs_step.specs.Safety.{op_at, unsafe_reason, is_fault_free}
+
+-- some invariant of the list is at the point, and says no more
+abbrev pub Covers : List Invariant → Invariant → Type 0
+Covers [] x = ⊥
+Covers (y ∷ ys) x = ((y.point ≡ x.point) × StateBelow x.state y.state) ⊎ Covers ys x
 
 -- Two states at one point, of which the lower says more: both know as much of the tracked registers as the point does, the scratchpad is
 -- whole, and what is known of D0 is an address.

@@ -13,10 +13,9 @@ use Rattle.abs_domain.specs.declared.reason.Reason.TheVariants.{TrackedRegisterB
 use Rattle.abs_domain.specs.declared.state.Abs.{Abs}
 use Rattle.abs_step.specs.MapView.{MapView}
 use Rattle.abs_step.specs.Successors.{Invariant, along, with_invariants, successors}
-use Rattle.abs_step.specs.Soundness.{op_at}
 use Rattle.abs_step.specs.RegisterWrites.{RegisterWrite}
 use Rattle.abs_step.specs.declared.exits.Exit.{Exit}
-use Rattle.abs_step.specs.Safety.{jump_is_lost, return_is_lost, return_is_unset, may_part, return_is_unheld, port_is_bad}
+use Rattle.abs_step.specs.Safety.{jump_is_lost, return_is_lost, return_is_unset, may_part, return_is_unheld, port_is_bad, op_at}
 use Rattle.abs_step.specs.Safety.{goes_by_data, may_be_shared, vector_is_lost, any_blurred}
 
 abbrev pub invariant_at : Point → Abs → Invariant

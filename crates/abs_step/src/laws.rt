@@ -73,8 +73,7 @@ pub fn fit_law()
 
 /// The analysis of a cartridge meets all that a search of it stands on: points are in a total order; states are in order, with a least upper
 /// bound of two at a point, and no state rises more than 79 times; a step keeps their order; and states that fit their points lead to such.
-/// An invariant map that is closed, safe and free of faults in it is one of which `soundness_law` speaks (this project's own). This call
-/// does nothing; its contract is the law.
+/// And the bytes that a map of bytes tells are bytes (this project's own). This call does nothing; its contract is the law.
 #[tactic(auto, using(crate::proofs::CartridgeMaps::analysis_law))]
 pub fn analysis_law()
     ensures { AnalysisLaw }

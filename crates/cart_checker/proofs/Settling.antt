@@ -16,8 +16,7 @@ use Rattle.abs_domain.specs.declared.state.Abs.{Abs}
 use Rattle.abs_domain.specs.declared.reason.Reason.{Reason}
 use Rattle.abs_step.specs.MapView.{MapView, view_of}
 use Rattle.abs_step.specs.Successors.{Invariant, start_invariant}
-use Rattle.abs_step.specs.Safety.{unsafe_reason}
-use Rattle.abs_step.specs.Soundness.{op_at}
+use Rattle.abs_step.specs.Safety.{unsafe_reason, op_at}
 use Rattle.abs_step.specs.StepView.{invariant_at, invariant_of, next_by, next_at}
 use Rattle.abs_step.specs.Analysis.{AnalysisLaws}
 use Rattle.abs_step.specs.CartridgeAnalysis.{entry_of, answer_by, answer_at}

@@ -16,8 +16,7 @@ use Rattle.abs_domain.specs.declared.state.Abs.{Abs}
 use Rattle.abs_domain.specs.declared.reason.Reason.{Reason}
 use Rattle.abs_step.specs.MapView.{MapView}
 use Rattle.abs_step.specs.Successors.{Invariant}
-use Rattle.abs_step.specs.Safety.{unsafe_reason, is_fault_free}
-use Rattle.abs_step.specs.Soundness.{op_at}
+use Rattle.abs_step.specs.Safety.{unsafe_reason, is_fault_free, op_at}
 use Rattle.abs_step.specs.StepView.{invariant_of, next_by, next_at}
 use Rattle.abs_step.specs.StatesAtPoints.{states_of}
 use Rattle.abs_step.specs.CartridgeAnalysis.{entry_of, as_invariant, answer_by, answer_at, analysis}

@@ -1,5 +1,5 @@
 -- No run of a script stops on a rack in which chips sit whose verdict is whole.
-use Rattle.std.proofs.Common.{◌≡◌, ℕ, ◌<◌, Bool, List, [], ◌∷◌, map, refl, ap, sym, subst, ◌∙◌}
+use Rattle.std.proofs.Common.{◌≡◌, ℕ, ◌<◌, Bool, List, [], ◌∷◌, map, refl, ap, sym, ◌∙◌}
 use Rattle.std.specs.Prelude.{Option, None, filter_map}
 use Rattle.std.specs.List.{AllByRecursion}
 use Rattle.std.proofs.lemmas.Bool.{lt-ltb}
@@ -15,11 +15,11 @@ use Rattle.console_spec.specs.Telling.{played_by}
 use Rattle.console_spec.specs.declared.Sort.{Sort}
 use Rattle.chip_face.specs.Fitting.{fitted}
 use Rattle.chip_face.specs.declared.specification.ChipSpec.{ChipSpec}
-use Rattle.memory_map.specs.MapOf.{MapTable, IsMapOf, IsWholeMap, views_of, seats_of}
+use Rattle.memory_map.specs.MapOf.{views_of, seats_of}
 use Rattle.rack_run.specs.Seating.{kinds_of, seat_at, no_sockets, counted, seated_from, fitted_as, fitted_views}
 use Rattle.rack_run.specs.Sockets.{shortage_of}
-use Rattle.abs_step.specs.CartridgeAnalysis.{TellsBytes, analysis, as_invariant, AnalysisLaw}
-use Rattle.abs_step.specs.MapView.{MapView, IsViewOf, chips_view, MapViewLaw}
+use Rattle.abs_step.specs.CartridgeAnalysis.{analysis}
+use Rattle.abs_step.specs.MapView.{IsViewOf, chips_view, MapViewLaw}
 use Rattle.abs_step.specs.RackSeats.{SeatedViewLaw}
 use Rattle.abs_step.specs.ReachedStates.{SomeIsSafe, SomeIsFaultFree}
 use Rattle.abs_step.specs.ScriptRuns.{IsScriptFor, EndsBy, ScriptRunLaw}
@@ -42,11 +42,6 @@ unpatched (s ∷ states) chips before none =
 pub no_patches : (chips : List ChipSpec) (states : List ChipState) → AllByRecursion (λ (s : ChipState). s.patch ≡ None) states →
     HasNoPatches chips states
 no_patches chips states none = unpatched states chips no_sockets none
-
--- a map of the chips that was made shows that their bytes are bytes
-pub bytes_told : MapViewLaw → AnalysisLaw → (m : MapTable) (chips : List ChipSpec) → IsMapOf m chips → IsWholeMap m → TellsBytes (chips_view chips)
-bytes_told maps analyses m chips of whole =
-    subst (λ (v : MapView). TellsBytes v) (maps.told m chips of whole) (analyses.bytes m whole.are_bytes)
 
 -- ---- the bytes that stay
 
@@ -79,7 +74,7 @@ module _ (maps : MapViewLaw) (seats : SeatedViewLaw) (chips : List ChipSpec) (st
 
 -- ---- the law
 
-module _ (runs : ScriptRunLaw) (analyses : AnalysisLaw) (maps : MapViewLaw) (seats : SeatedViewLaw) where
+module _ (runs : ScriptRunLaw) (maps : MapViewLaw) (seats : SeatedViewLaw) where
   script_for : (chips : List ChipSpec) (states : List ChipState) (script : Script) → IsAsDescribed chips states script →
       IsScriptFor (chips_view chips).byte (fitted_views chips states) script
   script_for chips states script h = record {
@@ -92,25 +87,22 @@ module _ (runs : ScriptRunLaw) (analyses : AnalysisLaw) (maps : MapViewLaw) (sea
 
   safe_map : (chips : List ChipSpec) (tracked : List ℕ) (states : List ChipState) (script : Script) → IsAsDescribed chips states script →
       (some : SomeIsSafe (analysis (chips_view chips) tracked)) →
-      IsSafeMap (chips_view chips) (map seat_of (fitted_views chips states)) tracked (map as_invariant some.0)
+      IsSafeMap (chips_view chips) (map seat_of (fitted_views chips states)) tracked some.0
   safe_map chips tracked states script h some =
-      analyses.sound (chips_view chips) (map seat_of (fitted_views chips states)) tracked some.0 (view_is maps seats chips states h.enough)
-      some.1.is_map.ascends some.1.closed some.1.safe
+      record { view = view_is maps seats chips states h.enough; closed = some.1.closed; safe = some.1.safe }
 
   is_done : (chips : List ChipSpec) (tracked : List ℕ) (states : List ChipState) (chain : List ℕ) (powers : List PowerOn)
       (traced : Bool) (script : Script) → IsAsDescribed chips states script → ArePowers powers → SomeIsFaultFree (analysis (chips_view chips) tracked) →
       (played_by (fitted_views chips states) chain powers traced script).ending.stop ≡ Done
   is_done chips tracked states chain powers traced script h are some =
-      runs.fault_free (chips_view chips) tracked (map as_invariant some.0) (fitted_views chips states) chain powers traced script
-      (safe_map chips tracked states script h (some.0, some.1))
-      (analyses.fault_free (chips_view chips) tracked some.0 some.1.is_map.ascends some.2)
-      are (script_for chips states script h)
+      runs.fault_free (chips_view chips) tracked some.0 (fitted_views chips states) chain powers traced script
+      (safe_map chips tracked states script h (some.0, some.1)) some.2 are (script_for chips states script h)
 
   ends_undriven : (chips : List ChipSpec) (tracked : List ℕ) (states : List ChipState) (chain : List ℕ) (powers : List PowerOn)
       (traced : Bool) (script : Script) → IsAsDescribed chips states script → ArePowers powers → SomeIsSafe (analysis (chips_view chips) tracked) →
       EndsBy (λ here fault. OnlyUndriven here.flat.state.flow.d0 fault) (played_by (fitted_views chips states) chain powers traced script).ending
   ends_undriven chips tracked states chain powers traced script h are some =
-      runs.sound (chips_view chips) tracked (map as_invariant some.0) (fitted_views chips states) chain powers traced script
+      runs.sound (chips_view chips) tracked some.0 (fitted_views chips states) chain powers traced script
       (safe_map chips tracked states script h some) are (script_for chips states script h)
 
   pub safe_runs : SafeRunLaw

@@ -13,7 +13,7 @@ ghost use Rattle.pad_script.specs.Reading.{seen};
 
 use super::status::Status;
 use super::top::console;
-use abs_step::{analysis_law, map_view_law, script_run_law, seated_view_law};
+use abs_step::{map_view_law, script_run_law, seated_view_law};
 use certificate::closed_map_law;
 use chip_face::Chip;
 use f8_machine::Rack;
@@ -28,7 +28,6 @@ pub fn safe_run_law()
     ensures { SafeRunLaw }
 {
     script_run_law();
-    analysis_law();
     map_view_law();
     seated_view_law();
 }

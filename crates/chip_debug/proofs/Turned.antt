@@ -88,11 +88,15 @@ abbrev pub session_with : MachineState → Option Halt → SessionState → Sess
 session_with after halt s =
     record { machine = after; halt = halt; count = count_with halt s.count; breaks = s.breaks }
 
+-- a session that goes on represents the position of its scene
+pub represents_at : (s : SessionState) (states : List ChipState) (scene : Scene) → IsAt s states scene → scene.stop ≡ None →
+    Represents s.machine states scene.position
+represents_at s states scene at running =
+    let runs : RunsAt s.machine states scene.position = rw running at at.machine in
+    runs.represents
+
 module _ (s : SessionState) (after : MachineState) (olds news : List ChipState) (scene : Scene) (at : IsAt s olds scene)
     (running : scene.stop ≡ None) where
-  pub represents : Represents s.machine olds scene.position
-  represents = let runs : RunsAt s.machine olds scene.position = rw running at at.machine in runs.represents
-
   turned_by : (outcome : Outcome) → Refines outcome s.machine after news scene.position →
       Shows after news (hearing (next_steps scene) scene) →
       IsAt (session_with after (halt_in outcome) s) news (turned scene)
@@ -105,14 +109,14 @@ module _ (s : SessionState) (after : MachineState) (olds news : List ChipState) 
       faulted.turns heard
       (reads_kept s.machine after (ap (λ (n : MachineState). n.flow) faulted.kept)
       (ap (λ (n : MachineState). n.cpu) faulted.kept) (ap (λ (n : MachineState). n.phi) faulted.kept)
-      ∙ machine_reads s.machine olds scene.position represents)
+      ∙ machine_reads s.machine olds scene.position (represents_at s olds scene at running))
       at.count at.breaks
   turned_by (Reserved address code) halted heard =
       stops_at after news (hearing (next_steps scene) scene) (next scene.position) (ReservedHalt address code) s.count
       s.breaks halted.turns heard
       (reads_kept s.machine after (ap (λ (n : MachineState). n.flow) halted.kept)
       (ap (λ (n : MachineState). n.cpu) halted.kept) (ap (λ (n : MachineState). n.phi) halted.kept)
-      ∙ machine_reads s.machine olds scene.position represents)
+      ∙ machine_reads s.machine olds scene.position (represents_at s olds scene at running))
       at.count at.breaks
 
   pub turned_at : (outcome : Outcome) → Refines outcome s.machine after news scene.position →
@@ -180,9 +184,9 @@ pub met_at : (s : SessionState) (states : List ChipState) (scene : Scene) (steps
 met_at s states scene steps at running =
     let met : Breaks → ℕ → ProbeState → List ℕ → List ChipView → Bool =
     λ breaks p probe chain vs. are_met breaks steps p (probe_counters probe) chain vs in
-    let here : RunsAt s.machine states scene.position = rw running at at.machine in
+    let here = represents_at s states scene at running in
     ap (λ (b : Breaks). met b s.machine.flow.p s.machine.probe s.machine.chain (views states)) at.breaks
-    ∙ ap (λ (c : Flow). met scene.breaks c.p s.machine.probe s.machine.chain (views states)) here.represents.stands.flow
+    ∙ ap (λ (c : Flow). met scene.breaks c.p s.machine.probe s.machine.chain (views states)) here.stands.flow
     ∙ ap (λ (p : ProbeState). met scene.breaks scene.position.flat.state.flow.p p s.machine.chain (views states)) at.probe
     ∙ ap (λ (l : List ℕ). met scene.breaks scene.position.flat.state.flow.p scene.probe l (views states)) at.chain
     ∙ ap (λ (vs : List ChipView). met scene.breaks scene.position.flat.state.flow.p scene.probe scene.position.chain vs) at.chips

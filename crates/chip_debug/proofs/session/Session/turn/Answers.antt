@@ -9,7 +9,7 @@ use Rattle.chip_debug.proofs.Halts.{runs_at}
 use Rattle.chip_debug.specs.Standing.{SessionState, halt_in, patches}
 use Rattle.f8_spec.specs.ChipState.{ChipState}
 use Rattle.chip_debug.proofs.Turned.{behind_asks, none_behind, still_at, steps_are, stopped_is, then_behind}
-use Rattle.chip_debug.proofs.Turned.{turn_asks, turned_at, turned_is}
+use Rattle.chip_debug.proofs.Turned.{represents_at, turn_asks, turned_at, turned_is}
 use Rattle.chip_debug.proofs.PatchLaws.{ran_patches}
 use Rattle.chip_debug.proofs.session.Session.turn.Goals as goal
 
@@ -17,7 +17,7 @@ pub returns-in-Some-clause-turned : goal.returns-in-Some-clause-turned
 returns-in-Some-clause-turned g c = λ scene stands.
     let there = rw (← c.self.view_is) at stands in
     let running = runs_at _ _ scene stands c.requires.running in
-    let refines = c.instr-outcome.ensures.advances.refines scene.position (rw running at there.machine) in
+    let refines = c.instr-outcome.ensures.advances.refines scene.position (represents_at _ _ scene there running) in
     let turned = turned_at _ c.instr-outcome.new.self _ _ scene there running c.instr-outcome.result refines
     c.instr-outcome.ensures.follows (rw c.steps.ensures.value at c.steps.ensures.bytes) in
     let halted = sym c.halt_of.ensures ∙ c.in-Some.is in
@@ -38,7 +38,7 @@ pub returns-then-is_met-clause-turned : goal.returns-then-is_met-clause-turned
 returns-then-is_met-clause-turned g c = λ scene stands.
     let there = rw (← c.self.view_is) at stands in
     let running = runs_at _ _ scene stands c.requires.running in
-    let refines = c.instr-outcome.ensures.advances.refines scene.position (rw running at there.machine) in
+    let refines = c.instr-outcome.ensures.advances.refines scene.position (represents_at _ _ scene there running) in
     let turned = turned_at _ c.instr-outcome.new.self _ _ scene there running c.instr-outcome.result refines
     c.instr-outcome.ensures.follows (rw c.steps.ensures.value at c.steps.ensures.bytes) in
     let goes : halt_in c.instr-outcome.result ≡ None = sym c.halt_of.ensures ∙ c.in-None.is in
@@ -66,7 +66,7 @@ pub returns-else-is_met-clause-turned : goal.returns-else-is_met-clause-turned
 returns-else-is_met-clause-turned g c = λ scene stands.
     let there = rw (← c.self.view_is) at stands in
     let running = runs_at _ _ scene stands c.requires.running in
-    let refines = c.instr-outcome.ensures.advances.refines scene.position (rw running at there.machine) in
+    let refines = c.instr-outcome.ensures.advances.refines scene.position (represents_at _ _ scene there running) in
     let turned = turned_at _ c.instr-outcome.new.self _ _ scene there running c.instr-outcome.result refines
     c.instr-outcome.ensures.follows (rw c.steps.ensures.value at c.steps.ensures.bytes) in
     let goes : halt_in c.instr-outcome.result ≡ None = sym c.halt_of.ensures ∙ c.in-None.is in
