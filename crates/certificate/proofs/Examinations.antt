@@ -138,6 +138,15 @@ module _ (an : Analysis Point AbstractState) where
       by None fails rest = rest
       by (Some x) fails rest = fails
 
+  -- so a first failure is neither
+  pub never_whole : (notes : List (Point × AbstractState)) (answer : VerifyAnswer) → first_failure an notes notes ≡ Some answer →
+      answer ≡ Whole → ⊥
+  never_whole notes answer first is = subst FailsIfSome (first ∙ ap Some is) (first_fails notes notes)
+
+  pub never_agreed : (notes : List (Point × AbstractState)) (answer : VerifyAnswer) → first_failure an notes notes ≡ Some answer →
+      answer ≡ Agreed → ⊥
+  never_agreed notes answer first is = subst FailsIfSome (first ∙ ap Some is) (first_fails notes notes)
+
   -- ---- a map
 
   module _ (total : IsTotalOrder an.order) (exact : (p q : Point) → an.order p q ≡ Equal → p ≡ q) (notes : List (Point × AbstractState))

@@ -18,3 +18,5 @@ mod WorkedExaminations
 mod NextStates
 mod Examinations
 pub mod ClosedMaps
+pub mod VerifiedMaps
+mod WorkedRuns

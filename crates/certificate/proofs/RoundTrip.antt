@@ -119,11 +119,11 @@ again tracked notes few some most ascends fits =
     rw (first_again (header_text count) (entries_text (length tracked) notes) (header_inside count (omega arith)), count_again count some most)
     (lines_again tracked notes 2 None few ascends tt fits)
 
-all_fit : (tracked : List ℕ) (notes : List (Point × AbstractState)) → HaveSplit tracked notes → AllInRange notes → AllFit tracked notes
-all_fit tracked [] split ranges = tt
-all_fit tracked (e ∷ es) split ranges = (
+pub fitting : (tracked : List ℕ) (notes : List (Point × AbstractState)) → HaveSplit tracked notes → AllInRange notes → AllFit tracked notes
+fitting tracked [] split ranges = tt
+fitting tracked (e ∷ es) split ranges = (
   record { split = split.0; scratchpad = ranges.0.scratchpad; range = ranges.0.state; at = ranges.0.at; ret = ranges.0.ret },
-  all_fit tracked es split.1 ranges.1,
+  fitting tracked es split.1 ranges.1,
 )
 
 -- the same of a map as the program holds it, all of which is within its range
@@ -131,7 +131,7 @@ pub again_in_range : (tracked : List ℕ) (notes : List (Point × AbstractState)
     IsStrictlySortedBy point_cmp (keys_of notes) → AllInRange notes → HaveSplit tracked notes → 1 ≤ length notes →
     certificate_of tracked (certificate_text tracked notes) ≡ Ok notes
 again_in_range tracked notes few most ascends ranges split some =
-    again tracked notes few some most ascends (all_fit tracked notes split ranges)
+    again tracked notes few some most ascends (fitting tracked notes split ranges)
 
 pub round_trip : RoundTripLaw
 round_trip = record { again = again }

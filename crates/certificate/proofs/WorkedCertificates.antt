@@ -22,7 +22,7 @@ one_known = record start_state { registers = record start_state.registers { accu
 abbrev at : ℕ → Point
 at address = record start_point { at = address }
 
-abbrev notes : List (Point × AbstractState)
+abbrev pub notes : List (Point × AbstractState)
 notes = (at 0, start_state) ∷ (at 1, one_known) ∷ (at 2, one_known) ∷ []
 
 abbrev line : List ℕ → List ℕ
@@ -31,14 +31,14 @@ line front = front ++ codes " -- 00000 0000 0000 ---- 0000 " ++ replicate 128 45
 abbrev lines : List ℕ
 lines = line (codes "0000 ---- . --") ++ line (codes "0001 ---- . 01") ++ line (codes "0002 ---- . 01")
 
-abbrev certificate : List ℕ
+abbrev pub certificate : List ℕ
 certificate = codes "F8CERT 1 3\n" ++ lines
 
 written : certificate_text [] notes ≡ certificate
 unfolding digits point_text status_text counters_text entry_text header_text certificate_text
 written = refl
 
-read : certificate_of [] certificate ≡ Ok notes
+pub read : certificate_of [] certificate ≡ Ok notes
 unfolding behind digit_in digit_at byte_at address_at bit_at known_byte_at known_address_at known_octal_at known_bit_at bytes_at values_at
     point_at isar_at status_at counters_at entry_of first_line decimal_on count_of header_at entry_in entries_at certificate_of
 read = refl

@@ -3,6 +3,7 @@
 use Rattle.std.proofs.Common.{◌≡◌, ℕ, true, false, ◌-◌, List, [], ◌∷◌, ◌++◌, length, replicate, refl}
 use Rattle.std.specs.Prelude.{Option, Some, None}
 use Rattle.f8_spec.specs.Instructions.{decoded}
+use Rattle.chip_face.specs.declared.specification.ChipSpec.{ChipSpec}
 use Rattle.chip_face.specs.declared.specification.ChipSpec.TheVariants.{Psu}
 use Rattle.abs_domain.specs.AbstractState.{KnownCounters, AbstractState}
 use Rattle.abs_domain.specs.declared.points.Point.{Point}
@@ -15,23 +16,28 @@ use Rattle.abs_step.specs.CartridgeAnalysis.{analysis}
 use Rattle.certificate.specs.Examination.{examined}
 use Rattle.certificate.specs.declared.examined.VerifyAnswer.{VerifyAnswer}
 use Rattle.certificate.specs.declared.examined.VerifyAnswer.TheVariants.{Whole, Agreed, NotClosed, Unsafe}
+use Rattle.certificate.proofs.WorkedCertificates.{notes}
 
--- what is found over a 3851 at 0 with these bytes, and FF behind them
+-- a 3851 at 0 with these bytes, and FF behind them
+abbrev pub lone : List ℕ → List ChipSpec
+lone bytes = Psu 0 (bytes ++ replicate (1024 - length bytes) 255) 4 0 false ∷ []
+
+-- what is found over it
 abbrev found : List ℕ → List (Point × AbstractState) → VerifyAnswer
-found bytes notes = examined (analysis (chips_view (Psu 0 (bytes ++ replicate (1024 - length bytes) 255) 4 0 false ∷ [])) []) notes
+found bytes notes = examined (analysis (chips_view (lone bytes)) []) notes
 
 abbrev at : ℕ → Point
 at address = record start_point { at = address }
 
 -- ---- a load and a branch
 
-abbrev loop : List ℕ
+abbrev pub loop : List ℕ
 loop = 0x71 ∷ 0x2B ∷ 0x90 ∷ 0xFE ∷ []
 
 abbrev with_a : Option ℕ → AbstractState
 with_a a = record start_state { registers = record start_state.registers { accumulator = a } }
 
-as_printed : found loop ((at 0, start_state) ∷ (at 1, with_a (Some 1)) ∷ (at 2, with_a (Some 1)) ∷ []) ≡ Whole
+pub as_printed : found loop notes ≡ Whole
 unfolding decoded known_effect register_writes successors unsafe_reason reasons is_fault_free holds_every_address chips_view
 as_printed = refl
 

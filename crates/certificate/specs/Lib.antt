@@ -4,5 +4,6 @@ pub mod Entries
 pub mod EntryView
 pub mod CertificateText
 pub mod Examination
-pub mod ClosedMaps
 pub mod CertificateLaws
+pub mod ClosedMaps
+pub mod VerifiedMaps

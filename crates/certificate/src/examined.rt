@@ -1,5 +1,5 @@
 // What is found of an invariant map, whoever made it.
-ghost use Rattle.std.specs.Prelude.{◌≡◌, ◌↔◌, IfOk, map};
+ghost use Rattle.std.specs.Prelude.{◌≡◌, ◌↔◌, IfOk, None, map};
 ghost use Rattle.std.specs.List.{list_all};
 ghost use Rattle.abs_domain.specs.Joins.{is_state_below};
 ghost use Rattle.abs_domain.specs.PointOrder.{point_cmp};
@@ -11,11 +11,12 @@ ghost use Rattle.abs_step.specs.StatesAtPoints.{states_of};
 ghost use Rattle.abs_step.specs.Successors.{HasTrackedBytes, start_point, start_state};
 ghost use Rattle.abs_step.specs.CartridgeAnalysis.{analysis, entry_of};
 ghost use Rattle.abs_step.specs.ReachedStates.{IsSafelyClosed, HoldsFaultFreeStates};
-ghost use Rattle.certificate.specs.CertificateLaws.{HaveSplit, AllFit};
+ghost use Rattle.certificate.specs.CertificateLaws.{HaveSplit, AllInRange};
 ghost use Rattle.certificate.specs.Examination.{covers as spelled_cover, first_open as spelled_open, failure_at as spelled_failure};
 ghost use Rattle.certificate.specs.Examination.{first_failure as spelled_first, examined as spelled_answer};
 ghost use Rattle.certificate.specs.declared.examined.VerifyAnswer.TheVariants.{Whole, Agreed};
 
+use super::ranges::entry_law;
 use abs_domain::{Abs, Point, Reason};
 use abs_step::{Annotation, Successors, after, analysis_law, map_view_law, start, whole};
 use cartridge::{Cart, Split};
@@ -105,10 +106,12 @@ fn failure_at(
 /// The first failure at the points, in their order.
 fn first_failure(notes: &BTreeMap<Point, Abs>, split: &Split, map: &Map) -> Option<VerifyAnswer>
     requires { HaveSplit split.now (states_of notes.now.entries) }
-    ensures { result ≡ spelled_first (analysis (view_of map.now) split.now)
+    ensures first { result ≡ spelled_first (analysis (view_of map.now) split.now)
         (states_of notes.now.entries) (states_of notes.now.entries) }
+    ensures ranges { result ≡ None → AllInRange (states_of notes.now.entries) }
 {
     for (point, state) in notes {
+        entry_law(point, state);
         let failure = failure_at(notes, point, state, split, map);
         if failure.is_some() {
             return failure;
@@ -128,8 +131,10 @@ fn is_fault_free(notes: &BTreeMap<Point, Abs>, map: &Map) -> bool
 /// What is found of a map, by what is told of the chips.
 fn examined(notes: &BTreeMap<Point, Abs>, split: &Split, map: &Map) -> VerifyAnswer
     requires { HaveSplit split.now (states_of notes.now.entries) }
-    ensures { result ≡ spelled_answer (analysis (view_of map.now) split.now)
+    ensures answer { result ≡ spelled_answer (analysis (view_of map.now) split.now)
         (states_of notes.now.entries) }
+    ensures whole { result ≡ Whole → AllInRange (states_of notes.now.entries) }
+    ensures agreed { result ≡ Agreed → AllInRange (states_of notes.now.entries) }
 {
     if !covers_start(notes, split) {
         return VerifyAnswer::NotClosed {
@@ -149,13 +154,14 @@ fn examined(notes: &BTreeMap<Point, Abs>, split: &Split, map: &Map) -> VerifyAns
 
 /// What is found of an invariant map of a cartridge, whoever made it (this project's own): whether it is closed and safe, and free of faults
 /// besides; or the first failure, which is that of the start or else that of the first point, and there a state that isn't safe before what
-/// holds next, in its order. Of the checker nothing is needed. The states fit their points, as `read_cert` gives them.
+/// holds next, in its order. Of the checker nothing is needed. The points have the bytes that their states know of the tracked registers, as
+/// `read_cert` and `check_cart` give them.
 ///
 /// # Errors
 ///
 /// Memory is missing for what is told of the chips, 65,536 bytes. No more is taken.
 pub fn verify(alloc: Global, cart: &Cart, notes: &Annotation) -> Result<VerifyAnswer, Memory>
-    requires { AllFit cart.now.split notes.now }
+    requires { HaveSplit cart.now.split notes.now }
     ensures answer { IfOk result (λ answer. answer
         ≡ spelled_answer (analysis (chips_view cart.now.chips) cart.now.split) notes.now) }
     ensures whole { let an = analysis (chips_view cart.now.chips) cart.now.split in

@@ -1,6 +1,7 @@
 // The laws of certificates.
 ghost use Rattle.certificate.specs.CertificateLaws.{RoundTripLaw};
 ghost use Rattle.certificate.specs.ClosedMaps.{ClosedMapLaw};
+ghost use Rattle.certificate.specs.VerifiedMaps.{VerifiedLaw};
 
 /// What is read of the text of an invariant map of at least one point is the map, where points and states fit each other (this project's
 /// own). This call does nothing; its contract is the law.
@@ -14,4 +15,13 @@ pub fn round_trip_law()
 #[tactic(auto, using(crate::proofs::ClosedMaps::closed_maps))]
 pub fn closed_map_law()
     ensures { ClosedMapLaw }
+{}
+
+/// A map that is verified as whole shows that in every run with free inputs each access is served, with interrupts at any moment; one that is
+/// verified as agreed shows it but for reads at D0 that no chip answers. And what was verified so where no vector was followed, and each chip
+/// that can interrupt was refused where an interrupt may be taken, is verified so now (this project's own). This call does nothing; its
+/// contract is the law.
+#[tactic(auto, using(crate::proofs::VerifiedMaps::verified_maps))]
+pub fn verified_map_law()
+    ensures { VerifiedLaw }
 {}

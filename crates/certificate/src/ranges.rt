@@ -5,9 +5,9 @@ ghost use Rattle.abs_domain.specs.KnownParts.{known_byte, known_word};
 ghost use Rattle.abs_domain.specs.StateView.{state_of};
 ghost use Rattle.certificate.specs.CertificateLaws.{AreKnownBytes, IsInRange};
 
-use abs_domain::{Abs, Point, Val, Word};
+use abs_domain::{Abs, Point, SCRATCHPAD_SIZE, Val, Word};
 
-pub fn byte_law(val: Val)
+fn byte_law(val: Val)
     ensures { ForSome (known_byte val) (λ byte. byte < 256) }
 {}
 
@@ -23,13 +23,22 @@ fn return_law(ret: Option<u16>)
     ensures { ForSome ret (λ at. at < 65536) }
 {}
 
-/// Where the registers of the scratchpad have bytes, all that is known at a point is within its range.
+fn registers_law(registers: &[Val; SCRATCHPAD_SIZE])
+    ensures { AreKnownBytes (map known_byte registers.now) }
+{
+    for register in registers {
+        byte_law(*register);
+    }
+}
+
+/// All that is known at a point is within its range.
 pub fn entry_law(point: &Point, state: &Abs)
-    ensures { AreKnownBytes (map known_byte state.now.regs) → IsInRange (point.now, state_of state.now) }
+    ensures { IsInRange (point.now, state_of state.now) }
 {
     address_law(point.at);
     return_law(point.ret);
     byte_law(state.a);
+    registers_law(&state.regs);
     word_law(state.d0);
     word_law(state.d1);
     word_law(state.c);

@@ -5,7 +5,7 @@ ghost use Rattle.cartridge.specs.Splits.{IsSplit};
 ghost use Rattle.abs_step.specs.StatesAtPoints.{state_in, states_of};
 ghost use Rattle.certificate.specs.Answers.{ReadsAs, entry_as};
 ghost use Rattle.text_lines.specs.ReadErrors.{SaysSeen, OnMemory};
-ghost use Rattle.certificate.specs.CertificateLaws.{AllFit};
+ghost use Rattle.certificate.specs.CertificateLaws.{AllFit, HaveSplit};
 ghost use Rattle.certificate.specs.CertificateText.{line_at as spelled_line};
 ghost use Rattle.certificate.specs.CertificateText.{count_of as spelled_count, has_split as spelled_split, is_behind as spelled_behind};
 ghost use Rattle.certificate.specs.CertificateText.{at_line, header_at as spelled_header, end_at as spelled_end};
@@ -185,6 +185,7 @@ fn entries_of(
 pub fn read_cert(alloc: Global, text: &[u8], split: &Split) -> Result<Annotation, CertAnswer>
     ensures certificate { SaysSeen (λ notes. notes) result (certificate_of split.now text.now) }
     ensures fits { IfOk result (λ notes. AllFit split.now notes) }
+    ensures split { IfOk result (λ notes. HaveSplit split.now notes) }
     ensures memory { OnMemory result (IsOk (spelled_header text.now)) }
 {
     let (count, rest) = header_at(text)?;

@@ -9,9 +9,9 @@ ghost use Rattle.certificate.specs.Parts.{bit_text, known_byte_text, known_addre
 ghost use Rattle.certificate.specs.Parts.{bytes_text, values_text};
 ghost use Rattle.certificate.specs.Entries.{point_text, status_text, counters_text, entry_text};
 ghost use Rattle.certificate.specs.CertificateText.{header_text, line_text, entries_text, certificate_text, certificate_of};
-ghost use Rattle.certificate.specs.CertificateLaws.{HaveSplit, AreKnownBytes, IsInRange, AllInRange};
+ghost use Rattle.certificate.specs.CertificateLaws.{HaveSplit, IsInRange, AllInRange};
 
-use super::ranges::{byte_law, entry_law};
+use super::ranges::entry_law;
 use abs_domain::{Abs, Bit, Digit, Point, SCRATCHPAD_SIZE, Val, Word};
 use abs_step::Annotation;
 use cartridge::Split;
@@ -111,12 +111,10 @@ fn put_values(out: &mut Vec<u8>, values: &[Option<u8>]) -> Result<(), AllocError
 
 /// Writes the bytes of the scratchpad.
 fn put_scratchpad(out: &mut Vec<u8>, registers: &[Val; SCRATCHPAD_SIZE]) -> Result<(), AllocError>
-    ensures text { OnOk result (out.new.items
+    ensures { OnOk result (out.new.items
         ≡ out.old.items ++ bytes_text (codes "") (map known_byte registers.now)) }
-    ensures bytes { OnOk result (AreKnownBytes (map known_byte registers.now)) }
 {
     for register in registers {
-        byte_law(*register);
         put_known_byte(out, register.known())?;
     }
     Ok(())

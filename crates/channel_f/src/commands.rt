@@ -108,7 +108,7 @@ pub fn answer_check<S: Store, K: Sink>(
 }
 
 /// The line of what is found of a certificate.
-#[tactic(auto, using(crate::proofs::Games::answers_wanting))]
+#[tactic(auto, using(crate::proofs::Games::answers_wanting, certificate::proofs::ClosedMaps::split_of))]
 fn verify_claim<K: Sink>(alloc: Global, claim: &Claim, sink: &mut K) -> Status
     requires { AllFit claim.now.cart.split claim.now.notes }
     ensures { Answers (K.output sink.old) (K.output sink.new) result

@@ -14,7 +14,4 @@ returns-clause-text c =
     c.in_ok-put_point.ensures c.in_ok-put_blank.ensures (rw c.known.ensures at c.in_ok-put_known_byte.ensures) c.in_ok-put_blank-2.ensures
     (rw c.known-2.ensures at c.in_ok-put_known_octal.ensures) (rw c.known-3.ensures at c.in_ok-put_known_octal-2.ensures)
     c.in_ok-put_blank-3.ensures c.in_ok-put_status.ensures c.in_ok-put_blank-4.ensures c.in_ok-put_counters.ensures c.in_ok-put_blank-5.ensures)
-    c.put_scratchpad.ensures.text
-
-pub returns-clause-range : goal.returns-clause-range
-returns-clause-range c = on_ok_weaker c.put_scratchpad.result c.entry_law.ensures c.put_scratchpad.ensures.bytes
+    c.put_scratchpad.ensures
