@@ -1,5 +1,5 @@
 -- A position beside an invariant that stands for it: what the instruction there gets.
-use Rattle.std.proofs.Common.{◌≡◌, ℕ, ◌<◌, refl, ap, sym, arith}
+use Rattle.std.proofs.Common.{◌≡◌, ℕ, ◌<◌, refl, ap, arith}
 use Rattle.std.specs.Prelude.{Option, Some, None, option_and_then}
 use Rattle.f8_spec.specs.Words.{places_on}
 use Rattle.f8_spec.specs.Instructions.{decoded}

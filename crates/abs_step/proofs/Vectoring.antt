@@ -1,7 +1,7 @@
 -- An interrupt that is taken at the end of a safe instruction: its chip is one whose vector is followed, and gives one of two addresses.
 use Rattle.std.proofs.Common.{◌≡◌, ℕ, zero, suc, Bool, true, false, ◌&&◌, ◌||◌, List, [], ◌∷◌, ◌++◌, refl, sym, ◌∙◌, inl, inr, arith}
 use Rattle.std.specs.Prelude.{◌+◌, ◌*◌, ◌/◌, ◌%◌, Option, Some, None, not, slice_get, if◌then◌else◌, flat_map}
-use Rattle.std.specs.List.{AllByRecursion, Contains}
+use Rattle.std.specs.List.{AllByRecursion}
 use Rattle.f8_spec.specs.BusArbitration.{Seat}
 use Rattle.f8_spec.specs.ChipState.{admits_expiries, has_fixed_vector}
 use Rattle.f8_spec.specs.Instructions.{is_shielding}
@@ -17,7 +17,7 @@ use Rattle.abs_step.specs.Known.{is_known_false}
 use Rattle.abs_step.specs.MapView.{MapView, HasVectorAmong, IsViewOf, is_seat_written}
 use Rattle.abs_step.specs.Safety.{vector_is_lost}
 use Rattle.abs_step.specs.Successors.{along, at_exit, at_vector}
-use Rattle.abs_step.specs.Vectors.{keeps_interrupts_out, vector_address, vector_exit, vectors_let_in, with_interrupts_off}
+use Rattle.abs_step.specs.Vectors.{vector_address, vector_exit, vectors_let_in, with_interrupts_off}
 use Rattle.abs_step.specs.declared.exits.Exit.{Exit}
 use Rattle.abs_step.proofs.Members.{IsIn, in_of_contains, none_of_any}
 

@@ -1,5 +1,5 @@
 -- More whole cartridges that were worked out by hand, by what is known of the chips of their descriptions, as a verdict goes by it.
-use Rattle.std.proofs.Common.{◌≡◌, ℕ, true, false, ◌-◌, List, [], ◌∷◌, ◌++◌, length, replicate, refl}
+use Rattle.std.proofs.Common.{◌≡◌, true, [], ◌∷◌, ◌++◌, replicate, refl}
 use Rattle.std.specs.Prelude.{None}
 use Rattle.f8_spec.specs.Instructions.{decoded}
 use Rattle.abs_domain.specs.declared.reason.Reason.TheVariants.{CodeNotHeldOnce, ReservedOpcode, UnsetReturn, DataCountersApart, BadPort}

@@ -1,12 +1,12 @@
 -- Each reason against a state, and the first of several, worked out by hand and computed from the definitions: where it holds, and where
 -- the least change makes it fail. Whether reads are answered stands at the end.
-use Rattle.std.proofs.Common.{◌≡◌, ℕ, Bool, true, false, ◌+◌, ◌-◌, List, [], ◌∷◌, ◌++◌, length, map, replicate, refl}
+use Rattle.std.proofs.Common.{◌≡◌, ℕ, Bool, true, false, ◌+◌, List, [], ◌∷◌, ◌++◌, map, replicate, refl}
 use Rattle.std.specs.Prelude.{Option, Some, None, slice_set}
 use Rattle.std.specs.List.{range_with_len}
 use Rattle.f8_spec.specs.Instructions.{decoded}
 use Rattle.f8_spec.specs.declared.chips.PageSort.TheVariants.{Rom, Ram, Void}
 use Rattle.chip_face.specs.declared.specification.ChipSpec.{ChipSpec}
-use Rattle.chip_face.specs.declared.specification.ChipSpec.TheVariants.{Psu, Smi}
+use Rattle.chip_face.specs.declared.specification.ChipSpec.TheVariants.{Smi}
 use Rattle.abs_domain.specs.AbstractState.{KnownRegisters, KnownCounters}
 use Rattle.abs_domain.specs.declared.reason.Reason.{Reason}
 use Rattle.abs_domain.specs.declared.reason.Reason.TheVariants.{CodeNotHeldOnce, CodeInRam, ReservedOpcode, UnknownJump, UnknownReturn}

@@ -3,7 +3,7 @@ use Rattle.std.proofs.Common.{◌≡◌, ℕ, zero, suc, true, false, ◌-◌, L
 use Rattle.std.specs.Prelude.{Option, Some, None, option_and_then, slice_get}
 use Rattle.f8_spec.specs.Instructions.{decoded}
 use Rattle.f8_spec.specs.declared.chips.PageSort.{PageSort}
-use Rattle.f8_spec.specs.declared.chips.PageSort.TheVariants.{Rom, Ram}
+use Rattle.f8_spec.specs.declared.chips.PageSort.TheVariants.{Ram}
 use Rattle.f8_spec.specs.declared.chips.Page.{Page}
 use Rattle.chip_face.specs.declared.specification.ChipSpec.{ChipSpec}
 use Rattle.chip_face.specs.declared.specification.ChipSpec.TheVariants.{Psu, Smi}

@@ -3,14 +3,13 @@ use Rattle.std.proofs.Common.{◌≡◌, ℕ, Bool, true, false, List, [], ◌�
 use Rattle.std.specs.Prelude.{Option, Some, None}
 use Rattle.f8_spec.specs.Instructions.{decoded}
 use Rattle.f8_spec.specs.declared.instructions.Op.TheVariants.{Bt}
-use Rattle.chip_face.specs.declared.specification.ChipSpec.{ChipSpec}
 use Rattle.abs_domain.specs.declared.reason.Reason.TheVariants.{ReservedOpcode, UnknownVector}
 use Rattle.abs_step.specs.KnownResults.{known_effect, register_writes}
 use Rattle.abs_step.specs.MapView.{chips_view, holds_every_address}
 use Rattle.abs_step.specs.Safety.{unsafe_reason, reasons, is_fault_free}
 use Rattle.abs_step.specs.Successors.{Invariant, start_point, start_state, successors}
 use Rattle.abs_step.proofs.WorkedChecks.{Safe, Unsafe, check}
-use Rattle.abs_step.proofs.WorkedSteps.{psu, wired_psu, wired_smi}
+use Rattle.abs_step.proofs.WorkedSteps.{wired_psu, wired_smi}
 
 -- ---- a 3851 that can interrupt, with code at both addresses of its vector: interrupts are on behind EI, in a branch to itself
 

@@ -14,7 +14,7 @@ use Rattle.f8_spec.specs.declared.instructions.Row.TheVariants.{ReadData, StoreD
 use Rattle.console_spec.specs.FlatMemory.{is_ram_sort}
 use Rattle.console_spec.specs.Processor.{port_field}
 use Rattle.memory_map.specs.MapKinds.{is_held_once}
-use Rattle.abs_domain.specs.AbstractState.{KnownRegisters, KnownCounters, AbstractState}
+use Rattle.abs_domain.specs.AbstractState.{KnownRegisters, KnownCounters}
 use Rattle.abs_domain.specs.declared.reason.Reason.{Reason}
 use Rattle.abs_domain.specs.declared.reason.Reason.TheVariants.{CodeNotHeldOnce, CodeInRam, ReservedOpcode, UnknownJump, UnknownReturn}
 use Rattle.abs_domain.specs.declared.reason.Reason.TheVariants.{UnsetReturn, DataCountersApart, ReturnNotHeldOnce, BadPort}

@@ -38,11 +38,7 @@ impl Successors {
     ghost use Rattle.abs_step.specs.WaysOn.{at_way};
 
     /// What holds along some ways, by what is known of all, and of the tracked registers.
-    pub(crate) fn along(
-        ways: Ways,
-        state: Abs,
-        bytes: [Option<u8>; MOST_TRACKED],
-    ) -> Successors
+    pub(crate) fn along(ways: Ways, state: Abs, bytes: [Option<u8>; MOST_TRACKED]) -> Successors
         ensures { result ≡ map (at_way bytes (state_of state)) ways.items }
     {
         Successors { ways, state, bytes }

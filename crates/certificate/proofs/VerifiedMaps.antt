@@ -2,8 +2,6 @@
 use Rattle.std.proofs.Common.{◌≡◌, ℕ, List, sym, ◌∙◌}
 use Rattle.std.specs.Prelude.{None}
 use Rattle.chip_face.specs.declared.specification.ChipSpec.{ChipSpec}
-use Rattle.console_spec.specs.FreeRuns.{IsReached}
-use Rattle.console_spec.specs.Run.{Position}
 use Rattle.memory_map.specs.MapOf.{seats_of}
 use Rattle.abs_domain.specs.AbstractState.{AbstractState}
 use Rattle.abs_domain.specs.declared.points.Point.{Point}
@@ -12,7 +10,7 @@ use Rattle.abs_step.specs.CartridgeAnalysis.{analysis, as_invariant}
 use Rattle.abs_step.specs.EarlierSteps.{without_vectors}
 use Rattle.abs_step.specs.MapView.{MapView, chips_view}
 use Rattle.abs_step.specs.ReachedStates.{HoldsFaultFreeStates, IsInvariantMap, IsSafelyClosed}
-use Rattle.abs_step.specs.Soundness.{GoesOn, IsSafeMap, OnlyUndriven}
+use Rattle.abs_step.specs.Soundness.{IsSafeMap, OnlyUndriven}
 use Rattle.abs_step.proofs.EarlierSteps.{earlier_steps}
 use Rattle.abs_step.proofs.MapViews.{map_view}
 use Rattle.abs_step.proofs.SoundRuns.{soundness}
