@@ -107,7 +107,7 @@ class Reach:
     @classmethod
     def of(cls, description: Description) -> Reach:
         """From reset, and from the vectors of the chips that can ask for an interrupt."""
-        vectors = [chip.vector & 0xFF7F | high for chip in description.chips if chip.interrupt for high in (0, 0x80)]
+        vectors = [vector for chip in description.chips for vector in chip.vectors]
         memory = description.memory()
         return cls(memory, [RESET, *(vector for vector in dict.fromkeys(vectors) if vector in memory)])
 

@@ -4,6 +4,7 @@ from __future__ import annotations
 from dataclasses import dataclass
 from typing import Iterable, Iterator
 
+from companion.description import Chip
 from companion.domain import (COUNTERS, FACTS, Cause, DataRead, Exchanged, Known, Lost, Meeting, Met, Part, PerhapsWritten, Point, PortRead,
                               PowerOn, Unknown, Unstated, is_register, part_words, value_words)
 from companion.instructions import Flow
@@ -70,7 +71,7 @@ class Words:
         return [f'    {self.place(at)}'.rstrip() for at in dict.fromkeys(addresses)]
 
     def calls(self, point: Point | None) -> list[int]:
-        """The calls by which a point was first reached, the outermost first."""
+        """The calls and interrupts by which a point was first reached, the outermost first."""
         path, at = [], point
         while at is not None:
             path.append(at)
@@ -79,11 +80,17 @@ class Words:
         for here, after in zip(path[::-1], path[-2::-1]):
             instruction = self.search.rules.code(here.at).instruction
             flow, backs = instruction.opcode.flow, [back for _, back in open_calls]
-            if flow in (Flow.RETURN, Flow.CALL_K, Flow.JUMP_Q) and after.at in backs:
+            if self.interrupting(here, after):
+                open_calls.append((here.at, after.ret))
+            elif flow in (Flow.RETURN, Flow.CALL_K, Flow.JUMP_Q) and after.at in backs:
                 del open_calls[len(backs) - 1 - backs[::-1].index(after.at):]
             elif flow in (Flow.CALL, Flow.CALL_K):
                 open_calls.append((here.at, instruction.next))
         return [call for call, _ in open_calls]
+
+    def interrupting(self, origin: Point, point: Point) -> Chip | None:
+        """The chip whose interrupt leads from one point to another."""
+        return self.search.rules.interrupting(origin, self.search.notes[origin], point)
 
     # ---- causes
 

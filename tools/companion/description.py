@@ -24,6 +24,7 @@ NEEDS_TOML = 'Python 3.11 or later is needed, to read the description'
 PAGE = 256
 PSU_BYTES = 1024
 SMI_PORTS = 12  # the first port of every 3853
+PULSE = 0x80  # the bit of a vector that is set for a pulse, and clear for the timer
 EMPTY_ROM = 0xFF  # a byte of ROM that nothing gives
 
 
@@ -81,6 +82,12 @@ class Chip:
         """The chip in words: its socket, kind and first address, as `0: 3851 at 0000`."""
         first = next((space.start for space in self.spaces.values()), None)
         return f'{self.socket}: {self.kind.value}' + (f' at {first:04X}' if first is not None else '')
+
+    @property
+    def vectors(self) -> tuple[int, ...]:
+        """Where its interrupts lead: for its timer, and for a pulse. None is known of a 3853, whose vector ports write."""
+        is_known = self.interrupt and self.kind is Kind.PSU
+        return tuple(self.vector & 0xFF7F | high for high in (0, PULSE)) if is_known else ()
 
     def holds(self, address: int) -> Holding | None:
         return next((holding for holding, space in self.spaces.items() if address in space), None)

@@ -40,7 +40,8 @@ class Memory:
                               bytes(holders[0][0].bytes[at] for at in range(first, first + PAGE)) if sort is Sort.ROM else None)
         self.held_by = {kind: {first // PAGE for first in range(0, ADDRESSES, PAGE) for chip in chips if chip.kind is kind and chip.holds(first)}
                         for kind in Kind}
-        self.can_interrupt = any(chip.interrupt for chip in chips)
+        self.vectors = [vector for chip in chips for vector in chip.vectors]
+        self.has_written_vector = any(chip.interrupt and not chip.vectors for chip in chips)
         self.overlaps = Sort.SHARED in self.sorts
         self.held_everywhere = Sort.NOTHING not in self.sorts
 

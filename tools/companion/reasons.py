@@ -5,6 +5,7 @@ from dataclasses import dataclass
 from typing import Callable, Iterator
 
 from companion.causes import Words
+from companion.description import PULSE, Chip
 from companion.domain import FACTS, Part
 from companion.effects import RULES, Data
 from companion.memory import Memory, Sort
@@ -30,7 +31,7 @@ class Explained:
         yield self.words.place(refusal.point.at)
         calls = self.words.calls(refusal.point)
         if calls:
-            yield 'By the calls at:'
+            yield 'By the calls and interrupts at:' if self.memory.vectors else 'By the calls at:'
             yield from self.words.places(calls)
         yield f'Reason {int(refusal.reason)}: {SENTENCES[refusal.reason](self)}'
         for lost in refusal.lost:
@@ -40,6 +41,11 @@ class Explained:
     def helps(self) -> Iterator[str]:
         given = HELPS.get(self.refusal.reason, lambda _: '')(self)
         yield from filter(None, [given] if given else self.words.remedies(self.refusal.lost))
+
+    def interrupting(self) -> Chip | None:
+        """The chip whose interrupt led to the place."""
+        origin = self.words.search.origins[self.refusal.point]
+        return self.words.interrupting(origin, self.refusal.point) if origin else None
 
     # ---- the address or port that a reason is about
 
@@ -68,7 +74,19 @@ class Explained:
         origin = self.words.search.origins[self.refusal.point]
         if origin is None:
             return 'A program begins at 0000.'
+        if chip := self.interrupting():
+            cause = 'a pulse' if self.refusal.point.at & PULSE else 'its timer'
+            return f'An interrupt of chip {chip.number} leads to it, by {cause}, as behind {self.words.place(origin.at)}.'
         return f'It is reached from {self.words.place(origin.at)}.'
+
+    def handler(self) -> str:
+        """What helps where an interrupt leads to no code."""
+        return ('No list helps: both addresses of a vector need code in ROM, `EI` and `POP` at least, whatever the chip lets in; or leave out '
+                'its `interrupt = true`.') if self.interrupting() else ''
+
+    def written(self) -> str:
+        """The chips that can interrupt, and whose vector ports write, in words."""
+        return ' and '.join(f'chip {chip.number}' for chip in self.memory.chips if chip.interrupt and not chip.vectors)
 
     def ports(self) -> str:
         port = self.refusal.port
@@ -118,18 +136,18 @@ SENTENCES: dict[Reason, Callable[[Explained], str]] = {
     Reason.MAY_PART: Explained.apart,
     Reason.RETURN_NOT_HELD_ONCE: Explained.return_held,
     Reason.BAD_PORT: Explained.ports,
-    Reason.MAY_BE_INTERRUPTED: lambda told: f'{told.statement} may end with an interrupt: ICB may be 1, and a chip has `interrupt = true`.',
+    Reason.VECTOR_LOST: lambda told: f"{told.statement} may end with an interrupt: ICB may be 1, and the vector of {told.written()} isn't known.",
     Reason.MAY_BE_SHARED: Explained.shared,
     Reason.BLURRED: Explained.blurred,
 }
 HELPS: dict[Reason, Callable[[Explained], str]] = {
-    Reason.CODE_NOT_HELD_ONCE: lambda told: 'No list helps: mend the address, or describe the chip that is missing.',
-    Reason.CODE_IN_RAM: lambda told: 'No list helps: code has to lie in ROM.',
-    Reason.RESERVED: lambda told: 'No list helps: put a branch before data, or bytes where the ROM has FF.',
+    Reason.CODE_NOT_HELD_ONCE: lambda told: told.handler() or 'No list helps: mend the address, or describe the chip that is missing.',
+    Reason.CODE_IN_RAM: lambda told: told.handler() or 'No list helps: code has to lie in ROM.',
+    Reason.RESERVED: lambda told: told.handler() or 'No list helps: put a branch before data, or bytes where the ROM has FF.',
     Reason.RETURN_UNSET: lambda told: 'No list helps: call by PI or PK on each way to it. An interrupt does not count as a call.',
     Reason.RETURN_NOT_HELD_ONCE: lambda told: 'No list helps: a return has to lie in exactly one chip.',
     Reason.BAD_PORT: lambda told: "No list helps: mend the number, or the chip's `ports`.",
-    Reason.MAY_BE_INTERRUPTED: lambda told: ("No list helps: a cartridge that lets interrupts in can't be shown safe. "
-                                                 'Leave out `EI`, or `interrupt = true`.'),
+    Reason.VECTOR_LOST: lambda told: ('No list helps: ports write the vector of a 3853. Let a 3851 interrupt in its place, whose vector '
+                                          'the description has; or leave out `EI`, or `interrupt = true`.'),
     Reason.BLURRED: Explained.isar_helps,
 }

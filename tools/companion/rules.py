@@ -5,7 +5,7 @@ from dataclasses import dataclass
 from enum import IntEnum
 from typing import Iterator, Optional, Sequence, Tuple
 
-from companion.description import Kind
+from companion.description import Chip, Kind
 from companion.domain import FLAGS, Known, Lost, Part, Point, State, Unknown, Way, joined, start_point, start_state
 from companion.effects import RULES, Data, K, PortUse, Q, Rule, Step, port_of
 from companion.instructions import ADDRESSES, OPCODES, Flow, Instruction
@@ -23,7 +23,7 @@ class Reason(IntEnum):
     MAY_PART = 7
     RETURN_NOT_HELD_ONCE = 8
     BAD_PORT = 9
-    MAY_BE_INTERRUPTED = 10
+    VECTOR_LOST = 10
     MAY_BE_SHARED = 11
     BLURRED = 12
 
@@ -64,6 +64,9 @@ def code_at(memory: Memory, at: int) -> Code:
         if OPCODES[found[0]].is_reserved:
             return Code(reason=Reason.RESERVED, address=address)
     return Code(Instruction(at, OPCODES[found[0]], bytes(found[1:])))
+
+
+Exit = Tuple[int, Optional[int]]  # an address, with the return there
 
 
 class Rules:
@@ -109,9 +112,8 @@ class Rules:
 
     def refusals_after(self, step: Step, rule: Rule) -> Iterator[Refusal | None]:
         """The reasons by what it leaves and writes, and by D0 before it."""
-        icb = step.parts[Part.ICB]
-        if self.memory.can_interrupt and not rule.shields and (isinstance(icb, Unknown) or icb):
-            yield Refusal(step.point, step.before, Reason.MAY_BE_INTERRUPTED, lost_of(step.parts, Part.ICB))
+        if self.memory.has_written_vector and lets_interrupts_in(step, rule):
+            yield Refusal(step.point, step.before, Reason.VECTOR_LOST, lost_of(step.parts, Part.ICB))
         if rule.data is not Data.NOT:
             yield may_be_shared(step)
         for register in self.tracked:
@@ -120,11 +122,30 @@ class Rules:
     def successors(self, step: Step, rule: Rule) -> list[tuple[Point, State]]:
         state = tuple(step.parts)
         tracked = tuple(None if isinstance(state[register], Unknown) else state[register] for register in self.tracked)
+        interrupted = (*state[:Part.ICB], False, *state[Part.ICB + 1:])
         found: dict[Point, State] = {}
-        for at, back in exits(step, rule):
-            point = Point(at, back, tracked)
-            found[point] = joined(point, Way(step.point, found[point]), Way(step.point, state)) if point in found else state
+        for (at, back), is_interrupt in self.ways(step, rule):
+            point, after = Point(at, back, tracked), interrupted if is_interrupt else state
+            found[point] = joined(point, Way(step.point, found[point]), Way(step.point, after)) if point in found else after
         return list(found.items())
+
+    def ways(self, step: Step, rule: Rule) -> Iterator[tuple[Exit, bool]]:
+        """Where an instruction leads, and behind each way where an interrupt leads from there, whose return is the next address."""
+        vectors = self.memory.vectors if lets_interrupts_in(step, rule) else ()
+        for way in exits(step, rule):
+            yield way, False
+            for vector in vectors:
+                yield (vector, way[0]), True
+
+    def interrupting(self, origin: Point, state: State, point: Point) -> Chip | None:
+        """The chip whose interrupt leads from a state to a point, where the instruction doesn't lead there by itself."""
+        if point.at not in self.memory.vectors:
+            return None
+        instruction = self.code(origin.at).instruction
+        found = exits(Step(self.memory, instruction, origin, state), RULES[instruction.opcode.code])
+        if (point.at, point.ret) in found or point.ret not in [at for at, _ in found]:
+            return None
+        return next(chip for chip in self.memory.chips if point.at in chip.vectors)
 
     def is_fault_free(self, point: Point, state: State) -> bool:
         """Whether some chip answers where the instruction of a safe state reads at D0."""
@@ -139,7 +160,9 @@ class Rules:
 
 # ---- where an instruction leads
 
-Exit = Tuple[int, Optional[int]]  # an address, with the return there
+def lets_interrupts_in(step: Step, rule: Rule) -> bool:
+    """Whether an interrupt may be taken at the end of an instruction, as far as is known after it."""
+    return not rule.shields and step.parts[Part.ICB] is not False
 
 
 def exits(step: Step, rule: Rule) -> list[Exit]:

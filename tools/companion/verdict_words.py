@@ -52,6 +52,9 @@ def too_many(search: Search, words: Words, most: int) -> Iterator[str]:
         yield f'         {multiplied(search, points)}'
     yield ('Each register in `split` multiplies the points. Let it count less far, clear it where it is not needed any more, or track another '
            'one. A pop that wipes the slots which it frees leaves fewer points (docs/SAFE.md).')
+    if search.rules.memory.vectors:
+        yield ('Each instruction at whose end an interrupt may be taken gives the routines of interrupts one more return. Let interrupts in at '
+               'one place: `EI`, a few instructions, `DI` (docs/SAFE.md).')
 
 
 def multiplied(search: Search, points: list[Point]) -> str:
