@@ -144,7 +144,7 @@ HELPS: dict[Reason, Callable[[Explained], str]] = {
     Reason.CODE_NOT_HELD_ONCE: lambda told: told.handler() or 'No list helps: mend the address, or describe the chip that is missing.',
     Reason.CODE_IN_RAM: lambda told: told.handler() or 'No list helps: code has to lie in ROM.',
     Reason.RESERVED: lambda told: told.handler() or 'No list helps: put a branch before data, or bytes where the ROM has FF.',
-    Reason.RETURN_UNSET: lambda told: 'No list helps: call by PI or PK on each way to it. An interrupt does not count as a call.',
+    Reason.RETURN_UNSET: lambda told: 'No list helps: call by PI or PK on each way to it; where an interrupt leads, it has set the return.',
     Reason.RETURN_NOT_HELD_ONCE: lambda told: 'No list helps: a return has to lie in exactly one chip.',
     Reason.BAD_PORT: lambda told: "No list helps: mend the number, or the chip's `ports`.",
     Reason.VECTOR_LOST: lambda told: ('No list helps: ports write the vector of a 3853. Let a 3851 interrupt in its place, whose vector '
