@@ -10,14 +10,15 @@ from dataclasses import dataclass, field
 from random import Random
 from typing import Iterator
 
-from companion.description import EMPTY_ROM, Description, filled
+from companion.description import EMPTY_ROM, PULSE, Description, filled
 from companion.domain import below, joined, Way
 from companion.effects import RULES, Data, PortUse
 from companion.instructions import OPCODES, Flow
 from companion.memory import Memory
 from companion.rules import Refusal, Rules
 
-SET_RETURN, IN, OUT, BT_0 = 0x09, 0x26, 0x27, 0x80  # LR P,K sets the return
+SET_RETURN, EI, IN, OUT, BT_0 = 0x09, 0x1B, 0x26, 0x27, 0x80  # LR P,K sets the return
+ROUTINE = b'\x1B\x1C'  # EI; POP
 SKIP = (2, 0x1F)  # the displacement of a branch over an INC
 DATA_PORTS = (4, 5, 8, 9)  # of 3851s one behind another
 MOST_POINTS = 1500  # that a round of mending goes over
@@ -73,14 +74,24 @@ def plain(random: Random, pages: list[int]) -> bytes:
     return bytes([random.choice(PLAIN)])
 
 
-def psu_of(base: int, ports: int, rom: bytearray, wired: bool = False) -> Chip:
-    return Chip({'kind': '3851', 'base': base, 'ports': ports, 'interrupt': wired}, rom)
+def psu_of(base: int, ports: int, rom: bytearray, wired: bool = False, vector: int = 0) -> Chip:
+    return Chip({'kind': '3851', 'base': base, 'ports': ports, 'interrupt': wired, 'vector': vector}, rom)
 
 
 def psu(random: Random, base: int, ports: int, wired: bool, pages: list[int]) -> Chip:
-    size = random.choice((0, 20, 100, 300, ROM_BYTES))
+    size, vector = random.choice((0, 20, 100, 300, ROM_BYTES)), random.choice(pages) * 256 + random.randrange(256)
     begin = code(random, size, pages)
-    return psu_of(base, ports, begin[:-2] + bytes([0x90, 0xFF]) if size else begin, wired)
+    rom = begin[:-2] + bytes([0x90, 0xFF]) if size else begin
+    if wired and not base:
+        rom[:1] = bytes([EI])
+        for high in (0, PULSE) if random.random() < 0.8 else ():
+            rom = with_routine(rom, (vector & 0xFF7F | high) % ROM_BYTES)
+    return psu_of(base, ports, rom, wired, vector % ROM_BYTES if wired and not base else vector)
+
+
+def with_routine(rom: bytearray, at: int) -> bytearray:
+    """The ROM with a routine for interrupts at an address."""
+    return (rom[:at].ljust(at, bytes([EMPTY_ROM])) + ROUTINE + rom[at + 2:])[:ROM_BYTES]
 
 
 def smi(random: Random, wired: bool, pages: list[int]) -> Chip:
@@ -99,13 +110,13 @@ def smi(random: Random, wired: bool, pages: list[int]) -> Chip:
 
 def chips(random: Random) -> Iterator[Chip]:
     pages = [0, 1, 2, 3, *random.sample((4, 8, 0x20, 0x28, 0x2C, 0x40, 0xF0), 3)]
-    wired, ports = random.random() < 0.15, 4
+    wired, ports = random.random() < 0.4, 4
     for base in (0, 0x400, 0x800):
         if not base or random.random() < 0.3:
             yield psu(random, 0 if random.random() < 0.04 else base, ports, wired and random.random() < 0.5, pages)
             ports += 4 if random.random() < 0.95 else 0
     if random.random() < 0.7:
-        yield smi(random, wired, pages)
+        yield smi(random, wired and random.random() < 0.3, pages)
 
 
 def cartridge(seed: int) -> str:

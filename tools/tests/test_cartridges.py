@@ -81,7 +81,7 @@ PARTED_WITHOUT_CHIPS = ['stop done', 'regs P=0010 P1=0000 D0=0016 D1=2804 A=11 I
 VERDICTS = {
     'product': (0, 'whole 30'), 'copied': (0, 'whole 30'), 'summed': (0, 'agreed 11'), 'two_roms': (0, 'agreed 27'), 'lighthouse': (0, 'agreed'),
     'signboard': (0, 'whole'),
-    'parted': (7, 'refused 0009 ---- . 7'), 'heartbeat': (7, 'refused 0019 ---- . 10')}
+    'parted': (7, 'refused 0009 ---- . 7'), 'heartbeat': (7, 'refused 0019 ---- . 10'), 'candle': (0, 'whole 180')}
 
 
 def run(command: list[str], name: str) -> tuple[int, list[str]]:

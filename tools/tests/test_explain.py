@@ -146,6 +146,17 @@ class Explain(unittest.TestCase):
         self.assertIn('tools/why CART names these reads.', call('explain', 'agreed', 27).told)
 
     @unittest.skipUnless(HAS_TOML, 'Python before 3.11 has no reader of TOML')
+    def test_interrupts(self):
+        cart = CHIP + 'interrupt = true\nvector = 0x0100\nrom = "1B90FF"\n[[chip]]\nkind = "3853"\ninterrupt = true\n'
+        told = self.explained('refused 0180 0001 . 3', cart=cart)
+        self.assertIn('0180 is where an interrupt of chip 0 leads, by a pulse. Both addresses of a vector need code', told)
+        self.assertNotIn('Both addresses', self.explained('refused 0001 ---- . 3', cart=cart))
+        told = self.explained('refused 0001 ---- . 10', cart=cart)
+        self.assertRegex(told, '(?s)Reason 10: an interrupt may be taken.*What helps: a 3851 in its place.*The vector of chip 1 is in ports')
+        self.assertIn('gives one more return', self.explained('toomany', cart=cart))
+        self.assertNotIn('gives one more return', call('explain', 'toomany').told)
+
+    @unittest.skipUnless(HAS_TOML, 'Python before 3.11 has no reader of TOML')
     def test_a_description_of_another_run(self):
         cart = f'split = [0x{"F" * 5000}]\n' + CHIP.partition('\n')[2] + 'rom_page = "x"\nram_page = 0x28\nram_pages = [1]\n'
         for line in ('stop undriven romc 00 at 0000', 'refused 0000 ---- 03 7', 'unsafe 0000 ---- 03 7', 'notclosed start to 0000 ---- 03'):

@@ -10,7 +10,7 @@ from tool import PROGRAM, TOP, needs_program, needs_toml
 
 from companion.certificates import certificate
 from companion.description import Description
-from companion.domain import Met, Part, PortRead, PowerOn, Unknown
+from companion.domain import Met, Part, Point, PortRead, PowerOn, Unknown
 from companion.memory import Memory
 from companion.program import Program
 from companion.rules import Reason, Rules
@@ -72,6 +72,19 @@ class AgainstTheProgram(unittest.TestCase):
             path.write_text(text)
             self.assert_same(searched(described(text)), path)
 
+    def test_a_branch_to_a_vector(self):
+        """Its return is the one that an interrupt of its other way leaves. So both stand at one point, where ICB is 1 and 0."""
+        # EI; PI F2; BR .; at F0: BP 100; F2: INS 0; EI; BR F0; at 100 and 180: POP
+        code = bytes.fromhex('1B' '2800F2' '90FF').ljust(0xF0, b'\xFF') + bytes.fromhex('810F' 'A0' '1B' '90FB')
+        text = ONE_CHIP.format(split=[], code=((code.ljust(0x100, b'\xFF') + b'\x1C').ljust(0x180, b'\xFF') + b'\x1C').hex(),
+                               keys='vector = 0x0100\ninterrupt = true\n')
+        search = searched(described(text))
+        self.assertIsInstance(search.notes[Point(0x100, 0xF2, ())][Part.ICB], Unknown)
+        with tempfile.TemporaryDirectory() as folder:
+            path = Path(folder, 'cart.toml')
+            path.write_text(text)
+            self.assert_same(search, path)
+
     def test_random_descriptions(self):
         with tempfile.TemporaryDirectory() as folder:
             for number in RANDOM:
@@ -97,7 +110,7 @@ class Reasons(unittest.TestCase):
                 ('2D', [], '', 0, Reason.RESERVED), ('0C', [], '', 0, Reason.JUMP_LOST), ('09', [], '', 0, Reason.RETURN_LOST),
                 ('1C', [], '', 0, Reason.RETURN_UNSET), ('2A00052C16', [], ram, 4, Reason.MAY_PART),
                 ('74047005' '0908', [], '', 5, Reason.RETURN_NOT_HELD_ONCE), ('A8', [], '', 0, Reason.BAD_PORT),
-                ('1B2B', [], wired, 1, Reason.MAY_BE_INTERRUPTED), ('2A280016', [], ram + again, 3, Reason.MAY_BE_SHARED),
+                ('1B2B', [], wired, 1, Reason.VECTOR_LOST), ('2A280016', [], ram + again, 3, Reason.MAY_BE_SHARED),
                 ('A050', [0], '', 1, Reason.BLURRED)]:
             with self.subTest(reason=reason.name):
                 self.assert_refused(of_code(code, split, keys), at, reason)

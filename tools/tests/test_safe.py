@@ -33,7 +33,7 @@ def checked(text: str, folder: Path) -> str:
     first = text.split('\n')[0]
     split = re.search(r'split = \[(.*?)\]', first)
     (folder / 'text.f8').write_text(text + '\n')
-    chips = CHIPS.format(split=split[1] if split else '', wired='interrupt = true\n' * ('interrupt' in first))
+    chips = CHIPS.format(split=split[1] if split else '', wired='vector = 0x0100\ninterrupt = true\n' * ('interrupt' in first))
     (folder / 'cart.toml').write_text(chips + RAM * ('RAM' in first))
     return subprocess.run([PROGRAM, 'check', 'cart.toml'], cwd=folder, capture_output=True, text=True, timeout=60).stdout.strip()
 
@@ -72,6 +72,9 @@ class Safe(unittest.TestCase):
             self.assertEqual(checked(found['whole 20'].replace('[0]', '[]'), Path(folder)), 'agreed 8')
             pinned = re.sub('.*LISU 4.*\n', '', found['whole 31'])
             self.assertEqual(checked(pinned, Path(folder)), 'refused 0005 ---- 04 12')
+            open_wide = re.sub('.* DI\n', '', found['whole 19'])
+            self.assertEqual(checked(open_wide, Path(folder)), 'whole 36')
+            self.assertEqual(checked(found['whole 19'].partition('        ORG $0180')[0], Path(folder)), 'refused 0180 0007 . 3')
 
     def test_a_signboard_that_wipes_less(self):
         """The numbers of points in the page and in the signboard's README."""

@@ -7,13 +7,15 @@ import tempfile
 import unittest
 from pathlib import Path
 
-from tool import PROGRAM, needs_program
+from tool import PROGRAM, TOP, needs_program
 
 # Two loops, one in the other: r1 counts 127 times what r0 counts 254 times. Each NOP behind them is a point more. The numbers of points were
 # computed by a model of the checker that was written apart.
 LOOPS = bytes.fromhex('207F5120FE503094FE3194F8')
 END = bytes.fromhex('90FF')
 OPCODES = bytes.fromhex('12131415 18191F40 5152C1D2 E3F433B4')
+WIRED = 'vector = 0x0100\ninterrupt = true\n'
+ROUTINE = b'\x1B\x1C'  # EI; POP
 
 
 def generated(seed: int) -> bytes:
@@ -23,6 +25,11 @@ def generated(seed: int) -> bytes:
         state = (1_664_525 * state + 1_013_904_223) % 2**32
         code.append(OPCODES[(state >> 24) % 16])
     return bytes(code) + b'\x29\x00\x00'
+
+
+def interrupted(code: bytes, vector: int = 0x0100) -> bytes:
+    """Code with a routine at both addresses of a vector."""
+    return (code.ljust(vector, b'\xFF') + ROUTINE).ljust(vector + 0x80, b'\xFF') + ROUTINE
 
 
 def described(code: bytes, tracked: list[int], keys: str = '') -> str:
@@ -69,9 +76,23 @@ class Verdicts(unittest.TestCase):
         self.assertEqual(checked(code, [12, 13]), (0, 'whole 11\n'))
         self.assertEqual(checked(code, []), (7, 'refused 0014 0014 . 4\n'))
 
-    def test_interrupts_are_refused(self):
-        code = bytes.fromhex('71B6BA1B90FF').ljust(0x180, b'\xFF') + b'\x1B\x1C'
-        self.assertEqual(checked(code, [], 'vector = 0x0100\ninterrupt = true\n'), (7, 'refused 0004 ---- . 10\n'))
+    def test_interrupts_are_followed(self):
+        code = interrupted(bytes.fromhex('71B61B90FF'))
+        self.assertEqual(checked(code, [], WIRED), (0, 'whole 9\n'))
+        status, line = checked(code[:0x180], [], WIRED)
+        self.assertEqual((status, line), (7, 'refused 0180 0003 . 3\n'))
+
+    def test_a_vector_that_ports_write_is_refused(self):
+        smi = '[[chip]]\nkind = "3853"\nram_page = 0x28\nram_pages = 1\ninterrupt = true\n'
+        self.assertEqual(checked(interrupted(bytes.fromhex('71B61B90FF')), [], WIRED + smi), (7, 'refused 0003 ---- . 10\n'))
+
+    def test_returns_of_interrupts_multiply_points(self):
+        for nops, answer in [(10, (0, 'whole 164\n')), (60, (0, 'whole 3964\n')), (120, (0, 'whole 15124\n')), (250, (0, 'whole 64004\n')),
+                             (253, (0, 'whole 65531\n')), (254, (7, 'toomany\n'))]:
+            with self.subTest(nops=nops):
+                code = interrupted(bytes.fromhex('71B61B') + nops * b'\x2B' + bytes.fromhex('290003'), 0x0200)
+                self.assertEqual(checked(code, [], WIRED.replace('0x0100', '0x0200')), answer)
+                self.assertIn(f'`{answer[1].strip()}`', (TOP / 'docs/CHECKER.md').read_text())
 
     def test_the_generated_cartridge(self):
         self.assertEqual(checked(generated(1), []), (0, 'whole 12286\n'))

@@ -83,6 +83,18 @@ class Told(unittest.TestCase):
             with self.subTest(sentence=sentence[:9]):
                 self.assertIn(sentence, self.told(of_code(code, more=more)))
 
+    def test_a_vector_without_code(self):
+        # EI; BR .
+        told = self.told(of_code('1B90FF', more='vector = 0x0200\ninterrupt = true\n'))
+        self.assertIn('Reason 3: FF is the opcode of no instruction. An interrupt of chip 0 leads to it, by its timer, as behind 0001  BR $0001.', told)
+        self.assertIn('both addresses of a vector need code in ROM', told)
+        self.assertIn('By the calls and interrupts at:\n    0001  BR $0001\nReason 3', told)
+
+    def test_a_vector_in_ports(self):
+        told = self.told(of_code('1B90FF', more='[[chip]]\nkind = "3853"\ninterrupt = true\n'))
+        self.assertIn("Reason 10: BR $0001 may end with an interrupt: ICB may be 1, and the vector of chip 1 isn't known.", told)
+        self.assertIn('Let a 3851 interrupt in its place', told)
+
     def test_a_write_by_an_unknown_isar(self):
         # LIS 3; LR 3,A; INS 0; LR IS,A; LR S,A, with r3 tracked
         told = self.told(of_code('7353A00B5C', [3]))
@@ -121,6 +133,16 @@ class Told(unittest.TestCase):
         search = of_code('7251' '7350' '30' '94FE' '31' '94FA' '90FF', [0, 1])
         told = list(too_many(search, Words(search, Names()), 1))
         self.assertEqual(told[1:3], ['      6  0004  DS 0', '         3 values of r0, 2 values of r1'])
+
+    def test_interrupts_multiply_returns(self):
+        # 12 NOPs behind EI, and JMP back; EI and POP at 0080 and 0100
+        code = (bytes.fromhex('1B' + '2B' * 12 + '290001').ljust(0x80, b'\xFF') + b'\x1B\x1C').ljust(0x100, b'\xFF') + b'\x1B\x1C'
+        search = of_code(code.hex(), more='vector = 0x0100\ninterrupt = true\n')
+        self.assertEqual(search.line(), 'refused 0180 0002 . 3')
+        search = of_code(code.ljust(0x180, b'\xFF').hex() + '1B1C', more='vector = 0x0100\ninterrupt = true\n')
+        told = list(too_many(search, Words(search, Names()), 1))
+        self.assertEqual((search.line(), told[2]), (f'whole {1 + 13 * 13 + 4 * 12}', '         13 returns'))
+        self.assertIn('Let interrupts in at one place', told[-1])
 
     def test_where_no_chip_answers(self):
         told = self.told(of_code('2A0400' '16' '90FF'))  # DCI 0400; LM; BR .

@@ -5,11 +5,13 @@ import re
 import shlex
 
 from companion.calls import Sort
-from companion.description import Chip, Description
+from companion.description import PULSE, Chip, Description
 from companion.explaining.files import Files
 from companion.page_tables import reason_of, row_of_code
 
 MOST_CALLS = 12  # the last ones of a way, which are told
+NO_CODE = ('1', '2', '3')  # the reasons against what isn't code, and against a vector that isn't known
+UNKNOWN_VECTOR = '10'
 
 
 def chip_in_words(chip: Chip) -> str:
@@ -63,8 +65,20 @@ def point_of(files: Files, at: str, back: str, values: str, number: str) -> list
     told = [f'Reason {number}: {reason.what}; such as {reason.example} (docs/CHECKER.md).', f'What helps: {reason.help}.'] if reason else []
     pairs = zip(files.description.split, values.split(','))
     known = [f'r{register} is {byte}' for register, byte in pairs if byte != '--' and register in range(64)]
-    return [*told, *where(files, int(at, 16)), *calls_to(files, int(at, 16), None if back == '----' else int(back, 16)),
+    return [*told, *where(files, int(at, 16)), *vector_of(files, int(at, 16), number),
+            *calls_to(files, int(at, 16), None if back == '----' else int(back, 16)),
             *([f'There {" and ".join(known)}.'] if known else []), return_of(files, back)]
+
+
+def vector_of(files: Files, address: int, number: str) -> list[str]:
+    """What is wrong where an interrupt leads to no code, and which chips have their vector in ports."""
+    if number in NO_CODE:
+        chip = next((chip for chip in files.description.chips if address in chip.vectors), None)
+        cause = 'a pulse' if address & PULSE else 'its timer'
+        return [f'{address:04X} is where an interrupt of chip {chip.number} leads, by {cause}. Both addresses of a vector need code in ROM, `EI` '
+                'and `POP` at least, whatever the chip lets in.'] if chip else []
+    chips = [f'chip {chip.number}' for chip in files.description.chips if chip.interrupt and not chip.vectors]
+    return [f'The vector of {" and ".join(chips)} is in ports.'] if number == UNKNOWN_VECTOR and chips else []
 
 
 def not_closed(files: Files, origin: str, *point: str) -> list[str]:
@@ -77,7 +91,10 @@ def not_closed(files: Files, origin: str, *point: str) -> list[str]:
 
 
 def too_many(files: Files) -> list[str]:
+    returns = ['Each instruction at whose end an interrupt may be taken gives one more return, with which all that follows is looked at: let '
+               'interrupts in at one place, `EI`, a few instructions, `DI` (docs/SAFE.md).']
     return ['Each register in `split` multiplies the points: track fewer of them, or let them count less far.',
+            *(returns if any(chip.vectors for chip in files.description.chips) else []),
             f'tools/why {files.path("cart") or "CART"} says where the most points are, and what multiplies them.']
 
 
