@@ -18,7 +18,7 @@ sys.path.insert(0, str(TOP / 'tools'))  # where the package `companion` lies; th
 from companion.crate_list import all_below, crates_listed  # noqa: E402
 from companion.words import Refused, count_of, parser_of, run, status_of, waiting  # noqa: E402
 
-__all__ = ['COUNTED', 'Cost', 'MOST_POINTS', 'NAME', 'OwnProgram', 'Refused', 'Run', 'add_program', 'built', 'cost_of', 'count_of',
+__all__ = ['COUNTED', 'Cost', 'INTERRUPTED', 'INTERRUPTED_POINTS', 'MOST_POINTS', 'NAME', 'OwnProgram', 'Refused', 'Run', 'add_program', 'built', 'cost_of', 'count_of',
            'described', 'files', 'median_of_five', 'parser_of', 'psu', 'run', 'run_of']
 
 NAME = 'bench'  # what errors begin with
@@ -28,6 +28,10 @@ PSU_BYTES = 1024
 TOLD = 2000
 # Two loops, one in the other, with 510 instructions behind them: r1 counts 127 times what r0 counts 254 times.
 COUNTED = bytes.fromhex('207F5120FE503094FE3194F8') + b'\x2B' * 509 + b'\x90\xFF'
+# LIS 1, OUTS 6, EI, and a loop of 250 NOPs and a JMP that lets interrupts in; behind it EI and POP at both addresses of the vector 0100. Each
+# of 251 instructions is followed with each of 250 returns and with none, and four behind the vector with each: with the first three 64,004.
+INTERRUPTED = (bytes.fromhex('71B61B') + b'\x2B' * 250 + bytes.fromhex('290003' '1B1C')).ljust(0x180, b'\xFF') + bytes.fromhex('1B1C')
+INTERRUPTED_POINTS = 64_004
 # So many points has COUNTED with r0 and r1 tracked, and a certificate has no more.
 MOST_POINTS = 65_536
 

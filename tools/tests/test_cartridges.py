@@ -3,7 +3,9 @@ from __future__ import annotations
 
 import functools
 import subprocess
+import tempfile
 import unittest
+from pathlib import Path
 
 from tool import PROGRAM, TOP, needs_program
 
@@ -20,11 +22,19 @@ HEARTBEAT = [
     'regs P=0019 P1=0019 D0=0200 D1=0000 A=20 IS=00 W=17',
     's00 83 16 00 1F 00 00 00 00 00 00 00 00 00 00 00 00',
     'total 72345 instructions 984402 phi']
+CANDLE = [
+    'frame 5 phi 149152 tone 0',
+    'frame 10 phi 298310 tone 0',
+    'frame 14 phi 417622 tone 0',
+    'stop done',
+    'regs P=0032 P1=0067 D0=0000 D1=0000 A=00 IS=00 W=15',
+    's00 C1 23 04 00 00 BD 29 18 3F 00 00 01 00 00 00 00',
+    'total 53298 instructions 417622 phi']
 
 # What a run has to end with, by the words in front of the cartridge's files. The lines are those of the cartridge's README. The totals were
 # counted by hand, by docs/MACHINE.md: 14 clocks of reset, and then, for instance in `parted`, DCI 24, XDC 8, DCI 24, LIS 4, LR 4, LM 10,
-# XDC 8, ST 10, XDC 8, DS 6 and BNZ 14 up to the LM that isn't served. Those of `heartbeat`, which is too long for that, were computed by a
-# model of its program and its timer that was written apart, in Python.
+# XDC 8, ST 10, XDC 8, DS 6 and BNZ 14 up to the LM that isn't served. Those of `heartbeat` and `candle`, which are too long for that, were
+# computed by models of their programs and timers that were written apart, in Python.
 RUNS = [
     (['play'], 'product', 0, PRODUCT),
     (['ref'], 'product', 0, PRODUCT),
@@ -69,6 +79,8 @@ RUNS = [
         'stop done']),
     (['play'], 'heartbeat', 0, HEARTBEAT),
     (['ref'], 'heartbeat', 0, HEARTBEAT),
+    (['play'], 'candle', 0, ['verdict whole', *CANDLE]),
+    (['ref'], 'candle', 0, CANDLE),
 ]
 
 # Without chips the copy of `parted` is done: four bytes are gone over, the last of them is 11, and r0 is 0.
@@ -77,7 +89,7 @@ PARTED_WITHOUT_CHIPS = ['stop done', 'regs P=0010 P1=0000 D0=0016 D1=2804 A=11 I
 
 # The verdict on each cartridge. Where no register is tracked, the points are the instructions that a run can come to; of `copied`, the five
 # before the loop, six in each of its four turns, and the branch at the end. Those of `lighthouse` weren't counted by hand, so its
-# row has the word of the verdict alone.
+# row has the word of the verdict alone. Of `candle` they are 80 instructions that are met with one return, and 25 with four.
 VERDICTS = {
     'product': (0, 'whole 30'), 'copied': (0, 'whole 30'), 'summed': (0, 'agreed 11'), 'two_roms': (0, 'agreed 27'), 'lighthouse': (0, 'agreed'),
     'signboard': (0, 'whole'),
@@ -136,6 +148,33 @@ class Cartridges(unittest.TestCase):
             at = next(at for at, line in enumerate(lines) if line.startswith(f'frame {number} '))
             rows = [line[2:].translate(str.maketrans('0123', ' .o#')) for line in lines[at + 1:at + 65:2]]
             self.assertEqual([f'    {row}'.rstrip() for row in rows], [line.rstrip() for line in shown])
+
+    def test_pictures_of_the_candle(self):
+        _, lines = run(['play'], 'candle')
+        text = (TOP / 'cartridges/candle/README.md').read_text()
+        shown = text.partition('`#` for 3:\n\n')[2].partition('\n\nThe other')[0].splitlines()
+        starts = [at for at, line in enumerate(lines) if line.startswith('frame ')]
+        rows = [[line[52:80].translate(str.maketrans('0123', ' .o#')) for line in lines[at + 15:at + 55:2]] for at in starts]
+        self.assertEqual([f'    {"   ".join(row)}'.rstrip() for row in zip(*rows)], [line.rstrip() for line in shown])
+
+    def test_the_certificate_of_the_candle(self):
+        """It is there as the checker writes it, and shows the verdict."""
+        text = (TOP / 'cartridges/candle/cart.cert').read_text()
+        self.assertEqual(ran('check', '--cert', 'cartridges/candle/cart.toml'), (0, text.splitlines()))
+        self.assertEqual(ran('verify', 'cartridges/candle/cart.toml', 'cartridges/candle/cart.cert'), (0, ['whole 180']))
+
+    def test_what_is_said_of_other_candles(self):
+        source, cart = ((TOP / 'cartridges/candle' / name).read_text() for name in ('candle.f8', 'cart.toml'))
+        begin, _, behind = source.partition('        ORG $0180')
+        without = begin + '        ORG $0200' + behind.partition('        ORG $0200')[2]
+        said = (TOP / 'cartridges/candle/README.md').read_text()
+        with tempfile.TemporaryDirectory() as folder:
+            Path(folder, 'cart.toml').write_text(cart.replace('cartridges/candle/', ''))
+            for text, line in [(source.replace('        DI\n', ''), 'whole 1490'), (without, 'refused 0180 0032 . 3')]:
+                Path(folder, 'candle.f8').write_text(text)
+                done = subprocess.run([PROGRAM, 'check', 'cart.toml'], cwd=folder, capture_output=True, text=True, timeout=60)
+                self.assertEqual(done.stdout, f'{line}\n')
+                self.assertIn(f'`{line}`', said)
 
     def test_letters_of_the_signboard(self):
         _, lines = run(['play'], 'signboard')
