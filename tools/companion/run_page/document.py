@@ -119,7 +119,7 @@ def chips_section(subject: Subject) -> Markup:
         holds = ', '.join(f'{holding.word} {space.start:04X} to {space.stop - 1:04X}' for holding, space in chip.spaces.items())
         ports = f'{chip.ports.start:02X} to {chip.ports.stop - 1:02X}' if chip.ports else ''
         rows.append(row(str(chip.number), chip.kind.value, str(chip.socket), holds or 'nothing', ports,
-                        f'vector {chip.vector:04X}' if chip.interrupt else 'no'))
+                        f'vector {chip.vector:04X}' if chip.vectors else 'vector in ports' if chip.interrupt else 'no'))
     split = ', '.join(f'r{register}' for register in subject.description.split)
     return section('chips', 'Chips', table(heads, rows), element('p', f'Tracked registers: {split or "none"}.'))
 
