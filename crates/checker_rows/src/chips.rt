@@ -7,27 +7,25 @@ use chip_face::{Bytes, ChipList, ChipSpec, Page, PageList, PageSort};
 use std::alloc::Global;
 use std::test::Fail;
 
-/// A 3851 at address 0 with some bytes, and FF behind them.
-pub(crate) fn psu(alloc: Global, code: &[u8]) -> Result<ChipSpec, Fail>
-    requires { length code.now ≤ 16 }
+/// A 3851 at address 0 with some bytes, and FF behind them. With a vector it can interrupt.
+pub(crate) fn psu(alloc: Global, code: &[u8], vector: Option<u16>) -> Result<ChipSpec, Fail>
+    requires { length code.now ≤ 1024 }
     ensures spec { IfOk result IsSpec }
     ensures kept { IfOk result (λ chip. is_blank chip ≡ false) }
 {
     let mut rom = [0xFF; 1024];
-    for (place, byte) in code.iter().enumerate() {
-        rom[place] = *byte;
-    }
+    rom[..code.len()].copy_from_slice(code);
     Ok(ChipSpec::Psu {
         base: 0x0000,
         rom: Bytes::of(alloc, &rom)?,
         ports: 0x04,
-        vector: 0x0000,
-        wired: false,
+        vector: vector.unwrap_or(0x0000),
+        wired: vector.is_some(),
     })
 }
 
-/// A 3853 with a RAM page at 28.
-pub(crate) fn smi(alloc: Global) -> Result<ChipSpec, Fail>
+/// A 3853 with a RAM page at 28, which may be one that can interrupt.
+pub(crate) fn smi(alloc: Global, wired: bool) -> Result<ChipSpec, Fail>
     ensures spec { IfOk result IsSpec }
     ensures kept { IfOk result (λ chip. is_blank chip ≡ false) }
 {
@@ -38,16 +36,16 @@ pub(crate) fn smi(alloc: Global) -> Result<ChipSpec, Fail>
     Ok(ChipSpec::Smi {
         pages: PageList::of(alloc, &pages)?,
         rom: Bytes::of(alloc, &[])?,
-        wired: false,
+        wired,
     })
 }
 
-/// A cartridge of such a 3851 alone, with no register tracked.
+/// A cartridge of such a 3851 alone that can't interrupt, with no register tracked.
 pub(crate) fn lone_cart(alloc: Global, code: &[u8]) -> Result<Cart, Fail>
-    requires { length code.now ≤ 16 }
+    requires { length code.now ≤ 1024 }
 {
     let mut chips = Vec::with_capacity(alloc, 1)?;
-    chips.push(psu(alloc, code)?)?;
+    chips.push(psu(alloc, code, None)?)?;
     Ok(Cart {
         split: Split::new(),
         chips: ChipList::from_vec(chips),

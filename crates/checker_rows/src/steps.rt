@@ -23,8 +23,8 @@ fn both(alloc: Global, code: &[u8]) -> Result<Map, Fail>
     requires { length code.now ≤ 16 }
 {
     let mut chips = Vec::with_capacity(alloc, 2)?;
-    chips.push(psu(alloc, code)?)?;
-    chips.push(smi(alloc)?)?;
+    chips.push(psu(alloc, code, None)?)?;
+    chips.push(smi(alloc, false)?)?;
     Ok(Map::of(alloc, &ChipList::from_vec(chips))?)
 }
 
@@ -53,7 +53,8 @@ fn loads_the_data_counter_at_the_start(rt: HostRuntime) -> Result<(), Fail> {
     wanted.c = Word::Known(0x0005);
     wanted.s0 = true;
     wanted.p0 = true;
-    assert_eq!(rt; ways.as_slice(), [(point(0x0003), wanted)].as_slice());
+    assert_eq!(rt; ways.len(), 1);
+    assert_eq!(rt; ways.get(0), Some((point(0x0003), wanted)));
     Ok(())
 }
 
@@ -83,8 +84,9 @@ fn takes_a_branch_first(rt: HostRuntime) -> Result<(), Fail> {
     let Ok(ways) = after(&unknown, &here, &split, &map) else {
         panic!(rt; "a branch isn't safe");
     };
-    let wanted = [(point(0x0000), unknown), (point(0x0002), unknown)];
-    assert_eq!(rt; ways.as_slice(), wanted.as_slice());
+    assert_eq!(rt; ways.len(), 2);
+    assert_eq!(rt; ways.get(0), Some((point(0x0000), unknown)));
+    assert_eq!(rt; ways.get(1), Some((point(0x0002), unknown)));
     Ok(())
 }
 
