@@ -48,7 +48,7 @@ pub mod WorkedReads
 pub mod WorkedWhole
 pub mod Reachability
 pub mod CartridgeMaps
-pub mod EarlierSteps
+pub mod VectorsKept
 pub mod SeatSums
 pub mod SeatedViews
 pub mod WorkedAnalyses

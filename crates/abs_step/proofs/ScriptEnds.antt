@@ -106,6 +106,8 @@ done_of e (inr (fault, is, none)) = absurd (cc)
 
 pub script_runs : ScriptRunLaw
 script_runs = record {
+  start = λ bytes vs chain powers script are script_for.
+      reset_free bytes (map seat_of vs) (begun vs chain powers script) (begun_free bytes vs chain powers script are script_for);
   sound = λ m tracked notes vs chain powers traced script safe are script_for.
       whole_ends m tracked notes vs chain powers traced script safe are script_for
       (λ here fault. OnlyUndriven here.flat.state.flow.d0 fault)

@@ -15,7 +15,7 @@ pub mod ReachedStates
 pub mod CartridgeAnalysis
 pub mod Soundness
 pub mod ScriptRuns
-pub mod EarlierSteps
+pub mod WithoutVectors
 pub mod RackSeats
 pub mod StepView
 pub mod WaysOn

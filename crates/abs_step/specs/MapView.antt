@@ -56,7 +56,7 @@ abbrev pub is_seat_written : Seat → Bool
 is_seat_written s = s.wired && not (has_fixed_vector s.kind)
 
 -- The map is right of some chips. It tells the byte of each address that one chip alone holds and no store changes, and none that a store
--- changes. Only 3853s have RAM, and no chip without counters holds an address.
+-- changes. Only 3853s have RAM, and no chip without counters holds an address. It may tell more vectors than the chips have.
 pub record IsViewOf (m : MapView) (seats : List Seat) : Type 0 where
   pub sort : (at : ℕ) → at < 65536 → m.sort at ≡ sort_of seats at
   pub stays : (at byte : ℕ) → at < 65536 → m.byte at ≡ Some byte → is_ram_sort (sort_of seats at) ≡ false

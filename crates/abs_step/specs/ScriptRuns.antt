@@ -7,16 +7,16 @@ use Rattle.f8_spec.specs.declared.chips.PowerOn.{PowerOn}
 use Rattle.f8_spec.specs.BusArbitration.{seat_of}
 use Rattle.console_spec.specs.FlatMemory.{fixed_byte}
 use Rattle.console_spec.specs.Services.{Fault}
-use Rattle.console_spec.specs.Run.{Position, Ending, Done, Unserved}
+use Rattle.console_spec.specs.Run.{Position, Ending, Done, Unserved, position_after_reset}
 use Rattle.console_spec.specs.Scripts.{Script}
-use Rattle.console_spec.specs.Telling.{played_by}
+use Rattle.console_spec.specs.Telling.{begun, played_by}
 use Rattle.console_spec.specs.declared.At.{At}
 use Rattle.abs_domain.specs.AbstractState.{AbstractState}
 use Rattle.abs_domain.specs.declared.points.Point.{Point}
 use Rattle.abs_step.specs.CartridgeAnalysis.{analysis}
 use Rattle.abs_step.specs.MapView.{MapView}
 use Rattle.abs_step.specs.ReachedStates.{HoldsFaultFreeStates}
-use Rattle.console_spec.specs.FreeRuns.{HasByte}
+use Rattle.console_spec.specs.FreeRuns.{HasByte, IsFreeStart}
 use Rattle.abs_step.specs.Soundness.{IsSafeMap, OnlyUndriven}
 
 -- a script for some chips: what is told by address stays there in them, and all bytes are bytes
@@ -31,6 +31,9 @@ abbrev pub EndsBy : (Position → Option Fault → Type 0) → Ending → Type 0
 EndsBy claim e = (e.stop ≡ Done) ⊎ ((fault : Fault) × (e.stop ≡ Unserved fault) × claim e.position (Some fault))
 
 pub record ScriptRunLaw : Type 0 where
+  -- a run by a script begins, behind reset, in a position in which a run with free inputs may begin
+  pub start : (bytes : ℕ → Option ℕ) (vs : List ChipView) (chain : List ℕ) (powers : List PowerOn) (script : Script) → ArePowers powers →
+      IsScriptFor bytes vs script → IsFreeStart bytes (map seat_of vs) (position_after_reset (begun vs chain powers script))
   -- where the map is safe, nothing stops a run but a read at D0 that no chip answers
   pub sound : (m : MapView) (tracked : List ℕ) (notes : List (Point × AbstractState)) (vs : List ChipView) (chain : List ℕ) (powers : List PowerOn)
       (traced : Bool) (script : Script) → IsSafeMap m (map seat_of vs) tracked notes → ArePowers powers → IsScriptFor m.byte vs script →

@@ -16,7 +16,7 @@ keeps_interrupts_out op icb = is_shielding op || is_known_false icb
 abbrev pub vectors_let_in : Op → MapView → Option Bool → List ℕ
 vectors_let_in op m icb = if keeps_interrupts_out op icb then [] else m.vectors
 
--- the address that a chip gives for its timer, or for a pulse
+-- the address that a chip gives for its timer, or for a pulse; as on the bus it is taken modulo 65,536
 abbrev pub vector_address : Bool → ℕ → ℕ
 vector_address timer vector = vector_for timer vector % 65536
 

@@ -29,7 +29,7 @@ abbrev pub with_ways : List Way → List Way → List Way
 with_ways [] done = done
 with_ways (w ∷ ws) done = with_ways ws (with_way w done)
 
--- an interrupt leads from an exit to a vector, and is the only one let in
+-- an interrupt leads from an exit to a vector, where the bit is clear
 abbrev pub vector_way : Bool → Exit → ℕ → Way
 vector_way timer e vector = record { exit = vector_exit timer vector e; icb = Some false }
 

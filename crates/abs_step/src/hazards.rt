@@ -191,7 +191,7 @@ pub fn keeps_interrupts_out(op: Op, icb: Option<bool>) -> bool
     shields(op) || icb == Some(false)
 }
 
-/// An interrupt may be taken there whose vector ports write.
+/// An interrupt may be taken at the end whose vector ports write.
 pub fn vector_is_lost(op: Op, map: &Map, icb: Option<bool>) -> bool
     ensures { result ≡ vector_is_lost op (view_of map.now) icb }
 {

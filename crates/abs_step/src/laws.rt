@@ -1,6 +1,6 @@
 // The laws of the checker's step.
 ghost use Rattle.abs_step.specs.CartridgeAnalysis.{AnalysisLaw};
-ghost use Rattle.abs_step.specs.EarlierSteps.{EarlierStepLaw};
+ghost use Rattle.abs_step.specs.WithoutVectors.{WithoutVectorsLaw};
 ghost use Rattle.abs_step.specs.FitLaws.{FitLaw};
 ghost use Rattle.abs_step.specs.MapView.{MapViewLaw};
 ghost use Rattle.abs_step.specs.RackSeats.{SeatedViewLaw};
@@ -9,8 +9,8 @@ ghost use Rattle.abs_step.specs.Soundness.{SoundnessLaw};
 ghost use Rattle.abs_step.specs.SoundSteps.{SoundStepLaw};
 ghost use Rattle.abs_step.specs.StepOrder.{StepOrderLaw};
 
-/// The map of the chips of a description tells the checker what is so of them: sorts, bytes that stay, holders by kind, ports, and whether
-/// some chip can interrupt (this project's own). This call does nothing; its contract is the law.
+/// The map of the chips of a description tells the checker what is so of them: sorts, bytes that stay, holders by kind, ports, and of
+/// the chips that can interrupt the vectors that no port writes, and whether some has one that ports write (this project's own). This call does nothing; its contract is the law.
 #[tactic(auto, using(crate::proofs::MapViews::map_view))]
 pub fn map_view_law()
     ensures { MapViewLaw }
@@ -41,11 +41,11 @@ pub fn sound_step_law()
 {}
 
 /// What an analysis shows to be safe that follows no vector, and refuses every chip that can interrupt where an interrupt may be taken, is
-/// shown to be safe, and leads to the same points, where vectors are followed (this project's own). This call does nothing; its contract is
-/// the law.
-#[tactic(auto, using(crate::proofs::EarlierSteps::earlier_steps))]
-pub fn earlier_step_law()
-    ensures { EarlierStepLaw }
+/// shown to be safe, and leads to the same points, where vectors are followed; and no interrupt is taken there (this project's own). This
+/// call does nothing; its contract is the law.
+#[tactic(auto, using(crate::proofs::VectorsKept::without_vectors_kept))]
+pub fn without_vectors_law()
+    ensures { WithoutVectorsLaw }
 {}
 
 /// Over a closed and safe invariant map of the chips a run by a script is done, or it stops at a read at D0 that no chip answers; and where

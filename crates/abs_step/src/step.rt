@@ -70,8 +70,8 @@ pub(crate) fn instruction_at(map: &Map, at: u16) -> Option<Op>
     decode(map.byte(at)?).ok()
 }
 
-/// What holds after the instruction at a point, at each point to which it may lead, or why the state isn't safe there (this project's
-/// own). Of the chips it learns by the map.
+/// What holds after the instruction at a point, at each point to which it, or an interrupt at its end, may lead; or why the state isn't safe
+/// there (this project's own). Of the chips it learns by the map.
 #[tactic(auto, unfolding(crate::specs::Safety::unsafe_reason))]
 pub fn after(abs: &Abs, point: &Point, split: &Split, map: &Map) -> Result<Successors, Reason>
     requires { HasTrackedBytes split.now (invariant_at point.now abs.now) }

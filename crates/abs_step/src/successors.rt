@@ -1,4 +1,4 @@
-// What holds next: a short list of points with their states, each point once.
+// What holds next: up to 66 points with their states, each point once.
 ghost use Rattle.std.specs.Prelude.{◌≡◌, slice_get};
 ghost use Rattle.abs_domain.specs.StateView.{state_of};
 ghost use Rattle.abs_step.specs.StepView.{invariant_of};
@@ -6,7 +6,7 @@ ghost use Rattle.abs_step.specs.Vectors.{with_icb};
 ghost use Rattle.abs_step.specs.WaysOn.{at_way};
 
 use super::status::Status;
-use super::ways::{Way, Ways};
+use super::ways::{MOST_WAYS, Way, Ways};
 use abs_domain::{Abs, MOST_TRACKED, Point};
 use std::marker::Model;
 
@@ -32,7 +32,7 @@ impl Model for Successors {
 }
 
 impl Successors {
-    ghost use Rattle.std.specs.Prelude.{◌==◌, length, map, option_map};
+    ghost use Rattle.std.specs.Prelude.{◌≤◌, ◌==◌, length, map, option_map};
     ghost use Rattle.abs_domain.specs.StateView.{state_of};
     ghost use Rattle.abs_step.specs.StepView.{invariant_of};
     ghost use Rattle.abs_step.specs.WaysOn.{at_way};
@@ -46,7 +46,8 @@ impl Successors {
 
     /// How many there are.
     pub fn len(&self) -> usize
-        ensures { result ≡ length self.now }
+        ensures count { result ≡ length self.now }
+        ensures most { result ≤ MOST_WAYS }
     {
         self.ways.len()
     }
@@ -62,10 +63,8 @@ impl Successors {
     pub fn get(&self, place: usize) -> Option<(Point, Abs)>
         ensures { option_map invariant_of result ≡ slice_get self.now place }
     {
-        match self.ways.as_slice().get(place) {
-            Some(way) => Some(at_way(self.bytes, self.state, *way)),
-            None => None,
-        }
+        let way = self.ways.as_slice().get(place)?;
+        Some(at_way(self.bytes, self.state, *way))
     }
 }
 
@@ -82,23 +81,11 @@ fn at_way(bytes: [Option<u8>; MOST_TRACKED], state: Abs, way: Way) -> (Point, Ab
 }
 
 /// A state of which this is known of the interrupt control bit.
-fn with_icb(state: Abs, icb: Option<bool>) -> Abs
+fn with_icb(mut state: Abs, icb: Option<bool>) -> Abs
     ensures { state_of result ≡ with_icb icb (state_of state) }
 {
     let mut status = Status::of(&state.w);
     status.icb = icb;
-    Abs {
-        a: state.a,
-        regs: state.regs,
-        hi: state.hi,
-        lo: state.lo,
-        w: status.bits(),
-        d0: state.d0,
-        d1: state.d1,
-        c: state.c,
-        s0: state.s0,
-        s1: state.s1,
-        p0: state.p0,
-        p1: state.p1,
-    }
+    state.w = status.bits();
+    state
 }

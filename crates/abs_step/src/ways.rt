@@ -27,31 +27,31 @@ pub type Ways = ArrayVec<Way, MOST_WAYS>;
 
 /// Those of an instruction's exits with this of the interrupt control bit, in their order: behind each exit the vectors of the map, or none
 /// where interrupts are kept out.
-pub fn ways_of(exits: Exits, icb: Option<bool>, is_closed: bool, map: &Map) -> Ways
+pub fn ways_of(exits: Exits, icb: Option<bool>, kept_out: bool, map: &Map) -> Ways
     ensures { result.items
-        ≡ ways_of (if is_closed then [] else mapped_vectors map.now) icb (exits_view exits) }
+        ≡ ways_of (if kept_out then [] else mapped_vectors map.now) icb (exits_view exits) }
 {
     let mut ways = Ways::new();
     match exits {
         Exits::Nowhere => {},
-        Exits::One(exit) => add_along(&mut ways, exit, icb, is_closed, map),
+        Exits::One(exit) => add_along(&mut ways, exit, icb, kept_out, map),
         Exits::Two(first, second) => {
-            add_along(&mut ways, first, icb, is_closed, map);
-            add_along(&mut ways, second, icb, is_closed, map);
+            add_along(&mut ways, first, icb, kept_out, map);
+            add_along(&mut ways, second, icb, kept_out, map);
         },
     }
     ways
 }
 
 /// Adds an exit, and the vectors behind it.
-fn add_along(ways: &mut Ways, exit: Exit, icb: Option<bool>, is_closed: bool, map: &Map)
+fn add_along(ways: &mut Ways, exit: Exit, icb: Option<bool>, kept_out: bool, map: &Map)
     requires { array_vec_len ways.old ≤ 1 + 2 * MOST_CHIPS }
     ensures list { ways.new.items ≡ with_ways (ways_along
-        (if is_closed then [] else mapped_vectors map.now) icb exit) ways.old.items }
+        (if kept_out then [] else mapped_vectors map.now) icb exit) ways.old.items }
     ensures count { array_vec_len ways.new ≤ array_vec_len ways.old + 1 + 2 * MOST_CHIPS }
 {
     add(ways, Way { exit, icb });
-    if is_closed {
+    if kept_out {
         return;
     }
     for place in 0..MOST_CHIPS {

@@ -1,88 +1,114 @@
--- What is found of a map is so of every run, and it is found with vectors where it was found without.
-use Rattle.std.proofs.Common.{◌≡◌, ℕ, List, sym, ◌∙◌}
-use Rattle.std.specs.Prelude.{None}
+-- What is found of a map is so of every run, and it is found with vectors where it is found without.
+use Rattle.std.proofs.Common.{◌≡◌, ℕ, Bool, true, false, ◌&&◌, if◌then◌else◌, List, [], ◌∷◌, refl, ap, sym, ◌∙◌}
+use Rattle.std.specs.Prelude.{Option, Some, None, option_map, unwrap_or, Result, Ok, Err}
+use Rattle.std.specs.List.{list_all}
+use Rattle.std.specs.Option.{option_or}
+use Rattle.f8_spec.specs.BusArbitration.{Seat}
 use Rattle.chip_face.specs.declared.specification.ChipSpec.{ChipSpec}
-use Rattle.memory_map.specs.MapOf.{seats_of}
 use Rattle.abs_domain.specs.AbstractState.{AbstractState}
 use Rattle.abs_domain.specs.declared.points.Point.{Point}
+use Rattle.abs_domain.specs.declared.reason.Reason.{Reason}
 use Rattle.abs_domain.proofs.PointOrders.{point_laws}
+use Rattle.abs_step.specs.Analysis.{Analysis}
 use Rattle.abs_step.specs.CartridgeAnalysis.{analysis, as_invariant}
-use Rattle.abs_step.specs.EarlierSteps.{without_vectors}
-use Rattle.abs_step.specs.MapView.{MapView, chips_view}
-use Rattle.abs_step.specs.ReachedStates.{HoldsFaultFreeStates, IsInvariantMap, IsSafelyClosed}
+use Rattle.abs_step.specs.MapView.{MapView, IsViewOf, chips_view}
+use Rattle.abs_step.specs.ReachedStates.{IsInvariantMap, IsSafelyClosed}
 use Rattle.abs_step.specs.Soundness.{IsSafeMap, OnlyUndriven}
-use Rattle.abs_step.proofs.EarlierSteps.{earlier_steps}
-use Rattle.abs_step.proofs.MapViews.{map_view}
+use Rattle.abs_step.specs.WithoutVectors.{without_vectors}
 use Rattle.abs_step.proofs.SoundRuns.{soundness}
-use Rattle.certificate.specs.Examination.{examined}
-use Rattle.certificate.specs.VerifiedMaps.{GoesOnAlways, IsRead, VerifiedLaw}
-use Rattle.certificate.specs.declared.examined.VerifyAnswer.TheVariants.{Whole, Agreed}
-use Rattle.certificate.proofs.ClosedMaps.{map_of_fitting}
-use Rattle.certificate.proofs.Examinations.{agreed_exactly, whole_exactly}
-
-module _ (m : MapView) (tracked : List ℕ) (notes : List (Point × AbstractState)) (read : IsRead tracked notes) where
-  is_map : IsInvariantMap (analysis m tracked) notes
-  is_map = map_of_fitting m tracked notes read.ascends read.few read.fits
-
-  pub found_whole : examined (analysis m tracked) notes ≡ Whole →
-      IsSafelyClosed (analysis m tracked) notes × HoldsFaultFreeStates (analysis m tracked) notes
-  found_whole is = (whole_exactly (analysis m tracked) point_laws.total point_laws.exact notes is_map).0 is
-
-  pub found_agreed : examined (analysis m tracked) notes ≡ Agreed →
-      IsSafelyClosed (analysis m tracked) notes × (HoldsFaultFreeStates (analysis m tracked) notes → ⊥)
-  found_agreed is = (agreed_exactly (analysis m tracked) point_laws.total point_laws.exact notes is_map).0 is
+use Rattle.abs_step.proofs.VectorsKept.{without_vectors_kept}
+use Rattle.certificate.specs.Examination.{covers, examined, failure_at, first_failure, first_open, safe_answer}
+use Rattle.certificate.specs.VerifiedMaps.{GoesOnAlways, VerifiedLaw}
+use Rattle.certificate.specs.declared.examined.VerifyAnswer.{VerifyAnswer}
+use Rattle.certificate.specs.declared.examined.VerifyAnswer.TheVariants.{Whole, Agreed, NotClosed}
+use Rattle.certificate.proofs.Examinations.{agreed_exactly, never_agreed, never_whole, whole_exactly}
 
 -- ---- runs
 
-safe_map : (chips : List ChipSpec) (tracked : List ℕ) (notes : List (Point × AbstractState)) →
-    IsSafelyClosed (analysis (chips_view chips) tracked) notes → IsSafeMap (chips_view chips) (seats_of chips) tracked notes
-safe_map chips tracked notes closed = record { view = map_view.right chips; closed = closed.closed; safe = closed.safe }
+safe_map : (chips : List ChipSpec) (seats : List Seat) (tracked : List ℕ) (notes : List (Point × AbstractState)) →
+    IsViewOf (chips_view chips) seats → IsSafelyClosed (analysis (chips_view chips) tracked) notes →
+    IsSafeMap (chips_view chips) seats tracked notes
+safe_map chips seats tracked notes view closed = record { view = view; closed = closed.closed; safe = closed.safe }
 
-pub whole_goes_on : (chips : List ChipSpec) (tracked : List ℕ) (notes : List (Point × AbstractState)) → IsRead tracked notes →
-    examined (analysis (chips_view chips) tracked) notes ≡ Whole → GoesOnAlways (λ here fault. fault ≡ None) chips
-whole_goes_on chips tracked notes read is =
-    let found = found_whole (chips_view chips) tracked notes read is in
-    let safe = safe_map chips tracked notes found.0 in
-    record {
-      reset = λ here start. soundness.reset (chips_view chips) (seats_of chips) tracked notes safe here start;
-      each = λ n here reached. soundness.fault_free (chips_view chips) (seats_of chips) tracked notes safe found.1 n here reached;
-    }
+module _ (chips : List ChipSpec) (tracked : List ℕ) (notes : List (Point × AbstractState))
+    (is_map : IsInvariantMap (analysis (chips_view chips) tracked) notes) where
+  pub whole_goes_on : examined (analysis (chips_view chips) tracked) notes ≡ Whole → GoesOnAlways (λ here fault. fault ≡ None) chips
+  whole_goes_on is =
+      let found = (whole_exactly (analysis (chips_view chips) tracked) point_laws.total point_laws.exact notes is_map).0 is in
+      record {
+        reset = λ seats view here start.
+            soundness.reset (chips_view chips) seats tracked notes (safe_map chips seats tracked notes view found.0) here start;
+        each = λ seats view n here reached.
+            soundness.fault_free (chips_view chips) seats tracked notes (safe_map chips seats tracked notes view found.0) found.1 n here reached;
+      }
 
-agreed_goes_on : (chips : List ChipSpec) (tracked : List ℕ) (notes : List (Point × AbstractState)) → IsRead tracked notes →
-    examined (analysis (chips_view chips) tracked) notes ≡ Agreed →
-    GoesOnAlways (λ here fault. OnlyUndriven here.flat.state.flow.d0 fault) chips
-agreed_goes_on chips tracked notes read is =
-    let safe = safe_map chips tracked notes (found_agreed (chips_view chips) tracked notes read is).0 in
-    record {
-      reset = λ here start. soundness.reset (chips_view chips) (seats_of chips) tracked notes safe here start;
-      each = λ n here reached. soundness.sound (chips_view chips) (seats_of chips) tracked notes safe n here reached;
-    }
+  agreed_goes_on : examined (analysis (chips_view chips) tracked) notes ≡ Agreed →
+      GoesOnAlways (λ here fault. OnlyUndriven here.flat.state.flow.d0 fault) chips
+  agreed_goes_on is =
+      let found = (agreed_exactly (analysis (chips_view chips) tracked) point_laws.total point_laws.exact notes is_map).0 is in
+      record {
+        reset = λ seats view here start.
+            soundness.reset (chips_view chips) seats tracked notes (safe_map chips seats tracked notes view found.0) here start;
+        each = λ seats view n here reached.
+            soundness.sound (chips_view chips) seats tracked notes (safe_map chips seats tracked notes view found.0) n here reached;
+      }
 
 -- ---- without vectors
 
-module _ (m : MapView) (tracked : List ℕ) (notes : List (Point × AbstractState)) (read : IsRead tracked notes) where
-  free_now : HoldsFaultFreeStates (analysis (without_vectors m) tracked) notes → HoldsFaultFreeStates (analysis m tracked) notes
-  free_now free = λ p s noted. sym (earlier_steps.fault_free m (as_invariant (p, s))) ∙ free p s noted
+module _ (m : MapView) (tracked : List ℕ) where
+  abbrev old : Analysis Point AbstractState
+  old = analysis (without_vectors m) tracked
 
-  free_before : HoldsFaultFreeStates (analysis m tracked) notes → HoldsFaultFreeStates (analysis (without_vectors m) tracked) notes
-  free_before free = λ p s noted. earlier_steps.fault_free m (as_invariant (p, s)) ∙ free p s noted
+  abbrev new : Analysis Point AbstractState
+  new = analysis m tracked
 
-  whole_now : examined (analysis (without_vectors m) tracked) notes ≡ Whole → examined (analysis m tracked) notes ≡ Whole
-  whole_now is =
-      let found = found_whole (without_vectors m) tracked notes read is in
-      (whole_exactly (analysis m tracked) point_laws.total point_laws.exact notes (is_map m tracked notes read)).1
-      (earlier_steps.closed m tracked notes found.0, free_now found.1)
+  -- where a point has no failure it has none with vectors
+  none_here : (notes : List (Point × AbstractState)) (e : Point × AbstractState) → failure_at old notes e ≡ None → failure_at new notes e ≡ None
+  none_here notes e none = by (old.next e.0 e.1) refl none
+    where
+      by : (answer : Result (List (Point × AbstractState)) Reason) → old.next e.0 e.1 ≡ answer →
+          (failure_at old notes e) ≡ None → failure_at new notes e ≡ None
+      by (Ok ways) is none =
+          let same = without_vectors_kept.next m tracked e.0 e.1 ways is in
+          let open_at : option_map (λ q. NotClosed (Some e.0) q) (first_open old.order old.below notes ways) ≡ None = rw is at none in
+          rw same open_at
+      by (Err reason) is none = absurd (cc (rw is at none))
 
-  agreed_now : examined (analysis (without_vectors m) tracked) notes ≡ Agreed → examined (analysis m tracked) notes ≡ Agreed
-  agreed_now is =
-      let found = found_agreed (without_vectors m) tracked notes read is in
-      (agreed_exactly (analysis m tracked) point_laws.total point_laws.exact notes (is_map m tracked notes read)).1
-      (earlier_steps.closed m tracked notes found.0, λ free. found.1 (free_before free))
+  none_first : (notes es : List (Point × AbstractState)) → first_failure old notes es ≡ None → first_failure new notes es ≡ None
+  none_first notes [] none = refl
+  none_first notes (e ∷ es) none = by (failure_at old notes e) refl (none_first notes es) none
+    where
+      by : (o : Option VerifyAnswer) → failure_at old notes e ≡ o → (first_failure old notes es ≡ None → first_failure new notes es ≡ None) →
+          option_or o (first_failure old notes es) ≡ None → option_or (failure_at new notes e) (first_failure new notes es) ≡ None
+      by None is later none = rw (none_here notes e is) (later none)
+      by (Some x) is later none = absurd (cc)
+
+  same_free : (es : List (Point × AbstractState)) →
+      list_all (λ e. old.is_fault_free e.0 e.1) es ≡ list_all (λ e. new.is_fault_free e.0 e.1) es
+  same_free [] = refl
+  same_free (e ∷ es) = rw (without_vectors_kept.fault_free m (as_invariant e), same_free es) refl
+
+  -- an answer that is no failure
+  kept : (notes : List (Point × AbstractState)) (answer : VerifyAnswer) →
+      ((x : VerifyAnswer) → first_failure old notes notes ≡ Some x → x ≡ answer → ⊥) → (NotClosed None old.start_point ≡ answer → ⊥) →
+      examined old notes ≡ answer → examined new notes ≡ answer
+  kept notes answer never start_never is =
+      by (covers old.order old.below notes old.start_point old.start_state) (first_failure old notes notes) refl refl is
+    where
+      by : (b : Bool) (o : Option VerifyAnswer) → covers old.order old.below notes old.start_point old.start_state ≡ b →
+          first_failure old notes notes ≡ o →
+          (if b then unwrap_or o (safe_answer (list_all (λ e. old.is_fault_free e.0 e.1) notes)) else NotClosed None old.start_point) ≡ answer →
+          examined new notes ≡ answer
+      by true None start first found = rw (start, none_first notes notes first, sym (same_free notes)) found
+      by true (Some x) start first found = absurd (never x first found)
+      by false o start first found = absurd (start_never found)
 
 pub verified_maps : VerifiedLaw
 verified_maps = record {
-  whole = whole_goes_on;
-  agreed = agreed_goes_on;
-  earlier_whole = λ m tracked notes read is. whole_now m tracked notes read is;
-  earlier_agreed = λ m tracked notes read is. agreed_now m tracked notes read is;
+  whole = λ chips tracked notes is_map is. whole_goes_on chips tracked notes is_map is;
+  agreed = λ chips tracked notes is_map is. agreed_goes_on chips tracked notes is_map is;
+  kept_whole = λ m tracked notes is.
+      kept m tracked notes Whole (λ x first found. never_whole (analysis (without_vectors m) tracked) notes x first found) (λ e. cc) is;
+  kept_agreed = λ m tracked notes is.
+      kept m tracked notes Agreed (λ x first found. never_agreed (analysis (without_vectors m) tracked) notes x first found) (λ e. cc) is;
 }

@@ -17,9 +17,9 @@ pub fn closed_map_law()
     ensures { ClosedMapLaw }
 {}
 
-/// A map that is verified as whole shows that in every run with free inputs each access is served, with interrupts at any moment; one that is
-/// verified as agreed shows it but for reads at D0 that no chip answers. And what was verified so where no vector was followed, and each chip
-/// that can interrupt was refused where an interrupt may be taken, is verified so now (this project's own). This call does nothing; its
+/// A map that is found whole shows that in every run with free inputs each access is served, with interrupts at any moment; one that is found
+/// agreed shows it but for reads at D0 that no chip answers. And what is found whole or agreed by rules that follow no vector, and refuse each
+/// chip that can interrupt where an interrupt may be taken, is found so with vectors (this project's own). This call does nothing; its
 /// contract is the law.
 #[tactic(auto, using(crate::proofs::VerifiedMaps::verified_maps))]
 pub fn verified_map_law()

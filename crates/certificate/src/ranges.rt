@@ -7,6 +7,7 @@ ghost use Rattle.certificate.specs.CertificateLaws.{AreKnownBytes, IsInRange};
 
 use abs_domain::{Abs, Point, SCRATCHPAD_SIZE, Val, Word};
 
+#[inline]
 fn byte_law(val: Val)
     ensures { ForSome (known_byte val) (λ byte. byte < 256) }
 {}
@@ -23,6 +24,7 @@ fn return_law(ret: Option<u16>)
     ensures { ForSome ret (λ at. at < 65536) }
 {}
 
+#[inline]
 fn registers_law(registers: &[Val; SCRATCHPAD_SIZE])
     ensures { AreKnownBytes (map known_byte registers.now) }
 {
@@ -32,6 +34,7 @@ fn registers_law(registers: &[Val; SCRATCHPAD_SIZE])
 }
 
 /// All that is known at a point is within its range.
+#[inline]
 pub fn entry_law(point: &Point, state: &Abs)
     ensures { IsInRange (point.now, state_of state.now) }
 {

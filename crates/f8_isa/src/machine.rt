@@ -69,7 +69,7 @@ impl Isa {
     ghost use Rattle.f8_isa.specs.IsaState.{GoesTo, TellsInterrupt, StopsBy, StandsAt, InReach, TakesKey, TakesPulse, TakesEarlyPulse};
 
     /// A program on some chips, after power-on with a byte and reset, or want of memory. The map is that of the chips; what it tells is
-    /// copied. How each chip is powered on is said in the order of the chips; of a chip behind the last of them nothing is said.
+    /// copied. How each chip is powered on is said in the order of the chips; where the list ends before a chip, nothing is said of it.
     pub fn new(
         alloc: Global,
         map: &Map,

@@ -6,7 +6,7 @@ use Rattle.f8_spec.specs.declared.chips.PowerOn.{PowerOn}
 abbrev pub usual_power : PowerOn
 usual_power = record { fill = None; start = None }
 
--- what is said of the chip in a place of the description; of a chip behind the last one nothing is
+-- what is said of the chip in a place of the description; where the list ends before it, nothing is
 abbrev pub said_of : List PowerOn → ℕ → PowerOn
 said_of powers place = unwrap_or (slice_get powers place) usual_power
 

@@ -17,7 +17,7 @@ loop-place-preserved c = record {
 
 pub returns-clause-list : goal.returns-clause-list
 returns-clause-list c =
-    along_way c.args.is_closed (mapped_vectors c.args.map.now) _ c.args.icb c.args.exit _ c.add.new.ways.items c.args.ways.now.items
-    c.loop-place.ways.items c.if-is_closed.false
+    along_way c.args.kept_out (mapped_vectors c.args.map.now) _ c.args.icb c.args.exit _ c.add.new.ways.items c.args.ways.now.items
+    c.loop-place.ways.items c.if-kept_out.false
     (none_left (mapped_vectors c.args.map.now) c.loop-place.place (omega (arith, c.loop-place.invariant.few (omega arith))))
     refl c.add.ensures.list c.loop-place.invariant.list

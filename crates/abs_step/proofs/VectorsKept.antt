@@ -4,7 +4,7 @@ use Rattle.std.proofs.Common.{◌≡◌, ℕ, Bool, true, false, ◌&&◌, ◌||
 use Rattle.std.specs.Prelude.{Option, Some, None, not, if◌then◌else◌, flat_map, Result, Ok}
 use Rattle.std.specs.List.{Contains, cons_option}
 use Rattle.f8_spec.specs.ChipState.{ChipView, has_fixed_vector}
-use Rattle.f8_spec.specs.Instructions.{row_of}
+use Rattle.f8_spec.specs.Instructions.{decoded, row_of}
 use Rattle.f8_spec.specs.Words.{places_on}
 use Rattle.f8_spec.specs.declared.instructions.Op.{Op}
 use Rattle.f8_spec.specs.declared.instructions.Row.{Row}
@@ -17,14 +17,20 @@ use Rattle.abs_domain.specs.AbstractState.{AbstractState, KnownCounters}
 use Rattle.abs_domain.specs.declared.points.Point.{Point}
 use Rattle.abs_domain.specs.declared.reason.Reason.{Reason}
 use Rattle.abs_step.specs.CartridgeAnalysis.{analysis, answer_at, as_invariant, entry_of}
-use Rattle.abs_step.specs.EarlierSteps.{EarlierStepLaw, has_vectors, without_vectors}
+use Rattle.abs_step.specs.WithoutVectors.{WithoutVectorsLaw, has_vectors, without_vectors}
 use Rattle.abs_step.specs.MapView.{MapView, chips_view, holds_every_address}
 use Rattle.abs_step.specs.ReachedStates.{IsSafelyClosed}
 use Rattle.abs_step.specs.Safety.{goes_by_data, is_answered, is_fault_free, is_op_fault_free, may_be_held_by_psu, may_be_shared, may_part, op_at}
 use Rattle.abs_step.specs.Safety.{port_is_bad, reads_at_data, return_is_unheld, unsafe_reason, vector_is_lost}
 use Rattle.abs_step.specs.Successors.{Invariant, along, exits_of, state_after, successors, with_invariants}
 use Rattle.abs_step.specs.Vectors.{keeps_interrupts_out, vectors_let_in}
+use Rattle.console_spec.specs.Run.{Position, gets_at, opcode_at}
+use Rattle.abs_step.specs.SoundSteps.{IsBeside}
 use Rattle.abs_step.proofs.CartridgeLaws.{next_is}
+use Rattle.abs_step.proofs.Members.{IsIn}
+use Rattle.abs_step.proofs.Opcodes.{decoded_in_range}
+use Rattle.abs_step.proofs.SafeSteps.{IsSafeHere, chosen_is_followed}
+use Rattle.abs_step.proofs.Standing.{opcode_told}
 use Rattle.abs_step.proofs.Reasons.{IsSafeState, safe_state}
 use Rattle.abs_step.proofs.SafeBelow.{safe_of}
 
@@ -147,6 +153,30 @@ module _ (m : MapView) where
         ap (λ (vectors : List ℕ). with_invariants (flat_map (along tracked vectors (state_after op m x)) (exits_of op m x)) [])
         (alike (keeps_interrupts_out op icb) [] ∙ sym kept.1)
 
+  -- a chip that is chosen would be followed, and none is
+  none_taken : (tracked : List ℕ) (x : Invariant) (here : Position) (op : Op) → unsafe_reason old tracked x ≡ None → IsBeside m x here →
+      decoded (opcode_at here) ≡ Some op → (gets_at op here).chosen ≡ None
+  none_taken tracked x here op none beside is =
+      let safe = safe_state old tracked x none in
+      let now = safe_now tracked x safe.0 safe.1 in
+      let same : safe.0 ≡ op = one_op (opcode_told m x here safe.0 beside now.is) is in
+      subst (λ (o : Op). (gets_at o here).chosen ≡ None) same
+      (by safe.0 (kept tracked x safe.0 safe.1).1
+      (record { beside = beside; state = now; range = decoded_in_range (opcode_at here) safe.0 (beside.range.memory here.flat.state.flow.p)
+      (opcode_told m x here safe.0 beside now.is) })
+      (gets_at safe.0 here).chosen refl)
+    where
+      one_op : {o : Option Op} {a b : Op} → o ≡ Some a → o ≡ Some b → a ≡ b
+      one_op p q = cc
+
+      by : (a : Op) → vectors_let_in a m (state_after a m x).registers.status.icb ≡ [] → IsSafeHere m tracked x a here →
+          (chosen : Option ℕ) → (gets_at a here).chosen ≡ chosen → (gets_at a here).chosen ≡ None
+      by a nothing safe None chosen = chosen
+      by a nothing safe (Some socket) chosen =
+          let f = chosen_is_followed m tracked x a here safe socket chosen in
+          let among : IsIn f.seat.vector [] = rw nothing at f.among in
+          absurd among
+
   next_now : (tracked : List ℕ) (x : Invariant) (ways : List (Point × AbstractState)) → answer_at old tracked x ≡ Ok ways →
       answer_at m tracked x ≡ Ok ways
   next_now tracked x ways is =
@@ -182,10 +212,11 @@ module _ (m : MapView) where
           answer ≡ Ok ways → answer ≡ Ok others → ways ≡ others
       one_answer answer ways others p q = cc
 
-pub earlier_steps : EarlierStepLaw
-earlier_steps = record {
+pub without_vectors_kept : WithoutVectorsLaw
+without_vectors_kept = record {
   wired = wired_told;
   next = λ m tracked p s ways is. next_now m tracked (as_invariant (p, s)) ways is;
+  untaken = λ m tracked x here op none beside is. none_taken m tracked x here op none beside is;
   fault_free = λ m x. same_free m x;
   closed = λ m tracked notes h. closed_now m tracked notes h;
 }
