@@ -10,6 +10,9 @@ ghost use Rattle.abs_step.specs.WorkView.{status_view, status_after};
 use abs_domain::Bit;
 use f8_words::{Flags, Sum};
 
+/// The place of the interrupt control bit in the status word.
+pub const ICB: usize = 4;
+
 /// What is known of the status word.
 #[derive(Clone, Copy)]
 pub struct Status {
@@ -30,7 +33,7 @@ impl Status {
             carry: bits[1].known(),
             zero: bits[2].known(),
             overflow: bits[3].known(),
-            icb: bits[4].known(),
+            icb: bits[ICB].known(),
         }
     }
 

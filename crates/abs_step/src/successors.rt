@@ -5,9 +5,9 @@ ghost use Rattle.abs_step.specs.StepView.{invariant_of};
 ghost use Rattle.abs_step.specs.Vectors.{with_icb};
 ghost use Rattle.abs_step.specs.WaysOn.{at_way};
 
-use super::status::Status;
+use super::status::ICB;
 use super::ways::{MOST_WAYS, Way, Ways};
-use abs_domain::{Abs, MOST_TRACKED, Point};
+use abs_domain::{Abs, Bit, MOST_TRACKED, Point};
 use std::marker::Model;
 
 /// What holds next: from one to 66 points with their states, each point once. For each way of an instruction, that of a taken branch first,
@@ -45,6 +45,7 @@ impl Successors {
     }
 
     /// How many there are.
+    #[inline]
     pub fn len(&self) -> usize
         ensures count { result ≡ length self.now }
         ensures most { result ≤ MOST_WAYS }
@@ -53,6 +54,7 @@ impl Successors {
     }
 
     /// There is none.
+    #[inline]
     pub fn is_empty(&self) -> bool
         ensures { result ≡ (length self.now == 0) }
     {
@@ -60,6 +62,7 @@ impl Successors {
     }
 
     /// The point at a place with its state, and `None` past the last.
+    #[inline]
     pub fn get(&self, place: usize) -> Option<(Point, Abs)>
         ensures { option_map invariant_of result ≡ slice_get self.now place }
     {
@@ -69,6 +72,7 @@ impl Successors {
 }
 
 /// What holds along a way.
+#[inline]
 fn at_way(bytes: [Option<u8>; MOST_TRACKED], state: Abs, way: Way) -> (Point, Abs)
     ensures { invariant_of result ≡ at_way bytes (state_of state) way }
 {
@@ -81,11 +85,10 @@ fn at_way(bytes: [Option<u8>; MOST_TRACKED], state: Abs, way: Way) -> (Point, Ab
 }
 
 /// A state of which this is known of the interrupt control bit.
+#[inline]
 fn with_icb(mut state: Abs, icb: Option<bool>) -> Abs
     ensures { state_of result ≡ with_icb icb (state_of state) }
 {
-    let mut status = Status::of(&state.w);
-    status.icb = icb;
-    state.w = status.bits();
+    state.w[ICB] = Bit::from(icb);
     state
 }
