@@ -162,8 +162,12 @@ module _ (m : MapView) where
       let same : safe.0 ≡ op = one_op (opcode_told m x here safe.0 beside now.is) is in
       subst (λ (o : Op). (gets_at o here).chosen ≡ None) same
       (by safe.0 (kept tracked x safe.0 safe.1).1
-      (record { beside = beside; state = now; range = decoded_in_range (opcode_at here) safe.0 (beside.range.memory here.flat.state.flow.p)
-      (opcode_told m x here safe.0 beside now.is) })
+      (record {
+        beside = beside;
+        state = now;
+        range = decoded_in_range (opcode_at here) safe.0 (beside.range.memory here.flat.state.flow.p)
+            (opcode_told m x here safe.0 beside now.is);
+      })
       (gets_at safe.0 here).chosen refl)
     where
       one_op : {o : Option Op} {a b : Op} → o ≡ Some a → o ≡ Some b → a ≡ b

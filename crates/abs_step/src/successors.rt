@@ -38,6 +38,7 @@ impl Successors {
     ghost use Rattle.abs_step.specs.WaysOn.{at_way};
 
     /// What holds along some ways, by what is known of all, and of the tracked registers.
+    #[inline]
     pub(crate) fn along(ways: Ways, state: Abs, bytes: [Option<u8>; MOST_TRACKED]) -> Successors
         ensures { result ≡ map (at_way bytes (state_of state)) ways.items }
     {

@@ -27,6 +27,7 @@ pub type Ways = ArrayVec<Way, MOST_WAYS>;
 
 /// Those of an instruction's exits with this of the interrupt control bit, in their order: behind each exit the vectors of the map, or none
 /// where interrupts are kept out.
+#[inline]
 pub fn ways_of(exits: Exits, icb: Option<bool>, kept_out: bool, map: &Map) -> Ways
     ensures { result.items
         ≡ ways_of (if kept_out then [] else mapped_vectors map.now) icb (exits_view exits) }
