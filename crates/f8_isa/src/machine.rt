@@ -51,7 +51,7 @@ impl Model for Isa {
 }
 
 impl Isa {
-    ghost use Rattle.std.specs.Prelude.{◌≡◌, ◌+◌, ◌^◌, ◌<◌, ◌≤◌, ℕ, true, None, Some, IfOk, IfErr, OnErr, is_some, length};
+    ghost use Rattle.std.specs.Prelude.{◌≡◌, ◌+◌, ◌^◌, ◌<◌, ◌≤◌, ℕ, true, None, Some, IfOk, IfErr, OnErr, is_some};
     ghost use Rattle.f8_spec.specs.Instructions.{InRange, row_of};
     ghost use Rattle.f8_spec.specs.Words.{word, places_on, displaced};
     ghost use Rattle.f8_spec.specs.declared.instructions.Op.{Op};
