@@ -1,5 +1,5 @@
 -- A state that is added to the work of a search, by what is at its point.
-use Rattle.std.proofs.Common.{◌≡◌, true, false, sym, subst}
+use Rattle.std.proofs.Common.{◌≡◌, true, false, [], sym, ap, subst}
 use Rattle.std.specs.Prelude.{Some, None, MatchBool}
 use Rattle.abs_domain.specs.AbstractState.{AbstractState}
 use Rattle.abs_domain.specs.Joins.{is_state_below, joined_state}
@@ -8,6 +8,10 @@ use Rattle.abs_domain.specs.declared.points.Point.{Point}
 use Rattle.cart_checker.specs.Worklists.{Work, state_by, Wrote, AddedTo, Added}
 
 module _ (old new : Work Point AbstractState) (q : Point) (t : AbstractState) where
+  pub added_first : old.notes ≡ [] → Added point_cmp is_state_below joined_state old new q t → Wrote point_cmp old new q t
+  added_first empty is =
+      subst (AddedTo point_cmp is_state_below joined_state old new q t) (ap (λ notes. state_by point_cmp notes q) empty) is
+
   pub added_new : state_by point_cmp old.notes q ≡ None → Wrote point_cmp old new q t →
       Added point_cmp is_state_below joined_state old new q t
   added_new absent is = subst (AddedTo point_cmp is_state_below joined_state old new q t) (sym absent) is

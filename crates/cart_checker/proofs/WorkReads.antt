@@ -1,5 +1,5 @@
 -- The work of a search, as the program holds it and as it is read: what a look-up finds, and what a write does.
-use Rattle.std.proofs.Common.{◌≡◌, ◌+◌, ◌≤◌, Bool, true, false, cond, is_some, List, [], ◌∷◌, length, refl, sym, ap, ◌∙◌, subst}
+use Rattle.std.proofs.Common.{◌≡◌, ◌+◌, Bool, true, false, cond, is_some, List, [], ◌∷◌, length, refl, sym, ap, ◌∙◌, subst}
 use Rattle.std.specs.Prelude.{Option, Some, None, option_map}
 use Rattle.std.specs.List.Sorted.{IsStrictlySortedBy}
 use Rattle.std.specs.Map.{lookup, keys_of}
@@ -15,7 +15,8 @@ use Rattle.abs_domain.specs.PointOrder.{point_cmp}
 use Rattle.abs_domain.specs.declared.points.Point.{Point}
 use Rattle.abs_domain.specs.declared.state.Abs.{Abs}
 use Rattle.abs_step.specs.StatesAtPoints.{state_in, states_of}
-use Rattle.cart_checker.specs.Worklists.{state_by, is_due, Wrote}
+use Rattle.cart_checker.specs.Worklists.{state_by, Wrote}
+use Rattle.cart_checker.specs.WorkView.{IsMadeDue}
 
 pub found_as : (notes : List (Point × Abs)) (p : Point) →
     state_by point_cmp (states_of notes) p ≡ option_map state_of (lookup (is_at (point_cmp p)) notes)
@@ -49,11 +50,6 @@ pub record IsInserted (old new : List (Point × Abs)) (q : Point) (v : Abs) : Ty
   pub was_ascending : IsStrictlySortedBy point_cmp (keys_of old)
   pub ascends : IsStrictlySortedBy point_cmp (keys_of new)
   pub count : length new ≡ length old + cond (is_some (lookup (is_at (point_cmp q)) old)) 0 1
-
--- and that of a point
-pub record IsMadeDue (old new : List Point) (q : Point) : Type 0 where
-  pub due : (p : Point) → is_due point_cmp new p ≡ cond (is_at (point_cmp q) p) true (is_due point_cmp old p)
-  pub longer : length new ≤ length old + 1
 
 read_by : (b : Bool) (v : Abs) (o : Option Abs) →
     option_map state_of (cond b (Some v) o) ≡ cond b (Some (state_of v)) (option_map state_of o)

@@ -1,6 +1,7 @@
 -- The work of a search as the program holds it, why it stops before its end, and the verdict on what it found.
-use Rattle.std.specs.Prelude.{◌≡◌, ℕ, ◌≤◌, Bool, true, false, List, length, None, Result, Ok, Err}
+use Rattle.std.specs.Prelude.{◌≡◌, ℕ, ◌+◌, ◌≤◌, Bool, true, false, cond, List, length, None, Result, Ok, Err}
 use Rattle.std.specs.List.{list_all}
+use Rattle.std.specs.BTreeMap.{is_at}
 use Rattle.memory_map.specs.MapOf.{MapTable}
 use Rattle.abs_domain.specs.AbstractState.{AbstractState}
 use Rattle.abs_domain.specs.StateView.{state_of}
@@ -12,7 +13,7 @@ use Rattle.abs_step.specs.Safety.{is_fault_free}
 use Rattle.abs_step.specs.Analysis.{Analysis}
 use Rattle.abs_step.specs.CartridgeAnalysis.{as_invariant, analysis}
 use Rattle.abs_step.specs.ReachedStates.{ReachesUnsafe, ReachesTooMany}
-use Rattle.cart_checker.specs.Worklists.{Work, state_by}
+use Rattle.cart_checker.specs.Worklists.{Work, state_by, is_due}
 use Rattle.cart_checker.specs.declared.worklist.Worklist.{Worklist}
 use Rattle.cart_checker.specs.declared.halt.Halt.{Halt}
 use Rattle.cart_checker.specs.declared.halt.Halt.TheVariants.{Memory, TooMany, Refused}
@@ -22,6 +23,11 @@ use Rattle.cart_checker.specs.declared.verdict.Verdict.TheVariants as found
 
 abbrev pub work_of : Worklist → Work Point AbstractState
 work_of w = record { notes = states_of w.notes.entries; due = w.due.keys }
+
+-- a point is due, besides those that were
+pub record IsMadeDue (old new : List Point) (q : Point) : Type 0 where
+  pub due : (p : Point) → is_due point_cmp new p ≡ cond (is_at (point_cmp q) p) true (is_due point_cmp old p)
+  pub longer : length new ≤ length old + 1
 
 -- the work is full, and has no state at the point
 abbrev pub IsFullFor : Work Point AbstractState → Point → Type 0

@@ -34,7 +34,7 @@ impl Worklist {
             due: BTreeSet::new(alloc),
         };
         let (point, state) = start(split);
-        work.write(point, state)?;
+        work.add(&point, &state)?;
         Ok(work)
     }
 

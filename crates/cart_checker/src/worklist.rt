@@ -2,7 +2,8 @@
 use super::halt::Halt;
 use abs_domain::{Abs, Point};
 use abs_step::MOST_POINTS;
-use std::alloc::{AllocError, Global};
+use std::alloc::AllocError;
+use std::collections::btree_map::Entry;
 use std::collections::{BTreeMap, BTreeSet};
 
 /// The states that are found so far, by their points, and the points that are due, which are to be looked at again.
@@ -13,22 +14,13 @@ pub(crate) struct Worklist {
 }
 
 impl Worklist {
-    ghost use Rattle.std.specs.Prelude.{◌≤◌, OnOk, IfErr, length};
+    ghost use Rattle.std.specs.Prelude.{◌≡◌, ◌≤◌, OnOk, IfErr, length};
     ghost use Rattle.abs_domain.specs.StateView.{state_of};
     ghost use Rattle.abs_domain.specs.PointOrder.{point_cmp};
     ghost use Rattle.abs_domain.specs.Joins.{is_state_below, joined_state};
     ghost use Rattle.abs_domain.specs.declared.points.Point.{Point};
-    ghost use Rattle.cart_checker.specs.Worklists.{Wrote, Added};
-    ghost use Rattle.cart_checker.specs.WorkView.{work_of, AddHalts};
-
-    /// Writes a state at a point, which is due then.
-    pub(crate) fn write(&mut self, point: Point, state: Abs) -> Result<(), AllocError>
-        ensures { OnOk result (Wrote point_cmp (work_of self.old) (work_of self.new) point (state_of state)) }
-    {
-        self.notes.insert(point, state)?;
-        self.due.insert(point)?;
-        Ok(())
-    }
+    ghost use Rattle.cart_checker.specs.Worklists.{Added};
+    ghost use Rattle.cart_checker.specs.WorkView.{work_of, AddHalts, IsMadeDue};
 
     /// Adds a state at a point: it is written where none is, and where the one that is there doesn't cover it, their join is.
     pub(crate) fn add(&mut self, point: &Point, state: &Abs) -> Result<(), Halt>
@@ -38,21 +30,36 @@ impl Worklist {
         ensures few { OnOk result (length (work_of self.new).notes ≤ 65536) }
         ensures halt { IfErr result (AddHalts (work_of self.old) point.now) }
     {
-        match self.notes.get(point) {
-            None => {
-                if self.notes.len() >= MOST_POINTS {
-                    return Err(Halt::TooMany);
-                }
-                self.write(*point, *state)?;
-            },
-            Some(old) => {
+        let is_full = self.notes.len() >= MOST_POINTS;
+        match self.notes.entry(*point) {
+            Ok(Entry::Occupied(mut entry)) => {
+                let old = entry.get();
                 if state.below(old) {
                     return Ok(());
                 }
                 let raised = old.join(state);
-                self.write(*point, raised)?;
+                entry.insert(raised);
+                self.make_due(*point)?;
+                Ok(())
             },
+            Ok(Entry::Vacant(entry)) => {
+                if is_full {
+                    return Err(Halt::TooMany);
+                }
+                entry.insert(*state);
+                self.make_due(*point)?;
+                Ok(())
+            },
+            Err(_) => Err(if is_full { Halt::TooMany } else { Halt::Memory }),
         }
+    }
+
+    /// Makes a point due.
+    fn make_due(&mut self, point: Point) -> Result<(), AllocError>
+        ensures due { OnOk result (IsMadeDue self.old.due.keys self.new.due.keys point) }
+        ensures notes { OnOk result (self.new.notes ≡ self.old.notes) }
+    {
+        self.due.insert(point)?;
         Ok(())
     }
 }
