@@ -82,6 +82,7 @@ own_changed bytes zero (c ∷ chips) room = record { spec = refl; rom = of_sourc
 pub plan_filled : (plan : Planned) (chip : ℕ) (bytes : List (ℕ × ℕ)) → HasRoomFor plan chip bytes → IsFilled plan chip bytes (filled_plan plan chip bytes)
 plan_filled plan chip bytes room = record {
   split = refl;
+  powers = refl;
   size = length-with_change_at (filled_chip bytes) chip plan.chips;
   others = λ place differs. changed_other (filled_chip bytes) chip place plan.chips differs;
   own = own_changed bytes chip plan.chips room;

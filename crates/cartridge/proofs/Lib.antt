@@ -2,8 +2,12 @@ pub mod PageLists
 pub mod Registers
 pub mod ListsRead
 pub mod TablesRead
+pub mod TextsRead
+pub mod RunsRead
+pub mod RunsApart
 pub mod ChipsRead
 pub mod PageNumbers
+pub mod Answered
 pub mod Specified
 pub mod ChipsWhole
 pub mod PlannedChips
@@ -11,4 +15,16 @@ pub mod BytesPut
 pub mod Filled
 pub mod Finished
 pub mod ImageRooms
+pub mod MemberLookups
+pub mod MigratedMembers
+pub mod RunTexts
+pub mod RunTextsRead
+pub mod MigratedEntries
+pub mod MigratedRuns
+pub mod MigratedChips
+pub mod MigratedTables
+pub mod PlainTables
+pub mod PlainChips
+pub mod KeysDiffer
 mod WorkedDescriptions
+mod WorkedMigrations

@@ -9,21 +9,21 @@ use Rattle.toml.specs.declared.value.Value.{Value}
 use Rattle.toml.proofs.Views.{items_view-drop}
 use Rattle.cartridge.specs.Values.{each, count_of}
 
-abbrev behind : {A : Type 0} → List A → Option (List A) → Option (List A)
+abbrev pub behind : {A : Type 0} → List A → Option (List A) → Option (List A)
 behind xs rest = option_map (λ more. xs ++ more) rest
 
 -- what the first i entries are, and behind it what the others are
 abbrev pub HasRead : {A : Type 0} → (Data → Option A) → List Value → ℕ → List A → Type 0
 HasRead part vs i xs = each part (items_view vs) ≡ behind xs (each part (items_view (drop i vs)))
 
-behind_none : {A : Type 0} (rest : Option (List A)) → rest ≡ behind [] rest
+pub behind_none : {A : Type 0} (rest : Option (List A)) → rest ≡ behind [] rest
 behind_none None = refl
 behind_none (Some more) = refl
 
 pub read_none : {A : Type 0} (part : Data → Option A) (vs : List Value) → HasRead part vs 0 []
 read_none part vs = behind_none (each part (items_view vs))
 
-behind_nested : {A : Type 0} (xs : List A) (x : A) (rest : Option (List A))
+pub behind_nested : {A : Type 0} (xs : List A) (x : A) (rest : Option (List A))
     → behind xs (option_map (λ more. x ∷ more) rest) ≡ behind (xs ++ x ∷ []) rest
 behind_nested xs x None = refl
 behind_nested xs x (Some more) = ap Some (sym (append_assoc xs (x ∷ []) more))

@@ -1,8 +1,8 @@
 -- The pages of runs, one number after another.
-use Rattle.std.proofs.Common.{◌≡◌, ℕ, ◌+◌, List, [], ◌∷◌, ◌++◌, Some, None, append-nil, refl, sym, ap, ◌∙◌, arith}
-use Rattle.std.specs.List.{range_with_len, filter_map}
+use Rattle.std.proofs.Common.{◌≡◌, ℕ, suc, ◌+◌, ◌≤◌, List, [], ◌∷◌, ◌++◌, length, Option, Some, None, append-nil, refl, sym, ap, ◌∙◌, arith}
+use Rattle.std.specs.List.{range_with_len, filter_map, cons_option}
 use Rattle.std.proofs.lemmas.List.{map-id}
-use Rattle.std.proofs.lemmas.List.FromFn.{map-range_with_len_more}
+use Rattle.std.proofs.lemmas.List.FromFn.{map-range_with_len_more, length-range_with_len}
 use Rattle.std.proofs.lemmas.List.Elements.{filter_map-append}
 use Rattle.f8_spec.specs.declared.chips.Page.{Page}
 use Rattle.cartridge.specs.declared.page_run.PageRun.{PageRun}
@@ -31,3 +31,18 @@ none_more runs n pages so_far h = rw (pages-more runs n, h) (so_far ∙ sym (app
 pub whole : (runs : List PageRun) (n : ℕ) (pages : List Page) → n ≡ 256 → pages ≡ pages_below runs n → pages ≡ pages_of runs
 unfolding pages_of
 whole runs n pages at h = h ∙ ap (pages_below runs) at
+
+-- at most one for each number
+pub few : (runs : List PageRun) (n : ℕ) → length (pages_below runs n) ≤ n
+few runs n = let size = length-range_with_len 0 n in let fewer = length-kept (page_at runs) (range_with_len 0 n) in omega (arith, size, fewer)
+  where
+    length-one : (page : Option Page) (pages : List Page) → length (cons_option page pages) ≤ suc (length pages)
+    length-one None pages = omega arith
+    length-one (Some page) pages = omega arith
+
+    length-kept : (keep : ℕ → Option Page) (ns : List ℕ) → length (filter_map keep ns) ≤ length ns
+    length-kept keep [] = omega arith
+    length-kept keep (n ∷ ns) =
+        let one = length-one (keep n) (filter_map keep ns) in
+        let rest = length-kept keep ns in
+        omega (arith, one, rest)

@@ -4,16 +4,17 @@ use Rattle.std.proofs.Common.{Option, Some, None, refl, sym, ap, ◌∙◌, arit
 use Rattle.std.specs.Prelude.{All, option_map, option_and_then, slice_get, IsSomeAnd, false}
 use Rattle.std.proofs.lemmas.List.{length_push, length-set, map_push, map-id}
 use Rattle.std.proofs.lemmas.List.Elements.{All-nil, All-cons, All-head, All-tail}
+use Rattle.f8_spec.specs.declared.chips.PowerOn.{PowerOn}
 use Rattle.chip_face.specs.Fitting.{IsSpec, IsChipList, is_blank, rom_of}
 use Rattle.chip_face.specs.declared.specification.ChipSpec.{ChipSpec}
 use Rattle.chip_face.specs.declared.specification.ChipSpec.TheVariants.{Blank, Psu, Smi, Pio}
 use Rattle.cartridge.specs.declared.chip_table.ChipPlan.{ChipPlan}
 use Rattle.cartridge.specs.declared.rom_source.SourceRom.{SourceRom}
 use Rattle.cartridge.specs.ChipTables.{DescribedSource}
-use Rattle.cartridge.specs.Filling.{PlannedSource, PlannedChip, IsPlannedChip, IsPlan, IsRomOf, HasRom, rom_with}
-use Rattle.cartridge.specs.Filling.{filled_source, filled_chip, with_change_at, planned_chip, without_image}
+use Rattle.cartridge.specs.Filling.{PlannedSource, PlannedChip, IsPlannedChip, IsPlan, IsWholePlan, IsRomOf, HasRom, rom_with}
+use Rattle.cartridge.specs.Filling.{filled_source, filled_chip, with_change_at, planned_chip, power_of, without_image}
 use Rattle.cartridge.specs.Carts.{with_rom, spec_from, specification_of}
-use Rattle.cartridge.specs.Plans.{seen_chip, seen_rom, seen_chips, seen_source}
+use Rattle.cartridge.specs.Plans.{seen_chip, seen_rom, seen_chips, seen_plan, seen_source}
 
 abbrev pub seen_pair : ChipSpec → Option SourceRom → PlannedChip
 seen_pair spec rom = record { spec = spec; source = option_map seen_rom rom }
@@ -56,6 +57,10 @@ plans_more chips specs roms chip rom so_far is =
 all-plan_without_images : (chips : List ChipPlan) → map planned_of chips ≡ map planned_chip (map seen_chip chips)
 all-plan_without_images [] = refl
 all-plan_without_images (c ∷ chips) = ap (λ (cs : List PlannedChip). planned_of c ∷ cs) (all-plan_without_images chips)
+
+pub all_powers : (chips : List ChipPlan) → map (λ chip. power_of (seen_chip chip)) chips ≡ map power_of (map seen_chip chips)
+all_powers [] = refl
+all_powers (c ∷ chips) = ap (λ (powers : List PowerOn). c.power ∷ powers) (all_powers chips)
 
 pub plans_all : (all chips : List ChipPlan) (specs : List ChipSpec) (roms : List (Option SourceRom)) → map (λ chip. chip) chips ≡ all
     → PlansOf chips specs roms → seen_chips specs roms ≡ map planned_chip (map seen_chip all)
@@ -167,14 +172,19 @@ seen-filled bytes (s ∷ specs) (r ∷ roms) zero old new same within at is =
 seen-filled bytes (s ∷ specs) (r ∷ roms) (suc i) old new same within at is =
     ap (λ (cs : List PlannedChip). seen_pair s r ∷ cs) (seen-filled bytes specs roms i old new (omega arith) (omega arith) at is)
 
-pub still_plan : (bytes : List (ℕ × ℕ)) (specs : List ChipSpec) (roms : List (Option SourceRom)) (i : ℕ) (old new : SourceRom) → length specs ≡ length roms
-    → i < length roms → get_or roms i (Some old) ≡ Some old → seen_rom new ≡ filled_source bytes (seen_rom old) → IsPlan (seen_chips specs roms)
-    → (length specs ≡ length (set roms i (Some new))) × IsPlan (seen_chips specs (set roms i (Some new)))
-still_plan bytes specs roms i old new same within at is plan = (
-  same ∙ sym (length-set roms i (Some new)),
-  rw (seen-filled bytes specs roms i old new same within at is)
-      (filled-plan bytes i (seen_chips specs roms) plan),
-)
+pub still_whole : (split : List ℕ) (powers : List PowerOn) (bytes : List (ℕ × ℕ)) (specs : List ChipSpec) (roms : List (Option SourceRom)) (i : ℕ)
+    (old new : SourceRom) → length specs ≡ length roms → i < length roms → get_or roms i (Some old) ≡ Some old
+    → seen_rom new ≡ filled_source bytes (seen_rom old) → IsWholePlan (seen_plan split specs roms powers)
+    → (length specs ≡ length (set roms i (Some new))) × IsWholePlan (seen_plan split specs (set roms i (Some new)) powers)
+still_whole split powers bytes specs roms i old new same within at is plan =
+    let size : length (seen_chips specs (set roms i (Some new))) ≡ length (seen_chips specs roms) =
+    ap length (seen-filled bytes specs roms i old new same within at is) ∙ length-changed (filled_chip bytes) i (seen_chips specs roms) in (
+      same ∙ sym (length-set roms i (Some new)),
+      record {
+        chips = rw (seen-filled bytes specs roms i old new same within at is) (filled-plan bytes i (seen_chips specs roms) plan.chips);
+        paired = plan.paired ∙ sym size;
+      },
+    )
 
 -- ---- the chips of a plan can be fitted, with the bytes of their sources too
 

@@ -1,9 +1,9 @@
 -- A table that describes a chip gives one that is as a specification has to be, not blank, and with a room for each byte of its source.
-use Rattle.std.proofs.Common.{◌≡◌, ℕ, ◌+◌, ◌*◌, ◌-◌, ◌%◌, ◌≤◌, Bool, true, false, ◌&&◌, ◌||◌, ◌==◌, List, [], ◌∷◌}
+use Rattle.std.proofs.Common.{◌≡◌, ℕ, ◌+◌, ◌-◌, ◌%◌, ◌≤◌, Bool, true, false, ◌&&◌, ◌||◌, ◌==◌, List, []}
 use Rattle.std.proofs.Common.{length, replicate, Option, Some, None, is_some, Result, Ok, Err, refl, sym, ap, ◌∙◌}
-use Rattle.std.proofs.Common.{arith, length-append}
-use Rattle.std.specs.Prelude.{nat_le, not, option_map, if◌then◌else◌, pos, negsuc, ℤ}
-use Rattle.std.specs.List.{list_all}
+use Rattle.std.proofs.Common.{map, subst, arith, length-append}
+use Rattle.std.specs.Prelude.{nat_le, not, option_and_then, option_map, if◌then◌else◌, pos, negsuc, ℤ}
+use Rattle.std.specs.List.Sorted.{IsStrictlyIncreasing}
 use Rattle.std.proofs.lemmas.Bool.{and_parts, eqb-true, leb-true}
 use Rattle.std.proofs.lemmas.List.{length-replicate}
 use Rattle.hex.specs.Hex.{decode_of}
@@ -11,41 +11,31 @@ use Rattle.hex.specs.declared.error.FromHexError.{FromHexError}
 use Rattle.toml.specs.Data.{Data, Members, as_integer}
 use Rattle.f8_spec.specs.declared.chips.ChipKind.{ChipKind}
 use Rattle.f8_spec.specs.declared.chips.ChipKind.TheVariants as kind
-use Rattle.f8_spec.specs.declared.chips.PageSort.{PageSort}
-use Rattle.f8_spec.specs.declared.chips.PageSort.TheVariants as sort
+use Rattle.f8_spec.specs.declared.chips.Page.{Page}
+use Rattle.f8_spec.specs.declared.chips.PowerOn.{PowerOn}
 use Rattle.f8_asm.specs.declared.answers.Room.{Room}
 use Rattle.chip_face.specs.Fitting.{rom_of as rom_of_spec}
 use Rattle.chip_face.specs.declared.specification.ChipSpec.{ChipSpec}
 use Rattle.chip_face.specs.declared.specification.ChipSpec.TheVariants.{Psu, Smi}
 use Rattle.cartridge.specs.declared.keys.Key.{Key}
-use Rattle.cartridge.specs.declared.keys.Key.TheVariants.{Kind, Base, Ports, Vector, RomPage, RomPages, RamPage, RamPages, VoidPage, VoidPages, Rom, Source}
-use Rattle.cartridge.specs.declared.page_run.PageRun.{PageRun}
+use Rattle.cartridge.specs.declared.keys.Key.TheVariants.{Kind, Base, Ports, Vector, Fill, Rom, Source}
+use Rattle.cartridge.specs.declared.format.CartFormat.{CartFormat}
 use Rattle.cartridge.specs.declared.refusal.CartCause.{CartCause}
 use Rattle.cartridge.specs.declared.refusal.CartCause.TheVariants.{Range, Boundary, BadHex, Both}
 use Rattle.cartridge.specs.declared.refusal.KeyFault.{KeyFault}
-use Rattle.cartridge.specs.Faults.{◌>>=◌, at_key}
+use Rattle.cartridge.specs.Faults.{◌>>=◌}
 use Rattle.cartridge.specs.Keys.{value_at, known, psu_keys, smi_keys}
-use Rattle.cartridge.specs.Pages.{lies_within, lie_apart, run_apart, run_at, pages_of}
+use Rattle.cartridge.specs.Pages.{pages_of, rom_size_of, rom_span, rom_room}
 use Rattle.cartridge.specs.Values.{required_value, optional, value_needed, usually, value_of_type, text, within, number_in, multiple_of}
-use Rattle.cartridge.specs.Values.{multiple_in, kind_in, filled, fitting, rom_in, is_file_name, source_named, source_in}
-use Rattle.cartridge.specs.Rooms.{room_size, psu_room, run_room}
+use Rattle.cartridge.specs.Values.{multiple_in, maybe_number, kind_in, filled, fitting, rom_in, is_file_name, source_named, source_in}
+use Rattle.cartridge.specs.Rooms.{room_size, psu_room}
 use Rattle.cartridge.specs.Filling.{HasRom, IsPlannedChip, planned_chip, without_image}
-use Rattle.cartridge.specs.ChipTables.{DescribedChip, named_source, rom_of, mask_of, source_of, wired_of, psu_of, smi_of, chip_of_kind, chip_of}
-use Rattle.cartridge.proofs.PageNumbers.{AreSorted, pages_of-ascends, pages_of-rom_count}
+use Rattle.cartridge.specs.ChipTables.{DescribedSource, DescribedChip, named_source, source_with, rom_of, mask_of, source_of, wired_of, start_of}
+use Rattle.cartridge.specs.ChipTables.{psu_of, runs_of, smi_with, smi_of, chip_of_kind, chip_of}
+use Rattle.cartridge.proofs.Answered.{bind-ok, if-ok, at_key-ok}
+use Rattle.cartridge.proofs.PageNumbers.{pages_of-ascends}
 
 -- ---- what stands before an answer
-
-pub bind-ok : {A B E : Type 0} (P : Type 0) (r : Result A E) (f : A → Result B E) (y : B) → (r >>= f) ≡ Ok y → ((x : A) → r ≡ Ok x → f x ≡ Ok y → P) → P
-bind-ok P (Ok x) f y h k = k x refl h
-bind-ok P (Err e) f y h k = cc h
-
-pub if-ok : {A E : Type 0} (t : Bool) (x y : A) (e : E) → (if t then Ok x else Err e) ≡ Ok y → (t ≡ true) × (x ≡ y)
-if-ok true x y e h = (refl, cc h)
-if-ok false x y e h = cc h
-
-pub at_key-ok : {A : Type 0} (key : Key) (r : Result A CartCause) (x : A) → at_key key r ≡ Ok x → r ≡ Ok x
-at_key-ok key (Ok y) x h = cc h
-at_key-ok key (Err cause) x h = cc h
 
 required_value-ok : {A : Type 0} (P : Type 0) (judge : Data → Result A CartCause) (o : Option Data) (x : A) → required_value judge o ≡ Ok x
     → ((d : Data) → judge d ≡ Ok x → P) → P
@@ -146,20 +136,33 @@ source_of-some size table name h =
     (λ none. cc none)
     (λ d e. source_in-some size (is_some (value_at Rom table)) d name e)
 
-without_image-rom : (spec : ChipSpec) (room : Room) (size : ℕ) (source : Option (List ℕ)) → length (rom_of_spec spec) ≡ size
-    → ((name : List ℕ) → source ≡ Some name → room.first + size ≡ room.last + 1) → HasRom spec (option_map without_image (named_source room source))
-without_image-rom spec room size None whole fits = tt
-without_image-rom spec room size (Some name) whole fits =
-    let room_fits = fits name refl in
+without_image-rom : (spec : ChipSpec) (room : Room) (name : Option (List ℕ)) → ((n : List ℕ) → name ≡ Some n → 1 ≤ room_size room)
+    → length (rom_of_spec spec) ≡ room_size room → HasRom spec (option_map without_image (named_source room name))
+without_image-rom spec room None there whole = tt
+without_image-rom spec room (Some name) there whole =
     let bytes = length-replicate {A = ℕ} (room_size room) 255 in
-    record { rom = omega (arith, bytes, whole, room_fits); room = omega (arith, bytes, room_fits) }
+    let some = there name refl in
+    record { rom = bytes ∙ sym whole; room = omega (arith, bytes, some) }
+
+-- the bytes of a source are as many as its room has addresses
+source_with-rom : (spec : ChipSpec) (room : Option Room) (table : Members) (source : Option DescribedSource) → source_with room table ≡ Ok source
+    → ((r : Room) → room ≡ Some r → length (rom_of_spec spec) ≡ room_size r) → HasRom spec (option_map without_image source)
+source_with-rom spec None table source h whole =
+    bind-ok (HasRom spec (option_map without_image source)) (source_of 0 table) _ source h (λ name at_name h.
+    let e : None ≡ source = cc h in
+    subst (λ (s : Option DescribedSource). HasRom spec (option_map without_image s)) e tt)
+source_with-rom spec (Some room) table source h whole =
+    bind-ok (HasRom spec (option_map without_image source)) (source_of (room_size room) table) _ source h (λ name at_name h.
+    let e : named_source room name ≡ source = cc h in
+    subst (λ (s : Option DescribedSource). HasRom spec (option_map without_image s)) e
+    (without_image-rom spec room name (λ n is. source_of-some (room_size room) table n (at_name ∙ ap Ok is)) (whole room refl)))
 
 -- ---- a 3851
 
-psu-whole : (base ports vector : ℕ) (wired : Bool) (rom : List ℕ) (source : Option (List ℕ)) → IsMultiple 0 64512 1024 base → IsMultiple 4 252 4 ports
-    → length rom ≡ 1024
-    → IsPlannedChip (planned_chip (record { spec = Psu base rom ports vector wired; source = named_source (psu_room base) source }))
-psu-whole base ports vector wired rom source space first size =
+psu-whole : (base ports vector : ℕ) (wired : Bool) (rom : List ℕ) (source : Option DescribedSource) (power : PowerOn) (table : Members)
+    → IsMultiple 0 64512 1024 base → IsMultiple 4 252 4 ports → length rom ≡ 1024 → source_with (Some (psu_room base)) table ≡ Ok source
+    → IsPlannedChip (planned_chip (record { spec = Psu base rom ports vector wired; source = source; power = power }))
+psu-whole base ports vector wired rom source power table space first size at_source =
     record {
       specified = record {
         bytes = size;
@@ -167,8 +170,12 @@ psu-whole base ports vector wired rom source space first size =
         four_ports = record { above_cpu = first.above; below_end = first.below; boundary = first.even };
       };
       no_blank = refl;
-      has_rom = without_image-rom (Psu base rom ports vector wired) (psu_room base) 1024 source size (λ name at_name. omega arith);
+      has_rom = source_with-rom (Psu base rom ports vector wired) (Some (psu_room base)) table source at_source
+          (λ r is. let e : psu_room base ≡ r = cc is in size ∙ room_whole base ∙ ap room_size e);
     }
+  where
+    room_whole : (at : ℕ) → 1024 ≡ room_size (psu_room at)
+    room_whole at = omega arith
 
 psu_of-whole : (table : Members) (chip : DescribedChip) → psu_of table ≡ Ok chip → IsPlannedChip (planned_chip chip)
 unfolding psu_of
@@ -177,74 +184,72 @@ psu_of-whole table chip h =
     bind-ok (IsPlannedChip (planned_chip chip)) (value_needed Ports (multiple_in 4 252 4) table) _ chip h (λ ports at_ports h.
     bind-ok (IsPlannedChip (planned_chip chip)) (usually Vector 0 (number_in 0 65535) table) _ chip h (λ vector at_vector h.
     bind-ok (IsPlannedChip (planned_chip chip)) (wired_of table) _ chip h (λ wired at_wired h.
+    bind-ok (IsPlannedChip (planned_chip chip)) (start_of table) _ chip h (λ start at_start h.
     bind-ok (IsPlannedChip (planned_chip chip)) (mask_of 1024 table) _ chip h (λ rom at_rom h.
-    bind-ok (IsPlannedChip (planned_chip chip)) (source_of 1024 table) _ chip h (λ source at_source h.
-    let e : record { spec = Psu base rom ports vector wired; source = named_source (psu_room base) source } ≡ chip = cc h in
-    rw (← e) (psu-whole base ports vector wired rom source (value_needed-multiple Base 0 64512 1024 table base at_base)
-    (value_needed-multiple Ports 4 252 4 table ports at_ports) (mask_of-length 1024 table rom at_rom))))))))
+    bind-ok (IsPlannedChip (planned_chip chip)) (source_with (Some (psu_room base)) table) _ chip h (λ source at_source h.
+    let e : record { spec = Psu base rom ports vector wired; source = source; power = record { fill = None; start = start } } ≡ chip = cc h in
+    rw (← e) (psu-whole base ports vector wired rom source (record { fill = None; start = start }) table
+    (value_needed-multiple Base 0 64512 1024 table base at_base)
+    (value_needed-multiple Ports 4 252 4 table ports at_ports) (mask_of-length 1024 table rom at_rom) at_source))))))))
 
 -- ---- a 3853
 
-pub record IsRun (s : PageSort) (run : PageRun) : Type 0 where
-  pub sorted : run.sort ≡ s
-  pub inside : run.first + run.count ≤ 256
+-- a room of the ROM pages has an address for each of their bytes
+spanned-size : (span : Option Room) (size : ℕ) (room : Room)
+    → option_and_then (λ (r : Room). if room_size r == size then Some r else None) span ≡ Some room → room_size room ≡ size
+spanned-size None size room h = cc h
+spanned-size (Some r) size room h = chosen (room_size r == size) refl h
+  where
+    chosen : (t : Bool) → (room_size r == size) ≡ t → (if t then Some r else None) ≡ Some room → room_size room ≡ size
+    chosen true is h =
+        let e : r ≡ room = cc h in
+        ap room_size (sym e) ∙ eqb-true (room_size r) size is
+    chosen false is h = cc h
 
-run_apart-ok : (earlier : List PageRun) (s : PageSort) (first count : ℕ) (run : PageRun)
-    → run_apart earlier (record { sort = s; first = first; count = count }) ≡ Ok run → IsRun s run
-run_apart-ok earlier s first count run h =
-    let asked : PageRun = record { sort = s; first = first; count = count } in
-    let (t, e) = if-ok (lies_within asked && list_all (lie_apart asked) earlier) asked run Boundary h in
-    let both = and_parts (lies_within asked) (list_all (lie_apart asked) earlier) t in
-    rw (← e) (record { sorted = refl; inside = leb-true (first + count) 256 both.0 })
+rom_room-size : (pages : List Page) (room : Room) → rom_room pages ≡ Some room → room_size room ≡ rom_size_of pages
+rom_room-size pages room h = spanned-size (rom_span pages) (rom_size_of pages) room h
 
-pub run_at-ok : (s : PageSort) (first_key count_key : Key) (earlier : List PageRun) (table : Members) (run : PageRun)
-    → run_at s first_key count_key earlier table ≡ Ok run → IsRun s run
-run_at-ok s first_key count_key earlier table run h =
-    bind-ok (IsRun s run) (usually first_key 0 (number_in 0 255) table) _ run h (λ first at_first h.
-    bind-ok (IsRun s run) (usually count_key 0 (number_in 0 256) table) _ run h (λ count at_count h.
-    run_apart-ok earlier s first count run
-    (at_key-ok count_key (run_apart earlier (record { sort = s; first = first; count = count })) run h)))
-
-smi-whole : (rom ram void : PageRun) (wired : Bool) (bytes : List ℕ) (source : Option (List ℕ)) → IsRun sort.Rom rom → IsRun sort.Ram ram
-    → IsRun sort.Void void → length bytes ≡ 256 * rom.count → ((name : List ℕ) → source ≡ Some name → 1 ≤ 256 * rom.count)
-    → IsPlannedChip (planned_chip (record { spec = Smi (pages_of (rom ∷ ram ∷ void ∷ [])) bytes wired; source = named_source (run_room rom) source }))
-smi-whole rom ram void wired bytes source of_rom of_ram of_void size some =
-    let sorted : AreSorted rom ram void = record { rom_sort = of_rom.sorted; ram_sort = of_ram.sorted; void_sort = of_void.sorted } in
+smi-whole : (pages : List Page) (wired : Bool) (bytes : List ℕ) (source : Option DescribedSource) (power : PowerOn) (table : Members)
+    → IsStrictlyIncreasing (map (λ (p : Page). p.number) pages) → length bytes ≡ rom_size_of pages → source_with (rom_room pages) table ≡ Ok source
+    → IsPlannedChip (planned_chip (record { spec = Smi pages bytes wired; source = source; power = power }))
+smi-whole pages wired bytes source power table ascends size at_source =
     record {
-      specified = record {
-        ascending = pages_of-ascends (rom ∷ ram ∷ void ∷ []);
-        bytes = size ∙ ap (λ (n : ℕ). 256 * n) (sym (pages_of-rom_count rom ram void sorted of_rom.inside));
-      };
+      specified = record { ascending = ascends; bytes = size };
       no_blank = refl;
-      has_rom = without_image-rom (Smi (pages_of (rom ∷ ram ∷ void ∷ [])) bytes wired) (run_room rom) (256 * rom.count) source size
-          (λ name at_name. let page = some name at_name in omega (arith, page));
+      has_rom = source_with-rom (Smi pages bytes wired) (rom_room pages) table source at_source
+          (λ r is. size ∙ sym (rom_room-size pages r is));
     }
 
-smi_of-whole : (table : Members) (chip : DescribedChip) → smi_of table ≡ Ok chip → IsPlannedChip (planned_chip chip)
-unfolding smi_of
-smi_of-whole table chip h =
-    bind-ok (IsPlannedChip (planned_chip chip)) (run_at sort.Rom RomPage RomPages [] table) _ chip h (λ rom at_rom h.
-    bind-ok (IsPlannedChip (planned_chip chip)) (run_at sort.Ram RamPage RamPages (rom ∷ []) table) _ chip h (λ ram at_ram h.
-    bind-ok (IsPlannedChip (planned_chip chip)) (run_at sort.Void VoidPage VoidPages (rom ∷ ram ∷ []) table) _ chip h (λ void at_void h.
+smi_with-whole : (pages : List Page) (table : Members) (chip : DescribedChip) → IsStrictlyIncreasing (map (λ (p : Page). p.number) pages)
+    → smi_with pages table ≡ Ok chip → IsPlannedChip (planned_chip chip)
+unfolding smi_with
+smi_with-whole pages table chip ascends h =
     bind-ok (IsPlannedChip (planned_chip chip)) (wired_of table) _ chip h (λ wired at_wired h.
-    bind-ok (IsPlannedChip (planned_chip chip)) (rom_of (256 * rom.count) table) _ chip h (λ bytes at_bytes h.
-    bind-ok (IsPlannedChip (planned_chip chip)) (source_of (256 * rom.count) table) _ chip h (λ source at_source h.
-    let e : record { spec = Smi (pages_of (rom ∷ ram ∷ void ∷ [])) bytes wired; source = named_source (run_room rom) source } ≡ chip = cc h in
-    rw (← e) (smi-whole rom ram void wired bytes source (run_at-ok sort.Rom RomPage RomPages [] table rom at_rom)
-    (run_at-ok sort.Ram RamPage RamPages (rom ∷ []) table ram at_ram) (run_at-ok sort.Void VoidPage VoidPages (rom ∷ ram ∷ []) table void at_void)
-    (rom_of-length (256 * rom.count) table bytes at_bytes)
-    (λ name at_name. source_of-some (256 * rom.count) table name (at_source ∙ ap Ok at_name)))))))))
+    bind-ok (IsPlannedChip (planned_chip chip)) (maybe_number Fill 255 table) _ chip h (λ fill at_fill h.
+    bind-ok (IsPlannedChip (planned_chip chip)) (start_of table) _ chip h (λ start at_start h.
+    bind-ok (IsPlannedChip (planned_chip chip)) (rom_of (rom_size_of pages) table) _ chip h (λ bytes at_bytes h.
+    bind-ok (IsPlannedChip (planned_chip chip)) (source_with (rom_room pages) table) _ chip h (λ source at_source h.
+    let e : record { spec = Smi pages bytes wired; source = source; power = record { fill = fill; start = start } } ≡ chip = cc h in
+    rw (← e) (smi-whole pages wired bytes source (record { fill = fill; start = start }) table ascends
+    (rom_of-length (rom_size_of pages) table bytes at_bytes) at_source))))))
+
+smi_of-whole : (format : CartFormat) (table : Members) (chip : DescribedChip) → smi_of format table ≡ Ok chip → IsPlannedChip (planned_chip chip)
+unfolding smi_of
+smi_of-whole format table chip h =
+    bind-ok (IsPlannedChip (planned_chip chip)) (runs_of format table) _ chip h (λ runs at_runs h.
+    smi_with-whole (pages_of runs) table chip (pages_of-ascends runs) h)
 
 -- ---- either
 
-either-whole : (k : ChipKind) (table : Members) (chip : DescribedChip) → chip_of_kind k table ≡ Ok chip → IsPlannedChip (planned_chip chip)
-either-whole kind.Psu table chip h =
-    bind-ok (IsPlannedChip (planned_chip chip)) (known psu_keys table) _ chip h (λ _ knows h. psu_of-whole table chip h)
-either-whole kind.Smi table chip h =
-    bind-ok (IsPlannedChip (planned_chip chip)) (known smi_keys table) _ chip h (λ _ knows h. smi_of-whole table chip h)
-either-whole kind.Pio table chip h = cc
+either-whole : (format : CartFormat) (k : ChipKind) (table : Members) (chip : DescribedChip) → chip_of_kind format k table ≡ Ok chip
+    → IsPlannedChip (planned_chip chip)
+either-whole format kind.Psu table chip h =
+    bind-ok (IsPlannedChip (planned_chip chip)) (known (psu_keys format) table) _ chip h (λ _ knows h. psu_of-whole table chip h)
+either-whole format kind.Smi table chip h =
+    bind-ok (IsPlannedChip (planned_chip chip)) (known (smi_keys format) table) _ chip h (λ _ knows h. smi_of-whole format table chip h)
+either-whole format kind.Pio table chip h = cc
 
-pub chip_of-whole : (table : Members) (chip : DescribedChip) → chip_of table ≡ Ok chip → IsPlannedChip (planned_chip chip)
+pub chip_of-whole : (format : CartFormat) (table : Members) (chip : DescribedChip) → chip_of format table ≡ Ok chip → IsPlannedChip (planned_chip chip)
 unfolding chip_of
-chip_of-whole table chip h =
-    bind-ok (IsPlannedChip (planned_chip chip)) (value_needed Kind kind_in table) _ chip h (λ k at_kind h. either-whole k table chip h)
+chip_of-whole format table chip h =
+    bind-ok (IsPlannedChip (planned_chip chip)) (value_needed Kind kind_in table) _ chip h (λ k at_kind h. either-whole format k table chip h)

@@ -3,14 +3,18 @@ use Rattle.std.proofs.Common.{◌≡◌, ℕ, zero, suc, false, List, [], ◌∷
 use Rattle.std.specs.Prelude.{codes, pos}
 use Rattle.hex.specs.Hex.{decode_pairs}
 use Rattle.toml.specs.Data.{Data, Items, Members, string, integer, array, table, no_items, item, no_members, member}
-use Rattle.chip_face.specs.declared.specification.ChipSpec.TheVariants.{Psu}
+use Rattle.f8_spec.specs.declared.chips.PageSort.TheVariants.{Rom, Ram}
+use Rattle.f8_spec.specs.Powers.{usual_power}
+use Rattle.chip_face.specs.declared.specification.ChipSpec.TheVariants.{Psu, Smi}
 use Rattle.cartridge.specs.declared.keys.Key.{Key}
 use Rattle.cartridge.specs.declared.keys.Key.TheVariants as key
 use Rattle.cartridge.specs.declared.refusal.CartCause.{CartCause}
 use Rattle.cartridge.specs.declared.refusal.CartCause.TheVariants.{Missing, Unknown, WrongType, Range, Boundary, TooMany, BadHex, Both}
 use Rattle.cartridge.specs.declared.refusal.CartFault.{CartFault}
-use Rattle.cartridge.specs.ChipTables.{chip_of, psu_of, smi_of}
+use Rattle.cartridge.specs.ChipTables.{chip_of, psu_of, smi_of, smi_with}
 use Rattle.cartridge.specs.Description.{Described, chips_from, description_in, top_of}
+use Rattle.cartridge.specs.Pages.{pages_of}
+use Rattle.cartridge.specs.PageTexts.{run_of_text}
 
 -- ---- tables
 
@@ -40,12 +44,33 @@ abbrev tables : ℕ → Items
 tables zero = no_items
 tables (suc n) = item (table (psu 0 4)) (tables n)
 
--- a description with these chips
+-- a description of a format with these chips
+abbrev chips_in_format : ℕ → Data → Members
+chips_in_format format chips = member (codes "chip") chips (member (codes "format") (number format) no_members)
+
 abbrev with_chips : Data → Members
-with_chips chips = member (codes "chip") chips (member (codes "format") (number 1) no_members)
+with_chips chips = chips_in_format 1 chips
 
 abbrev with_chip : Members → Members
 with_chip chip = with_chips (array (item (table chip) no_items))
+
+-- the same in format 2
+abbrev in_two : Members → Members
+in_two chip = chips_in_format 2 (array (item (table chip) no_items))
+
+abbrev start : Members → Members
+start rest = member (codes "start") (number 0x2222) rest
+
+abbrev source : Members
+source = member (codes "source") (text (codes "a")) no_members
+
+abbrev texts : List (List ℕ) → Items
+texts [] = no_items
+texts (t ∷ ts) = item (text t) (texts ts)
+
+-- a 3853 in format 2 with these entries at `pages`, all of whose RAM is 33 at power-on
+abbrev smi : Items → Members → Members
+smi pages rest = member (codes "fill") (number 0x33) (kind (codes "3853") (member (codes "pages") (array pages) rest))
 
 abbrev at_top : Key → CartCause → Result Described CartFault
 at_top key cause = Err (record { chip = None; key = key; cause = cause })
@@ -57,10 +82,46 @@ at_chip key cause = Err (record { chip = Some 0; key = key; cause = cause })
 
 one_chip : description_in (with_chip (psu 0 4)) ≡ Ok (record {
   split = [];
-  chips = record { spec = Psu 0 (0x71 ∷ 0x2B ∷ 0x90 ∷ 0xFE ∷ replicate 1020 255) 4 0 false; source = None } ∷ [];
+  chips = record { spec = Psu 0 (0x71 ∷ 0x2B ∷ 0x90 ∷ 0xFE ∷ replicate 1020 255) 4 0 false; source = None; power = usual_power } ∷ [];
 })
 unfolding description_in top_of chips_from chip_of psu_of decode_pairs
 one_chip = refl
+
+started : description_in (in_two (base 0 (kind (codes "3851") (ports 4 (rom (codes "712B90FE") (start no_members)))))) ≡ Ok (record {
+  split = [];
+  chips = record {
+    spec = Psu 0 (0x71 ∷ 0x2B ∷ 0x90 ∷ 0xFE ∷ replicate 1020 255) 4 0 false;
+    source = None;
+    power = record { fill = None; start = Some 0x2222 };
+  } ∷ [];
+})
+unfolding description_in top_of chips_from chip_of psu_of decode_pairs
+started = refl
+
+-- the pages ascend, whatever the order of their texts, and the source has the addresses of both
+pages_of_two_texts : description_in (in_two (smi (texts (codes "rom 21" ∷ codes "rom 20" ∷ [])) source)) ≡ Ok (record {
+  split = [];
+  chips = record {
+    spec = Smi (record { number = 0x20; sort = Rom } ∷ record { number = 0x21; sort = Rom } ∷ []) (replicate 512 255) false;
+    source = Some (record { name = codes "a"; room = record { first = 0x2000; last = 0x21FF } });
+    power = record { fill = Some 0x33; start = None };
+  } ∷ [];
+})
+unfolding description_in top_of chips_from chip_of smi_of smi_with pages_of run_of_text decode_pairs
+pages_of_two_texts = refl
+
+-- the first byte of a ROM is that of its lowest page
+rom_in_two_pages : description_in (in_two (smi (texts (codes "rom 22" ∷ codes "ram 21" ∷ codes "rom 20" ∷ [])) (rom (codes "11") no_members))) ≡ Ok (record {
+  split = [];
+  chips = record {
+    spec = Smi (record { number = 0x20; sort = Rom } ∷ record { number = 0x21; sort = Ram } ∷ record { number = 0x22; sort = Rom } ∷ [])
+        (0x11 ∷ replicate 511 255) false;
+    source = None;
+    power = record { fill = Some 0x33; start = None };
+  } ∷ [];
+})
+unfolding description_in top_of chips_from chip_of smi_of smi_with pages_of run_of_text decode_pairs
+rom_in_two_pages = refl
 
 -- ---- faults at the top
 
@@ -135,3 +196,62 @@ pages_past_the_end : description_in (with_chip
     ≡ at_chip key.RamPages Boundary
 unfolding description_in top_of chips_from chip_of smi_of
 pages_past_the_end = refl
+
+-- ---- faults of a chip in format 2
+
+gap_between_rom_pages : description_in (in_two (smi (texts (codes "rom 20" ∷ codes "rom 22" ∷ [])) source)) ≡ at_chip key.Source Range
+unfolding description_in top_of chips_from chip_of smi_of smi_with pages_of run_of_text decode_pairs
+gap_between_rom_pages = refl
+
+no_rom_page : description_in (in_two (smi (texts (codes "ram 20" ∷ [])) source)) ≡ at_chip key.Source Range
+unfolding description_in top_of chips_from chip_of smi_of smi_with pages_of run_of_text decode_pairs
+no_rom_page = refl
+
+number_among_texts : description_in (in_two (smi (item (text (codes "rom 20")) (item (number 5) no_items)) no_members)) ≡ at_chip key.Pages WrongType
+unfolding description_in top_of chips_from chip_of smi_of
+number_among_texts = refl
+
+one_digit : description_in (in_two (smi (texts (codes "rom 20" ∷ codes "ram 21" ∷ codes "rom 2" ∷ [])) no_members)) ≡ at_chip key.Pages Range
+unfolding description_in top_of chips_from chip_of smi_of run_of_text decode_pairs
+one_digit = refl
+
+last_below_first : description_in (in_two (smi (texts (codes "rom 28-27" ∷ [])) no_members)) ≡ at_chip key.Pages Range
+unfolding description_in top_of chips_from chip_of smi_of run_of_text decode_pairs
+last_below_first = refl
+
+two_blanks : description_in (in_two (smi (texts (codes "rom  20" ∷ [])) no_members)) ≡ at_chip key.Pages Range
+unfolding description_in top_of chips_from chip_of smi_of run_of_text decode_pairs
+two_blanks = refl
+
+page_twice : description_in (in_two (smi (texts (codes "ram 28" ∷ codes "rom 20-28" ∷ [])) no_members)) ≡ at_chip key.Pages Boundary
+unfolding description_in top_of chips_from chip_of smi_of run_of_text decode_pairs
+page_twice = refl
+
+bad_text_behind_page_twice : description_in (in_two (smi (texts (codes "ram 28" ∷ codes "rom 2" ∷ codes "rom 28" ∷ [])) no_members))
+    ≡ at_chip key.Pages Range
+unfolding description_in top_of chips_from chip_of smi_of run_of_text decode_pairs
+bad_text_behind_page_twice = refl
+
+too_many_texts : description_in (in_two (smi (texts (replicate 257 (codes "rom 20"))) no_members)) ≡ at_chip key.Pages Range
+unfolding description_in top_of chips_from chip_of smi_of
+too_many_texts = refl
+
+-- ---- keys that another format or kind knows
+
+fill_of_a_3851 : description_in (in_two (base 0 (member (codes "fill") (number 0) (kind (codes "3851") (ports 4 (rom (codes "712B90FE") no_members))))))
+    ≡ at_chip key.Other Unknown
+unfolding description_in top_of chips_from chip_of
+fill_of_a_3851 = refl
+
+run_in_format_two : description_in (in_two (kind (codes "3853") (member (codes "rom_page") (number 0x20) no_members))) ≡ at_chip key.Other Unknown
+unfolding description_in top_of chips_from chip_of
+run_in_format_two = refl
+
+start_in_format_one : description_in (with_chip (base 0 (kind (codes "3851") (ports 4 (rom (codes "712B90FE") (start no_members))))))
+    ≡ at_chip key.Other Unknown
+unfolding description_in top_of chips_from chip_of
+start_in_format_one = refl
+
+pages_in_format_one : description_in (with_chip (kind (codes "3853") (member (codes "pages") (array no_items) no_members))) ≡ at_chip key.Other Unknown
+unfolding description_in top_of chips_from chip_of
+pages_in_format_one = refl

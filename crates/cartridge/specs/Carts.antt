@@ -1,11 +1,15 @@
 -- The cartridge of a plan. It is this project's own.
-use Rattle.std.specs.Prelude.{ℕ, Bool, false, not, List, map, position, Option, Some, None, Result, Ok, Err}
+use Rattle.std.specs.Prelude.{◌≡◌, ℕ, Bool, false, not, List, length, map, position, Option, Some, None, Result, Ok, Err}
 use Rattle.std.specs.Option.{option_map_or}
 use Rattle.chip_face.specs.declared.specification.ChipSpec.{ChipSpec}
 use Rattle.chip_face.specs.declared.specification.ChipSpec.TheVariants.{Blank, Psu, Smi, Pio}
 use Rattle.cartridge.specs.declared.finish.Cart.{Cart}
 use Rattle.cartridge.specs.declared.finish.Unfilled.{Unfilled}
 use Rattle.cartridge.specs.Filling.{PlannedSource, PlannedChip, Planned}
+
+-- there is an entry of power-on for each chip
+pub record IsCart (cart : Cart) : Type 0 where
+  pub paired : length cart.powers ≡ length cart.chips
 
 -- a specification with other bytes in its ROM
 abbrev pub with_rom : List ℕ → ChipSpec → ChipSpec
@@ -28,7 +32,7 @@ wants_image chip = option_map_or (λ s. not s.filled) chip.source false
 
 abbrev pub cart_without : Option ℕ → Planned → Result Cart Unfilled
 cart_without (Some chip) plan = Err (record { chip = chip })
-cart_without None plan = Ok (record { split = plan.split; chips = map specification_of plan.chips })
+cart_without None plan = Ok (record { split = plan.split; chips = map specification_of plan.chips; powers = plan.powers })
 
 -- the cartridge of a plan, or the lowest chip that wants an image
 abbrev pub cart_of : Planned → Result Cart Unfilled

@@ -1,32 +1,39 @@
 -- The table of a chip: its kind first, then unknown keys, then each key in turn. The boundaries of a 3851 are those of the Mostek 3851
 -- data sheet; the keys, the pages of a 3853 and the order of faults are this project's own.
-use Rattle.std.specs.Prelude.{ℕ, ◌*◌, Bool, false, if◌then◌else◌, List, [], ◌∷◌, Option, None, is_some, option_map, ◌||◌, Result, Ok, Err}
+use Rattle.std.specs.Prelude.{ℕ, Bool, false, if◌then◌else◌, List, [], ◌∷◌, Option, Some, None, is_some, option_map, ◌||◌, Result, Ok, Err}
 use Rattle.toml.specs.Data.{Members}
 use Rattle.f8_spec.specs.declared.chips.ChipKind.{ChipKind}
 use Rattle.f8_spec.specs.declared.chips.ChipKind.TheVariants as kind
+use Rattle.f8_spec.specs.declared.chips.Page.{Page}
 use Rattle.f8_spec.specs.declared.chips.PageSort.TheVariants as sort
+use Rattle.f8_spec.specs.declared.chips.PowerOn.{PowerOn}
 use Rattle.f8_asm.specs.declared.answers.Room.{Room}
 use Rattle.chip_face.specs.declared.specification.ChipSpec.{ChipSpec}
 use Rattle.chip_face.specs.declared.specification.ChipSpec.TheVariants.{Psu, Smi}
 use Rattle.cartridge.specs.declared.keys.Key.TheVariants.{Kind, Base, Ports, Vector, RomPage, RomPages, RamPage}
-use Rattle.cartridge.specs.declared.keys.Key.TheVariants.{RamPages, VoidPage, VoidPages, Interrupt, Rom, Source}
+use Rattle.cartridge.specs.declared.keys.Key.TheVariants.{RamPages, VoidPage, VoidPages, Pages, Interrupt, Fill, Start, Rom, Source}
+use Rattle.cartridge.specs.declared.format.CartFormat.{CartFormat}
+use Rattle.cartridge.specs.declared.format.CartFormat.TheVariants.{One, Two}
+use Rattle.cartridge.specs.declared.page_run.PageRun.{PageRun}
 use Rattle.cartridge.specs.declared.refusal.CartCause.TheVariants.{Missing, Range}
 use Rattle.cartridge.specs.declared.refusal.KeyFault.{KeyFault}
 use Rattle.cartridge.specs.Faults.{◌>>=◌}
 use Rattle.cartridge.specs.Keys.{known, psu_keys, smi_keys, value_at}
-use Rattle.cartridge.specs.Pages.{run_at, pages_of}
-use Rattle.cartridge.specs.Rooms.{psu_room, run_room}
-use Rattle.cartridge.specs.Values.{value_needed, usually, number_in, multiple_in, truth, kind_in, rom_in, source_in, filled}
+use Rattle.cartridge.specs.Pages.{run_at, pages_of, rom_size_of, rom_room}
+use Rattle.cartridge.specs.PageTexts.{runs_in}
+use Rattle.cartridge.specs.Rooms.{psu_room, room_size}
+use Rattle.cartridge.specs.Values.{value_needed, usually, maybe_number, number_in, multiple_in, truth, kind_in, rom_in, source_in, filled}
 
 -- where the bytes of a ROM come from: the name of an assembly file, and the addresses that its image may have
 pub record DescribedSource : Type 0 where
   pub name : List ℕ
   pub room : Room
 
--- a chip with the bytes that its digits give, and its source, where it has one
+-- a chip with the bytes that its digits give, its source, where it has one, and what is said of its power-on
 pub record DescribedChip : Type 0 where
   pub spec : ChipSpec
   pub source : Option DescribedSource
+  pub power : PowerOn
 
 -- ---- what every kind has
 
@@ -50,6 +57,14 @@ mask_of room table =
 abbrev pub named_source : Room → Option (List ℕ) → Option DescribedSource
 named_source room source = option_map (λ name. record { name = name; room = room }) source
 
+-- the source whose image may have these addresses; where there are none, a source is out of range
+abbrev pub source_with : Option Room → Members → Result (Option DescribedSource) KeyFault
+source_with None table = source_of 0 table >>= λ _. Ok None
+source_with (Some room) table = source_of (room_size room) table >>= λ name. Ok (named_source room name)
+
+abbrev pub start_of : Members → Result (Option ℕ) KeyFault
+start_of table = maybe_number Start 65535 table
+
 -- ---- each kind
 
 unfoldable pub psu_of : Members → Result DescribedChip KeyFault
@@ -58,27 +73,44 @@ psu_of table =
     value_needed Ports (multiple_in 4 252 4) table >>= λ ports.
     usually Vector 0 (number_in 0 65535) table >>= λ vector.
     wired_of table >>= λ wired.
+    start_of table >>= λ start.
     mask_of 1024 table >>= λ rom.
-    source_of 1024 table >>= λ source.
-    Ok (record { spec = Psu base rom ports vector wired; source = named_source (psu_room base) source })
+    source_with (Some (psu_room base)) table >>= λ source.
+    Ok (record { spec = Psu base rom ports vector wired; source = source; power = record { fill = None; start = start } })
 
-unfoldable pub smi_of : Members → Result DescribedChip KeyFault
-smi_of table =
+-- three runs of pages, of which none has a page of an earlier one
+abbrev pub three_runs : Members → Result (List PageRun) KeyFault
+three_runs table =
     run_at sort.Rom RomPage RomPages [] table >>= λ rom.
     run_at sort.Ram RamPage RamPages (rom ∷ []) table >>= λ ram.
     run_at sort.Void VoidPage VoidPages (rom ∷ ram ∷ []) table >>= λ void.
+    Ok (rom ∷ ram ∷ void ∷ [])
+
+abbrev pub runs_of : CartFormat → Members → Result (List PageRun) KeyFault
+runs_of One table = three_runs table
+runs_of Two table = usually Pages [] runs_in table
+
+-- a 3853 with these pages
+unfoldable pub smi_with : List Page → Members → Result DescribedChip KeyFault
+smi_with pages table =
     wired_of table >>= λ wired.
-    rom_of (256 * rom.count) table >>= λ bytes.
-    source_of (256 * rom.count) table >>= λ source.
-    Ok (record { spec = Smi (pages_of (rom ∷ ram ∷ void ∷ [])) bytes wired; source = named_source (run_room rom) source })
+    maybe_number Fill 255 table >>= λ fill.
+    start_of table >>= λ start.
+    rom_of (rom_size_of pages) table >>= λ bytes.
+    source_with (rom_room pages) table >>= λ source.
+    Ok (record { spec = Smi pages bytes wired; source = source; power = record { fill = fill; start = start } })
 
--- No description has a 3861.
-abbrev pub chip_of_kind : ChipKind → Members → Result DescribedChip KeyFault
-chip_of_kind kind.Psu table = known psu_keys table >>= λ _. psu_of table
-chip_of_kind kind.Smi table = known smi_keys table >>= λ _. smi_of table
-chip_of_kind kind.Pio table = Err (record { key = Kind; cause = Range })
+unfoldable pub smi_of : CartFormat → Members → Result DescribedChip KeyFault
+smi_of format table = runs_of format table >>= λ runs. smi_with (pages_of runs) table
 
-unfoldable pub chip_of : Members → Result DescribedChip KeyFault
-chip_of table =
+-- Which keys are known goes by the format, and so do the keys of a 3853's pages. All other keys are read alike in both, since a key that
+-- isn't known was refused before. No description has a 3861.
+abbrev pub chip_of_kind : CartFormat → ChipKind → Members → Result DescribedChip KeyFault
+chip_of_kind format kind.Psu table = known (psu_keys format) table >>= λ _. psu_of table
+chip_of_kind format kind.Smi table = known (smi_keys format) table >>= λ _. smi_of format table
+chip_of_kind format kind.Pio table = Err (record { key = Kind; cause = Range })
+
+unfoldable pub chip_of : CartFormat → Members → Result DescribedChip KeyFault
+chip_of format table =
     value_needed Kind kind_in table >>= λ kind.
-    chip_of_kind kind table
+    chip_of_kind format kind table

@@ -32,6 +32,7 @@ pub record IsFilledChip (bytes : List (ℕ × ℕ)) (old new : PlannedChip) : Ty
 -- the image stands in one chip, and everything else is as it was
 pub record IsFilled (old : Planned) (chip : ℕ) (bytes : List (ℕ × ℕ)) (new : Planned) : Type 0 where
   pub split : new.split ≡ old.split
+  pub powers : new.powers ≡ old.powers
   pub size : length new.chips ≡ length old.chips
   pub others : (place : ℕ) → place ≢ chip → slice_get new.chips place ≡ slice_get old.chips place
   pub own : IsSomeAnd (slice_get old.chips chip) (λ c. IsSomeAnd (slice_get new.chips chip) (λ d. IsFilledChip bytes c d))

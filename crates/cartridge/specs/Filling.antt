@@ -4,6 +4,7 @@ use Rattle.std.specs.Prelude.{ℕ, zero, suc, ◌+◌, ◌-◌, ◌≡◌, ◌�
 use Rattle.std.specs.Prelude.{replicate, slice_get, slice_set, Option, Some, None, option_map, option_and_then}
 use Rattle.std.specs.Prelude.{IsSomeAnd, Result, Ok}
 use Rattle.toml.specs.Data.{Members}
+use Rattle.f8_spec.specs.declared.chips.PowerOn.{PowerOn}
 use Rattle.chip_face.specs.Fitting.{IsSpec, is_blank, rom_of}
 use Rattle.chip_face.specs.declared.sizes.TheConstants.{MOST_CHIPS}
 use Rattle.chip_face.specs.declared.specification.ChipSpec.{ChipSpec}
@@ -23,9 +24,11 @@ pub record PlannedChip : Type 0 where
   pub spec : ChipSpec
   pub source : Option PlannedSource
 
+-- the registers that the checker tracks, the chips, and what is said of each one's power-on
 pub record Planned : Type 0 where
   pub split : List ℕ
   pub chips : List PlannedChip
+  pub powers : List PowerOn
 
 -- ---- the plan of a description
 
@@ -36,8 +39,11 @@ without_image source = record { source = source; bytes = replicate (room_size so
 abbrev pub planned_chip : DescribedChip → PlannedChip
 planned_chip chip = record { spec = chip.spec; source = option_map without_image chip.source }
 
+abbrev pub power_of : DescribedChip → PowerOn
+power_of chip = chip.power
+
 abbrev pub plan_without_images : Described → Planned
-plan_without_images cart = record { split = cart.split; chips = map planned_chip cart.chips }
+plan_without_images cart = record { split = cart.split; chips = map planned_chip cart.chips; powers = map power_of cart.chips }
 
 -- the plan of a table, or the table's first fault
 abbrev pub plan_of : Members → Result Planned CartFault
@@ -72,7 +78,7 @@ with_change_at change (suc place) (x ∷ xs) = x ∷ with_change_at change place
 
 -- the bytes of an image stand in a chip's ROM; where it has none, the byte that was there before stays
 abbrev pub filled_plan : Planned → ℕ → List (ℕ × ℕ) → Planned
-filled_plan plan chip bytes = record { split = plan.split; chips = with_change_at (filled_chip bytes) chip plan.chips }
+filled_plan plan chip bytes = record plan { chips = with_change_at (filled_chip bytes) chip plan.chips }
 
 -- ---- what holds of every plan
 
@@ -94,3 +100,8 @@ pub record IsPlannedChip (chip : PlannedChip) : Type 0 where
 pub record IsPlan (chips : List PlannedChip) : Type 0 where
   pub few : length chips ≤ MOST_CHIPS
   pub each : All IsPlannedChip chips
+
+-- so are the chips of a plan, and there is an entry of power-on for each of them
+pub record IsWholePlan (plan : Planned) : Type 0 where
+  pub chips : IsPlan plan.chips
+  pub paired : length plan.powers ≡ length plan.chips

@@ -2,10 +2,12 @@
 use Rattle.std.specs.Prelude.{ℕ, Bool, true, ◌&&◌, if◌then◌else◌, List, [], ◌∷◌, codes, bytes_eq, Option, Result, Ok, Err}
 use Rattle.std.specs.List.{list_any}
 use Rattle.toml.specs.Data.{Data, Members, no_members, member, get_member}
+use Rattle.cartridge.specs.declared.format.CartFormat.{CartFormat}
+use Rattle.cartridge.specs.declared.format.CartFormat.TheVariants.{One, Two}
 use Rattle.cartridge.specs.declared.keys.Key.{Key}
 use Rattle.cartridge.specs.declared.keys.Key.TheVariants.{Format, Split, Chip, Kind, Base, Ports, Vector, RomPage}
-use Rattle.cartridge.specs.declared.keys.Key.TheVariants.{RomPages, RamPage, RamPages, VoidPage, VoidPages, Interrupt}
-use Rattle.cartridge.specs.declared.keys.Key.TheVariants.{Rom, Source, Other}
+use Rattle.cartridge.specs.declared.keys.Key.TheVariants.{RomPages, RamPage, RamPages, VoidPage, VoidPages, Pages}
+use Rattle.cartridge.specs.declared.keys.Key.TheVariants.{Interrupt, Fill, Start, Rom, Source, Other}
 use Rattle.cartridge.specs.declared.refusal.CartCause.TheVariants as cause
 use Rattle.cartridge.specs.declared.refusal.KeyFault.{KeyFault}
 
@@ -24,7 +26,10 @@ key_word RamPage = codes "ram_page"
 key_word RamPages = codes "ram_pages"
 key_word VoidPage = codes "void_page"
 key_word VoidPages = codes "void_pages"
+key_word Pages = codes "pages"
 key_word Interrupt = codes "interrupt"
+key_word Fill = codes "fill"
+key_word Start = codes "start"
 key_word Rom = codes "rom"
 key_word Source = codes "source"
 key_word Other = codes "?"
@@ -32,15 +37,21 @@ key_word Other = codes "?"
 abbrev pub top_keys : List Key
 top_keys = Format ∷ Split ∷ Chip ∷ []
 
--- the keys of a chip: those that each kind has, and then those that it alone has
+-- the keys that every chip has in both formats, and then its own
 abbrev pub chip_keys : List Key → List Key
 chip_keys own = Kind ∷ Interrupt ∷ Rom ∷ Source ∷ own
 
-abbrev pub psu_keys : List Key
-psu_keys = chip_keys (Base ∷ Ports ∷ Vector ∷ [])
+abbrev pub psu_keys : CartFormat → List Key
+psu_keys One = chip_keys (Base ∷ Ports ∷ Vector ∷ [])
+psu_keys Two = chip_keys (Base ∷ Ports ∷ Vector ∷ Start ∷ [])
 
-abbrev pub smi_keys : List Key
-smi_keys = chip_keys (RomPage ∷ RomPages ∷ RamPage ∷ RamPages ∷ VoidPage ∷ VoidPages ∷ [])
+-- the keys of three runs of pages
+abbrev pub run_keys : List Key
+run_keys = RomPage ∷ RomPages ∷ RamPage ∷ RamPages ∷ VoidPage ∷ VoidPages ∷ []
+
+abbrev pub smi_keys : CartFormat → List Key
+smi_keys One = chip_keys run_keys
+smi_keys Two = chip_keys (Pages ∷ Fill ∷ Start ∷ [])
 
 -- the name is the spelling of one of the keys
 abbrev pub is_spelled : List Key → List ℕ → Bool

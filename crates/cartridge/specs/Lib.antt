@@ -1,11 +1,14 @@
 pub mod Faults
 pub mod Keys
 pub mod Values
-pub mod Pages
 pub mod Rooms
+pub mod Pages
+pub mod PageTexts
 pub mod ChipTables
 pub mod Description
 pub mod Filling
+pub mod Migrated
+pub mod DistinctKeys
 pub mod Filled
 pub mod Carts
 pub mod Plans

@@ -1,8 +1,10 @@
 -- The pages of a chip as runs of pages in a row, each with its sort. They are this project's own.
-use Rattle.std.specs.Prelude.{ℕ, ◌+◌, ◌==◌, ◌&&◌, ◌||◌, nat_le, Bool, if◌then◌else◌, List, Option, Result, Ok, Err}
+use Rattle.std.specs.Prelude.{ℕ, ◌+◌, ◌*◌, ◌==◌, ◌&&◌, ◌||◌, nat_le, Bool, if◌then◌else◌, List, Option, Some, None, Result, Ok, Err}
 use Rattle.std.specs.List.{list_all, range_with_len}
-use Rattle.std.specs.Prelude.{filter_map, find, option_map}
+use Rattle.std.specs.Prelude.{count_by, filter_map, find, option_and_then, option_map, reverse}
 use Rattle.toml.specs.Data.{Members}
+use Rattle.f8_asm.specs.declared.answers.Room.{Room}
+use Rattle.f8_spec.specs.ChipState.{is_rom}
 use Rattle.f8_spec.specs.declared.chips.Page.{Page}
 use Rattle.f8_spec.specs.declared.chips.PageSort.{PageSort}
 use Rattle.cartridge.specs.declared.keys.Key.{Key}
@@ -11,6 +13,7 @@ use Rattle.cartridge.specs.declared.refusal.CartCause.{CartCause}
 use Rattle.cartridge.specs.declared.refusal.CartCause.TheVariants.{Boundary}
 use Rattle.cartridge.specs.declared.refusal.KeyFault.{KeyFault}
 use Rattle.cartridge.specs.Faults.{◌>>=◌, at_key}
+use Rattle.cartridge.specs.Rooms.{room_size}
 use Rattle.cartridge.specs.Values.{usually, number_in}
 
 -- no page is past FF
@@ -46,3 +49,24 @@ page_at runs number = option_map (λ run. record { number = number; sort = run.s
 -- the pages of some runs, by ascending numbers
 unfoldable pub pages_of : List PageRun → List Page
 pages_of runs = filter_map (page_at runs) (range_with_len 0 256)
+
+-- ---- the ROM pages among pages that ascend
+
+abbrev pub is_rom_page : Page → Bool
+is_rom_page page = is_rom page.sort
+
+-- 256 bytes for each of them
+abbrev pub rom_size_of : List Page → ℕ
+rom_size_of pages = 256 * count_by is_rom_page pages
+
+abbrev pub room_between : Page → Page → Room
+room_between lowest highest = record { first = 256 * lowest.number; last = 256 * highest.number + 255 }
+
+-- the addresses from the lowest ROM page to the highest one
+abbrev pub rom_span : List Page → Option Room
+rom_span pages =
+    option_and_then (λ lowest. option_map (room_between lowest) (find is_rom_page (reverse pages))) (find is_rom_page pages)
+
+-- the addresses of the ROM pages, where there are any and they have no gap
+abbrev pub rom_room : List Page → Option Room
+rom_room pages = option_and_then (λ room. if room_size room == rom_size_of pages then Some room else None) (rom_span pages)

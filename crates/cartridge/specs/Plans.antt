@@ -6,6 +6,7 @@ use Rattle.std.specs.declared.alloc.Global.{Global}
 use Rattle.toml.specs.Data.{Members}
 use Rattle.toml.specs.View.{table_view}
 use Rattle.toml.specs.declared.value.Value.{Value}
+use Rattle.f8_spec.specs.declared.chips.PowerOn.{PowerOn}
 use Rattle.chip_face.specs.declared.specification.ChipSpec.{ChipSpec}
 use Rattle.cartridge.specs.declared.chip_table.ChipPlan.{ChipPlan}
 use Rattle.cartridge.specs.declared.rom_source.ChipSource.{ChipSource}
@@ -14,19 +15,19 @@ use Rattle.cartridge.specs.declared.description.Top.{Top}
 use Rattle.cartridge.specs.declared.description.Described.{Described}
 use Rattle.cartridge.specs.Description.{Top as DescribedTop, Described as DescribedCart}
 use Rattle.cartridge.specs.ChipTables.{DescribedChip, DescribedSource}
-use Rattle.cartridge.specs.Filling.{PlannedChip, PlannedSource}
+use Rattle.cartridge.specs.Filling.{PlannedChip, PlannedSource, Planned}
 
 abbrev pub seen_source : ChipSource → DescribedSource
 seen_source source = record { name = string_bytes source.name; room = source.room }
 
 abbrev pub seen_chip : ChipPlan → DescribedChip
-seen_chip chip = record { spec = chip.spec; source = option_map seen_source chip.source }
+seen_chip chip = record { spec = chip.spec; source = option_map seen_source chip.source; power = chip.power }
 
 abbrev pub seen_table : Bor (BTreeMap (String Global) Value) → Members
 seen_table table = table_view table.now
 
 abbrev pub seen_top : Top → DescribedTop
-seen_top top = record { split = top.split; tables = map seen_table top.tables.items }
+seen_top top = record { format = top.format; split = top.split; tables = map seen_table top.tables.items }
 
 abbrev pub seen_cart : Described → DescribedCart
 seen_cart cart = record { split = cart.split; chips = map seen_chip cart.chips.items }
@@ -42,3 +43,6 @@ abbrev pub seen_chips : List ChipSpec → List (Option SourceRom) → List Plann
 seen_chips [] roms = []
 seen_chips (spec ∷ specs) [] = []
 seen_chips (spec ∷ specs) (rom ∷ roms) = record { spec = spec; source = option_map seen_rom rom } ∷ seen_chips specs roms
+
+abbrev pub seen_plan : List ℕ → List ChipSpec → List (Option SourceRom) → List PowerOn → Planned
+seen_plan split specs roms powers = record { split = split; chips = seen_chips specs roms; powers = powers }

@@ -1,16 +1,11 @@
 -- The addresses that the image of a source may have. They are this project's own.
-use Rattle.std.specs.Prelude.{ℕ, ◌+◌, ◌-◌, ◌*◌}
+use Rattle.std.specs.Prelude.{ℕ, ◌+◌, ◌-◌}
 use Rattle.f8_asm.specs.declared.answers.Room.{Room}
 pub use Rattle.f8_asm.specs.Image.{LiesIn}
-use Rattle.cartridge.specs.declared.page_run.PageRun.{PageRun}
 
 -- the addresses of a 3851, of which there are 1,024
 abbrev pub psu_room : ℕ → Room
 psu_room base = record { first = base; last = base + 1023 }
-
--- the addresses of a run that has a page, 256 for each page
-abbrev pub run_room : PageRun → Room
-run_room run = record { first = 256 * run.first; last = 256 * (run.first + run.count) - 1 }
 
 -- how many addresses a room has
 abbrev pub room_size : Room → ℕ

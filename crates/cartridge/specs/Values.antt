@@ -64,6 +64,10 @@ multiple_of step n = if n % step == 0 then Ok n else Err Boundary
 abbrev pub multiple_in : ℕ → ℕ → ℕ → Data → Result ℕ CartCause
 multiple_in first last step d = number_in first last d >>= multiple_of step
 
+-- a number from 0 to last at a key that may be left out
+abbrev pub maybe_number : Key → ℕ → Members → Result (Option ℕ) KeyFault
+maybe_number key last table = usually key None (λ d. number_in 0 last d >>= λ n. Ok (Some n)) table
+
 -- ---- the kind of a chip
 
 abbrev pub kind_named : List ℕ → Result ChipKind CartCause
@@ -92,7 +96,8 @@ rom_in room d = text d >>= λ digits. fitting room (decode_of digits)
 abbrev pub is_file_name : List ℕ → Bool
 is_file_name name = nat_le 1 (length name) && nat_le (length name) 64 && list_all is_printable name
 
--- the name of a file for so many bytes; a chip without ROM has no room for one, and a chip whose digits are given needs none
+-- the name of a file for so many bytes; a chip without ROM, or whose ROM pages have a gap, has no room for one, and a chip whose digits are
+-- given needs none
 abbrev pub source_named : ℕ → Bool → List ℕ → Result (List ℕ) CartCause
 source_named room has_digits name =
     if not (is_file_name name && nat_le 1 room) then Err Range else

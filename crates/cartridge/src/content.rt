@@ -4,14 +4,13 @@ ghost use Rattle.std.specs.Result.{result_ok};
 ghost use Rattle.hex.specs.Hex.{decode_of};
 ghost use Rattle.toml.specs.View.{view, table_view};
 ghost use Rattle.cartridge.specs.declared.keys.Key.TheVariants.{Rom, Source};
-ghost use Rattle.text_lines.specs.declared.read_error.ReadError.TheVariants.{Fault};
 ghost use Rattle.cartridge.specs.Faults.{at_key};
 ghost use Rattle.text_lines.specs.ReadErrors.{SaysSeen};
 ghost use Rattle.cartridge.specs.Values.{filled as filled_to, fitting, rom_in as rom_told, is_file_name as names_file, source_named as source_judged, source_in as source_told};
 ghost use Rattle.cartridge.specs.ChipTables.{rom_of, mask_of, source_of};
 
 use super::keys::Key;
-use super::refusal::{CartCause, KeyFault, TableStop};
+use super::refusal::{CartCause, TableStop, fault_at};
 use super::values::value_at;
 use chip_face::Bytes;
 use hex::FromHexError;
@@ -37,13 +36,6 @@ fn bytes_of(alloc: Global, digits: &str, room: usize) -> Result<Option<Bytes>, A
         Err(FromHexError::OutOfMemory) => Err(AllocError),
         _ => Ok(None),
     }
-}
-
-/// The fault of a value at a key.
-fn fault_at(key: Key, cause: CartCause) -> TableStop
-    ensures { result ≡ Fault (record { key = key; cause = cause }) }
-{
-    TableStop::Fault(KeyFault { key, cause })
 }
 
 /// The bytes of a ROM, by its digits.

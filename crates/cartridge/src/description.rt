@@ -11,11 +11,12 @@ ghost use Rattle.cartridge.specs.Plans.{seen_chip, seen_table, seen_top, seen_ca
 
 use super::chip_table::{ChipPlan, chip_of};
 use super::entries::{split_at, tables_of};
+use super::format::{CartFormat, format_at};
 use super::keys::Key;
 use super::known::known;
-use super::refusal::{CartAnswer, CartCause, CartFault, KeyFault, TableStop};
+use super::refusal::{CartAnswer, CartCause, CartFault, KeyFault, TableStop, fault_at};
 use super::split::Split;
-use super::values::{needed_number, value_at};
+use super::values::value_at;
 use chip_face::MOST_CHIPS;
 use std::alloc::Global;
 use toml::Table;
@@ -23,9 +24,10 @@ use toml::Table;
 /// The keys at the top.
 const TOP_KEYS: [Key; 3] = [Key::Format, Key::Split, Key::Chip];
 
-/// The top of a description: the tracked registers, and the tables of the chips.
+/// The top of a description: its format, the tracked registers, and the tables of the chips.
 #[derive(Drop)]
 pub struct Top<'a> {
+    pub format: CartFormat,
     pub split: Split,
     pub tables: Vec<&'a Table>,
 }
@@ -47,16 +49,14 @@ fn tables_at<'a>(alloc: Global, table: &'a Table) -> Result<Vec<&'a Table>, Tabl
     let Some(value) = value_at(table, key) else {
         return Ok(Vec::new(alloc));
     };
-    let cause = CartCause::WrongType;
     let Some(entries) = value.as_array() else {
-        return Err(TableStop::Fault(KeyFault { key, cause }));
+        return Err(fault_at(key, CartCause::WrongType));
     };
     let Some(tables) = tables_of(alloc, entries.as_slice())? else {
-        return Err(TableStop::Fault(KeyFault { key, cause }));
+        return Err(fault_at(key, CartCause::WrongType));
     };
     if tables.len() > MOST_CHIPS {
-        let cause = CartCause::TooMany;
-        return Err(TableStop::Fault(KeyFault { key, cause }));
+        return Err(fault_at(key, CartCause::TooMany));
     }
     Ok(tables)
 }
@@ -68,10 +68,14 @@ fn top_of<'a>(alloc: Global, table: &'a Table) -> Result<Top<'a>, TableStop>
     ensures few { IfOk result (λ top. vec_len top.tables ≤ MOST_CHIPS) }
 {
     known(&TOP_KEYS, table)?;
-    needed_number(table, Key::Format, 1, 1)?;
+    let format = format_at(table)?;
     let split = split_at(table)?;
     let tables = tables_at(alloc, table)?;
-    Ok(Top { split, tables })
+    Ok(Top {
+        format,
+        split,
+        tables,
+    })
 }
 
 /// The fault of a chip's table, or of the table at the top, in a description.
@@ -90,14 +94,18 @@ fn answer_at(chip: Option<u8>, stop: TableStop) -> CartAnswer
 
 /// The chips of some tables.
 #[tactic(auto, using(crate::proofs::ChipsRead::chips_none, crate::proofs::ChipsRead::chips_more, crate::proofs::ChipsRead::chips_bad, crate::proofs::ChipsRead::chips_all))]
-fn chips_of(alloc: Global, tables: &[&Table]) -> Result<Vec<ChipPlan>, CartAnswer>
+fn chips_of(
+    alloc: Global,
+    format: CartFormat,
+    tables: &[&Table],
+) -> Result<Vec<ChipPlan>, CartAnswer>
     requires { length tables.now ≤ MOST_CHIPS }
     ensures { SaysSeen (λ chips. map seen_chip chips.items) result
-        (chips_from 0 (map seen_table tables.now)) }
+        (chips_from format 0 (map seen_table tables.now)) }
 {
     let mut chips = Vec::new(alloc);
     for index in 0..tables.len() {
-        match chip_of(alloc, tables[index]) {
+        match chip_of(alloc, format, tables[index]) {
             Ok(chip) => match chips.push(chip) {
                 Ok(()) => {}
                 Err(_) => return Err(CartAnswer::Memory),
@@ -117,7 +125,7 @@ pub fn read_description(alloc: Global, table: &Table) -> Result<Described, CartA
         Ok(top) => top,
         Err(stop) => return Err(answer_at(None, stop)),
     };
-    let chips = chips_of(alloc, top.tables.as_slice())?;
+    let chips = chips_of(alloc, top.format, top.tables.as_slice())?;
     Ok(Described {
         split: top.split,
         chips,

@@ -5,14 +5,16 @@ ghost use Rattle.cartridge.specs.Plans.{seen_chips};
 
 use super::rom_source::SourceRom;
 use super::split::Split;
-use chip_face::{Bytes, ChipList, ChipSpec, MOST_CHIPS};
+use chip_face::{Bytes, ChipList, ChipSpec, MOST_CHIPS, Powers};
 use thiserror::Error;
 
-/// A cartridge: the registers that the checker tracks, and the chips in the order of the description.
+/// A cartridge: the registers that the checker tracks, the chips in the order of the description, and in the same order what is said of
+/// the power-on of each.
 #[derive(Debug, Drop)]
 pub struct Cart {
     pub split: Split,
     pub chips: ChipList,
+    pub powers: Powers,
 }
 
 /// The lowest chip with a source that no image was put into. Chips are counted from 0, in the order of the description.

@@ -31,8 +31,14 @@ pub enum Key {
     VoidPage,
     /// The number of pages of a chip in which nothing is.
     VoidPages,
+    /// The pages of a chip, as texts.
+    Pages,
     /// The chip can ask for an interrupt.
     Interrupt,
+    /// The byte that all RAM of a chip has at power-on.
+    Fill,
+    /// The address at which the counters of a chip stand at power-on.
+    Start,
     /// The bytes of a chip's ROM, in hexadecimal digits.
     Rom,
     /// The name of the file that a chip's ROM is assembled from.
@@ -60,7 +66,10 @@ impl Key {
             Key::RamPages => "ram_pages",
             Key::VoidPage => "void_page",
             Key::VoidPages => "void_pages",
+            Key::Pages => "pages",
             Key::Interrupt => "interrupt",
+            Key::Fill => "fill",
+            Key::Start => "start",
             Key::Rom => "rom",
             Key::Source => "source",
             Key::Other => "?",

@@ -8,7 +8,7 @@ use super::refusal::{CartCause, KeyFault};
 use toml::Table;
 
 /// A name is the spelling of one of the keys.
-fn is_spelled(keys: &[Key], name: &str) -> bool
+pub fn is_spelled(keys: &[Key], name: &str) -> bool
     ensures { result ≡ spells keys.now name.now }
 {
     keys.iter().any(|key| name == key.word())

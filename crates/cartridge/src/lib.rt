@@ -5,20 +5,27 @@
 mod chip_table;
 mod content;
 mod description;
+mod document;
 mod entries;
 mod finish;
+mod format;
 mod keys;
 mod known;
+mod migration;
 mod page_run;
+mod page_texts;
 mod plan;
 mod refusal;
+mod rom_room;
 mod rom_source;
+mod run_text;
 mod split;
 mod values;
 
 pub use f8_spec::Memory;
 pub use finish::{Cart, Unfilled};
 pub use keys::Key;
+pub use migration::{migrate, migration_law};
 pub use plan::{Plan, read_cart};
 pub use refusal::{CartAnswer, CartCause, CartFault};
 pub use split::Split;

@@ -1,15 +1,13 @@
 // Runs of pages of a 3853.
-ghost use Rattle.std.specs.Prelude.{◌≡◌, ◌+◌, ◌≤◌, IfOk};
+ghost use Rattle.std.specs.Prelude.{◌≡◌, ◌≤◌, IfOk, length};
 ghost use Rattle.std.specs.List.{list_all};
 ghost use Rattle.toml.specs.View.{table_view};
 ghost use Rattle.cartridge.specs.Pages.{lies_within as within, lies_before as before, lie_apart as apart, run_apart as placed_after, run_at as run_told, has_page as includes, page_at as found_at, pages_of as all_pages};
-ghost use Rattle.cartridge.specs.Rooms.{run_room};
 
 use super::keys::Key;
 use super::refusal::{CartCause, KeyFault};
 use super::values::number_at;
 use chip_face::{Page, PageList, PageSort};
-use f8_asm::Room;
 use std::alloc::{AllocError, Global};
 use toml::Table;
 
@@ -51,25 +49,13 @@ impl PageRun {
     }
 
     /// The run, where it lies within the pages that there are, and apart from the earlier runs.
-    fn run_apart(self, earlier: &[PageRun]) -> Result<PageRun, CartCause>
+    pub fn run_apart(self, earlier: &[PageRun]) -> Result<PageRun, CartCause>
         ensures { result ≡ placed_after earlier.now self }
     {
         if self.lies_within() && self.lies_apart_from_all(earlier) {
             Ok(self)
         } else {
             Err(CartCause::Boundary)
-        }
-    }
-
-    /// The addresses of a run that has a page, 256 for each page.
-    pub fn room(self) -> Room
-        requires { self.first + self.count ≤ 256 }
-        ensures { result ≡ run_room self }
-    {
-        let end = 256 * (u32::from(self.first) + u32::from(self.count));
-        Room {
-            first: 256 * u16::from(self.first),
-            last: end.saturating_sub(1) as u16,
         }
     }
 
@@ -115,7 +101,8 @@ fn page_at(runs: &[PageRun], number: u8) -> Option<Page>
 /// The pages of some runs, by ascending numbers.
 #[tactic(auto, using(crate::proofs::PageLists::one_more, crate::proofs::PageLists::none_more))]
 pub fn pages_of(alloc: Global, runs: &[PageRun]) -> Result<PageList, AllocError>
-    ensures { IfOk result (λ pages. pages ≡ all_pages runs.now) }
+    ensures pages { IfOk result (λ pages. pages ≡ all_pages runs.now) }
+    ensures few { IfOk result (λ pages. length pages ≤ 256) }
 {
     let mut pages = Vec::new(alloc);
     for number in 0_u16..256 {

@@ -1,42 +1,45 @@
 // What a description says, with the bytes of its sources as they stand.
-ghost use Rattle.std.specs.Prelude.{◌≡◌, IfOk, option_map};
+ghost use Rattle.std.specs.Prelude.{◌≡◌, ◌≤◌, IfOk, length, map, option_map};
 ghost use Rattle.toml.specs.View.{table_view};
 ghost use Rattle.text_lines.specs.ReadErrors.{SaysSeen};
-ghost use Rattle.cartridge.specs.Filling.{plan_without_images, plan_of as plan_told, source_at, HasRoomFor, filled_plan, IsPlan};
+ghost use Rattle.cartridge.specs.Filling.{plan_without_images, plan_of as plan_told, source_at, HasRoomFor, filled_plan, power_of, IsWholePlan};
 ghost use Rattle.cartridge.specs.Filled.{IsFilled};
-ghost use Rattle.cartridge.specs.Carts.{cart_of};
-ghost use Rattle.cartridge.specs.Plans.{seen_cart, seen_source, str_seen};
+ghost use Rattle.cartridge.specs.Carts.{cart_of, IsCart};
+ghost use Rattle.cartridge.specs.Plans.{seen_cart, seen_chip, seen_source, str_seen};
 
+use super::chip_table::ChipPlan;
 use super::description::{Described, read_description};
 use super::finish::{Cart, Unfilled, finished_specs};
 use super::refusal::CartAnswer;
 use super::rom_source::{ChipSource, SourceRom, unfilled_rom};
 use super::split::Split;
-use chip_face::{ChipList, ChipSpec};
+use chip_face::{ChipList, ChipSpec, MOST_CHIPS, Powers};
 use f8_asm::{Image, Room};
 use std::alloc::{AllocError, Global};
 use std::marker::Model;
 use toml::Table;
 
-/// What a description says: the registers that the checker tracks, and the chips in its order. The bytes of a chip that has a source are FF
-/// until the image of its source is put there. Contracts see what the description says, with these bytes.
+/// What a description says: the registers that the checker tracks, the chips in its order, and how each is powered on. The bytes of a chip
+/// that has a source are FF until the image of its source is put there. Contracts see what the description says, with these bytes.
 #[derive(Drop)]
 pub struct Plan {
     split: Split,
     specs: Vec<ChipSpec>,
     sources: Vec<Option<SourceRom>>,
+    powers: Powers,
 }
 
 impl Model for Plan {
     ghost use Rattle.std.specs.Prelude.{◌≡◌, length};
-    ghost use Rattle.cartridge.specs.Filling.{Planned, IsPlan};
-    ghost use Rattle.cartridge.specs.Plans.{seen_chips};
+    ghost use Rattle.cartridge.specs.Filling.{Planned, IsWholePlan};
+    ghost use Rattle.cartridge.specs.Plans.{seen_plan};
 
     ghost Value = { Planned };
 
-    ghost view = { λ p. record { split = p.split; chips = seen_chips p.specs.items p.sources.items } };
+    ghost view = { λ p. seen_plan p.split p.specs.items p.sources.items p.powers };
 
-    ghost invariant = { λ p. (length p.specs.items ≡ length p.sources.items) × IsPlan (seen_chips p.specs.items p.sources.items) };
+    ghost invariant = { λ p. (length p.specs.items ≡ length p.sources.items)
+        × IsWholePlan (seen_plan p.split p.specs.items p.sources.items p.powers) };
 }
 
 impl Plan {
@@ -82,21 +85,36 @@ impl Plan {
     ///
     /// `Unfilled`: the lowest chip with a source that no image was put into.
     pub fn cart(self) -> Result<Cart, Unfilled>
-        ensures { result ≡ cart_of self }
+        ensures value { result ≡ cart_of self }
+        ensures whole { IfOk result (λ cart. IsCart cart) }
     {
         let specs = finished_specs(self.specs, self.sources)?;
         Ok(Cart {
             split: self.split,
             chips: ChipList::from_vec(specs),
+            powers: self.powers,
         })
     }
 }
 
+/// What is said of the power-on of each chip.
+fn powers_of(chips: &[ChipPlan]) -> Powers
+    requires { length chips.now ≤ MOST_CHIPS }
+    ensures { result ≡ map (λ chip. power_of (seen_chip chip)) chips.now }
+{
+    let mut powers = Powers::new();
+    for chip in chips {
+        powers.push(chip.power);
+    }
+    powers
+}
+
 /// The plan of what a description says.
 fn plan_of(alloc: Global, cart: Described) -> Result<Plan, AllocError>
-    requires { IsPlan (plan_without_images (seen_cart cart)).chips }
+    requires { IsWholePlan (plan_without_images (seen_cart cart)) }
     ensures { IfOk result (λ plan. plan ≡ plan_without_images (seen_cart cart)) }
 {
+    let powers = powers_of(cart.chips.as_slice());
     let mut specs = Vec::new(alloc);
     let mut sources = Vec::new(alloc);
     for chip in cart.chips {
@@ -107,6 +125,7 @@ fn plan_of(alloc: Global, cart: Described) -> Result<Plan, AllocError>
         split: cart.split,
         specs,
         sources,
+        powers,
     })
 }
 
@@ -119,7 +138,7 @@ fn plan_of(alloc: Global, cart: Described) -> Result<Plan, AllocError>
 /// `Memory`: memory is missing. It says nothing of the description.
 pub fn read_cart(alloc: Global, table: &Table) -> Result<Plan, CartAnswer>
     ensures says { SaysSeen (λ plan. plan) result (plan_told (table_view table.now)) }
-    ensures whole { IfOk result (λ plan. IsPlan plan.chips) }
+    ensures whole { IfOk result (λ plan. IsWholePlan plan) }
 {
     let cart = read_description(alloc, table)?;
     match plan_of(alloc, cart) {

@@ -1,5 +1,6 @@
 // Why a description is refused: the chip, the key and the cause.
 ghost use Rattle.std.specs.Prelude.{◌≡◌};
+ghost use Rattle.text_lines.specs.declared.read_error.ReadError.TheVariants.{Fault};
 ghost use Rattle.cartridge.specs.Faults.{cause_number};
 
 use super::keys::Key;
@@ -75,6 +76,13 @@ pub struct KeyFault {
 
 /// Why a table isn't read to its end.
 pub type TableStop = ReadError<KeyFault>;
+
+/// The fault of a value at a key.
+pub fn fault_at(key: Key, cause: CartCause) -> TableStop
+    ensures { result ≡ Fault (record { key = key; cause = cause }) }
+{
+    TableStop::Fault(KeyFault { key, cause })
+}
 
 impl From<KeyFault> for ReadError<KeyFault> {
     ghost use Rattle.std.specs.Prelude.{◌≡◌};

@@ -3,7 +3,7 @@ ghost use Rattle.std.specs.Prelude.{◌≡◌, ◌<◌, option_map, false};
 ghost use Rattle.toml.specs.View.{view, table_view};
 ghost use Rattle.cartridge.specs.declared.keys.Key.TheVariants.{Kind};
 ghost use Rattle.cartridge.specs.Keys.{value_at as found_at};
-ghost use Rattle.cartridge.specs.Values.{value_needed, usually, within as lies_within, number_in as number_between, multiple_of as multiple_by, multiple_in as multiple_between, truth as truth_told, kind_named as kind_spelled, kind_in as kind_told};
+ghost use Rattle.cartridge.specs.Values.{value_needed, usually, within as lies_within, number_in as number_between, multiple_of as multiple_by, multiple_in as multiple_between, maybe_number as maybe_told, truth as truth_told, kind_named as kind_spelled, kind_in as kind_told};
 
 use super::keys::Key;
 use super::refusal::{CartCause, KeyFault};
@@ -121,19 +121,6 @@ pub fn multiple_at(
     multiple_in(first, last, step, value).map_err(|cause| KeyFault { key, cause })
 }
 
-/// A number from `first` to `last` at a key that has to be there.
-pub fn needed_number(table: &Table, key: Key, first: u16, last: u16) -> Result<u16, KeyFault>
-    ensures { result ≡ value_needed key (number_between first last) (table_view table.now) }
-{
-    let Some(value) = value_at(table, key) else {
-        return Err(KeyFault {
-            key,
-            cause: CartCause::Missing,
-        });
-    };
-    number_in(first, last, value).map_err(|cause| KeyFault { key, cause })
-}
-
 /// A number from 0 to `last` at a key, and 0 where it is left out.
 pub fn number_at(table: &Table, key: Key, last: u16) -> Result<u16, KeyFault>
     ensures { result ≡ usually key 0 (number_between 0 last) (table_view table.now) }
@@ -142,6 +129,32 @@ pub fn number_at(table: &Table, key: Key, last: u16) -> Result<u16, KeyFault>
         return Ok(0);
     };
     number_in(0, last, value).map_err(|cause| KeyFault { key, cause })
+}
+
+/// A number from 0 to 255 at a key that may be left out.
+pub fn maybe_byte(table: &Table, key: Key) -> Result<Option<u8>, KeyFault>
+    ensures { result ≡ maybe_told key 255 (table_view table.now) }
+{
+    let Some(value) = value_at(table, key) else {
+        return Ok(None);
+    };
+    match number_in(0, 255, value) {
+        Ok(number) => Ok(Some(number as u8)),
+        Err(cause) => Err(KeyFault { key, cause }),
+    }
+}
+
+/// An address at a key that may be left out.
+pub fn maybe_address(table: &Table, key: Key) -> Result<Option<u16>, KeyFault>
+    ensures { result ≡ maybe_told key 65535 (table_view table.now) }
+{
+    let Some(value) = value_at(table, key) else {
+        return Ok(None);
+    };
+    match number_in(0, 65_535, value) {
+        Ok(number) => Ok(Some(number)),
+        Err(cause) => Err(KeyFault { key, cause }),
+    }
 }
 
 /// A truth value at a key, and `false` where it is left out.

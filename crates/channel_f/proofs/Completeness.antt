@@ -9,7 +9,7 @@ use Rattle.console_spec.specs.RunText.{text_of}
 use Rattle.outside.specs.Counts.{Rose}
 use Rattle.outside.specs.SinkRules.{Adds}
 use Rattle.outside.specs.StoreRules.{NamedBytes, Input}
-use Rattle.command_line.specs.CommandLine.{Command, Play, Check, Verify, Ref, Debug, Asm, Dis, Gen}
+use Rattle.command_line.specs.CommandLine.{Command, Play, Check, Verify, Migrate, Ref, Debug, Asm, Dis, Gen}
 use Rattle.console_spec.specs.Telling.{Telling}
 use Rattle.console_spec.specs.declared.VerdictWord.{VerdictWord}
 use Rattle.cart_checker.specs.Verdicts.{verdict_word}
@@ -23,13 +23,13 @@ use Rattle.loader.specs.declared.refusals.Stop.{Stop}
 use Rattle.loader.specs.declared.refusals.Stop.TheVariants.{Refused, Store, Memory}
 use Rattle.chip_face.specs.declared.specification.ChipSpec.{ChipSpec}
 use Rattle.loader.specs.declared.games.Debugging.{Debugging}
-use Rattle.loader.specs.Games.{Game, game_of, cart_of, claim_of, debugging_of, image_by, bytes_by}
+use Rattle.loader.specs.Games.{Game, game_of, cart_of, table_by, claim_of, debugging_of, image_by, bytes_by}
 use Rattle.loader.specs.Work.{End, Gives, Refuses, Lacks, Work, gives, ◌>>=◌}
 use Rattle.loader.specs.Works.{HasFiles, Misses, order_of, file_of, Works, outcome_as}
 use Rattle.loader.proofs.WorkLaws.{works_gives, works_done, works_stop}
-use Rattle.channel_f.specs.Answers.{Answer, Due, Plain, Judged, refusal, status_of, run_answer, judged_run, game_run, ref_run}
+use Rattle.channel_f.specs.Answers.{Answer, Due, Plain, Judged, Reading, refusal, status_of, run_answer, judged_run, game_run, ref_run}
 use Rattle.channel_f.specs.Answers.{unless_refused, game_due, generated_game, gen_due, play_due, check_answer, check_due}
-use Rattle.channel_f.specs.Answers.{debug_answer, debug_due, cert_answer, found_answer, verify_answer}
+use Rattle.channel_f.specs.Answers.{debug_answer, debug_due, migrate_due, text_answer, cert_answer, found_answer, verify_answer}
 use Rattle.channel_f.specs.Answers.{ref_answer, asm_answer, dis_answer, words_answer, due_of, refusal_answer}
 use Rattle.channel_f.specs.Commands.{Around, Ends, Says}
 use Rattle.channel_f.specs.Completeness.{due_at, Answered, AnsweredDue, RefusesBehind, RefusesRack, IsComplete}
@@ -313,6 +313,7 @@ record IsOrdinary (rack : List ChipState) (answer : Answer) : Type 0 where
 abbrev AreOrdinary : List ChipState → Due → Type 0
 AreOrdinary rack (Plain answer) = IsOrdinary rack answer
 AreOrdinary rack (Judged cart by) = (verdict : Verdict) → IsOrdinary rack (by verdict)
+AreOrdinary rack (Reading table) = (text : List ℕ) → IsOrdinary rack (text_answer text)
 
 complete_given : (old new : Around) (said : Status) (work : Work Due) (due : Due) → AreOrdinary old.rack due →
     Works old.input new.input work (Ok due) → AnswersDue old.output new.output said due → IsComplete old new said work
@@ -333,6 +334,21 @@ complete_given old new said work (Judged cart by) ordinary works (inr judges) =
           answers_of old.output new.output said (by judges.right.verdict).status (by judges.right.verdict).lines mine.plain.memory
           judges.reports;
       is_due = λ answered. record { right = judges.right; answered = answered };
+    })
+    works
+complete_given old new said work (Reading table) ordinary works (inl wants) =
+    complete_wanting old new said work (Reading table) wants works
+complete_given old new said work (Reading table) ordinary works (inr documents) =
+    let mine = ordinary documents.text in
+    complete_ok old new said work (Reading table)
+    (record {
+      answer = text_answer documents.text;
+      plain = mine.plain;
+      of_rack = mine.of_rack;
+      ends =
+          answers_of old.output new.output said (text_answer documents.text).status (text_answer documents.text).lines mine.plain.memory
+          documents.reports;
+      is_due = λ answered. record { text = documents.text; reads = documents.reads; answered = answered };
     })
     works
 
@@ -446,6 +462,9 @@ completed old new said (Some (Check cart certified)) says =
 completed old new said (Some (Verify cart cert)) says =
     complete_of old new said (claim_of cart cert) (λ claim. Plain (verify_answer claim)) says.told.outcome
     (λ claim. found_ordinary old.rack claim.cart.split _ _) says.told.works says.told.ends
+completed old new said (Some (Migrate cart)) says =
+    complete_of old new said (table_by cart) migrate_due says.told.outcome
+    (λ table. λ text. done_ordinary old.rack _) says.told.works says.told.ends
 completed old new said (Some (Ref cart script)) says =
     complete_of old new said (game_of cart script) (λ game. Plain (ref_answer game)) says.told.outcome
     (λ game. stop_ordinary old.rack (ref_run game).ending.stop _) says.told.works says.told.ends

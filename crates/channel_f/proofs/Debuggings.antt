@@ -6,6 +6,7 @@ use Rattle.std.proofs.lemmas.List.{append_assoc, append-nil, drop_more}
 use Rattle.std.proofs.lemmas.List.Sums.{sum_by-cons}
 use Rattle.f8_spec.specs.ChipState.{ChipView, ChipState}
 use Rattle.f8_spec.specs.declared.chips.ChipKind.{ChipKind}
+use Rattle.f8_spec.specs.declared.chips.PowerOn.{PowerOn}
 use Rattle.console_spec.specs.RunText.{text_of}
 use Rattle.data_bus.specs.Racks.{views}
 use Rattle.outside.specs.SinkRules.{Output, Adds, AddsPart}
@@ -192,19 +193,19 @@ kinds_seen : (states : List ChipState) → kinds_of states ≡ map (λ (v : Chip
 kinds_seen [] = refl
 kinds_seen (s ∷ states) = ap (λ (kinds : List ChipKind). s.view.kind ∷ kinds) (kinds_seen states)
 
-pub starts_at : (chips : List ChipSpec) (olds : List ChipState) (s : SessionState) (news : List ChipState) →
-    IsAt s news (started 0 (chain_of chips (kinds_of olds)) no_breaks (views olds)) →
-    IsAt s news (first_scene chips (views olds))
-starts_at chips olds s news at =
-    subst (λ (kinds : List ChipKind). IsAt s news (started 0 (chain_of chips kinds) no_breaks (views olds)))
+pub starts_at : (chips : List ChipSpec) (powers : List PowerOn) (olds : List ChipState) (s : SessionState) (news : List ChipState) →
+    IsAt s news (started 0 (chain_of chips (kinds_of olds)) powers no_breaks (views olds)) →
+    IsAt s news (first_scene chips powers (views olds))
+starts_at chips powers olds s news at =
+    subst (λ (kinds : List ChipKind). IsAt s news (started 0 (chain_of chips kinds) powers no_breaks (views olds)))
     (kinds_seen olds) at
 
 -- and so many questions were put until then
-pub begun_asks : (chips : List ChipSpec) (olds : List ChipState) (p q : ℕ) →
-    q ≤ p + allowed_since_power (started 0 (chain_of chips (kinds_of olds)) no_breaks (views olds)) →
-    q ≤ p + allowed_since_power (first_scene chips (views olds))
-begun_asks chips olds p q few =
-    subst (λ (kinds : List ChipKind). q ≤ p + allowed_since_power (started 0 (chain_of chips kinds) no_breaks (views olds)))
+pub begun_asks : (chips : List ChipSpec) (powers : List PowerOn) (olds : List ChipState) (p q : ℕ) →
+    q ≤ p + allowed_since_power (started 0 (chain_of chips (kinds_of olds)) powers no_breaks (views olds)) →
+    q ≤ p + allowed_since_power (first_scene chips powers (views olds))
+begun_asks chips powers olds p q few =
+    subst (λ (kinds : List ChipKind). q ≤ p + allowed_since_power (started 0 (chain_of chips kinds) powers no_breaks (views olds)))
     (kinds_seen olds) few
 
 -- ---- what it answers
@@ -226,30 +227,30 @@ done_is_not_memory e = cc
 
 module _ (a b : Output) (said : Status) (asked : Debugging) (rack fitted : List ChipState)
     (same : views fitted ≡ fitted_views asked.cart.chips rack)
-    (reports : Reports a b said status.Done (told_by asked.commands (first_scene asked.cart.chips (views fitted)))) where
+    (reports : Reports a b said status.Done (told_by asked.commands (first_scene asked.cart.chips asked.cart.powers (views fitted)))) where
   pub debug_answers : Answers a b said (debug_answer asked rack)
   debug_answers =
       answers_of a b said status.Done (debug_answer asked rack).lines done_is_not_memory
-      (subst (λ (vs : List ChipView). Reports a b said status.Done (told_by asked.commands (first_scene asked.cart.chips vs))) same
+      (subst (λ (vs : List ChipView). Reports a b said status.Done (told_by asked.commands (first_scene asked.cart.chips asked.cart.powers vs))) same
       reports)
 
   pub debugs : (news : List ChipState) (before after : ℕ) →
-      (said ≢ status.Sink → AreOf (scene_by asked.commands (first_scene asked.cart.chips (views fitted))) news) →
-      (said ≡ status.Sink → FailedAt a b asked.commands (first_scene asked.cart.chips (views fitted)) news before after) →
-      (said ≢ status.Sink → after ≤ before + session_allowed asked.commands (first_scene asked.cart.chips (views fitted))) →
+      (said ≢ status.Sink → AreOf (scene_by asked.commands (first_scene asked.cart.chips asked.cart.powers (views fitted))) news) →
+      (said ≡ status.Sink → FailedAt a b asked.commands (first_scene asked.cart.chips asked.cart.powers (views fitted)) news before after) →
+      (said ≢ status.Sink → after ≤ before + session_allowed asked.commands (first_scene asked.cart.chips asked.cart.powers (views fitted))) →
       patches news ≡ patches rack → Debugs a b said asked rack news before after
   debugs news before after whole failed few patched = record {
     patched = patched;
     asks = λ by_sink by_memory.
-        subst (λ (vs : List ChipView). after ≤ before + session_allowed asked.commands (first_scene asked.cart.chips vs)) same
+        subst (λ (vs : List ChipView). after ≤ before + session_allowed asked.commands (first_scene asked.cart.chips asked.cart.powers vs)) same
         (few by_sink);
     wanting = λ by_memory. absurd (done_not_memory said reports.which by_memory);
     unasked = λ by_memory. absurd (done_not_memory said reports.which by_memory);
     whole = λ by_sink by_memory.
-        subst (λ (vs : List ChipView). AreOf (scene_by asked.commands (first_scene asked.cart.chips vs)) news) same
+        subst (λ (vs : List ChipView). AreOf (scene_by asked.commands (first_scene asked.cart.chips asked.cart.powers vs)) news) same
         (whole by_sink);
     failed = λ by_sink.
-        subst (λ (vs : List ChipView). FailedAt a b asked.commands (first_scene asked.cart.chips vs) news before after) same
+        subst (λ (vs : List ChipView). FailedAt a b asked.commands (first_scene asked.cart.chips asked.cart.powers vs) news before after) same
         (failed by_sink);
   }
 

@@ -4,6 +4,7 @@ use Rattle.std.proofs.Common.{subst}
 use Rattle.std.specs.Prelude.{◌⊎◌, Option, Some, None, flat_map}
 use Rattle.std.proofs.lemmas.List.{append_assoc, append-nil}
 use Rattle.f8_spec.specs.ChipState.{ChipView, ChipState}
+use Rattle.f8_spec.specs.Powers.{ArePowers}
 use Rattle.console_spec.specs.Processor.{told_regs}
 use Rattle.console_spec.specs.Run.{Stop, Done, Unserved, Reserved, Ending as FlatEnding}
 use Rattle.console_spec.specs.RunText.{verdict_line, told_lines, ending_lines, flat_telling_lines, lines_of, text_of}
@@ -24,7 +25,7 @@ use Rattle.report.proofs.TextLaws.{text_of-nil, text_of-cons, text_of-append}
 use Rattle.data_bus.specs.Racks.{views}
 use Rattle.loader.specs.Games.{Game}
 use Rattle.cart_checker.specs.Verdicts.{verdict_word}
-use Rattle.channel_f.specs.Answers.{Answer, Due, Plain, Judged, status_of, refusal, ref_run, game_run, game_chain, run_answer, judged_run}
+use Rattle.channel_f.specs.Answers.{Answer, Due, Plain, Judged, Reading, status_of, refusal, ref_run, game_run, game_chain, run_answer, judged_run}
 use Rattle.channel_f.specs.Manners.{detail_of, run_by, run_fitted, opening_lines, closing_lines, lines_by, told_summary}
 use Rattle.channel_f.specs.Manners.{summary_lines}
 use Rattle.channel_f.specs.Manners.{ending_told, summary_told, closing_told}
@@ -150,6 +151,7 @@ answers_wanting now due = record {
 pub due_wanting : (now : Output) (due : Due) → AnswersDue now now status.Memory due
 due_wanting now (Plain answer) = answers_wanting now answer
 due_wanting now (Judged cart by) = inl (record { status = refl; nothing = adds_none now })
+due_wanting now (Reading table) = inl (record { status = refl; nothing = adds_none now })
 
 pub answers_stayed : (old new : Output) (due : Answer) → new ≡ old → Answers old new status.Memory due
 answers_stayed old new due same = subst (λ (now : Output). Answers old now status.Memory due) (sym same) (answers_wanting old due)
@@ -178,7 +180,7 @@ module _ (manner : Manner) (word : VerdictWord) (game : Game) (chain : List ℕ)
       reports_part a b due opening (told ++ closing) (lines_by manner word run) part (text_by manner word run)
 
   pub on_not_begun : (a b : Output) (asked : ℕ) → AddsPart a b opening →
-      OnFitted a b status.Sink manner word game.script.power chain run fitted fitted asked asked
+      OnFitted a b status.Sink manner word game.script.power chain game.cart.powers run fitted fitted asked asked
   on_not_begun a b asked part = record {
     ran = λ by_sink. absurd (by_sink refl);
     failed = λ by_sink. inl (record { same = refl; part = part; unasked = refl });
@@ -186,19 +188,19 @@ module _ (manner : Manner) (word : VerdictWord) (game : Game) (chain : List ℕ)
 
   -- it failed at one of its lines
   pub reports_cut : (Asks : List ℕ → Type 0) (news : List ChipState) (a b c : Output) (due : Status) → Adds a b opening →
-      PlaysPart Asks (detail_of manner) game.script chain fitted news b c → Reports a c status.Sink due (lines_by manner word run)
+      PlaysPart Asks (detail_of manner) game.script chain game.cart.powers fitted news b c → Reports a c status.Sink due (lines_by manner word run)
   reports_cut Asks news a b c due first plays =
       reports_part a c due (opening ++ told) closing (lines_by manner word run)
       (adds_part_behind a b c opening told first plays.part) opened
 
   pub on_cut : (news : List ChipState) (a b c : Output) (before after : ℕ) → Adds a b opening →
-      PlaysPart (AsksWithin (run_allowed fitted) before after) (detail_of manner) game.script chain fitted news b c →
-      OnFitted a c status.Sink manner word game.script.power chain run fitted news before after
+      PlaysPart (AsksWithin (run_allowed fitted) before after) (detail_of manner) game.script chain game.cart.powers fitted news b c →
+      OnFitted a c status.Sink manner word game.script.power chain game.cart.powers run fitted news before after
   on_cut news a b c before after first plays = record {
     ran = λ by_sink. absurd (by_sink refl);
     failed = λ by_sink. inr (inl (record {
       powered = plays.powered;
-      powers = plays.powers;
+      power_on = plays.power_on;
       between = b;
       opening = first;
       cut = plays.cut;
@@ -208,12 +210,12 @@ module _ (manner : Manner) (word : VerdictWord) (game : Game) (chain : List ℕ)
 
   -- it came to its end
   module _ (ending : Ending) (news : List ChipState) (a b c d : Output) (said : Status) (first : Adds a b opening)
-      (plays : RackPlays (detail_of manner) game.script chain ending fitted news b c)
+      (plays : RackPlays (detail_of manner) game.script chain game.cart.powers ending fitted news b c)
       (r : Reports c d said (status_of (stop_at ending.halt)) (closing_told manner ending)) where
     ran_on : (before after : ℕ) → AsksWithin (run_allowed fitted) before after (tried_codes run) →
-        RanOn game.script.power chain run fitted news before after
+        RanOn game.script.power chain game.cart.powers run fitted news before after
     ran_on before after asks =
-        record { powered = plays.powered; powers = plays.powers; lived = plays.lived; asks = asks }
+        record { powered = plays.powered; power_on = plays.power_on; lived = plays.lived; asks = asks }
 
     told_all : Adds a c (opening ++ told)
     told_all = adds_then a b c opening told first plays.lines
@@ -230,7 +232,7 @@ module _ (manner : Manner) (word : VerdictWord) (game : Game) (chain : List ℕ)
         (lines_by manner word run) told_all closing_reports opened
 
     pub on_run : (before after : ℕ) → AsksWithin (run_allowed fitted) before after (tried_codes run) →
-        OnFitted a d said manner word game.script.power chain run fitted news before after
+        OnFitted a d said manner word game.script.power chain game.cart.powers run fitted news before after
     on_run before after asks = record {
       ran = λ by_sink. ran_on before after asks;
       failed = λ by_sink. inr (inr (record {
@@ -247,8 +249,8 @@ module _ (a b : Output) (said : Status) (manner : Manner) (game : Game) (rack fi
     (chain : List ℕ) (same : views fitted ≡ fitted_views game.cart.chips rack) (linked : chain ≡ game_chain game rack) where
   run_same : run_fitted manner game chain fitted ≡ game_run manner game rack
   run_same =
-      ap (λ (sockets : List ℕ). run_by manner game.script sockets (views fitted)) linked
-      ∙ ap (λ (vs : List ChipView). run_by manner game.script (game_chain game rack) vs) same
+      ap (λ (sockets : List ℕ). run_by manner game.script sockets game.cart.powers (views fitted)) linked
+      ∙ ap (λ (vs : List ChipView). run_by manner game.script (game_chain game rack) game.cart.powers vs) same
 
   -- the run on the chips described, behind the right verdict
   answers_judged : RunsJudged a b said manner game chain fitted news before after →
@@ -269,11 +271,11 @@ module _ (a b : Output) (said : Status) (manner : Manner) (game : Game) (rack fi
     right = runs.right;
     on =
         subst (λ (sockets : List ℕ).
-        OnFitted a b said manner (verdict_word runs.right.verdict) game.script.power sockets (game_run manner game rack) fitted news
+        OnFitted a b said manner (verdict_word runs.right.verdict) game.script.power sockets game.cart.powers (game_run manner game rack) fitted news
         before after)
         linked
         (subst (λ (t : Telling).
-        OnFitted a b said manner (verdict_word runs.right.verdict) game.script.power chain t fitted news before after) run_same
+        OnFitted a b said manner (verdict_word runs.right.verdict) game.script.power chain game.cart.powers t fitted news before after) run_same
         runs.on);
   }
 
@@ -298,12 +300,12 @@ module _ (a b : Output) (said : Status) (manner : Manner) (game : Game) (rack fi
   due_judged (inr runs) = inr (answers_judged runs)
 
   -- what the verdict promises of it
-  pub keeps_judged : SafeRunLaw → HasScriptBytes game.script →
+  pub keeps_judged : SafeRunLaw → HasScriptBytes game.script → ArePowers game.cart.powers →
       PlaysJudged a b said manner game chain fitted news before after →
       KeepsVerdict said manner game rack
-  keeps_judged law script (inl wants) = λ fits patches by_memory. absurd (by_memory wants.status)
-  keeps_judged law script (inr runs) =
-      keeps_verdict law said manner game rack script runs.bytes
+  keeps_judged law script are (inl wants) = λ fits patches by_memory. absurd (by_memory wants.status)
+  keeps_judged law script are (inr runs) =
+      keeps_verdict law said manner game rack script are runs.bytes
       (subst (λ (t : Telling). (said ≡ status_of t.ending.stop) ⊎ (said ≡ status.Sink)) run_same runs.reports.which)
 
 -- the check and the run on chips that are fitted
@@ -341,7 +343,7 @@ game_wanting now manner game rack asked = unless_wanting (refusal game.cart.chip
 -- ---- a run on the flat instruction set alone
 
 pub reports_flat : (game : Game) (ending : Ending) (a b c : Output) (said : Status) →
-    Refers game.script ending game.cart.chips a b →
+    Refers game.script ending game.cart.chips game.cart.powers a b →
     Reports b c said (status_of (stop_at ending.halt)) (ending_told ending) →
     Reports a c said (status_of (ref_run game).ending.stop) (flat_telling_lines (ref_run game))
 reports_flat game ending a b c said refers r =

@@ -5,8 +5,8 @@ use Rattle.std.specs.Prelude.{IsTrue}
 use Rattle.std.specs.List.{list_all}
 use Rattle.cartridge.specs.declared.keys.Key.{Key}
 use Rattle.cartridge.specs.declared.keys.Key.TheVariants.{Format, Split, Chip, Kind, Base, Ports, Vector, RomPage}
-use Rattle.cartridge.specs.declared.keys.Key.TheVariants.{RomPages, RamPage, RamPages, VoidPage, VoidPages, Interrupt}
-use Rattle.cartridge.specs.declared.keys.Key.TheVariants.{Rom, Source, Other}
+use Rattle.cartridge.specs.declared.keys.Key.TheVariants.{RomPages, RamPage, RamPages, VoidPage, VoidPages, Pages}
+use Rattle.cartridge.specs.declared.keys.Key.TheVariants.{Interrupt, Fill, Start, Rom, Source, Other}
 use Rattle.cartridge.specs.Keys.{key_word}
 
 pub word_short : (key : Key) → length (key_word key) ≤ 16
@@ -23,7 +23,10 @@ word_short RamPage = omega arith
 word_short RamPages = omega arith
 word_short VoidPage = omega arith
 word_short VoidPages = omega arith
+word_short Pages = omega arith
 word_short Interrupt = omega arith
+word_short Fill = omega arith
+word_short Start = omega arith
 word_short Rom = omega arith
 word_short Source = omega arith
 word_short Other = omega arith
@@ -42,7 +45,10 @@ word_printable RamPage = refl
 word_printable RamPages = refl
 word_printable VoidPage = refl
 word_printable VoidPages = refl
+word_printable Pages = refl
 word_printable Interrupt = refl
+word_printable Fill = refl
+word_printable Start = refl
 word_printable Rom = refl
 word_printable Source = refl
 word_printable Other = refl

@@ -1,5 +1,5 @@
 -- What a verdict promises of a game on a rack that has a place for it.
-use Rattle.std.proofs.Common.{◌≡◌, ℕ, Bool, true, false, ◌⊎◌, inl, inr, List, [], length, refl, ap, ◌∙◌}
+use Rattle.std.proofs.Common.{◌≡◌, ℕ, Bool, true, false, ◌⊎◌, inl, inr, List, length, refl, ap, ◌∙◌}
 use Rattle.std.specs.Prelude.{nat_lt, if◌then◌else◌, Option, Some, None, option_map}
 use Rattle.f8_spec.specs.ChipState.{ChipState}
 use Rattle.f8_spec.specs.Powers.{ArePowers}
@@ -36,11 +36,8 @@ has_sockets : (game : Game) (rack : List ChipState) → refusal game.cart.chips 
 unfolding refusal
 has_sockets game rack e = no_shortage (nat_lt MOST_CHIPS (length rack)) (rack_line (length rack)) (shortage_of game.cart.chips (kinds_of rack)) e
 
-none_said : ArePowers []
-none_said place p e = cc
-
 module _ (law : SafeRunLaw) (said : Status) (manner : Manner) (game : Game) (rack : List ChipState) (script : HasScriptBytes game.script)
-    (bytes : TellsBytes (chips_view game.cart.chips)) where
+    (are : ArePowers game.cart.powers) (bytes : TellsBytes (chips_view game.cart.chips)) where
   as_described : refusal game.cart.chips rack ≡ None → HasNoPatches game.cart.chips rack → IsAsDescribed game.cart.chips rack game.script
   as_described fits patches = record {
     bytes = bytes;
@@ -51,8 +48,8 @@ module _ (law : SafeRunLaw) (said : Status) (manner : Manner) (game : Game) (rac
 
   is_done : IsAsDescribed game.cart.chips rack game.script → IsFaultFreeCart game.cart → (game_run manner game rack).ending.stop ≡ Done
   is_done described whole =
-      law.done game.cart.chips game.cart.split rack (game_chain game rack) [] (is_traced (detail_of manner)) game.script described none_said
-      whole
+      law.done game.cart.chips game.cart.split rack (game_chain game rack) game.cart.powers (is_traced (detail_of manner)) game.script described
+      are whole
 
   status_by : (game_run manner game rack).ending.stop ≡ Done →
       (said ≡ status_of (game_run manner game rack).ending.stop) ⊎ (said ≡ status.Sink) → (said ≡ status.Done) ⊎ (said ≡ status.Sink)
@@ -66,6 +63,6 @@ module _ (law : SafeRunLaw) (said : Status) (manner : Manner) (game : Game) (rac
         done = is_done described;
         status = λ whole. status_by (is_done described whole) which;
         agreed = λ safe.
-            law.undriven game.cart.chips game.cart.split rack (game_chain game rack) [] (is_traced (detail_of manner)) game.script
-            described none_said safe;
+            law.undriven game.cart.chips game.cart.split rack (game_chain game rack) game.cart.powers (is_traced (detail_of manner)) game.script
+            described are safe;
       }

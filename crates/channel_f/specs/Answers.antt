@@ -1,7 +1,9 @@
 -- What the program answers: its lines and its status, for some commands by the verdict on a cartridge.
-use Rattle.std.specs.Prelude.{ℕ, Bool, true, false, nat_lt, if◌then◌else◌, List, [], ◌∷◌, length, Option, Some, None, option_map}
+use Rattle.std.specs.Prelude.{ℕ, Bool, true, false, nat_lt, if◌then◌else◌, List, [], ◌∷◌, length, replicate, Option, Some, None, option_map}
+use Rattle.toml.specs.Data.{Members}
 use Rattle.chip_face.specs.declared.sizes.TheConstants.{MOST_CHIPS}
 use Rattle.f8_spec.specs.ChipState.{ChipState}
+use Rattle.f8_spec.specs.Powers.{usual_power}
 use Rattle.console_spec.specs.Run.{Stop, Done, Unserved, Reserved}
 use Rattle.console_spec.specs.RunText.{flat_telling_lines}
 use Rattle.console_spec.specs.Telling.{Telling, referred_by}
@@ -14,6 +16,7 @@ use Rattle.rack_run.specs.Sockets.{chain_of, shortage_of}
 use Rattle.rack_run.specs.declared.sockets.Shortage.{Shortage}
 use Rattle.report.specs.CheckLines.{whole_line, agreed_line, refused_line, toomany_line, notclosed_line, unsafe_line}
 use Rattle.report.specs.ErrorLines.{words_line, rack_line, sockets_line}
+use Rattle.cartridge.specs.Migrated.{migrated_table}
 use Rattle.cartridge.specs.declared.finish.Cart.{Cart}
 use Rattle.cart_checker.specs.Verdicts.{verdict_word, analysis_of}
 use Rattle.cart_checker.specs.declared.verdict.Verdict.{Verdict}
@@ -28,11 +31,11 @@ use Rattle.asm_lines.specs.ImageLines.{image_lines}
 use Rattle.chip_face.specs.declared.specification.ChipSpec.{ChipSpec}
 use Rattle.chip_debug.specs.Carried.{first_scene, told_by}
 use Rattle.chip_debug.specs.Scenes.{Scene}
-use Rattle.command_line.specs.CommandLine.{Command, Play, Check, Verify, Ref, Debug, Asm, Dis, Gen}
+use Rattle.command_line.specs.CommandLine.{Command, Play, Check, Verify, Migrate, Ref, Debug, Asm, Dis, Gen}
 use Rattle.loader.specs.declared.purposes.Purpose.{Purpose}
 use Rattle.loader.specs.declared.refusals.Refusal.{Refusal}
 use Rattle.loader.specs.declared.games.Debugging.{Debugging}
-use Rattle.loader.specs.Games.{Game, Claim, game_of, cart_of, claim_of, debugging_of, image_by, bytes_by}
+use Rattle.loader.specs.Games.{Game, Claim, game_of, cart_of, table_by, claim_of, debugging_of, image_by, bytes_by}
 use Rattle.loader.specs.Work.{Work, gives, ◌>>=◌}
 use Rattle.channel_f.specs.Manners.{run_by, lines_by}
 use Rattle.channel_f.specs.ErrorLines.{refusal_line, missing_line}
@@ -46,10 +49,12 @@ pub record Answer : Type 0 where
   pub status : Status
   pub lines : List (List ℕ)
 
--- What is due: an answer, or for each verdict on a cartridge one, of which that of a right verdict is due.
+-- What is due: an answer; or for each verdict on a cartridge one, of which that of a right verdict is due; or any document that reads as a
+-- table.
 pub data Due : Type 0 where
   Plain : (answer : Answer) → Due
   Judged : (cart : Cart) (by : Verdict → Answer) → Due
+  Reading : (table : Members) → Due
 
 -- ---- racks
 
@@ -77,7 +82,8 @@ game_chain game rack = chain_of game.cart.chips (kinds_of rack)
 
 -- the run of a game on the chips of a rack, fitted for it, each with its own patch in its bytes
 abbrev pub game_run : Manner → Game → List ChipState → Telling
-game_run manner game rack = run_by manner game.script (game_chain game rack) (fitted_views game.cart.chips rack)
+game_run manner game rack =
+    run_by manner game.script (game_chain game rack) game.cart.powers (fitted_views game.cart.chips rack)
 
 abbrev pub run_answer : Manner → VerdictWord → Telling → Answer
 run_answer manner word run = record { status = status_of run.ending.stop; lines = lines_by manner word run }
@@ -101,7 +107,7 @@ play_due traced rack game = game_due (Whole traced) rack game
 
 -- the scene at which a session of the debugger begins, on the chips of a rack that are fitted for the cartridge
 abbrev pub debug_scene : Cart → List ChipState → Scene
-debug_scene cart rack = first_scene cart.chips (fitted_views cart.chips rack)
+debug_scene cart rack = first_scene cart.chips cart.powers (fitted_views cart.chips rack)
 
 -- all is done once all commands are done, whatever stopped the session
 abbrev pub debug_answer : Debugging → List ChipState → Answer
@@ -110,10 +116,11 @@ debug_answer asked rack = record { status = status.Done; lines = told_by asked.c
 abbrev pub debug_due : List ChipState → Debugging → Due
 debug_due rack asked = unless_refused (refusal asked.cart.chips rack) (Plain (debug_answer asked rack))
 
--- the generated cartridge has no register that is tracked, and runs for 60 frames, without keys and shown frames
+-- The generated cartridge has no register that is tracked, nothing is said of the power-on of its chips, and it runs for 60 frames, without
+-- keys and shown frames.
 abbrev pub generated_game : ℕ → Game
 generated_game seed = record {
-  cart = record { split = []; chips = chips_of_seed seed };
+  cart = record { split = []; chips = chips_of_seed seed; powers = replicate (length (chips_of_seed seed)) usual_power };
   script = record { power = 0; end = Frames 60; events = []; shows = [] };
 }
 
@@ -153,9 +160,13 @@ found_answer tracked points (found.Unsafe point reason) = record { status = stat
 abbrev pub verify_answer : Claim → Answer
 verify_answer claim = found_answer claim.cart.split (length claim.notes) (examined (analysis_of claim.cart) claim.notes)
 
+-- the same description in the newest format
+abbrev pub migrate_due : Members → Due
+migrate_due table = Reading (migrated_table table)
+
 -- the same chips on the flat instruction set alone
 abbrev pub ref_run : Game → Telling
-ref_run game = referred_by (views_of game.cart.chips) [] game.script
+ref_run game = referred_by (views_of game.cart.chips) game.cart.powers game.script
 
 abbrev pub ref_answer : Game → Answer
 ref_answer game = record { status = status_of (ref_run game).ending.stop; lines = flat_telling_lines (ref_run game) }
@@ -178,6 +189,7 @@ due_of rack (Some (Play cart script traced)) =
     game_of cart script >>= λ game. gives (play_due traced rack game)
 due_of rack (Some (Check cart certified)) = cart_of cart >>= λ cartridge. gives (check_due certified cartridge)
 due_of rack (Some (Verify cart cert)) = claim_of cart cert >>= λ claim. gives (Plain (verify_answer claim))
+due_of rack (Some (Migrate cart)) = table_by cart >>= λ table. gives (migrate_due table)
 due_of rack (Some (Ref cart script)) = game_of cart script >>= λ game. gives (Plain (ref_answer game))
 due_of rack (Some (Debug cart commands)) = debugging_of cart commands >>= λ asked. gives (debug_due rack asked)
 due_of rack (Some (Asm file)) = image_by file >>= λ picture. gives (Plain (asm_answer picture))

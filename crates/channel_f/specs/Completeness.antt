@@ -1,17 +1,19 @@
 -- The same call, by the files that the store tells: when each status comes, and how many files are asked for.
-use Rattle.std.specs.Prelude.{◌≡◌, ◌≢◌, ℕ, ◌<◌, ◌⊎◌, List, [], ◌∷◌, Option, Some, None}
+use Rattle.std.specs.Prelude.{◌≡◌, ◌≢◌, ℕ, ◌<◌, ◌⊎◌, List, [], ◌∷◌, Option, Some, None, Ok}
+use Rattle.toml.specs.Data.{Members}
 use Rattle.console_spec.specs.RunText.{text_of}
 use Rattle.outside.specs.Counts.{Rose}
 use Rattle.outside.specs.SinkRules.{Adds}
 use Rattle.outside.specs.StoreRules.{NamedBytes}
 use Rattle.loader.specs.declared.refusals.Refusal.{Refusal}
 use Rattle.chip_face.specs.declared.specification.ChipSpec.{ChipSpec}
+use Rattle.loader.specs.Readings.{table_of}
 use Rattle.loader.specs.Work.{Ask, End, Gives, Refuses, Lacks, Work}
 use Rattle.loader.specs.Works.{AsksFew, HasFiles, Misses, order_of, file_of}
 use Rattle.cartridge.specs.declared.finish.Cart.{Cart}
 use Rattle.cart_checker.specs.Verdicts.{RightVerdict}
 use Rattle.cart_checker.specs.declared.verdict.Verdict.{Verdict}
-use Rattle.channel_f.specs.Answers.{Answer, Due, Plain, Judged, refusal, refusal_answer}
+use Rattle.channel_f.specs.Answers.{Answer, Due, Plain, Judged, Reading, refusal, refusal_answer, text_answer}
 use Rattle.channel_f.specs.Commands.{Around}
 use Rattle.channel_f.specs.declared.status.Status.{Status}
 use Rattle.channel_f.specs.declared.status.Status.TheVariants as status
@@ -32,9 +34,16 @@ pub record AnsweredBy (old new : Around) (said : Status) (cart : Cart) (by : Ver
   pub right : RightVerdict cart
   pub answered : Answered old new said (by right.verdict)
 
+-- the same, where any document that reads as a table is due
+pub record AnsweredWith (old new : Around) (said : Status) (table : Members) : Type 0 where
+  pub text : List ℕ
+  pub reads : table_of text ≡ Ok table
+  pub answered : Answered old new said (text_answer text)
+
 abbrev pub AnsweredDue : Around → Around → Status → Due → Type 0
 AnsweredDue old new said (Plain answer) = Answered old new said answer
 AnsweredDue old new said (Judged cart by) = AnsweredBy old new said cart by
+AnsweredDue old new said (Reading table) = AnsweredWith old new said table
 
 -- the line of a file that is refused was written, and that file or one that is asked for before it is missing
 pub record RefusesBehind (old new : Around) (files : List NamedBytes) (asks : List Ask) : Type 0 where

@@ -29,7 +29,7 @@ pub record RunsJudged (old new : Output) (said : Status) (manner : Manner) (game
   pub reports : Reports old new said (status_of (run_fitted manner game chain fitted).ending.stop)
       (lines_by manner (verdict_word right.verdict) (run_fitted manner game chain fitted))
   pub on : OnFitted old new said manner (verdict_word right.verdict) game.script.power chain
-      (run_fitted manner game chain fitted) fitted news before after
+      game.cart.powers (run_fitted manner game chain fitted) fitted news before after
 
 abbrev pub PlaysJudged : Output → Output → Status → Manner → Game → List ℕ → (fitted news : List ChipState) →
     (before after : ℕ) → Type 0

@@ -1,6 +1,7 @@
 -- How a run on a rack is told: whole, as `play` does, with every bus step or without, or by a summary, as `gen` does.
 use Rattle.std.specs.Prelude.{ℕ, true, false, sum, List, [], ◌∷◌, length}
 use Rattle.f8_spec.specs.ChipState.{ChipView, ChipState}
+use Rattle.f8_spec.specs.declared.chips.PowerOn.{PowerOn}
 use Rattle.console_spec.specs.Processor.{told_regs}
 use Rattle.console_spec.specs.Run.{Stop, Ending}
 use Rattle.console_spec.specs.RunText.{verdict_line, stop_line, total_line, told_lines, ending_lines, telling_lines}
@@ -25,13 +26,13 @@ detail_of (Whole true) = Steps
 detail_of (Whole false) = Writes
 detail_of (Summary seed) = Nothing
 
--- a run of a script on chips that are fitted, with the chain of those described
-abbrev pub run_by : Manner → Script → List ℕ → List ChipView → Telling
-run_by manner script chain vs = played_by vs chain [] (is_traced (detail_of manner)) script
+-- a run of a script on chips that are fitted, with the chain of those described and what is said of the power-on of each
+abbrev pub run_by : Manner → Script → List ℕ → List PowerOn → List ChipView → Telling
+run_by manner script chain powers vs = played_by vs chain powers (is_traced (detail_of manner)) script
 
 -- the same on the chips of a rack that is fitted
 abbrev pub run_fitted : Manner → Game → List ℕ → List ChipState → Telling
-run_fitted manner game chain fitted = run_by manner game.script chain (views fitted)
+run_fitted manner game chain fitted = run_by manner game.script chain game.cart.powers (views fitted)
 
 -- before it begins
 abbrev pub opening_lines : Manner → VerdictWord → List (List ℕ)

@@ -1,7 +1,8 @@
 -- What becomes of the rack in a call: fitting, and then power-on and the moments of the run, one after another, and nothing else. And how
 -- many questions have been put to its chips, before the call and after it, which is this project's own.
-use Rattle.std.specs.Prelude.{◌≡◌, ◌≢◌, ℕ, ◌⊎◌, List, [], ◌++◌, Option, Some, None, Result, Ok, Err}
+use Rattle.std.specs.Prelude.{◌≡◌, ◌≢◌, ℕ, ◌⊎◌, List, ◌++◌, Option, Some, None, Result, Ok, Err}
 use Rattle.f8_spec.specs.ChipState.{ChipState}
+use Rattle.f8_spec.specs.declared.chips.PowerOn.{PowerOn}
 use Rattle.console_spec.specs.RunText.{text_of}
 use Rattle.console_spec.specs.Telling.{Telling, told_in}
 use Rattle.console_spec.specs.declared.VerdictWord.{VerdictWord}
@@ -23,12 +24,14 @@ use Rattle.channel_f.specs.declared.status.Status.TheVariants as status
 
 -- ---- a run on chips that are fitted
 
--- Every chip is powered with this byte, and lives through the moments of the run on these chips, whose pulses go by these sockets of the
--- chips described: so it stands where the bus steps, the keys and the pulses lead, and a chip that tells what it heard heard these steps
--- and nothing else. They were asked no more than 512 questions each, and the allowances of the bus steps that were tried.
-pub record RanOn (power : ℕ) (chain : List ℕ) (run : Telling) (fitted news : List ChipState) (before after : ℕ) : Type 0 where
+-- Every chip is powered with this byte, and as is said of it where it is one of the chips described, which have these sockets. It lives
+-- through the moments of the run on these chips, whose pulses go by the same sockets: so it stands where the bus steps, the keys and the
+-- pulses lead, and a chip that tells what it heard heard these steps and nothing else. They were asked no more than 512 questions each, and
+-- the allowances of the bus steps that were tried.
+pub record RanOn (power : ℕ) (chain : List ℕ) (powers : List PowerOn) (run : Telling) (fitted news : List ChipState)
+    (before after : ℕ) : Type 0 where
   pub powered : List ChipState
-  pub powers : RackPowers power chain [] fitted powered
+  pub power_on : RackPowers power chain powers fitted powered
   pub lived : Lives chain run.moments powered news
   pub asks : AsksWithin (run_allowed fitted) before after (tried_codes run)
 
@@ -40,10 +43,10 @@ pub record FailedBefore (old new : Output) (manner : Manner) (word : VerdictWord
   pub unasked : after ≡ before
 
 -- it failed at a line of the run, at whose instruction, or at whose reset, the chips stand, up to which steps were tried
-pub record FailedDuring (old new : Output) (manner : Manner) (word : VerdictWord) (power : ℕ) (chain : List ℕ) (run : Telling)
-    (fitted news : List ChipState) (before after : ℕ) : Type 0 where
+pub record FailedDuring (old new : Output) (manner : Manner) (word : VerdictWord) (power : ℕ) (chain : List ℕ) (powers : List PowerOn)
+    (run : Telling) (fitted news : List ChipState) (before after : ℕ) : Type 0 where
   pub powered : List ChipState
-  pub powers : RackPowers power chain [] fitted powered
+  pub power_on : RackPowers power chain powers fitted powered
   pub between : Output
   pub opening : Adds old between (text_of (opening_lines manner word))
   pub cut : CutShort (detail_of manner) chain run.moments powered news between new
@@ -51,21 +54,21 @@ pub record FailedDuring (old new : Output) (manner : Manner) (word : VerdictWord
       AsksWithin (run_allowed fitted) before after (codes_up_to cut.before cut.at cut.behind run.ending.stop)
 
 -- it failed at a line behind the run
-pub record FailedAfter (old new : Output) (manner : Manner) (word : VerdictWord) (power : ℕ) (chain : List ℕ) (run : Telling)
-    (fitted news : List ChipState) (before after : ℕ) : Type 0 where
-  pub ran : RanOn power chain run fitted news before after
+pub record FailedAfter (old new : Output) (manner : Manner) (word : VerdictWord) (power : ℕ) (chain : List ℕ) (powers : List PowerOn)
+    (run : Telling) (fitted news : List ChipState) (before after : ℕ) : Type 0 where
+  pub ran : RanOn power chain powers run fitted news before after
   pub between : Output
   pub told : Adds old between (text_of (opening_lines manner word) ++ text_in (detail_of manner) (told_in run.moments))
   pub part : AddsPart between new (text_of (closing_lines manner run.ending))
 
 -- What a run on chips that are fitted makes of them.
 pub record OnFitted (old new : Output) (said : Status) (manner : Manner) (word : VerdictWord) (power : ℕ) (chain : List ℕ)
-    (run : Telling) (fitted news : List ChipState) (before after : ℕ) : Type 0 where
-  pub ran : said ≢ status.Sink → RanOn power chain run fitted news before after
+    (powers : List PowerOn) (run : Telling) (fitted news : List ChipState) (before after : ℕ) : Type 0 where
+  pub ran : said ≢ status.Sink → RanOn power chain powers run fitted news before after
   pub failed : said ≡ status.Sink →
       FailedBefore old new manner word fitted news before after
-      ⊎ FailedDuring old new manner word power chain run fitted news before after
-      ⊎ FailedAfter old new manner word power chain run fitted news before after
+      ⊎ FailedDuring old new manner word power chain powers run fitted news before after
+      ⊎ FailedAfter old new manner word power chain powers run fitted news before after
 
 -- ---- a game on a rack
 
@@ -76,7 +79,7 @@ pub record PlayedOn (old new : Output) (said : Status) (manner : Manner) (game :
   pub fits : RackFits (seated game.cart.chips rack) rack fitted
   pub right : RightVerdict game.cart
   pub on : OnFitted old new said manner (verdict_word right.verdict) game.script.power (game_chain game rack)
-      (game_run manner game rack) fitted news before after
+      game.cart.powers (game_run manner game rack) fitted news before after
 
 -- What a call that plays a game says of the rack. Where memory was wanting, the first chips may have been fitted, or all of them, and
 -- no more became of them.

@@ -1,5 +1,5 @@
 -- What a call says of the sink, and of the status that it ends with.
-use Rattle.std.specs.Prelude.{◌≡◌, ◌≢◌, ℕ, ◌⊎◌, List, []}
+use Rattle.std.specs.Prelude.{◌≡◌, ◌≢◌, ℕ, ◌⊎◌, List, [], Ok}
 use Rattle.console_spec.specs.RunText.{text_of}
 use Rattle.outside.specs.SinkRules.{Output, Adds, AddsPart}
 use Rattle.loader.specs.declared.refusals.Stop.{Stop}
@@ -7,7 +7,9 @@ use Rattle.loader.specs.declared.refusals.Stop.TheVariants.{Refused, Store, Memo
 use Rattle.cartridge.specs.declared.finish.Cart.{Cart}
 use Rattle.cart_checker.specs.Verdicts.{RightVerdict}
 use Rattle.cart_checker.specs.declared.verdict.Verdict.{Verdict}
-use Rattle.channel_f.specs.Answers.{Answer, Due, Plain, Judged, refusal_answer, missing_answer}
+use Rattle.toml.specs.Data.{Members}
+use Rattle.loader.specs.Readings.{table_of}
+use Rattle.channel_f.specs.Answers.{Answer, Due, Plain, Judged, Reading, text_answer, refusal_answer, missing_answer}
 use Rattle.channel_f.specs.declared.status.Status.{Status}
 use Rattle.channel_f.specs.declared.status.Status.TheVariants as status
 
@@ -36,6 +38,12 @@ pub record Judges (old new : Output) (said : Status) (cart : Cart) (by : Verdict
   pub right : RightVerdict cart
   pub reports : Reports old new said (by right.verdict).status (by right.verdict).lines
 
+-- a document was written that reads as a table
+pub record Documents (old new : Output) (said : Status) (table : Members) : Type 0 where
+  pub text : List ℕ
+  pub reads : table_of text ≡ Ok table
+  pub reports : Reports old new said (text_answer text).status (text_answer text).lines
+
 -- memory was wanting, and nothing was written
 pub record Wants (old new : Output) (said : Status) : Type 0 where
   pub status : said ≡ status.Memory
@@ -45,6 +53,7 @@ pub record Wants (old new : Output) (said : Status) : Type 0 where
 abbrev pub AnswersDue : Output → Output → Status → Due → Type 0
 AnswersDue old new said (Plain answer) = Answers old new said answer
 AnswersDue old new said (Judged cart by) = Wants old new said ⊎ Judges old new said cart by
+AnswersDue old new said (Reading table) = Wants old new said ⊎ Documents old new said table
 
 -- what a call says that files stopped
 abbrev pub Stops : Output → Output → Status → Stop → Type 0

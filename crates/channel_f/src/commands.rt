@@ -1,9 +1,11 @@
 // What each command answers.
-ghost use Rattle.std.specs.Prelude.{◌≡◌, ◌≤◌, ◌⊎◌, IfOk, map, length, sum_by};
+ghost use Rattle.std.specs.Prelude.{◌≡◌, ◌≤◌, ◌⊎◌, IfOk, IsOk, map, length, sum_by};
+ghost use Rattle.toml.specs.View.{table_view};
+ghost use Rattle.cartridge.specs.Filling.{plan_of};
 ghost use Rattle.certificate.specs.CertificateLaws.{AllFit};
-ghost use Rattle.loader.specs.Games.{game_of, cart_of, claim_of, debugging_of, image_by, bytes_by};
+ghost use Rattle.loader.specs.Games.{game_of, cart_of, table_by, claim_of, debugging_of, image_by, bytes_by};
 ghost use Rattle.channel_f.specs.Answers.{Plain, generated_game, gen_due, check_due, ref_answer};
-ghost use Rattle.channel_f.specs.Answers.{asm_answer, cert_answer, dis_answer, verify_answer};
+ghost use Rattle.channel_f.specs.Answers.{asm_answer, cert_answer, dis_answer, migrate_due, verify_answer};
 ghost use Rattle.channel_f.specs.Commands.{around, Told, TellsDebugging, TellsGame};
 ghost use Rattle.loader.specs.Seen.{seen_game, seen_claim};
 ghost use Rattle.pad_script.specs.Limits.{HasLimits};
@@ -13,14 +15,14 @@ ghost use Rattle.channel_f.specs.SafeGames.{KeepsVerdict};
 
 use super::debugging::debug;
 use super::error_lines::put_stop;
-use super::lines_out::{put_found, put_picture, put_text, put_verdict};
+use super::lines_out::{put_document, put_found, put_picture, put_text, put_verdict};
 use super::manner::Manner;
 use super::playing::{play_game, refer_game};
 use super::status::Status;
 use cart_checker::{Verdict, check_cart};
 use cartridge::{Cart, Split};
 use certificate::{verify, write_cert};
-use chip_face::Chip;
+use chip_face::{Chip, Powers};
 use console_spec::End;
 use f8_asm::disassemble;
 use f8_machine::Rack;
@@ -28,10 +30,12 @@ use f8_spec::Memory;
 use generator::generated_chips;
 use loader::{
     Claim, Game, load_bytes, load_cart, load_claim, load_debugging, load_game, load_image,
+    load_table, migrated_text,
 };
 use outside::{Sink, Store};
 use pad_script::{EventList, Script, ShowList};
 use std::alloc::Global;
+use toml::Table;
 
 /// `play CART SCRIPT`, with every bus step where it is traced.
 #[tactic(auto, using(crate::proofs::Outcomes::tells_game, crate::proofs::Outcomes::tells_no_game))]
@@ -138,6 +142,35 @@ pub fn answer_verify<S: Store, K: Sink>(
     }
 }
 
+/// The document that says what a table describes in the newest format.
+fn put_migrated<K: Sink>(alloc: Global, table: Table, sink: &mut K) -> Status
+    requires { IsOk (plan_of (table_view table)) }
+    ensures { AnswersDue (K.output sink.old) (K.output sink.new) result
+        (migrate_due (table_view table)) }
+{
+    match migrated_text(alloc, table) {
+        Ok(document) => put_document(sink, document.as_str()),
+        Err(Memory) => Status::Memory,
+    }
+}
+
+/// `migrate CART`.
+#[tactic(auto, using(crate::proofs::Outcomes::told_ok, crate::proofs::Outcomes::told_stop))]
+pub fn answer_migrate<S: Store, K: Sink>(
+    alloc: Global,
+    cart: &str,
+    store: &mut S,
+    sink: &mut K,
+) -> Status
+    ensures { Told (K.output sink.old) (K.output sink.new) (S.input store.old) (S.input store.new)
+        result (table_by cart.now) migrate_due }
+{
+    match load_table(alloc, store, cart) {
+        Ok(table) => put_migrated(alloc, table, sink),
+        Err(stop) => put_stop(sink, stop),
+    }
+}
+
 /// `ref CART SCRIPT`.
 #[tactic(auto, using(crate::proofs::Outcomes::told_ok, crate::proofs::Outcomes::told_stop))]
 pub fn answer_ref<S: Store, K: Sink>(
@@ -232,10 +265,12 @@ fn generate(alloc: Global, seed: u32) -> Result<Game, Memory>
     ensures limits { IfOk result (λ game. HasLimits game.script.end) }
 {
     let chips = generated_chips(alloc, seed)?;
+    let powers = Powers::usual(chips.as_slice().len());
     Ok(Game {
         cart: Cart {
             split: Split::new(),
             chips,
+            powers,
         },
         script: Script {
             power: 0,

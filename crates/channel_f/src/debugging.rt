@@ -67,17 +67,18 @@ fn debug_fitted<K: Sink>(asked: &Debugging, sink: &mut K, rack: &mut Rack) -> St
     requires whole { AreWhole (map state rack.old.items) }
     requires ports { LeaveOwnPorts (map seat_of (views (map state rack.old.items))) }
     ensures reports { Reports (K.output sink.old) (K.output sink.new) result Status.Done
-        (told_by asked.now.commands (first_scene asked.now.cart.chips
+        (told_by asked.now.commands (first_scene asked.now.cart.chips asked.now.cart.powers
         (views (map state rack.old.items)))) }
     ensures whole { result ≢ Status.Sink → AreOf (scene_by asked.now.commands
-        (first_scene asked.now.cart.chips (views (map state rack.old.items))))
-        (map state rack.new.items) }
+        (first_scene asked.now.cart.chips asked.now.cart.powers
+        (views (map state rack.old.items)))) (map state rack.new.items) }
     ensures failed { result ≡ Status.Sink → FailedAt (K.output sink.old) (K.output sink.new)
-        asked.now.commands (first_scene asked.now.cart.chips (views (map state rack.old.items)))
+        asked.now.commands (first_scene asked.now.cart.chips asked.now.cart.powers
+        (views (map state rack.old.items)))
         (map state rack.new.items) (sum_by queries rack.old.items) (sum_by queries rack.new.items) }
     ensures asked { result ≢ Status.Sink →
         sum_by queries rack.new.items ≤ sum_by queries rack.old.items
-        + session_allowed asked.now.commands (first_scene asked.now.cart.chips
+        + session_allowed asked.now.commands (first_scene asked.now.cart.chips asked.now.cart.powers
         (views (map state rack.old.items))) }
     ensures patches { patches (map state rack.new.items) ≡ patches (map state rack.old.items) }
 {

@@ -212,6 +212,17 @@ pub fn put_picture<K: Sink>(sink: &mut K, image: &Image) -> Status
     }
 }
 
+/// Writes a document.
+pub fn put_document<K: Sink>(sink: &mut K, document: &str) -> Status
+    ensures { Reports (K.output sink.old) (K.output sink.new)
+        result Status.Done (document.now ∷ []) }
+{
+    match sink.put(document.as_bytes()) {
+        Ok(()) => Status::Done,
+        Err(SinkFault) => Status::Sink,
+    }
+}
+
 /// Writes the lines of a text.
 pub fn put_text<K: Sink>(sink: &mut K, text: &Text) -> Status
     ensures { Reports (K.output sink.old) (K.output sink.new)

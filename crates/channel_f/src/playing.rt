@@ -24,7 +24,7 @@ use f8_machine::{Chain, Rack};
 use f8_spec::Memory;
 use loader::Game;
 use outside::{Sink, SinkFault};
-use rack_run::{ReferFault, chain_of, first_shortage, fit_all, play, refer};
+use rack_run::{ReferFault, chain_of, first_shortage, fit_all, play, powers_law, refer};
 use report::{Line, VerdictWord};
 use std::alloc::Global;
 
@@ -60,7 +60,7 @@ fn play_fitted<K: Sink>(
         (lines_by manner word
         (run_fitted manner (seen_game game.now) chain (map state rack.old.items))) }
     ensures rack { OnFitted (K.output sink.old) (K.output sink.new) result
-        manner word game.now.script.power chain
+        manner word game.now.script.power chain (seen_game game.now).cart.powers
         (run_fitted manner (seen_game game.now) chain (map state rack.old.items))
         (map state rack.old.items) (map state rack.new.items)
         (sum_by queries rack.old.items) (sum_by queries rack.new.items) }
@@ -68,7 +68,8 @@ fn play_fitted<K: Sink>(
     let Ok(()) = put_opening(sink, manner, word) else {
         return Status::Sink;
     };
-    match play(rack, sink, chain, &game.script, manner.detail()) {
+    let detail = manner.detail();
+    match play(rack, sink, chain, &game.cart.powers, &game.script, detail) {
         Ok(ending) => put_closing(sink, manner, &ending),
         Err(SinkFault) => Status::Sink,
     }
@@ -118,6 +119,7 @@ fn fit_and_play<K: Sink>(
 {
     safe_run_law();
     script_law(&game.script);
+    powers_law(&game.cart.powers);
     let chain = chain_of(&game.cart.chips, rack);
     match fit_all(alloc, &game.cart.chips, rack) {
         Ok(()) => check_and_play(alloc, game, manner, chain, sink, rack),
@@ -154,7 +156,13 @@ pub fn refer_game<K: Sink>(alloc: Global, game: &Game, sink: &mut K) -> Status
     ensures { Answers (K.output sink.old) (K.output sink.new) result
         (ref_answer (seen_game game.now)) }
 {
-    match refer(alloc, sink, &game.cart.chips, &game.script) {
+    match refer(
+        alloc,
+        sink,
+        &game.cart.chips,
+        &game.cart.powers,
+        &game.script,
+    ) {
         Ok(ending) => put_ending(sink, &ending),
         Err(ReferFault::Memory) => Status::Memory,
         Err(ReferFault::Sink) => Status::Sink,

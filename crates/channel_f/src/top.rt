@@ -7,8 +7,8 @@ ghost use Rattle.channel_f.specs.Completeness.{IsComplete};
 ghost use Rattle.channel_f.specs.Statuses.{exit_code, HasStatus};
 
 use super::commands::{
-    answer_asm, answer_check, answer_debug, answer_dis, answer_gen, answer_play, answer_ref,
-    answer_verify,
+    answer_asm, answer_check, answer_debug, answer_dis, answer_gen, answer_migrate, answer_play,
+    answer_ref, answer_verify,
 };
 use super::lines_out::put_lines;
 use super::status::Status;
@@ -19,7 +19,7 @@ use f8_spec::Memory;
 use outside::{Sink, Store};
 use std::alloc::Global;
 
-#[tactic(auto, using(crate::proofs::Outcomes::says_play, crate::proofs::Outcomes::says_check, crate::proofs::Outcomes::says_verify, crate::proofs::Outcomes::says_ref, crate::proofs::Outcomes::says_debug, crate::proofs::Outcomes::says_asm, crate::proofs::Outcomes::says_dis, crate::proofs::Outcomes::says_gen, crate::proofs::Outcomes::says_words, crate::proofs::Outcomes::says_wanting, crate::proofs::Outcomes::command_named, crate::proofs::Outcomes::words_not_memory, crate::proofs::Games::answers_of))]
+#[tactic(auto, using(crate::proofs::Outcomes::says_play, crate::proofs::Outcomes::says_check, crate::proofs::Outcomes::says_verify, crate::proofs::Outcomes::says_migrate, crate::proofs::Outcomes::says_ref, crate::proofs::Outcomes::says_debug, crate::proofs::Outcomes::says_asm, crate::proofs::Outcomes::says_dis, crate::proofs::Outcomes::says_gen, crate::proofs::Outcomes::says_words, crate::proofs::Outcomes::says_wanting, crate::proofs::Outcomes::command_named, crate::proofs::Outcomes::words_not_memory, crate::proofs::Games::answers_of))]
 fn answer_words<S: Store, K: Sink>(
     alloc: Global,
     words: &[String],
@@ -49,6 +49,7 @@ fn answer_words<S: Store, K: Sink>(
             answer_check(alloc, cart, certified, store, sink)
         }
         Ok(Some(Command::Verify { cart, cert })) => answer_verify(alloc, cart, cert, store, sink),
+        Ok(Some(Command::Migrate { cart })) => answer_migrate(alloc, cart, store, sink),
         Ok(Some(Command::Ref { cart, script })) => answer_ref(alloc, cart, script, store, sink),
         Ok(Some(Command::Debug { cart, commands })) => {
             answer_debug(alloc, cart, commands, store, sink, rack)
@@ -70,6 +71,7 @@ fn answer_words<S: Store, K: Sink>(
 /// - `check CART`: the verdict on the description: that no run of its chips can fail at a bus step, whatever the script, or that this can't be
 ///   shown. With `--cert` what shows it is told in place of the verdict, as a certificate.
 /// - `verify CART CERT`: what is found of a certificate of the description, whoever made it.
+/// - `migrate CART`: a description in the newest format that says the same, as one document of many. Its sources aren't asked for.
 /// - `ref CART SCRIPT`: the same bytes run on the flat instruction set alone, and the rack stays as it was.
 /// - `debug CART COMMANDS`: the rack is fitted for the chips described, powered and reset, and carries out the debugger's commands.
 /// - `asm FILE`: the bytes that an assembly text makes, and its names.

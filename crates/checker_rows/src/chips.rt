@@ -3,7 +3,7 @@ ghost use Rattle.std.specs.Prelude.{◌≡◌, ◌≤◌, IfOk, false, length};
 ghost use Rattle.chip_face.specs.Fitting.{IsSpec, is_blank};
 
 use cartridge::{Cart, Split};
-use chip_face::{Bytes, ChipList, ChipSpec, Page, PageList, PageSort};
+use chip_face::{Bytes, ChipList, ChipSpec, Page, PageList, PageSort, Powers};
 use std::alloc::Global;
 use std::test::Fail;
 
@@ -40,14 +40,21 @@ pub(crate) fn smi(alloc: Global, wired: bool) -> Result<ChipSpec, Fail>
     })
 }
 
+/// A cartridge of some chips, of whose power-on nothing is said.
+pub(crate) fn cart_with(split: Split, chips: ChipList) -> Cart {
+    let powers = Powers::usual(chips.as_slice().len());
+    Cart {
+        split,
+        chips,
+        powers,
+    }
+}
+
 /// A cartridge of such a 3851 alone that can't interrupt, with no register tracked.
 pub(crate) fn lone_cart(alloc: Global, code: &[u8]) -> Result<Cart, Fail>
     requires { length code.now ≤ 1024 }
 {
     let mut chips = Vec::with_capacity(alloc, 1)?;
     chips.push(psu(alloc, code, None)?)?;
-    Ok(Cart {
-        split: Split::new(),
-        chips: ChipList::from_vec(chips),
-    })
+    Ok(cart_with(Split::new(), ChipList::from_vec(chips)))
 }

@@ -1,10 +1,10 @@
 // Verdicts on small cartridges.
 ghost use Rattle.std.specs.Prelude.{◌≤◌, length};
 
-use super::chips::{lone_cart, psu, smi};
+use super::chips::{cart_with, lone_cart, psu, smi};
 use abs_domain::Reason;
 use cart_checker::{Verdict, check_cart};
-use cartridge::{Cart, Split};
+use cartridge::Split;
 use chip_face::ChipList;
 use console_spec::VerdictWord;
 use std::alloc::Global;
@@ -69,10 +69,7 @@ fn verdict_on_interrupts(alloc: Global, has_smi: bool) -> Result<Verdict, Fail> 
     if has_smi {
         chips.push(smi(alloc, true)?)?;
     }
-    let cart = Cart {
-        split: Split::new(),
-        chips: ChipList::from_vec(chips),
-    };
+    let cart = cart_with(Split::new(), ChipList::from_vec(chips));
     Ok(check_cart(alloc, &cart)?)
 }
 
@@ -102,7 +99,7 @@ fn verdict_on_counts(alloc: Global, nops: usize) -> Result<Verdict, Fail>
     split.push(0);
     split.push(1);
     let chips = lone_cart(alloc, &code)?.chips;
-    Ok(check_cart(alloc, &Cart { split, chips })?)
+    Ok(check_cart(alloc, &cart_with(split, chips))?)
 }
 
 #[test]

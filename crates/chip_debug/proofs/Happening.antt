@@ -116,6 +116,7 @@ module _ (s : SessionState) (after : MachineState) (olds news : List ChipState) 
         stop = at.stop;
         count = at.count ∙ sym (event_count event scene.position);
         breaks = at.breaks;
+        powers = at.powers;
         ready = comes.ready;
       } in
       subst (λ (stop : Option Stop). IsAt (record s { machine = after }) news (happening stop event scene)) (sym running) came

@@ -2,6 +2,7 @@
 use Rattle.std.proofs.Common.{◌≡◌, ℕ, ◌+◌, Bool, true, false, List, [], ◌∷◌, refl, ap, ap₂}
 use Rattle.std.specs.Prelude.{◌==◌, Option, Some, None}
 use Rattle.f8_spec.specs.ChipState.{ChipState}
+use Rattle.f8_spec.specs.declared.chips.PowerOn.{PowerOn}
 use Rattle.data_bus.specs.Racks.{NumberedZip}
 use Rattle.console_spec.specs.Powering.{fill_in, start_in}
 use Rattle.f8_machine.specs.Keying.{KeysInSocket, RackKeyed, RackKeyedBy, is_own}
@@ -22,10 +23,10 @@ patches_stay R each n (x ∷ xs) (y ∷ ys) all =
 pub ran_patches : (steps : List Heard) (olds news : List ChipState) → RackRuns steps olds news → patches news ≡ patches olds
 ran_patches steps olds news all = patches_stay (Runs steps) (λ k a b ran. ran.patch) 0 olds news all
 
-pub powered_patches : (fill : ℕ) (chain : List ℕ) (olds news : List ChipState) → RackPowers fill chain [] olds news →
+pub powered_patches : (fill : ℕ) (chain : List ℕ) (powers : List PowerOn) (olds news : List ChipState) → RackPowers fill chain powers olds news →
     patches news ≡ patches olds
-powered_patches fill chain olds news all =
-    patches_stay (PowersInSocket (fill_in fill chain []) (start_in fill chain [])) (λ k a b powers. powers.patch) 0 olds news all
+powered_patches fill chain powers olds news all =
+    patches_stay (PowersInSocket (fill_in fill chain powers) (start_in fill chain powers)) (λ k a b on. on.patch) 0 olds news all
 
 pub keyed_patches : (port byte : ℕ) (olds news : List ChipState) → RackKeyed port byte olds news → patches news ≡ patches olds
 keyed_patches port byte olds news all = by (is_own port) all

@@ -3,6 +3,7 @@ use Rattle.std.proofs.Common.{◌≡◌, ℕ, ◌+◌, ◌≤◌, List, ◌++◌
 use Rattle.std.proofs.lemmas.List.{length-map}
 use Rattle.std.specs.Prelude.{Some, None}
 use Rattle.f8_spec.specs.ChipState.{ChipView, ChipState}
+use Rattle.f8_spec.specs.declared.chips.PowerOn.{PowerOn}
 use Rattle.console_spec.specs.BusTrace.{Course}
 use Rattle.console_spec.specs.Run.{Position, Turn, Goes, Stops}
 use Rattle.data_bus.specs.Racks.{views}
@@ -90,12 +91,12 @@ led_chain (Stops stop) s same = refl
 
 -- the flat machine goes on
 pub goes_at : (m : MachineState) (states : List ChipState) (scene : Scene) (turn : Turn) (y : Position) (count : ℕ)
-    (breaks : Breaks) →
+    (breaks : Breaks) (powers : List PowerOn) →
     turn ≡ Goes y → Shows m states scene → scene.stop ≡ None → RunsAt m states y → count ≡ y.flat.state.count →
-    breaks ≡ scene.breaks →
-    IsAt (record { machine = m; halt = None; count = count; breaks = breaks }) states (led_by turn scene)
-goes_at m states scene turn y count breaks goes shows running runs counts same =
-    let went : IsAt (record { machine = m; halt = None; count = count; breaks = breaks }) states (led_by (Goes y) scene) =
+    breaks ≡ scene.breaks → powers ≡ scene.powers →
+    IsAt (record { machine = m; halt = None; count = count; breaks = breaks; powers = powers }) states (led_by turn scene)
+goes_at m states scene turn y count breaks powers goes shows running runs counts same alike =
+    let went : IsAt (record { machine = m; halt = None; count = count; breaks = breaks; powers = powers }) states (led_by (Goes y) scene) =
     record {
       machine = rw running runs;
       chain = runs.represents.stands.chain;
@@ -106,20 +107,21 @@ goes_at m states scene turn y count breaks goes shows running runs counts same =
       stop = sym running;
       count = counts;
       breaks = same;
+      powers = alike;
       ready = shows.ready;
     } in
-    subst (λ (t : Turn). IsAt (record { machine = m; halt = None; count = count; breaks = breaks }) states (led_by t scene))
+    subst (λ (t : Turn). IsAt (record { machine = m; halt = None; count = count; breaks = breaks; powers = powers }) states (led_by t scene))
     (sym goes) went
 
 -- or the session stops
 pub stops_at : (m : MachineState) (states : List ChipState) (scene : Scene) (turn : Turn) (halt : Halt) (count : ℕ)
-    (breaks : Breaks) →
+    (breaks : Breaks) (powers : List PowerOn) →
     turn ≡ Stops (stop_of halt) → Shows m states scene → machine_readout m ≡ readout_of scene.position.flat.state →
     count ≡ scene.position.flat.state.count →
-    breaks ≡ scene.breaks →
-    IsAt (record { machine = m; halt = Some halt; count = count; breaks = breaks }) states (led_by turn scene)
-stops_at m states scene turn halt count breaks stops shows reads counts same =
-    let stopped : IsAt (record { machine = m; halt = Some halt; count = count; breaks = breaks }) states
+    breaks ≡ scene.breaks → powers ≡ scene.powers →
+    IsAt (record { machine = m; halt = Some halt; count = count; breaks = breaks; powers = powers }) states (led_by turn scene)
+stops_at m states scene turn halt count breaks powers stops shows reads counts same alike =
+    let stopped : IsAt (record { machine = m; halt = Some halt; count = count; breaks = breaks; powers = powers }) states
     (led_by (Stops (stop_of halt)) scene) =
     record {
       machine = reads;
@@ -131,8 +133,9 @@ stops_at m states scene turn halt count breaks stops shows reads counts same =
       stop = refl;
       count = counts;
       breaks = same;
+      powers = alike;
       ready = shows.ready;
     } in
     subst
-    (λ (t : Turn). IsAt (record { machine = m; halt = Some halt; count = count; breaks = breaks }) states (led_by t scene))
+    (λ (t : Turn). IsAt (record { machine = m; halt = Some halt; count = count; breaks = breaks; powers = powers }) states (led_by t scene))
     (sym stops) stopped

@@ -5,6 +5,7 @@ use Rattle.std.specs.Prelude.{Option, Some, None}
 use Rattle.f8_spec.specs.ChipState.{ChipView, ChipState, powered}
 use Rattle.f8_spec.specs.MicroSteps.{Opcode}
 use Rattle.f8_spec.specs.Powers.{ArePowers}
+use Rattle.f8_spec.specs.declared.chips.PowerOn.{PowerOn}
 use Rattle.f8_spec.specs.BusArbitration.{Ruling, Served, Conflict, Undriven, Astray}
 use Rattle.console_spec.specs.AddressSpace.{byte_at}
 use Rattle.console_spec.specs.BusTrace.{course_by, course_of}
@@ -67,25 +68,23 @@ reset_bytes x small = (
 
 -- ---- power-on
 
-none_said : ArePowers []
-none_said place p e = cc
-
 -- the scene shows what power-on makes of the machine and of the chips
-pub powered_shows : (fill : ℕ) (chain : List ℕ) (index : Index) (breaks : Breaks) (m : MachineState)
+pub powered_shows : (fill : ℕ) (chain : List ℕ) (powers : List PowerOn) (index : Index) (breaks : Breaks) (m : MachineState)
     (olds news : List ChipState) →
-    fill < 256 → index.marks ≡ no_marks → m ≡ powered_machine fill chain index → RackPowers fill chain [] olds news → IsReady olds →
-    Shows m news (powered_scene fill chain breaks (views olds))
-powered_shows fill chain index breaks m olds news small unknown is powers ready = record {
+    fill < 256 → ArePowers powers → index.marks ≡ no_marks → m ≡ powered_machine fill chain index →
+    RackPowers fill chain powers olds news → IsReady olds →
+    Shows m news (powered_scene fill chain powers breaks (views olds))
+powered_shows fill chain powers index breaks m olds news small are unknown is all ready = record {
   chain = ap (λ (n : MachineState). n.chain) is;
   probe = ap (λ (n : MachineState). n.probe) is;
   chips =
-      views_by (PowersInSocket (fill_in fill chain []) (start_in fill chain []))
-      (λ k v. powered (fill_in fill chain [] k) (start_in fill chain [] k) v) (λ k a b is. is.view) 0 olds news powers;
-  heard = powers_heard (fill_in fill chain []) (start_in fill chain []) 0 olds news powers;
+      views_by (PowersInSocket (fill_in fill chain powers) (start_in fill chain powers))
+      (λ k v. powered (fill_in fill chain powers k) (start_in fill chain powers k) v) (λ k a b is. is.view) 0 olds news all;
+  heard = powers_heard (fill_in fill chain powers) (start_in fill chain powers) 0 olds news all;
   index = subst (λ (i : Index). HasFollowed [] i) (sym (ap (λ (n : MachineState). n.index) is)) (followed_none index unknown);
   ready =
-      ready_stays (PowersInSocket (fill_in fill chain []) (start_in fill chain []))
-      (powers_keeps (fill_in fill chain []) (start_in fill chain []) (fill_small fill chain [] small none_said)) olds news powers ready;
+      ready_stays (PowersInSocket (fill_in fill chain powers) (start_in fill chain powers))
+      (powers_keeps (fill_in fill chain powers) (start_in fill chain powers) (fill_small fill chain powers small are)) olds news all ready;
 }
 
 -- so much is allowed for power-on alone
@@ -102,30 +101,30 @@ goes_none None x y e =
     ap (λ (z : Position). z.flat.state.count) same
 goes_none (Some fault) x y e = cc
 
-module _ (scene : Scene) (m after : MachineState) (mids news : List ChipState) (breaks : Breaks)
+module _ (scene : Scene) (m after : MachineState) (mids news : List ChipState) (breaks : Breaks) (powers : List PowerOn)
     (shows : Shows m mids scene) (running : scene.stop ≡ None) (none : 0 ≡ scene.position.flat.state.count)
-    (same : breaks ≡ scene.breaks) (begins : IsPowered m mids scene.position) where
+    (same : breaks ≡ scene.breaks) (alike : powers ≡ scene.powers) (begins : IsPowered m mids scene.position) where
   reset_by : (outcome : Outcome) → Follows outcome m after mids news →
       ResetRefines outcome m after news scene.position →
       Shows after news (hearing (served_steps (reset_course scene.position)) scene) →
-      IsAt (record { machine = after; halt = halt_in outcome; count = 0; breaks = breaks }) news (reset_of scene)
+      IsAt (record { machine = after; halt = halt_in outcome; count = 0; breaks = breaks; powers = powers }) news (reset_of scene)
   reset_by (Done wrote steps) follows done heard =
       goes_at after news (hearing (served_steps (reset_course scene.position)) scene)
-      (goes_unless (reset_fault scene.position) (position_after_reset scene.position)) done.after 0 breaks done.turns heard
+      (goes_unless (reset_fault scene.position) (position_after_reset scene.position)) done.after 0 breaks powers done.turns heard
       running (record { represents = done.represents; running = done.running })
-      (none ∙ goes_none (reset_fault scene.position) scene.position done.after done.turns) same
+      (none ∙ goes_none (reset_fault scene.position) scene.position done.after done.turns) same alike
   reset_by (FaultOutcome fault long steps) follows faulted heard =
       stops_at after news (hearing (served_steps (reset_course scene.position)) scene)
       (goes_unless (reset_fault scene.position) (position_after_reset scene.position)) (FaultHalt fault) 0 breaks
-      faulted.turns heard
+      powers faulted.turns heard
       (reads_kept m after (ap (λ (n : MachineState). n.flow) faulted.kept) (ap (λ (n : MachineState). n.cpu) faulted.kept)
       (ap (λ (n : MachineState). n.phi) faulted.kept) ∙ powered_reads m mids scene.position begins)
-      none same
+      none same alike
   reset_by (Reserved at code) follows refines heard = absurd refines
 
   pub reset_at : (outcome : Outcome) → Follows outcome m after mids news →
       ResetRefines outcome m after news scene.position →
-      IsAt (record { machine = after; halt = halt_in outcome; count = 0; breaks = breaks }) news (reset_of scene)
+      IsAt (record { machine = after; halt = halt_in outcome; count = 0; breaks = breaks; powers = powers }) news (reset_of scene)
   reset_at outcome follows refines =
       let heard = reset_heard outcome m after news scene.position refines in
       let bytes : HaveBytes (steps_in outcome) =
@@ -134,19 +133,19 @@ module _ (scene : Scene) (m after : MachineState) (mids news : List ChipState) (
       (shows_heard outcome m after mids news scene (reset_course scene.position) shows follows bytes heard)
 
 -- power-on and then the steps of reset ask so many questions
-pub start_asks : (n fill : ℕ) (chain : List ℕ) (breaks : Breaks) (outcome : Outcome) (m after : MachineState)
+pub start_asks : (n fill : ℕ) (chain : List ℕ) (powers : List PowerOn) (breaks : Breaks) (outcome : Outcome) (m after : MachineState)
     (olds mids news : List ChipState) → length mids ≡ n → length news ≡ n →
-    Shows m mids (powered_scene fill chain breaks (views olds)) → Follows outcome m after mids news →
-    ResetRefines outcome m after news (powered_scene fill chain breaks (views olds)).position →
-    IsAt (record { machine = after; halt = halt_in outcome; count = 0; breaks = breaks }) news
-    (started fill chain breaks (views olds)) →
+    Shows m mids (powered_scene fill chain powers breaks (views olds)) → Follows outcome m after mids news →
+    ResetRefines outcome m after news (powered_scene fill chain powers breaks (views olds)).position →
+    IsAt (record { machine = after; halt = halt_in outcome; count = 0; breaks = breaks; powers = powers }) news
+    (started fill chain powers breaks (views olds)) →
     Fits m mids → Fits after news → (p q r : ℕ) → q ≤ p + 512 * n →
     r ≤ q + allowances n m.index (tried m.mode outcome) →
-    r ≤ p + allowed_since_power (started fill chain breaks (views olds))
-start_asks n fill chain breaks outcome m after olds mids news long kept shows follows refines at fits fit p q r power few =
-    let scene = powered_scene fill chain breaks (views olds) in
-    let begun : r + allowed_since_power scene ≤ q + allowed_since_power (started fill chain breaks (views olds)) =
-    steps_ask n m after mids news scene (started fill chain breaks (views olds)) outcome long kept shows.chips at.chips fits fit
+    r ≤ p + allowed_since_power (started fill chain powers breaks (views olds))
+start_asks n fill chain powers breaks outcome m after olds mids news long kept shows follows refines at fits fit p q r power few =
+    let scene = powered_scene fill chain powers breaks (views olds) in
+    let begun : r + allowed_since_power scene ≤ q + allowed_since_power (started fill chain powers breaks (views olds)) =
+    steps_ask n m after mids news scene (started fill chain powers breaks (views olds)) outcome long kept shows.chips at.chips fits fit
     shows.index follows.index refl
     (led_heard (goes_unless (reset_fault scene.position) (position_after_reset scene.position))
     (hearing (served_steps (reset_course scene.position)) scene)
@@ -154,24 +153,26 @@ start_asks n fill chain breaks outcome m after olds mids news long kept shows fo
     at.stop q r few in
     let size : length scene.chips ≡ n =
     ap (λ (vs : List ChipView). length vs) (sym shows.chips) ∙ length-map mids (λ (s : ChipState). s.view) ∙ long in
-    from_power p q r n (length scene.chips) (allowed_since_power (started fill chain breaks (views olds))) power begun size
+    from_power p q r n (length scene.chips) (allowed_since_power (started fill chain powers breaks (views olds))) power begun size
 
 -- ---- again
 
--- with the chain and the breaks of a session at a scene, on its chips
-pub restarted_is : (s : SessionState) (olds : List ChipState) (scene : Scene) (fill : ℕ) (chain : List ℕ) (breaks : Breaks) →
-    IsAt s olds scene → chain ≡ s.machine.chain → breaks ≡ s.breaks →
-    started fill chain breaks (views olds) ≡ restarted fill scene
-restarted_is s olds scene fill chain breaks at same_chain same_breaks =
-    ap (λ (l : List ℕ). started fill l breaks (views olds)) (same_chain ∙ at.chain)
-    ∙ ap (λ (b : Breaks). started fill scene.position.chain b (views olds)) (same_breaks ∙ at.breaks)
-    ∙ ap (λ (vs : List ChipView). started fill scene.position.chain scene.breaks vs) at.chips
+-- with the chain, the breaks and what is said of the chips of a session at a scene, on its chips
+pub restarted_is : (s : SessionState) (olds : List ChipState) (scene : Scene) (fill : ℕ) (chain : List ℕ) (powers : List PowerOn)
+    (breaks : Breaks) → IsAt s olds scene → chain ≡ s.machine.chain → powers ≡ s.powers → breaks ≡ s.breaks →
+    started fill chain powers breaks (views olds) ≡ restarted fill scene
+restarted_is s olds scene fill chain powers breaks at same_chain same_powers same_breaks =
+    ap (λ (l : List ℕ). started fill l powers breaks (views olds)) (same_chain ∙ at.chain)
+    ∙ ap (λ (said : List PowerOn). started fill scene.position.chain said breaks (views olds)) (same_powers ∙ at.powers)
+    ∙ ap (λ (b : Breaks). started fill scene.position.chain scene.powers b (views olds)) (same_breaks ∙ at.breaks)
+    ∙ ap (λ (vs : List ChipView). started fill scene.position.chain scene.powers scene.breaks vs) at.chips
 
--- power-on and reset of a session at a scene, with the chain and the breaks that it has
-pub restarted_at : (s : SessionState) (olds : List ChipState) (scene : Scene) (fill : ℕ) (chain : List ℕ) (breaks : Breaks)
-    (after : SessionState) (news : List ChipState) → IsAt s olds scene → chain ≡ s.machine.chain → breaks ≡ s.breaks →
-    (AreWhole olds → LeaveOwnPorts (map seat_of (views olds)) → IsAt after news (started fill chain breaks (views olds))) →
+-- power-on and reset of a session at a scene, with what it keeps
+pub restarted_at : (s : SessionState) (olds : List ChipState) (scene : Scene) (fill : ℕ) (chain : List ℕ) (powers : List PowerOn)
+    (breaks : Breaks) (after : SessionState) (news : List ChipState) → IsAt s olds scene → chain ≡ s.machine.chain → powers ≡ s.powers →
+    breaks ≡ s.breaks →
+    (AreWhole olds → LeaveOwnPorts (map seat_of (views olds)) → IsAt after news (started fill chain powers breaks (views olds))) →
     IsAt after news (restarted fill scene)
-restarted_at s olds scene fill chain breaks after news at same_chain same_breaks starts =
-    subst (λ (begun : Scene). IsAt after news begun) (restarted_is s olds scene fill chain breaks at same_chain same_breaks)
+restarted_at s olds scene fill chain powers breaks after news at same_chain same_powers same_breaks starts =
+    subst (λ (begun : Scene). IsAt after news begun) (restarted_is s olds scene fill chain powers breaks at same_chain same_powers same_breaks)
     (starts at.ready.whole at.ready.free)

@@ -86,7 +86,7 @@ count_with (Some halt) count = count
 -- a session as the outcome leaves it
 abbrev pub session_with : MachineState → Option Halt → SessionState → SessionState
 session_with after halt s =
-    record { machine = after; halt = halt; count = count_with halt s.count; breaks = s.breaks }
+    record { machine = after; halt = halt; count = count_with halt s.count; breaks = s.breaks; powers = s.powers }
 
 -- a session that goes on represents the position of its scene
 pub represents_at : (s : SessionState) (states : List ChipState) (scene : Scene) → IsAt s states scene → scene.stop ≡ None →
@@ -102,22 +102,22 @@ module _ (s : SessionState) (after : MachineState) (olds news : List ChipState) 
       IsAt (session_with after (halt_in outcome) s) news (turned scene)
   turned_by (Done wrote steps) done heard =
       goes_at after news (hearing (next_steps scene) scene) (next scene.position) done.after (s.count + 1) s.breaks
-      done.turns heard running (record { represents = done.represents; running = done.running })
-      (ap (λ n. n + 1) at.count ∙ sym (next_count scene.position done.after done.turns)) at.breaks
+      s.powers done.turns heard running (record { represents = done.represents; running = done.running })
+      (ap (λ n. n + 1) at.count ∙ sym (next_count scene.position done.after done.turns)) at.breaks at.powers
   turned_by (FaultOutcome fault long steps) faulted heard =
       stops_at after news (hearing (next_steps scene) scene) (next scene.position) (FaultHalt fault) s.count s.breaks
-      faulted.turns heard
+      s.powers faulted.turns heard
       (reads_kept s.machine after (ap (λ (n : MachineState). n.flow) faulted.kept)
       (ap (λ (n : MachineState). n.cpu) faulted.kept) (ap (λ (n : MachineState). n.phi) faulted.kept)
       ∙ machine_reads s.machine olds scene.position (represents_at s olds scene at running))
-      at.count at.breaks
+      at.count at.breaks at.powers
   turned_by (Reserved address code) halted heard =
       stops_at after news (hearing (next_steps scene) scene) (next scene.position) (ReservedHalt address code) s.count
-      s.breaks halted.turns heard
+      s.breaks s.powers halted.turns heard
       (reads_kept s.machine after (ap (λ (n : MachineState). n.flow) halted.kept)
       (ap (λ (n : MachineState). n.cpu) halted.kept) (ap (λ (n : MachineState). n.phi) halted.kept)
       ∙ machine_reads s.machine olds scene.position (represents_at s olds scene at running))
-      at.count at.breaks
+      at.count at.breaks at.powers
 
   pub turned_at : (outcome : Outcome) → Refines outcome s.machine after news scene.position →
       Follows outcome s.machine after olds news → HaveBytes (steps_in outcome) →

@@ -30,7 +30,7 @@ own_rack = map (λ kind. record { view = blank_view kind; heard_steps = None; pa
 
 -- power-on with this byte and reset of a description's chips
 abbrev first_scene : ℕ → List ChipSpec → Scene
-first_scene fill chips = started fill (chain_of chips (kinds_of own_rack)) no_breaks (fitted_views chips own_rack)
+first_scene fill chips = started fill (chain_of chips (kinds_of own_rack)) [] no_breaks (fitted_views chips own_rack)
 
 -- a 3851 at 0 with these bytes
 abbrev psu_with : List ℕ → ℕ → ChipSpec

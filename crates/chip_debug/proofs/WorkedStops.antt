@@ -1,11 +1,13 @@
 -- Sessions that stop, with breaks, keys and powers about it, worked out by hand and computed from the definitions.
-use Rattle.std.proofs.Common.{◌≡◌, ℕ, ◌-◌, false, List, [], ◌∷◌, ◌++◌, codes, length, map, replicate, None, refl}
+use Rattle.std.proofs.Common.{◌≡◌, ℕ, ◌-◌, false, List, [], ◌∷◌, ◌++◌, codes, length, map, replicate, Some, None, refl}
 use Rattle.std.specs.Fmt.{digits}
 use Rattle.f8_spec.specs.ChipState.{ChipState, blank_view}
 use Rattle.f8_spec.specs.Instructions.{decoded}
 use Rattle.f8_spec.specs.ShiftTimer.{steps_to_expiry}
 use Rattle.f8_spec.specs.declared.chips.ChipKind.TheVariants as kind
 use Rattle.f8_spec.specs.declared.chips.PageSort.TheVariants.{Ram}
+use Rattle.f8_spec.specs.declared.chips.PowerOn.{PowerOn}
+use Rattle.f8_spec.specs.Powers.{usual_power}
 use Rattle.chip_face.specs.declared.specification.ChipSpec.{ChipSpec}
 use Rattle.chip_face.specs.declared.specification.ChipSpec.TheVariants.{Psu, Smi}
 use Rattle.console_spec.specs.FlatMemory.{first_memory}
@@ -24,9 +26,13 @@ use Rattle.chip_debug.specs.Scenes.{going}
 abbrev small_rack : List ChipState
 small_rack = map (λ kind. record { view = blank_view kind; heard_steps = None; patch = None }) (kind.Psu ∷ kind.Psu ∷ kind.Smi ∷ [])
 
--- what a session on the chips of a description tells
+-- what a session on the chips of a description tells, each powered as is said of it
+abbrev told_of : List ChipSpec → List PowerOn → List Command → List (List ℕ)
+told_of chips powers commands = told_by commands (first_scene chips powers (fitted_views chips small_rack))
+
+-- where nothing is said of any
 abbrev told : List ChipSpec → List Command → List (List ℕ)
-told chips commands = told_by commands (first_scene chips (fitted_views chips small_rack))
+told chips commands = told_of chips [] commands
 
 -- a 3851 at this base with these ports and bytes, and FF behind them
 abbrev psu_at : ℕ → ℕ → List ℕ → ChipSpec
@@ -150,3 +156,24 @@ before_a_cut_jump : told (psu_at 0 4 (0x29 ∷ 0x03 ∷ 0xFE ∷ replicate 1019 
 unfolding digits going ran_line stop_line fault_line regs_line scratch_line total_line own_inputs chosen_at steps_to_expiry effect decoded
     first_memory
 before_a_cut_jump = refl
+
+-- ---- what is said of the power-on of a chip goes by the description, here of a 3853 before two 3851s, and holds after `power` too
+
+abbrev said_powers : List PowerOn
+said_powers = record { fill = Some 0x33; start = Some 0x1111 } ∷ record { fill = None; start = Some 0x2222 } ∷ usual_power ∷ []
+
+powers_as_said : told_of (ram ∷ psu_at 0 4 (0x2B ∷ 0x2B ∷ []) ∷ psu_at 0x400 8 [] ∷ []) said_powers (
+    ShowChips ∷ Power 0x5A ∷ ShowChips ∷ Mem 0x28FF 2 ∷ [])
+    ≡ codes "chip 0 3851 PC0=0001 PC1=2222 DC0=2222\n"
+    ∷ codes "chip 1 3851 PC0=0001 PC1=0001 DC0=0001\n"
+    ∷ codes "chip 2 3853 PC0=0001 PC1=1111 DC0=1111 DC1=1111\n"
+    ∷ codes "probe PC0=0001 PC1=0000 DC0=0000 DC1=0000\n"
+    ∷ codes "ready\n"
+    ∷ codes "chip 0 3851 PC0=0001 PC1=2222 DC0=2222\n"
+    ∷ codes "chip 1 3851 PC0=0001 PC1=5A5B DC0=5A5B\n"
+    ∷ codes "chip 2 3853 PC0=0001 PC1=1111 DC0=1111 DC1=1111\n"
+    ∷ codes "probe PC0=0001 PC1=0000 DC0=0000 DC1=0000\n"
+    ∷ codes "mem 28FF 33 --\n"
+    ∷ []
+unfolding digits going ready_line chip_line probe_line mem_line own_inputs chosen_at steps_to_expiry effect decoded first_memory
+powers_as_said = refl

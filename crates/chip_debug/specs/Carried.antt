@@ -3,6 +3,7 @@ use Rattle.std.specs.Prelude.{ℕ, ◌+◌, ◌%◌, Bool, true, false, List, []
 use Rattle.std.specs.List.{range_with_len}
 use Rattle.f8_spec.specs.ChipState.{ChipView, held_byte, told_counters}
 use Rattle.f8_spec.specs.declared.bus.Counters.{Counters}
+use Rattle.f8_spec.specs.declared.chips.PowerOn.{PowerOn}
 use Rattle.console_spec.specs.declared.Regs.{Regs}
 use Rattle.console_spec.specs.Processor.{State, told_regs}
 use Rattle.console_spec.specs.Run.{Stop}
@@ -24,9 +25,9 @@ use Rattle.chip_debug.specs.Scenes.{Scene, Going, started, happened, going}
 abbrev pub with_breaks : Breaks → Scene → Scene
 with_breaks breaks s = record s { breaks = breaks }
 
--- power-on and reset on the chips as they are, with the same chips described and the same breaks
+-- power-on and reset on the chips as they are, with the same chips described, the same that is said of them, and the same breaks
 abbrev pub restarted : ℕ → Scene → Scene
-restarted fill s = started fill s.position.chain s.breaks s.chips
+restarted fill s = started fill s.position.chain s.powers s.breaks s.chips
 
 -- A command that sets breaks or clears them does so whether the session has stopped or not.
 abbrev pub scene_after : Command → Scene → Scene
@@ -114,9 +115,9 @@ lines_of (Mem at count) s = mem_line at (bytes_held s.chips at count) ∷ []
 -- ---- one command after another
 
 -- the scene at which a session begins, on chips that are fitted for a description: power-on with 00 and reset, with the chain of the chips
--- described, and no break
-abbrev pub first_scene : List ChipSpec → List ChipView → Scene
-first_scene chips vs = started 0 (chain_of chips (map (λ v. v.kind) vs)) no_breaks vs
+-- described and what is said of each, and no break
+abbrev pub first_scene : List ChipSpec → List PowerOn → List ChipView → Scene
+first_scene chips powers vs = started 0 (chain_of chips (map (λ v. v.kind) vs)) powers no_breaks vs
 
 abbrev pub scene_by : List Command → Scene → Scene
 scene_by [] s = s

@@ -21,7 +21,7 @@ use Rattle.chip_debug.specs.Breaks.{are_met}
 
 -- Where the flat machine and the copies of its counters stand after the last instruction that was done, or after power-on where reset was
 -- not; the chips and the probe as they are now, after all served steps, and these steps themselves since power-on; what stopped the
--- session, if anything did; and its breaks.
+-- session, if anything did; its breaks; and what is said of the power-on of each chip described.
 pub record Scene : Type 0 where
   pub position : Position
   pub chips : List ChipView
@@ -29,6 +29,7 @@ pub record Scene : Type 0 where
   pub heard : List Heard
   pub stop : Option Stop
   pub breaks : Breaks
+  pub powers : List PowerOn
 
 -- ---- bus steps
 
@@ -57,15 +58,15 @@ abbrev pub chips_powered : ℕ → List ℕ → List PowerOn → List ChipView �
 chips_powered fill chain powers vs =
     map (λ x. powered_view (fill_in fill chain powers x.0) (start_in fill chain powers x.0) x.1) (enumerate_from 0 vs)
 
--- where nothing is said of any chip's own
-abbrev pub powered_scene : ℕ → List ℕ → Breaks → List ChipView → Scene
-powered_scene fill chain breaks vs = record {
-  position = power_position vs chain [] fill;
-  chips = chips_powered fill chain [] vs;
+abbrev pub powered_scene : ℕ → List ℕ → List PowerOn → Breaks → List ChipView → Scene
+powered_scene fill chain powers breaks vs = record {
+  position = power_position vs chain powers fill;
+  chips = chips_powered fill chain powers vs;
   probe = new_probe;
   heard = [];
   stop = None;
   breaks = breaks;
+  powers = powers;
 }
 
 abbrev pub reset_of : Scene → Scene
@@ -73,9 +74,9 @@ reset_of s =
     led_by (goes_unless (reset_fault s.position) (position_after_reset s.position))
     (hearing (served_steps (reset_course s.position)) s)
 
--- Power-on and reset of these chips, with the chain of those described. Breaks stay.
-abbrev pub started : ℕ → List ℕ → Breaks → List ChipView → Scene
-started fill chain breaks vs = reset_of (powered_scene fill chain breaks vs)
+-- Power-on and reset of these chips, with the chain of those described and what is said of each. Breaks stay.
+abbrev pub started : ℕ → List ℕ → List PowerOn → Breaks → List ChipView → Scene
+started fill chain powers breaks vs = reset_of (powered_scene fill chain powers breaks vs)
 
 -- ---- events
 

@@ -2,6 +2,7 @@
 use Rattle.std.specs.Prelude.{ℕ, ◌≡◌, ◌≤◌, ◌+◌, ◌*◌, ◌&&◌, Bool, if◌then◌else◌, List, [], ◌∷◌, map}
 use Rattle.std.specs.Prelude.{Option, Some, None, option_map, is_some}
 use Rattle.f8_spec.specs.ChipState.{ChipState, HeardStep, told_step}
+use Rattle.f8_spec.specs.declared.chips.PowerOn.{PowerOn}
 use Rattle.f8_spec.specs.BusArbitration.{seat_of}
 use Rattle.console_spec.specs.Run.{Position, Stop}
 use Rattle.cpu3850.specs.OwnWrites.{LeaveOwnPorts}
@@ -29,12 +30,14 @@ use Rattle.chip_debug.specs.declared.session.Came.{Came}
 use Rattle.chip_debug.specs.declared.session.Came.TheVariants.{Done, Met, Stopped}
 use Rattle.chip_debug.specs.declared.session.Ran.{Ran}
 
--- the machine, what stopped the session since power-on, if anything did, the instructions that were done since, and the breaks
+-- the machine, what stopped the session since power-on, if anything did, the instructions that were done since, the breaks, and what is said
+-- of the power-on of each chip described
 pub record SessionState : Type 0 where
   pub machine : MachineState
   pub halt : Option Halt
   pub count : ℕ
   pub breaks : Breaks
+  pub powers : List PowerOn
 
 -- The machine was reset. As long as nothing stopped it, its clocks are at most those of reset and of the instructions that were done.
 pub record IsInTime (m : MachineState) (halt : Option Halt) (count : ℕ) : Type 0 where
@@ -99,6 +102,7 @@ pub record IsAt (s : SessionState) (states : List ChipState) (scene : Scene) : T
   pub stop : option_map stop_of s.halt ≡ scene.stop
   pub count : s.count ≡ scene.position.flat.state.count
   pub breaks : s.breaks ≡ scene.breaks
+  pub powers : s.powers ≡ scene.powers
   pub ready : IsReady states
 
 -- ---- instructions

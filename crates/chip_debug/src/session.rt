@@ -8,11 +8,11 @@ use super::session_lines::mem_line;
 use super::sockets::are_apart;
 use super::telling::{put_chips, put_going, put_regs, put_start};
 use cartridge::Cart;
-use chip_face::{Chip, MOST_CHIPS};
+use chip_face::{Chip, MOST_CHIPS, Powers};
 use console_spec::Event;
 use f8_machine::{Chain, Machine, Outcome, Rack};
 use outside::{Sink, SinkFault};
-use rack_run::{Halt, chain_of, power_usual};
+use rack_run::{Halt, chain_of, powers_law};
 use std::marker::Model;
 
 /// What came of an instruction.
@@ -54,6 +54,9 @@ pub struct Session {
     /// The instructions that were done since power-on.
     count: u32,
     breaks: Breaks,
+
+    /// How the chips described are powered on, in the order of the description.
+    powers: Powers,
 }
 
 impl Model for Session {
@@ -66,6 +69,7 @@ impl Model for Session {
       halt = s.halt;
       count = s.count;
       breaks = s.breaks;
+      powers = s.powers;
     } };
 
     ghost invariant = { λ s. IsInTime s.machine s.halt s.count };
@@ -102,55 +106,60 @@ impl Session {
     ghost use Rattle.chip_debug.specs.Scenes.{Scene, going, happened, started};
     ghost use Rattle.chip_debug.specs.Standing.{IsAt, IsGone, IsTurned, most_done, patches};
 
-    /// A session with the chips of a cartridge on a rack of at most 16 chips that is fitted for it: power-on with the byte 00, and reset. The
-    /// chips are put in all at most 512 questions for each, and the allowances of the bus steps of reset. No chip's patch changes.
+    /// A session with the chips of a cartridge on a rack of at most 16 chips that is fitted for it: power-on with the byte 00, each chip
+    /// described as is said of it, and reset. What is said is kept. The chips are put in all at most 512 questions for each, and the
+    /// allowances of the bus steps of reset. No chip's patch changes.
     pub fn new(cart: &Cart, rack: &mut Rack) -> Session
         requires few { length rack.old.items ≤ MOST_CHIPS }
         requires whole { AreWhole (map state rack.old.items) }
         requires ports { LeaveOwnPorts (map seat_of (views (map state rack.old.items))) }
         ensures at { IsAt result (map state rack.new.items) (started 0
-            (chain_by cart.now.chips (kinds_of (map state rack.old.items))) no_breaks
-            (views (map state rack.old.items))) }
+            (chain_by cart.now.chips (kinds_of (map state rack.old.items)))
+            cart.now.powers no_breaks (views (map state rack.old.items))) }
         ensures patches { patches (map state rack.new.items) ≡ patches (map state rack.old.items) }
         ensures asked { sum_by queries rack.new.items ≤ sum_by queries rack.old.items
             + allowed_since_power (started 0
-            (chain_by cart.now.chips (kinds_of (map state rack.old.items))) no_breaks
-            (views (map state rack.old.items))) }
+            (chain_by cart.now.chips (kinds_of (map state rack.old.items)))
+            cart.now.powers no_breaks (views (map state rack.old.items))) }
         ensures fits { Fits result.machine (map state rack.new.items) }
         ensures count { result.count ≡ 0 }
         ensures chips { length rack.new.items ≡ length rack.old.items }
     {
         let chain = chain_of(&cart.chips, rack);
-        Session::start(0, chain, Breaks::none(), rack)
+        let powers = cart.powers.copy();
+        Session::start(0, chain, powers, Breaks::none(), rack)
     }
 
     /// Power-on and reset, with these breaks.
-    fn start(fill: u8, chain: Chain, breaks: Breaks, rack: &mut Rack) -> Session
+    fn start(fill: u8, chain: Chain, powers: Powers, breaks: Breaks, rack: &mut Rack) -> Session
         requires few { length rack.old.items ≤ MOST_CHIPS }
         ensures at { AreWhole (map state rack.old.items) →
             LeaveOwnPorts (map seat_of (views (map state rack.old.items))) →
-            IsAt result (map state rack.new.items) (started fill chain breaks
+            IsAt result (map state rack.new.items) (started fill chain powers breaks
             (views (map state rack.old.items))) }
         ensures patches { patches (map state rack.new.items) ≡ patches (map state rack.old.items) }
         ensures asked { AreWhole (map state rack.old.items) →
             LeaveOwnPorts (map seat_of (views (map state rack.old.items))) →
             sum_by queries rack.new.items ≤ sum_by queries rack.old.items
-            + allowed_since_power (started fill chain breaks (views (map state rack.old.items))) }
+            + allowed_since_power
+            (started fill chain powers breaks (views (map state rack.old.items))) }
         ensures fits { Fits result.machine (map state rack.new.items) }
         ensures count { result.count ≡ 0 }
         ensures chips { length rack.new.items ≡ length rack.old.items }
     {
-        let mut machine = power_usual(fill, chain, rack);
+        powers_law(&powers);
+        let mut machine = Machine::power(fill, chain, &powers, rack);
         let halt = halt_of(machine.reset(rack));
         Session {
             machine,
             halt,
             count: 0,
             breaks,
+            powers,
         }
     }
 
-    /// Power-on with this byte and reset, of the same rack with the same chips described. Breaks stay.
+    /// Power-on with this byte and reset, of the same rack with the same chips described, each as is said of it. Breaks stay.
     fn restart(&mut self, fill: u8, rack: &mut Rack)
         requires few { length rack.old.items ≤ MOST_CHIPS }
         ensures at { (scene : Scene) → IsAt self.old (map state rack.old.items) scene →
@@ -164,7 +173,8 @@ impl Session {
         ensures chips { length rack.new.items ≡ length rack.old.items }
     {
         let chain = self.machine.chain().copy();
-        *self = Session::start(fill, chain, self.breaks, rack);
+        let powers = self.powers.copy();
+        *self = Session::start(fill, chain, powers, self.breaks, rack);
     }
 
     /// A key byte or a pulse, which changes nothing where the session has stopped.

@@ -1,6 +1,6 @@
 -- Words with what they ask for, each worked out from the rules by hand and computed from the definitions.
 use Rattle.std.proofs.Common.{◌≡◌, true, false, [], ◌∷◌, Some, None, codes, refl}
-use Rattle.command_line.specs.CommandLine.{Play, Ref, Debug, Check, Verify, Asm, Dis, Gen, command_of}
+use Rattle.command_line.specs.CommandLine.{Play, Ref, Debug, Check, Verify, Migrate, Asm, Dis, Gen, command_of}
 
 pub two_words : command_of (codes "play" ∷ (codes "game.toml" ∷ (codes "run.txt" ∷ []))) ≡ Some (Play (codes "game.toml") (codes "run.txt") false)
 two_words = refl
@@ -71,6 +71,12 @@ verified_cart = refl
 
 pub verify_without_cert : command_of (codes "verify" ∷ (codes "a" ∷ (codes "--cert" ∷ []))) ≡ None
 verify_without_cert = refl
+
+pub migrated_cart : command_of (codes "migrate" ∷ (codes "game.toml" ∷ [])) ≡ Some (Migrate (codes "game.toml"))
+migrated_cart = refl
+
+pub migrate_without_flags : command_of (codes "migrate" ∷ (codes "a" ∷ (codes "--cert" ∷ []))) ≡ None
+migrate_without_flags = refl
 
 pub first_dashes_part : command_of (codes "asm" ∷ (codes "--" ∷ (codes "--" ∷ []))) ≡ Some (Asm (codes "--"))
 first_dashes_part = refl

@@ -3,7 +3,7 @@ use Rattle.std.specs.Prelude.{ℕ, List}
 use Rattle.std.specs.Borrow.{Bor}
 use Rattle.command_line.specs.CommandLine as line
 use Rattle.command_line.specs.declared.asked.Command.{Command}
-use Rattle.command_line.specs.declared.asked.Command.TheVariants.{Play, Ref, Debug, Check, Verify, Asm, Dis, Gen}
+use Rattle.command_line.specs.declared.asked.Command.TheVariants.{Play, Ref, Debug, Check, Verify, Migrate, Asm, Dis, Gen}
 
 abbrev pub seen_command : Command → line.Command
 seen_command (Play cart script traced) = line.Play cart.now script.now traced
@@ -11,6 +11,7 @@ seen_command (Ref cart script) = line.Ref cart.now script.now
 seen_command (Debug cart commands) = line.Debug cart.now commands.now
 seen_command (Check cart certified) = line.Check cart.now certified
 seen_command (Verify cart cert) = line.Verify cart.now cert.now
+seen_command (Migrate cart) = line.Migrate cart.now
 seen_command (Asm file) = line.Asm file.now
 seen_command (Dis file) = line.Dis file.now
 seen_command (Gen seed) = line.Gen seed

@@ -50,6 +50,12 @@ pub enum Command<'a> {
         cert: &'a str,
     },
 
+    /// The description of the cartridge in the newest format.
+    Migrate {
+        /// The description of the cartridge.
+        cart: &'a str,
+    },
+
     /// The text of a program, to be assembled.
     Asm {
         /// The text.

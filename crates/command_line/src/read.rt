@@ -35,6 +35,7 @@ fn asked_for<'a>(alloc: Global, words: &'a [String]) -> Result<Option<Command<'a
         }
         "check" => check(alloc, words),
         "verify" => Ok(two_files(alloc, words)?.map(|(cart, cert)| Command::Verify { cart, cert })),
+        "migrate" => Ok(one_word(alloc, words)?.map(|cart| Command::Migrate { cart })),
         "asm" => Ok(one_word(alloc, words)?.map(|file| Command::Asm { file })),
         "dis" => Ok(one_word(alloc, words)?.map(|file| Command::Dis { file })),
         "gen" => {

@@ -112,6 +112,7 @@ fn seeds_refused(rt: HostRuntime) -> Result<(), Fail> {
 #[test]
 fn files_alone(rt: HostRuntime) -> Result<(), Fail> {
     let lines = [
+        ("migrate c.toml", Command::Migrate { cart: "c.toml" }),
         ("asm a.asm", Command::Asm { file: "a.asm" }),
         ("asm ", Command::Asm { file: "" }),
         ("asm -- --", Command::Asm { file: "--" }),
@@ -156,6 +157,8 @@ fn numbers_refused(rt: HostRuntime) -> Result<(), Fail> {
         "ref a b ",
         "check --cert",
         "verify c",
+        "migrate",
+        "migrate a b",
         "asm",
         "asm --",
         "asm a b",

@@ -1,17 +1,18 @@
--- The script of a run, and the one file of a command.
+-- The script of a run, the table of a description, and the one file of a command.
 use Rattle.std.proofs.Common.{◌≡◌, ℕ, List, None, Result, Ok, Err, arith, ◌≤◌}
 use Rattle.outside.specs.StoreRules.{Input}
 use Rattle.console_spec.specs.Scripts.{Script as RunScript}
 use Rattle.f8_asm.specs.Image.{Picture, everywhere}
 use Rattle.pad_script.specs.Answers.{ScriptFault}
 use Rattle.pad_script.specs.Reading.{script_of}
-use Rattle.loader.specs.declared.purposes.Purpose.TheVariants.{Script, File}
+use Rattle.toml.specs.Data.{Members}
+use Rattle.loader.specs.declared.purposes.Purpose.TheVariants.{Cart as CartFile, Script, File}
 use Rattle.loader.specs.declared.refusals.Refusal.{Refusal}
 use Rattle.loader.specs.declared.refusals.Refusal.TheVariants as refusal
 use Rattle.loader.specs.declared.refusals.Stop.{Stop}
 use Rattle.loader.specs.declared.refusals.Stop.TheVariants.{Refused, Store, Memory}
-use Rattle.loader.specs.Readings.{Says, script_told, script_in, image_in, bytes_in}
-use Rattle.loader.specs.Games.{script_by, image_by, bytes_by}
+use Rattle.loader.specs.Readings.{Says, described_table, script_told, script_in, image_in, bytes_in}
+use Rattle.loader.specs.Games.{table_by, script_by, image_by, bytes_by}
 use Rattle.loader.specs.Work.{ask, reads, ◌>>=◌}
 use Rattle.loader.specs.Works.{order_of, file_of, RefusesFrom, outcome_as, Works}
 use Rattle.loader.proofs.WorkLaws.{works_stop, works_text, works_seen, from_first}
@@ -43,6 +44,19 @@ unfolding script_by
 script_stop a b name stop first = works_stop a b (ask Script name 65536) (λ text. reads (script_in text)) stop first
 
 -- ---- one file
+
+pub table_read : {A : Type 0} (a b : Input) (name bytes : List ℕ) (seen : A → Members) (outcome : Result A Stop) →
+    Works a b (ask CartFile name 65536) (Ok bytes) → Says seen outcome (described_table bytes) →
+    Works a b (table_by name) (outcome_as seen outcome)
+unfolding table_by
+table_read a b name bytes seen outcome first says =
+    works_text a b CartFile name bytes 65536 seen described_table outcome first says (from_first outcome)
+
+pub table_stop : (a b : Input) (name : List ℕ) (stop : Stop) → Works a b (ask CartFile name 65536) (Err stop) →
+    Works a b (table_by name) (Err stop)
+unfolding table_by
+table_stop a b name stop first =
+    works_stop a b (ask CartFile name 65536) (λ bytes. reads (described_table bytes)) stop first
 
 pub picture_read : (a b : Input) (name text : List ℕ) (outcome : Result Picture Stop) →
     Works a b (ask File name 262144) (Ok text) → Says (λ picture. picture) outcome (image_in None everywhere text) →

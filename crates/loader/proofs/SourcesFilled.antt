@@ -65,7 +65,7 @@ pub same_without : (chip : ℕ) (plan : Planned) → None ≡ option_map (λ s. 
     (bytes : List (ℕ × ℕ)) × (plan ≡ filled_plan plan chip bytes)
 same_without chip plan none =
     let same = changed_same [] chip plan.chips (none_named (λ s. s.name) (source_at plan chip) none) in
-    ([], ap (λ (chips : List PlannedChip). record { split = plan.split; chips = chips }) (sym same))
+    ([], ap (λ (chips : List PlannedChip). record plan { chips = chips }) (sym same))
 
 -- a source by its name and its room
 record IsSource (source : Option DescribedSource) (name : List ℕ) (room : Room) : Type 0 where

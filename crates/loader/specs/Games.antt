@@ -7,13 +7,14 @@ use Rattle.cartridge.specs.Carts.{specification_of}
 use Rattle.cartridge.specs.ChipTables.{DescribedSource}
 use Rattle.cartridge.specs.Filling.{Planned, source_at, filled_plan}
 use Rattle.cartridge.specs.declared.finish.Cart.{Cart}
+use Rattle.toml.specs.Data.{Members}
 use Rattle.f8_asm.specs.declared.answers.Room.{Room}
 use Rattle.f8_asm.specs.Image.{Picture, everywhere}
 use Rattle.console_spec.specs.Scripts.{Script as RunScript}
 use Rattle.loader.specs.declared.purposes.Purpose.TheVariants.{Cart as CartFile, Script, Cert, Commands, File, Source}
 use Rattle.chip_debug.specs.declared.command.Command.{Command}
 use Rattle.loader.specs.declared.games.Debugging.{Debugging}
-use Rattle.loader.specs.Readings.{description_of, image_in, script_in, notes_in, commands_in, bytes_in}
+use Rattle.loader.specs.Readings.{description_of, described_table, image_in, script_in, notes_in, commands_in, bytes_in}
 use Rattle.loader.specs.Work.{Work, gives, reads, ask, ◌>>=◌}
 
 -- ---- a cartridge
@@ -39,7 +40,7 @@ filled_up_to (suc chip) plan = filled_up_to chip plan >>= filled_at chip
 
 -- the cartridge of a plan, all of whose sources have their images
 abbrev pub finished : Planned → Cart
-finished plan = record { split = plan.split; chips = map specification_of plan.chips }
+finished plan = record { split = plan.split; chips = map specification_of plan.chips; powers = plan.powers }
 
 -- the cartridge of a plan of at most `MOST_CHIPS` chips, with the images of its sources
 unfoldable pub planned_cart : Planned → Work Cart
@@ -48,6 +49,10 @@ planned_cart plan = filled_up_to MOST_CHIPS plan >>= λ filled. gives (finished 
 -- the cartridge of the description with this name
 unfoldable pub cart_of : List ℕ → Work Cart
 cart_of name = ask CartFile name 65536 >>= λ bytes. reads (description_of bytes) >>= planned_cart
+
+-- the table of the description with this name, without its sources
+unfoldable pub table_by : List ℕ → Work Members
+table_by name = ask CartFile name 65536 >>= λ bytes. reads (described_table bytes)
 
 -- ---- a run
 

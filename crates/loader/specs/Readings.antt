@@ -59,6 +59,10 @@ plan_told (Err fault) = Err (Cart fault)
 unfoldable pub description_of : List ℕ → Result Planned Refusal
 description_of bytes = table_of bytes &>= λ table. plan_told (plan_of table)
 
+-- the table of a description, which is refused as its plan is
+unfoldable pub described_table : List ℕ → Result Members Refusal
+described_table bytes = table_of bytes &>= λ table. plan_told (plan_of table) &>= λ plan. Ok table
+
 -- ---- assembly texts
 
 abbrev pub image_told : Option ℕ → Result Picture AsmFault → Result Picture Refusal

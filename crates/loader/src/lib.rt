@@ -14,6 +14,9 @@ mod sources;
 pub use claims::Claim;
 pub use f8_spec::Memory;
 pub use games::{Debugging, Game};
-pub use loading::{load_bytes, load_cart, load_claim, load_debugging, load_game, load_image};
+pub use loading::{
+    load_bytes, load_cart, load_claim, load_debugging, load_game, load_image, load_table,
+};
 pub use purposes::Purpose;
+pub use readings::migrated_text;
 pub use refusals::{Refusal, Stop};

@@ -1,6 +1,8 @@
 // What each command wants of its files.
-ghost use Rattle.std.specs.Prelude.{◌≤◌, IfOk, length};
-ghost use Rattle.loader.specs.Games.{cart_of, script_by, game_of, notes_by, claim_of, commands_by, debugging_of, image_by, bytes_by};
+ghost use Rattle.std.specs.Prelude.{◌≤◌, IfOk, IsOk, length};
+ghost use Rattle.toml.specs.View.{table_view};
+ghost use Rattle.cartridge.specs.Filling.{plan_of};
+ghost use Rattle.loader.specs.Games.{cart_of, table_by, script_by, game_of, notes_by, claim_of, commands_by, debugging_of, image_by, bytes_by};
 ghost use Rattle.certificate.specs.CertificateLaws.{AllFit};
 ghost use Rattle.pad_script.specs.Limits.{HasLimits};
 ghost use Rattle.pad_script.specs.Reading.{seen};
@@ -12,7 +14,7 @@ use super::fetching::fetch;
 use super::games::{Debugging, Game};
 use super::purposes::Purpose;
 use super::readings::{
-    read_bytes, read_description, read_image, read_notes, read_run, read_session,
+    read_bytes, read_described, read_description, read_image, read_notes, read_run, read_session,
 };
 use super::refusals::Stop;
 use super::sources::{ASSEMBLY_LIMIT, load_planned};
@@ -23,6 +25,7 @@ use f8_asm::{Image, Room};
 use outside::Store;
 use pad_script::Script;
 use std::alloc::Global;
+use toml::Table;
 
 /// The most bytes of a description, of a script and of commands.
 const TEXT_LIMIT: u32 = 65_536;
@@ -52,6 +55,21 @@ pub fn load_cart<S: Store>(alloc: Global, store: &mut S, name: &str) -> Result<C
     let bytes = fetch(alloc, store, Purpose::Cart, name, TEXT_LIMIT)?;
     let plan = read_description(alloc, bytes.as_slice())?;
     load_planned(alloc, store, plan)
+}
+
+/// The table of a description, which isn't refused. Its sources aren't asked for. It has at most 65,536 bytes.
+///
+/// # Errors
+///
+/// As those of `load_game`.
+#[tactic(auto, using(crate::proofs::ScriptsLoaded::table_read, crate::proofs::ScriptsLoaded::table_stop))]
+pub fn load_table<S: Store>(alloc: Global, store: &mut S, name: &str) -> Result<Table, Stop>
+    ensures works { Works (S.input store.old) (S.input store.new)
+        (table_by name.now) (outcome_as (λ table. table_view table) result) }
+    ensures described { IfOk result (λ table. IsOk (plan_of (table_view table))) }
+{
+    let bytes = fetch(alloc, store, Purpose::Cart, name, TEXT_LIMIT)?;
+    read_described(alloc, bytes.as_slice())
 }
 
 /// A script.

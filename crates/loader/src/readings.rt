@@ -1,20 +1,22 @@
 // What is read of the bytes of a file.
-ghost use Rattle.std.specs.Prelude.{◌≤◌, IfOk, length};
+ghost use Rattle.std.specs.Prelude.{◌≡◌, ◌≤◌, IfOk, IsOk, length, string_bytes};
 ghost use Rattle.toml.specs.View.{table_view};
-ghost use Rattle.cartridge.specs.Filling.{IsPlan};
+ghost use Rattle.cartridge.specs.Filling.{IsWholePlan, plan_of};
+ghost use Rattle.cartridge.specs.Migrated.{migrated_table};
 ghost use Rattle.cartridge.specs.Rooms.{LiesIn};
 ghost use Rattle.certificate.specs.CertificateLaws.{AllFit};
 ghost use Rattle.pad_script.specs.Limits.{HasLimits};
 ghost use Rattle.pad_script.specs.Reading.{seen};
-ghost use Rattle.loader.specs.Readings.{Says, bytes_in, commands_in, table_of, description_of, image_in, notes_in, script_in};
+ghost use Rattle.loader.specs.Readings.{Says, bytes_in, commands_in, plan_told, table_of, description_of, described_table, image_in, notes_in, script_in};
 
 use super::purposes::Purpose;
 use super::refusals::{Refusal, Stop};
 use abs_step::Annotation;
-use cartridge::{CartAnswer, Plan, Split, read_cart};
+use cartridge::{CartAnswer, Plan, Split, migrate, read_cart};
 use certificate::{CertAnswer, read_cert};
 use chip_debug::{CommandList, DebugAnswer, read_commands};
 use f8_asm::{AsmAnswer, Image, Room, assemble};
+use f8_spec::Memory;
 use hex_file::{HexAnswer, read_hex};
 use pad_script::{Script, ScriptAnswer, read_script};
 use std::alloc::Global;
@@ -32,18 +34,46 @@ fn read_table(alloc: Global, bytes: &[u8]) -> Result<Table, Stop>
     }
 }
 
-/// The plan of a description.
-#[tactic(auto, unfolding(crate::specs::Readings::description_of))]
-pub fn read_description(alloc: Global, bytes: &[u8]) -> Result<Plan, Stop>
-    ensures says { Says (λ plan. plan) result (description_of bytes.now) }
-    ensures whole { IfOk result (λ plan. IsPlan plan.chips) }
+/// The plan of a table.
+fn read_plan(alloc: Global, table: &Table) -> Result<Plan, Stop>
+    ensures says { Says (λ plan. plan) result (plan_told (plan_of (table_view table.now))) }
+    ensures whole { IfOk result (λ plan. IsWholePlan plan) }
 {
-    let table = read_table(alloc, bytes)?;
-    match read_cart(alloc, &table) {
+    match read_cart(alloc, table) {
         Ok(plan) => Ok(plan),
         Err(CartAnswer::Fault(fault)) => Err(Stop::Refused(Refusal::Cart(fault))),
         Err(CartAnswer::Memory) => Err(Stop::Memory),
     }
+}
+
+/// The plan of a description.
+#[tactic(auto, unfolding(crate::specs::Readings::description_of))]
+pub fn read_description(alloc: Global, bytes: &[u8]) -> Result<Plan, Stop>
+    ensures says { Says (λ plan. plan) result (description_of bytes.now) }
+    ensures whole { IfOk result (λ plan. IsWholePlan plan) }
+{
+    let table = read_table(alloc, bytes)?;
+    read_plan(alloc, &table)
+}
+
+/// The table of a description. It isn't refused.
+#[tactic(auto, unfolding(crate::specs::Readings::described_table))]
+pub fn read_described(alloc: Global, bytes: &[u8]) -> Result<Table, Stop>
+    ensures says { Says (λ table. table_view table) result (described_table bytes.now) }
+    ensures described { IfOk result (λ table. IsOk (plan_of (table_view table))) }
+{
+    let table = read_table(alloc, bytes)?;
+    read_plan(alloc, &table)?;
+    Ok(table)
+}
+
+/// The document that describes the same in the newest format.
+pub fn migrated_text(alloc: Global, table: Table) -> Result<String, Memory>
+    requires { IsOk (plan_of (table_view table)) }
+    ensures { IfOk result (λ text.
+        table_of (string_bytes text) ≡ Ok (migrated_table (table_view table))) }
+{
+    migrate(alloc, table)
 }
 
 /// The image of an assembly text, that of a chip's source or the one file of a command, with its bytes in the room.

@@ -17,6 +17,10 @@ mod interrupts;
 #[cfg(test)]
 mod limits;
 #[cfg(test)]
+mod migrations;
+#[cfg(test)]
+mod powers;
+#[cfg(test)]
 mod questions;
 #[cfg(test)]
 mod racks;

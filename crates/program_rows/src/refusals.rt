@@ -39,7 +39,7 @@ const SEVENTEEN_CHIPS: &str = "format = 1\n\
      [[chip]]\n[[chip]]\n[[chip]]\n[[chip]]\n[[chip]]\n[[chip]]\n[[chip]]\n[[chip]]\n[[chip]]\n\
      [[chip]]\n[[chip]]\n[[chip]]\n[[chip]]\n[[chip]]\n[[chip]]\n[[chip]]\n[[chip]]\n";
 
-const ROWS: [Row; 33] = [
+const ROWS: [Row; 48] = [
     (Change::Cart(""), 2, "error cart key format cause 1\n"),
     (
         Change::Cart("format = 3\n[[chip]]\nkind = '3851'\nbase = 0\nports = 4\nrom = '71'\n"),
@@ -94,6 +94,93 @@ const ROWS: [Row; 33] = [
         Change::Cart("format = 1\n[[chip]]\nkind = '3853'\nram_page = 250\nram_pages = 10\n"),
         2,
         "error cart chip 0 key ram_pages cause 5\n",
+    ),
+    (
+        Change::Cart(
+            "format = 1\n[[chip]]\nkind = '3851'\nbase = 0\nports = 4\nstart = 0\nrom = '71'\n",
+        ),
+        2,
+        "error cart chip 0 key ? cause 2\n",
+    ),
+    (
+        Change::Cart("format = 1\n[[chip]]\nkind = '3853'\npages = []\n"),
+        2,
+        "error cart chip 0 key ? cause 2\n",
+    ),
+    (
+        Change::Cart(
+            "format = 2\n[[chip]]\nkind = '3851'\nbase = 0\nports = 4\nfill = 0\nrom = '71'\n",
+        ),
+        2,
+        "error cart chip 0 key ? cause 2\n",
+    ),
+    (
+        Change::Cart("format = 2\n[[chip]]\nkind = '3853'\nrom_page = 0\n"),
+        2,
+        "error cart chip 0 key ? cause 2\n",
+    ),
+    (
+        Change::Cart("format = 2\n[[chip]]\nkind = '3853'\npages = 'rom 20'\n"),
+        2,
+        "error cart chip 0 key pages cause 3\n",
+    ),
+    (
+        Change::Cart("format = 2\n[[chip]]\nkind = '3853'\npages = ['rom 2', 5]\n"),
+        2,
+        "error cart chip 0 key pages cause 3\n",
+    ),
+    (
+        Change::Cart(
+            "format = 2\n[[chip]]\nkind = '3853'\npages = ['ram 28', 'rom 2', 'rom 28']\n",
+        ),
+        2,
+        "error cart chip 0 key pages cause 4\n",
+    ),
+    (
+        Change::Cart(
+            "format = 2\n[[chip]]\nkind = '3851'\nbase = 0\nports = 4\nrom = '71'\n[[chip]]\nkind = '3853'\npages = ['ram 28', 'rom 20-28']\n",
+        ),
+        2,
+        "error cart chip 1 key pages cause 5\n",
+    ),
+    (
+        Change::Cart(
+            "format = 2\n[[chip]]\nkind = '3853'\npages = ['rom 20', 'rom 20']\ninterrupt = 1\n",
+        ),
+        2,
+        "error cart chip 0 key pages cause 5\n",
+    ),
+    (
+        Change::Cart("format = 2\n[[chip]]\nkind = '3853'\nfill = 256\ninterrupt = 1\n"),
+        2,
+        "error cart chip 0 key interrupt cause 3\n",
+    ),
+    (
+        Change::Cart("format = 2\n[[chip]]\nkind = '3853'\nfill = 256\nstart = ''\n"),
+        2,
+        "error cart chip 0 key fill cause 4\n",
+    ),
+    (
+        Change::Cart("format = 2\n[[chip]]\nkind = '3853'\nstart = 65536\nrom = '0'\n"),
+        2,
+        "error cart chip 0 key start cause 4\n",
+    ),
+    (
+        Change::Cart("format = 2\n[[chip]]\nkind = '3851'\nbase = 0\nports = 4\nstart = -1\n"),
+        2,
+        "error cart chip 0 key start cause 4\n",
+    ),
+    (
+        Change::Cart(
+            "format = 2\n[[chip]]\nkind = '3853'\npages = ['rom 20', 'rom 22']\nsource = 'a'\n",
+        ),
+        2,
+        "error cart chip 0 key source cause 4\n",
+    ),
+    (
+        Change::Cart("format = 2\n[[chip]]\nkind = '3861'\nports = 4\n"),
+        2,
+        "error cart chip 0 key kind cause 4\n",
     ),
     (
         Change::Source(" BT 1,$200"),

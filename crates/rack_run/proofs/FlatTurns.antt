@@ -17,6 +17,7 @@ use Rattle.console_spec.specs.declared.PortWrite.{PortWrite}
 use Rattle.f8_isa.specs.IsaState.{IsaState, StandsAt, LeadsTo, TakesPulse, TakesEarlyPulse}
 use Rattle.f8_machine.proofs.RackLaws.{rack_runs_none}
 use Rattle.f8_machine.specs.Keying.{RackKeyed, RackKeyedBy, is_own}
+use Rattle.f8_spec.specs.declared.chips.PowerOn.{PowerOn}
 use Rattle.f8_spec.specs.ChipState.{ChipState, ChipView}
 use Rattle.outside.specs.SinkRules.{Output, Adds, AddsPart}
 use Rattle.outside.proofs.SinkLaws.{adds_none}
@@ -124,40 +125,40 @@ no_chip_comes (Pulse chip) chain states none = pulsed_by (slice_get chain chip) 
 
 -- ---- a whole run
 
-abbrev pub start_of : List ChipView → Script → Position
-start_of vs script = position_after_reset (begun vs (chain_in_order vs) [] script)
+abbrev pub start_of : List ChipView → List PowerOn → Script → Position
+start_of vs powers script = position_after_reset (begun vs (chain_in_order vs) powers script)
 
-referred_is : (vs : List ChipView) (script : Script) →
-    referred_by vs [] script ≡ rest_on on_flat script (start_of vs script)
+referred_is : (vs : List ChipView) (powers : List PowerOn) (script : Script) →
+    referred_by vs powers script ≡ rest_on on_flat script (start_of vs powers script)
 unfolding referred_by
-referred_is vs script = refl
+referred_is vs powers script = refl
 
-module _ (vs : List ChipView) (script : Script) (olds news : List ChipState) (a b : Output) where
-  pub tells_whole : (ending : Ending) → RunsOut Writes on_flat script ending olds news a b (start_of vs script) →
-      TellsEnd ending (referred_by vs [] script).ending
-  tells_whole ending out = subst (λ (t : Telling). TellsEnd ending t.ending) (sym (referred_is vs script)) out.tells
+module _ (vs : List ChipView) (powers : List PowerOn) (script : Script) (olds news : List ChipState) (a b : Output) where
+  pub tells_whole : (ending : Ending) → RunsOut Writes on_flat script ending olds news a b (start_of vs powers script) →
+      TellsEnd ending (referred_by vs powers script).ending
+  tells_whole ending out = subst (λ (t : Telling). TellsEnd ending t.ending) (sym (referred_is vs powers script)) out.tells
 
-  pub lines_whole : (ending : Ending) → RunsOut Writes on_flat script ending olds news a b (start_of vs script) →
-      Adds a b (text_in Writes (told_in (referred_by vs [] script).moments))
+  pub lines_whole : (ending : Ending) → RunsOut Writes on_flat script ending olds news a b (start_of vs powers script) →
+      Adds a b (text_in Writes (told_in (referred_by vs powers script).moments))
   lines_whole ending out =
-      subst (λ (t : Telling). Adds a b (text_in Writes (told_in t.moments))) (sym (referred_is vs script)) out.lines
+      subst (λ (t : Telling). Adds a b (text_in Writes (told_in t.moments))) (sym (referred_is vs powers script)) out.lines
 
-  pub lines_cut : (Asks : List ℕ → Type 0) → RunsShort Asks Writes on_flat script olds news a b (start_of vs script) →
-      AddsPart a b (text_in Writes (told_in (referred_by vs [] script).moments))
+  pub lines_cut : (Asks : List ℕ → Type 0) → RunsShort Asks Writes on_flat script olds news a b (start_of vs powers script) →
+      AddsPart a b (text_in Writes (told_in (referred_by vs powers script).moments))
   lines_cut Asks short =
-      subst (λ (t : Telling). AddsPart a b (text_in Writes (told_in t.moments))) (sym (referred_is vs script))
-      (cut_part Writes (start_of vs script).chain (rest_on on_flat script (start_of vs script)).moments olds news a b short.cut)
+      subst (λ (t : Telling). AddsPart a b (text_in Writes (told_in t.moments))) (sym (referred_is vs powers script))
+      (cut_part Writes (start_of vs powers script).chain (rest_on on_flat script (start_of vs powers script)).moments olds news a b short.cut)
 
 -- after power-on, reset and the events of frame 0
-pub stands_at_start : (isa : IsaState) (vs : List ChipView) (script : Script) → StandsAt isa 0 (start_of vs script) →
-    StandsAt isa (start_of vs script).flat.state.count (start_of vs script)
-stands_at_start isa vs script stands =
-    subst (λ (n : ℕ). StandsAt isa n (start_of vs script)) (sym (count_there isa 0 (start_of vs script) stands)) stands
+pub stands_at_start : (isa : IsaState) (vs : List ChipView) (powers : List PowerOn) (script : Script) → StandsAt isa 0 (start_of vs powers script) →
+    StandsAt isa (start_of vs powers script).flat.state.count (start_of vs powers script)
+stands_at_start isa vs powers script stands =
+    subst (λ (n : ℕ). StandsAt isa n (start_of vs powers script)) (sym (count_there isa 0 (start_of vs powers script) stands)) stands
 
-pub keeps_at_start : (isa : IsaState) (vs : List ChipView) (script : Script) (phi : ℕ) →
-    StandsAt isa 0 (start_of vs script) →
-    phi ≡ isa.phi → Keeps (new_progress phi) (start_of vs script).flat.state
-keeps_at_start isa vs script phi stands same =
-    let quiet = events_quiet (events_at 0 script.events) (power_position vs (chain_in_order vs) [] script.power) in
-    keeps_new phi (start_of vs script).flat.state quiet.0 quiet.1
-    (same ∙ ap (λ (r : Readout). r.phi) (flat_reads isa [] (start_of vs script) (stands_at_start isa vs script stands)))
+pub keeps_at_start : (isa : IsaState) (vs : List ChipView) (powers : List PowerOn) (script : Script) (phi : ℕ) →
+    StandsAt isa 0 (start_of vs powers script) →
+    phi ≡ isa.phi → Keeps (new_progress phi) (start_of vs powers script).flat.state
+keeps_at_start isa vs powers script phi stands same =
+    let quiet = events_quiet (events_at 0 script.events) (power_position vs (chain_in_order vs) powers script.power) in
+    keeps_new phi (start_of vs powers script).flat.state quiet.0 quiet.1
+    (same ∙ ap (λ (r : Readout). r.phi) (flat_reads isa [] (start_of vs powers script) (stands_at_start isa vs powers script stands)))

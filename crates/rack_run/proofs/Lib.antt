@@ -16,7 +16,6 @@ pub mod RunLaws
 pub mod MachineTurns
 pub mod PlayLaws
 pub mod PlayAsking
-pub mod UsualPowers
 pub mod FlatTurns
 pub mod EndLaws
 pub mod TraceLaws

@@ -4,6 +4,7 @@ use Rattle.std.proofs.Common.{subst}
 use Rattle.std.specs.Prelude.{Result, Ok, Err, IfOk, OnErr}
 use Rattle.std.proofs.lemmas.List.{append_assoc, append-nil}
 use Rattle.f8_spec.specs.ChipState.{ChipState}
+use Rattle.f8_spec.specs.declared.chips.PowerOn.{PowerOn}
 use Rattle.console_spec.specs.Processor.{State}
 use Rattle.console_spec.specs.Run.{Position, Turn, Stop, Goes, Stops, goes_unless, reset_fault, reset_course}
 use Rattle.console_spec.specs.Run.{position_after_reset, power_position}
@@ -72,10 +73,10 @@ cut_part detail chain ms olds news a b cut =
     (text_in detail cut.at.told ++ text_in detail (told_in cut.behind)) cut.lines
     (adds_part_first cut.between b (text_in detail cut.at.told) (text_in detail (told_in cut.behind)) cut.part))
 
-module _ (detail : Detail) (script : Script) (chain : List ℕ) (olds powered : List ChipState)
-    (powers : RackPowers script.power chain [] olds powered) where
+module _ (detail : Detail) (script : Script) (chain : List ℕ) (powers : List PowerOn) (olds powered : List ChipState)
+    (power_on : RackPowers script.power chain powers olds powered) where
   abbrev x : Position
-  x = begun (views olds) chain [] script
+  x = begun (views olds) chain powers script
 
   abbrev turn : Turn
   turn = goes_unless (reset_fault x) (position_after_reset x)
@@ -87,7 +88,7 @@ module _ (detail : Detail) (script : Script) (chain : List ℕ) (olds powered : 
   reset = reset_moment (is_traced detail) x
 
   whole : (t : Turn) → turn ≡ t →
-      run_on detail script chain olds ≡ record {
+      run_on detail script chain powers olds ≡ record {
         moments = power_moment script ∷ reset ∷ (later t).moments;
         ending = (later t).ending;
       }
@@ -109,7 +110,7 @@ module _ (detail : Detail) (script : Script) (chain : List ℕ) (olds powered : 
   abbrev pub first_codes : List ℕ
   first_codes = served ++ unserved_codes turn
 
-  pub stopped_codes : (stop : Stop) → turn ≡ Stops stop → first_codes ≡ tried_codes (run_on detail script chain olds)
+  pub stopped_codes : (stop : Stop) → turn ≡ Stops stop → first_codes ≡ tried_codes (run_on detail script chain powers olds)
   stopped_codes stop turns =
       ap (λ (t : Turn). served ++ unserved_codes t) turns
       ∙ ap (λ (codes : List ℕ). codes ++ stop_codes stop) (sym (append-nil served))
@@ -119,7 +120,7 @@ module _ (detail : Detail) (script : Script) (chain : List ℕ) (olds powered : 
   going_first y turns = ap (λ (t : Turn). served ++ unserved_codes t) turns ∙ append-nil served
 
   pub going_codes : (y : Position) → turn ≡ Goes y →
-      first_codes ++ tried_codes (rest_run y) ≡ tried_codes (run_on detail script chain olds)
+      first_codes ++ tried_codes (rest_run y) ≡ tried_codes (run_on detail script chain powers olds)
   going_codes y turns =
       ap (λ (codes : List ℕ). codes ++ tried_codes (rest_run y)) (going_first y turns)
       ∙ sym (append_assoc served (heard_codes (rest_run y).moments) (stop_codes (rest_run y).ending.stop))
@@ -131,14 +132,14 @@ module _ (detail : Detail) (script : Script) (chain : List ℕ) (olds powered : 
   reset_last (Goes y) = telling-last (on_rack (is_traced detail)) script (most_instructions script.end) y
 
   cut_first : first_codes
-      ≡ codes_up_to (power_moment script ∷ []) reset (later turn).moments (run_on detail script chain olds).ending.stop
+      ≡ codes_up_to (power_moment script ∷ []) reset (later turn).moments (run_on detail script chain powers olds).ending.stop
   cut_first =
       ap (λ (codes : List ℕ). served ++ codes)
       (sym (ap (λ (t : Telling). last_codes (later turn).moments t.ending.stop) (whole turn refl) ∙ reset_last turn))
 
   cut_behind : (y : Position) → turn ≡ Goes y → (before : List Moment) (at : Moment) (behind : List Moment) →
       first_codes ++ codes_up_to before at behind (rest_run y).ending.stop
-      ≡ codes_up_to (power_moment script ∷ reset ∷ before) at behind (run_on detail script chain olds).ending.stop
+      ≡ codes_up_to (power_moment script ∷ reset ∷ before) at behind (run_on detail script chain powers olds).ending.stop
   cut_behind y turns before at behind =
       let last : Stop → List ℕ = λ stop. served_codes at.heard ++ last_codes behind stop in
       ap (λ (codes : List ℕ). codes ++ codes_up_to before at behind (rest_run y).ending.stop) (going_first y turns)
@@ -147,17 +148,17 @@ module _ (detail : Detail) (script : Script) (chain : List ℕ) (olds powered : 
 
   -- the run stays on its chain
   chain_is : x.chain ≡ chain
-  chain_is = events_chain (events_at 0 script.events) (power_position (views olds) chain [] script.power)
+  chain_is = events_chain (events_at 0 script.events) (power_position (views olds) chain powers script.power)
 
   chain_after : (y : Position) → turn ≡ Goes y → y.chain ≡ chain
   chain_after y turns = sym (ap (λ (z : Position). z.chain) (reset_leads (reset_fault x) x y turns)) ∙ chain_is
 
   -- the position that the events of frame 0 leave
   pub quiet_writes : x.flat.state.writes ≡ []
-  quiet_writes = (events_quiet (events_at 0 script.events) (power_position (views olds) chain [] script.power)).0
+  quiet_writes = (events_quiet (events_at 0 script.events) (power_position (views olds) chain powers script.power)).0
 
   pub quiet_count : x.flat.state.count ≡ 0
-  quiet_count = (events_quiet (events_at 0 script.events) (power_position (views olds) chain [] script.power)).1
+  quiet_count = (events_quiet (events_at 0 script.events) (power_position (views olds) chain powers script.power)).1
 
   pub after_writes : (y : Position) → turn ≡ Goes y → y.flat.state.writes ≡ []
   after_writes y turns =
@@ -191,9 +192,9 @@ module _ (detail : Detail) (script : Script) (chain : List ℕ) (olds powered : 
 
     -- the sink fails at a line of reset
     pub plays_cut : (Asks : List ℕ → Type 0) → Asks first_codes → text_in detail told ≢ [] → AddsPart a b (text_in detail told) →
-        PlaysPart Asks detail script chain olds reset_states a b
+        PlaysPart Asks detail script chain powers olds reset_states a b
     plays_cut Asks asks some part =
-        let cut : CutShort detail chain (run_on detail script chain olds).moments powered reset_states a b = record {
+        let cut : CutShort detail chain (run_on detail script chain powers olds).moments powered reset_states a b = record {
           before = power_moment script ∷ [];
           at = reset;
           behind = (later turn).moments;
@@ -208,21 +209,21 @@ module _ (detail : Detail) (script : Script) (chain : List ℕ) (olds powered : 
         } in
         record {
           powered = powered;
-          powers = powers;
+          power_on = power_on;
           cut = cut;
-          part = cut_part detail chain (run_on detail script chain olds).moments powered reset_states a b cut;
+          part = cut_part detail chain (run_on detail script chain powers olds).moments powered reset_states a b cut;
           asks = subst Asks cut_first asks;
         }
 
     -- reset isn't served
     pub plays_not : (ending : Ending) (stop : Stop) → turn ≡ Stops stop → Tells ending x.flat.state stop →
         Adds a b (text_in detail told) →
-        Plays detail script chain ending olds reset_states a b
+        Plays detail script chain powers ending olds reset_states a b
     plays_not ending stop turns tells adds =
         let is_whole = whole (Stops stop) turns in
         record {
           powered = powered;
-          powers = powers;
+          power_on = power_on;
           lived =
               subst (λ (t : Telling). Lives chain t.moments powered reset_states) (sym is_whole)
               (mids, first_lived, (reset_states, reset_lived, refl));
@@ -236,14 +237,14 @@ module _ (detail : Detail) (script : Script) (chain : List ℕ) (olds powered : 
       -- the run comes to its end
       pub plays_on : (ending : Ending) →
           RunsOut detail (on_rack (is_traced detail)) script ending reset_states news b c y →
-          Plays detail script chain ending olds news a c
+          Plays detail script chain powers ending olds news a c
       plays_on ending out =
           let is_whole = whole (Goes y) turns in
           let rest_lived = subst (λ (l : List ℕ). Lives l (rest_on (on_rack (is_traced detail)) script y).moments reset_states news)
           (chain_after y turns) out.lived in
           record {
             powered = powered;
-            powers = powers;
+            power_on = power_on;
             lived =
                 subst (λ (t : Telling). Lives chain t.moments powered news) (sym is_whole)
                 (mids, first_lived, (reset_states, reset_lived, rest_lived));
@@ -256,10 +257,10 @@ module _ (detail : Detail) (script : Script) (chain : List ℕ) (olds powered : 
       -- the sink fails at a line of an instruction
       pub plays_short : (Asks Within : List ℕ → Type 0) → ((codes : List ℕ) → Within codes → Asks (first_codes ++ codes)) →
           RunsShort Within detail (on_rack (is_traced detail)) script reset_states news b c y →
-          PlaysPart Asks detail script chain olds news a c
+          PlaysPart Asks detail script chain powers olds news a c
       plays_short Asks Within asks so_short =
           let short = so_short.cut in
-          let cut : CutShort detail chain (run_on detail script chain olds).moments powered news a c = record {
+          let cut : CutShort detail chain (run_on detail script chain powers olds).moments powered news a c = record {
             before = power_moment script ∷ reset ∷ short.before;
             at = short.at;
             behind = short.behind;
@@ -286,9 +287,9 @@ module _ (detail : Detail) (script : Script) (chain : List ℕ) (olds powered : 
           } in
           record {
             powered = powered;
-            powers = powers;
+            power_on = power_on;
             cut = cut;
-            part = cut_part detail chain (run_on detail script chain olds).moments powered news a c cut;
+            part = cut_part detail chain (run_on detail script chain powers olds).moments powered news a c cut;
             asks =
                 subst Asks (cut_behind y turns short.before short.at short.behind)
                 (asks (codes_up_to short.before short.at short.behind (rest_run y).ending.stop) so_short.asks);
@@ -300,31 +301,31 @@ pub powered_reads : (m : MachineState) (states : List ChipState) (x : Position) 
     machine_readout m ≡ readout_of x.flat.state
 powered_reads m states x p = rw (p.stands.flow, p.stands.holds.registers, p.stands.phi) refl
 
-module _ {E : Type 0} (detail : Detail) (script : Script) (chain : List ℕ) (olds powered : List ChipState)
-    (powers : RackPowers script.power chain [] olds powered)
+module _ {E : Type 0} (detail : Detail) (script : Script) (chain : List ℕ) (powers : List PowerOn)
+    (olds powered : List ChipState) (power_on : RackPowers script.power chain powers olds powered)
     (mids reset_states : List ChipState)
     (came : Come chain (events_at 0 script.events) powered mids) (hs : List Heard)
-    (heard : hs ≡ map heard_of (reset_course (x detail script chain olds powered powers)).steps)
+    (heard : hs ≡ map heard_of (reset_course (x detail script chain powers olds powered power_on)).steps)
     (ran : RackRuns hs mids reset_states)
     (told : List Told)
-    (is : told ≡ told_steps (is_traced detail) (reset_course (x detail script chain olds powered powers)))
+    (is : told ≡ told_steps (is_traced detail) (reset_course (x detail script chain powers olds powered power_on)))
     (a b : Output) (adds : Adds a b (text_in detail told))
-    (y : Position) (turns : turn detail script chain olds powered powers ≡ Goes y) (news : List ChipState)
+    (y : Position) (turns : turn detail script chain powers olds powered power_on ≡ Goes y) (news : List ChipState)
     (c : Output) where
   pub plays_ok : (r : Result Ending E) →
       IfOk r (λ ending. RunsOut detail (on_rack (is_traced detail)) script ending reset_states news b c y) →
-      IfOk r (λ ending. Plays detail script chain ending olds news a c)
+      IfOk r (λ ending. Plays detail script chain powers ending olds news a c)
   plays_ok (Ok ending) out =
-      plays_on detail script chain olds powered powers mids reset_states came hs heard ran told is a b y turns adds
+      plays_on detail script chain powers olds powered power_on mids reset_states came hs heard ran told is a b y turns adds
       news c ending out
   plays_ok (Err e) out = tt
 
   pub plays_err : (Asks Within : List ℕ → Type 0) →
-      ((codes : List ℕ) → Within codes → Asks (first_codes detail script chain olds powered powers ++ codes)) →
+      ((codes : List ℕ) → Within codes → Asks (first_codes detail script chain powers olds powered power_on ++ codes)) →
       (r : Result Ending E) →
       OnErr r (RunsShort Within detail (on_rack (is_traced detail)) script reset_states news b c y) →
-      OnErr r (PlaysPart Asks detail script chain olds news a c)
+      OnErr r (PlaysPart Asks detail script chain powers olds news a c)
   plays_err Asks Within asks (Ok ending) short = tt
   plays_err Asks Within asks (Err e) short =
-      plays_short detail script chain olds powered powers mids reset_states came hs heard ran told is a b y turns adds
+      plays_short detail script chain powers olds powered power_on mids reset_states came hs heard ran told is a b y turns adds
       news c Asks Within asks short

@@ -2,6 +2,7 @@
 use Rattle.std.specs.Prelude.{◌≡◌, ◌≢◌, ℕ, ◌<◌, List, [], ◌∷◌, ◌++◌, length, map, Option, Some, None}
 use Rattle.std.specs.List.{sum_by}
 use Rattle.f8_spec.specs.ChipState.{ChipState}
+use Rattle.f8_spec.specs.declared.chips.PowerOn.{PowerOn}
 use Rattle.console_spec.specs.declared.PortWrite.{PortWrite}
 use Rattle.console_spec.specs.Processor.{State, told_regs}
 use Rattle.console_spec.specs.Run.{Stop, Done, Unserved, Reserved as ReservedStop, Ending as FlatEnding}
@@ -52,18 +53,17 @@ TellsEnd told ending = Tells told ending.position.flat.state ending.stop
 
 -- ---- on a rack
 
--- nothing is said of the power-on of any chip
-abbrev pub run_on : Detail → Script → List ℕ → List ChipState → Telling
-run_on detail script chain states = played_by (views states) chain [] (is_traced detail) script
+abbrev pub run_on : Detail → Script → List ℕ → List PowerOn → List ChipState → Telling
+run_on detail script chain powers states = played_by (views states) chain powers (is_traced detail) script
 
 -- the run to its end: every chip is powered and lives through the moments of the run, and the sink was given all that is told
-pub record Plays (detail : Detail) (script : Script) (chain : List ℕ) (told : Ending) (olds news : List ChipState)
-    (old new : Output) : Type 0 where
+pub record Plays (detail : Detail) (script : Script) (chain : List ℕ) (powers : List PowerOn) (told : Ending)
+    (olds news : List ChipState) (old new : Output) : Type 0 where
   pub powered : List ChipState
-  pub powers : RackPowers script.power chain [] olds powered
-  pub lived : Lives chain (run_on detail script chain olds).moments powered news
-  pub tells : TellsEnd told (run_on detail script chain olds).ending
-  pub lines : Adds old new (text_in detail (told_in (run_on detail script chain olds).moments))
+  pub power_on : RackPowers script.power chain powers olds powered
+  pub lived : Lives chain (run_on detail script chain powers olds).moments powered news
+  pub tells : TellsEnd told (run_on detail script chain powers olds).ending
+  pub lines : Adds old new (text_in detail (told_in (run_on detail script chain powers olds).moments))
 
 -- The sink failed at a line of one of some moments: those before it were lived through and told, its bus steps were heard, and no event
 -- behind it came.
@@ -81,26 +81,26 @@ pub record CutShort (detail : Detail) (chain : List ℕ) (ms : List Moment) (old
   pub part : AddsPart between new (text_in detail at.told)
 
 -- the run up to there, with what was asked by then
-pub record PlaysPart (Asks : List ℕ → Type 0) (detail : Detail) (script : Script) (chain : List ℕ)
+pub record PlaysPart (Asks : List ℕ → Type 0) (detail : Detail) (script : Script) (chain : List ℕ) (powers : List PowerOn)
     (olds news : List ChipState) (old new : Output) : Type 0 where
   pub powered : List ChipState
-  pub powers : RackPowers script.power chain [] olds powered
-  pub cut : CutShort detail chain (run_on detail script chain olds).moments powered news old new
-  pub part : AddsPart old new (text_in detail (told_in (run_on detail script chain olds).moments))
-  pub asks : Asks (codes_up_to cut.before cut.at cut.behind (run_on detail script chain olds).ending.stop)
+  pub power_on : RackPowers script.power chain powers olds powered
+  pub cut : CutShort detail chain (run_on detail script chain powers olds).moments powered news old new
+  pub part : AddsPart old new (text_in detail (told_in (run_on detail script chain powers olds).moments))
+  pub asks : Asks (codes_up_to cut.before cut.at cut.behind (run_on detail script chain powers olds).ending.stop)
 
 -- ---- without a chip
 
--- the run of a description's chips, each fitted without a patch
-abbrev pub flat_run : Script → List ChipSpec → Telling
-flat_run script chips = referred_by (views_of chips) [] script
+-- the run of a description's chips, each fitted without a patch and powered as is said of it
+abbrev pub flat_run : Script → List ChipSpec → List PowerOn → Telling
+flat_run script chips powers = referred_by (views_of chips) powers script
 
 -- A whole run on the flat instruction set alone: the sink was given all that is told.
-pub record Refers (script : Script) (told : Ending) (chips : List ChipSpec) (old new : Output) : Type 0 where
-  pub tells : TellsEnd told (flat_run script chips).ending
-  pub lines : Adds old new (text_in Writes (told_in (flat_run script chips).moments))
+pub record Refers (script : Script) (told : Ending) (chips : List ChipSpec) (powers : List PowerOn) (old new : Output) : Type 0 where
+  pub tells : TellsEnd told (flat_run script chips powers).ending
+  pub lines : Adds old new (text_in Writes (told_in (flat_run script chips powers).moments))
 
 -- where it came to no end: nothing was put where memory was wanting, and a first part where the sink failed
-abbrev pub ReferFails : ReferFault → Script → List ChipSpec → (old new : Output) → Type 0
-ReferFails Memory script chips old new = new ≡ old
-ReferFails Sink script chips old new = AddsPart old new (text_in Writes (told_in (flat_run script chips).moments))
+abbrev pub ReferFails : ReferFault → Script → List ChipSpec → List PowerOn → (old new : Output) → Type 0
+ReferFails Memory script chips powers old new = new ≡ old
+ReferFails Sink script chips powers old new = AddsPart old new (text_in Writes (told_in (flat_run script chips powers).moments))

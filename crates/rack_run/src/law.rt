@@ -1,7 +1,10 @@
 // Laws of the definitions of a run, as calls.
+ghost use Rattle.f8_spec.specs.Powers.{ArePowers};
 ghost use Rattle.rack_run.specs.ChainLaw.{ChainLaw};
 ghost use Rattle.rack_run.specs.EndLaw.{EndLaw};
 ghost use Rattle.rack_run.specs.TraceLaw.{TraceLaw};
+
+use chip_face::Powers;
 
 /// A run ends as its script asks: where no fault and no reserved opcode stops it, all its frames have fallen, or all its instructions are
 /// done. This call does nothing; its contract is the law.
@@ -21,3 +24,10 @@ pub fn trace_law()
 pub fn chain_law()
     ensures { ChainLaw }
 {}
+
+/// What is said of the power-on of chips are bytes and addresses. This call changes nothing; its contract is the law.
+pub fn powers_law(powers: &Powers)
+    ensures { ArePowers powers.now }
+{
+    let _said = powers.as_slice();
+}

@@ -14,13 +14,11 @@ mod run;
 mod seat;
 mod sockets;
 mod telling;
-mod usual;
 
 pub use detail::Detail;
 pub use ending::{Ending, Halt};
-pub use law::{chain_law, end_law, trace_law};
+pub use law::{chain_law, end_law, powers_law, trace_law};
 pub use on_flat::{ReferFault, refer};
 pub use on_rack::play;
 pub use seat::fit_all;
 pub use sockets::{Shortage, chain_of, first_shortage};
-pub use usual::power_usual;

@@ -1,5 +1,5 @@
 // A run on the flat instruction set alone.
-ghost use Rattle.std.specs.Prelude.{◌≤◌, [], IfOk, IfErr};
+ghost use Rattle.std.specs.Prelude.{◌≤◌, IfOk, IfErr};
 ghost use Rattle.console_spec.specs.Run.{power_position, chain_in_order, position_after_reset};
 ghost use Rattle.f8_isa.specs.IsaState.{StandsAt};
 ghost use Rattle.memory_map.specs.MapOf.{views_of};
@@ -77,16 +77,14 @@ impl Player for Isa {
     ghost reads = { flat_reads };
 }
 
-/// The instruction set after power-on with a byte, where nothing is said of any chip's own, and reset.
-#[tactic(auto, using(crate::proofs::UsualPowers::usual_position))]
-fn power_on(alloc: Global, chips: &ChipList, fill: u8) -> Result<Isa, Memory>
-    ensures stands { let vs = views_of chips.now in IfOk result (λ isa.
-        StandsAt isa 0 (position_after_reset (power_position vs (chain_in_order vs) [] fill))) }
+/// The instruction set after power-on with a byte, as is said of each chip, and reset.
+fn power_on(alloc: Global, chips: &ChipList, powers: &Powers, fill: u8) -> Result<Isa, Memory>
+    ensures stands { let vs = views_of chips.now in IfOk result (λ isa. StandsAt isa 0
+        (position_after_reset (power_position vs (chain_in_order vs) powers.now fill))) }
     ensures phi { IfOk result (λ isa. isa.phi ≤ RESET_PHI) }
 {
     let map = Map::of(alloc, chips)?;
-    let powers = Powers::usual(chips.as_slice().len());
-    Isa::new(alloc, &map, chips, &powers, fill)
+    Isa::new(alloc, &map, chips, powers, fill)
 }
 
 /// Why a run on the flat instruction set alone came to no end.
@@ -101,21 +99,25 @@ pub enum ReferFault {
 }
 
 /// The run of a description by a script on the flat instruction set alone, without a chip: power-on, reset, the events of frame 0, and
-/// instructions. What ports took and the shown frames are told as the run goes; each line is one put. All memory is taken before the
-/// first one.
+/// instructions. `powers` has what is said of the power-on of each chip, in the order of the description; where that ends before a chip,
+/// nothing is said of it. What ports took and the shown frames are told as the run goes; each line is one put. All memory is taken before
+/// the first one.
 pub fn refer<K: Sink>(
     alloc: Global,
     sink: &mut K,
     chips: &ChipList,
+    powers: &Powers,
     script: &Script,
 ) -> Result<Ending, ReferFault>
     requires limits { HasLimits script.now.end }
     ensures refers { IfOk result (λ ending.
-        Refers (seen script.now) ending chips.now (K.output sink.old) (K.output sink.new)) }
+        Refers (seen script.now) ending chips.now powers.now
+        (K.output sink.old) (K.output sink.new)) }
     ensures failed { IfErr result (λ fault.
-        ReferFails fault (seen script.now) chips.now (K.output sink.old) (K.output sink.new)) }
+        ReferFails fault (seen script.now) chips.now powers.now
+        (K.output sink.old) (K.output sink.new)) }
 {
-    let Ok(mut isa) = power_on(alloc, chips, script.power) else {
+    let Ok(mut isa) = power_on(alloc, chips, powers, script.power) else {
         return Err(ReferFault::Memory);
     };
     let mut no_chips = Rack::new(alloc);

@@ -19,8 +19,7 @@ use super::player::Player;
 use super::progress::Progress;
 use super::run::{ending, run};
 use super::telling::{tell_fault, tell_steps};
-use super::usual::power_usual;
-use chip_face::{Chip, MOST_CHIPS};
+use chip_face::{Chip, MOST_CHIPS, Powers};
 use console_board::PortWrite;
 use console_spec::{Event, Regs};
 use data_bus::BusFault;
@@ -119,7 +118,8 @@ impl Player for Machine {
 }
 
 /// A run by a script on a rack of at most 16 chips that are fitted: power-on, the events of frame 0, reset, and instructions, each told
-/// as it is done. `chain` has the sockets of the chips described. `detail` says how much is told on the way; each line is one put.
+/// as it is done. `chain` has the sockets of the chips described, and `powers` what is said of the power-on of each, in the same order;
+/// where that ends before a chip, nothing is said of it. `detail` says how much is told on the way; each line is one put.
 ///
 /// The chips are put no more questions than 512 each, and the allowances of the bus steps that were tried. That questions are counted is
 /// this project's own.
@@ -131,6 +131,7 @@ pub fn play<K: Sink>(
     rack: &mut Rack,
     sink: &mut K,
     chain: Chain,
+    powers: &Powers,
     script: &Script,
     detail: Detail,
 ) -> Result<Ending, SinkFault>
@@ -138,21 +139,21 @@ pub fn play<K: Sink>(
     requires whole { AreWhole (map state rack.old.items) }
     requires ports { LeaveOwnPorts (map seat_of (views (map state rack.old.items))) }
     requires limits { HasLimits script.now.end }
-    ensures plays { IfOk result (λ ending. Plays detail (seen script.now) chain ending
+    ensures plays { IfOk result (λ ending. Plays detail (seen script.now) chain powers.now ending
         (map state rack.old.items) (map state rack.new.items)
         (K.output sink.old) (K.output sink.new)) }
     ensures asked { OnOk result (AsksWithin (run_allowed (map state rack.old.items))
         (sum_by queries rack.old.items) (sum_by queries rack.new.items)
-        (tried_codes (run_on detail (seen script.now) chain (map state rack.old.items)))) }
+        (tried_codes (run_on detail (seen script.now) chain powers.now (map state rack.old.items)))) }
     ensures failed { OnErr result (PlaysPart
         (AsksWithin (run_allowed (map state rack.old.items))
         (sum_by queries rack.old.items) (sum_by queries rack.new.items))
-        detail (seen script.now) chain
+        detail (seen script.now) chain powers.now
         (map state rack.old.items) (map state rack.new.items)
         (K.output sink.old) (K.output sink.new)) }
     ensures chips { length rack.new.items ≡ length rack.old.items }
 {
-    let mut machine = power_usual(script.power, chain, rack);
+    let mut machine = Machine::power(script.power, chain, powers, rack);
     happen_at(&mut machine, rack, script.events.as_slice(), 0);
     let outcome = machine.reset(rack);
     tell_outcome(sink, detail, &outcome)?;

@@ -11,7 +11,7 @@ returns-in-Err c =
     let size = length-map c.args.tables.now seen_table in
     let at = get_or-map seen_table c.args.tables.now c.loop-index.index c.index-tables-index.result ∙ ap seen_table (sym c.index-tables-index.is) in
     rw c.answer_at.ensures
-    (chips_stop (λ (chips : Vec ChipPlan Global). map seen_chip chips.items)
+    (chips_stop c.args.format (λ (chips : Vec ChipPlan Global). map seen_chip chips.items)
     (map seen_table c.args.tables.now) c.loop-index.index (seen_table c.index-tables-index.result) c.in-Err.stop
     (map seen_chip c.loop-index.chips.items) (omega (arith, size)) at c.in-Err.ensures c.loop-index.invariant)
 
@@ -20,10 +20,11 @@ loop-index-preserved c =
     let size = length-map c.args.tables.now seen_table in
     let at = get_or-map seen_table c.args.tables.now c.loop-index.index c.index-tables-index.result ∙ ap seen_table (sym c.index-tables-index.is) in
     rw (c.in-Ok-push.ensures.items, map-append seen_chip c.loop-index.chips.items (c.in-Ok.chip ∷ []))
-    (chips_more (map seen_table c.args.tables.now) c.loop-index.index (seen_table c.index-tables-index.result) (seen_chip c.in-Ok.chip)
+    (chips_more c.args.format (map seen_table c.args.tables.now) c.loop-index.index (seen_table c.index-tables-index.result) (seen_chip c.in-Ok.chip)
     (map seen_chip c.loop-index.chips.items) (omega (arith, size)) at c.in-Ok.ensures c.loop-index.invariant)
 
 pub returns : goal.returns
 returns c =
     let size = length-map c.args.tables.now seen_table in
-    chips_all (map seen_table c.args.tables.now) c.loop-index.index (map seen_chip c.loop-index.chips.items) (omega (arith, size)) c.loop-index.invariant
+    chips_all c.args.format (map seen_table c.args.tables.now) c.loop-index.index (map seen_chip c.loop-index.chips.items) (omega (arith, size))
+    c.loop-index.invariant

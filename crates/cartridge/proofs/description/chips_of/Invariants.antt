@@ -5,4 +5,4 @@ use Rattle.cartridge.proofs.ChipsRead.{HasChips}
 use Rattle.cartridge.proofs.description.chips_of.Given as goal
 
 abbrev pub invariant-loop-index : goal.invariant-loop-index
-invariant-loop-index l = HasChips (map seen_table l.tables) l.index (map seen_chip l.chips.items)
+invariant-loop-index l = HasChips l.format (map seen_table l.tables) l.index (map seen_chip l.chips.items)

@@ -31,7 +31,7 @@ returns-in-Err-clause-rack g c =
 pub returns-in-Ok-clause-safe : goal.returns-in-Ok-clause-safe
 returns-in-Ok-clause-safe g c =
     keeps_judged _ _ _ c.args.manner (seen_game c.args.game.now) _ _ _ _ _ _ c.in-Ok.ensures.views c.chain_of-chain.ensures
-    c.safe_run_law.ensures c.script_law.ensures c.check_and_play.ensures
+    c.safe_run_law.ensures c.script_law.ensures c.powers_law.ensures c.check_and_play.ensures
 
 pub returns-in-Err-clause-safe : goal.returns-in-Err-clause-safe
 returns-in-Err-clause-safe g c = λ fits patches by_memory. absurd (by_memory refl)

@@ -10,5 +10,5 @@ returns-in_err-plan g c =
 
 pub returns : goal.returns
 returns g c =
-    rw (cart_is c.in_ok-plan.plan c.in-Ok.cart c.in_ok-plan.ensures.filled c.in-Ok.ensures)
+    rw (cart_is c.in_ok-plan.plan c.in-Ok.cart c.in_ok-plan.ensures.filled c.in-Ok.ensures.value)
     (planned_loaded _ _ c.args.plan c.in_ok-plan.plan c.in_ok-plan.ensures.works)

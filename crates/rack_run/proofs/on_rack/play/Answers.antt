@@ -1,5 +1,5 @@
 -- Power-on, the events of frame 0 and reset, and what reset leads to.
-use Rattle.std.proofs.Common.{◌∙◌, [], length, map, sym, ap, subst}
+use Rattle.std.proofs.Common.{◌∙◌, length, map, sym, ap, subst}
 use Rattle.std.specs.Prelude.{sum_by}
 use Rattle.std.proofs.lemmas.List.{length-map}
 use Rattle.std.proofs.lemmas.Result.{err_from_is_err_and}
@@ -21,25 +21,25 @@ use Rattle.rack_run.proofs.on_rack.play.Goals as goal
 
 pub reset-outcome-requires-clause-mode : goal.reset-outcome-requires-clause-mode
 reset-outcome-requires-clause-mode g c =
-    (c.happen_at.ensures.begins _ (c.power_usual-machine.ensures.pair c.requires.whole c.requires.ports)).powered
+    (c.happen_at.ensures.begins _ (c.power-machine.ensures.pair c.requires.whole c.requires.ports)).powered
 
 pub returns-in_err-tell_outcome-clause-failed : goal.returns-in_err-tell_outcome-clause-failed
 returns-in_err-tell_outcome-clause-failed g c =
     let p = err_from_is_err_and c.from_residual.result c.from_residual.ensures.1 in
-    let powered = c.happen_at.ensures.begins _ (c.power_usual-machine.ensures.pair c.requires.whole c.requires.ports) in
+    let powered = c.happen_at.ensures.begins _ (c.power-machine.ensures.pair c.requires.whole c.requires.ports) in
     let refines = c.reset-outcome.ensures.refines _ (rw c.as_slice.ensures.events at powered) in
     rw p.1
-    (plays_cut c.args.detail (seen c.args.script.now) c.args.chain _ _ c.power_usual-machine.ensures.powered _ _
+    (plays_cut c.args.detail (seen c.args.script.now) c.args.chain c.args.powers.now _ _ c.power-machine.ensures.powered _ _
     (rw c.as_slice.ensures.events
-    at (c.happen_at.ensures.came_first _ (c.power_usual-machine.ensures.pair c.requires.whole c.requires.ports))) _
+    at (c.happen_at.ensures.came_first _ (c.power-machine.ensures.pair c.requires.whole c.requires.ports))) _
     (reset_heard c.reset-outcome.result _ _ _ _ refines) c.reset-outcome.ensures.follows.ran _
     (reset_is c.args.detail c.reset-outcome.result _ _ _ _ refines) _ _ _
-    (play_first _ (length c.args.rack.now.items) _ _ _ _ _ c.power_usual-machine.result.index c.happen_at.new.player.index
+    (play_first _ (length c.args.rack.now.items) _ _ _ _ _ c.power-machine.result.index c.happen_at.new.player.index
     (sym (length-map c.args.rack.now.items (λ b. (goal.Chip-dyn g (b.vtable, b.value)).state b.value)))
-    c.power_usual-machine.ensures.chips c.happen_at.ensures.chips c.power_usual-machine.ensures.marks c.power_usual-machine.ensures.parted
-    (power_asks (λ b. (goal.Chip-dyn g (b.vtable, b.value)).queries b.value) c.args.rack.now.items _ c.power_usual-machine.ensures.asked)
+    c.power-machine.ensures.chips c.happen_at.ensures.chips c.power-machine.ensures.marks c.power-machine.ensures.parted
+    (power_asks (λ b. (goal.Chip-dyn g (b.vtable, b.value)).queries b.value) c.args.rack.now.items _ c.power-machine.ensures.asked)
     c.happen_at.ensures.asked _
-    (reset_codes (begun (views (map (λ b. (goal.Chip-dyn g (b.vtable, b.value)).state b.value) c.args.rack.now.items)) c.args.chain []
+    (reset_codes (begun (views (map (λ b. (goal.Chip-dyn g (b.vtable, b.value)).state b.value) c.args.rack.now.items)) c.args.chain c.args.powers.now
     (seen c.args.script.now)))
     (reset_within _ c.reset-outcome.result c.happen_at.new.player c.reset-outcome.new.self _ _ _ _ refines
     c.reset-outcome.ensures.asked))
@@ -47,18 +47,18 @@ returns-in_err-tell_outcome-clause-failed g c =
 
 pub returns-in-Done-clause-plays : goal.returns-in-Done-clause-plays
 returns-in-Done-clause-plays g c =
-    let powered = c.happen_at.ensures.begins _ (c.power_usual-machine.ensures.pair c.requires.whole c.requires.ports) in
+    let powered = c.happen_at.ensures.begins _ (c.power-machine.ensures.pair c.requires.whole c.requires.ports) in
     let refines = c.reset-outcome.ensures.refines _ (rw c.as_slice.ensures.events at powered) in
     let done = rw c.in-Done.is at refines in
     let script = seen c.args.script.now in
     let keeps =
     keeps_new c.phi.result done.after.flat.state
-    (after_writes c.args.detail script c.args.chain _ _ c.power_usual-machine.ensures.powered done.after done.turns)
-    (after_count c.args.detail script c.args.chain _ _ c.power_usual-machine.ensures.powered done.after done.turns)
+    (after_writes c.args.detail script c.args.chain c.args.powers.now _ _ c.power-machine.ensures.powered done.after done.turns)
+    (after_count c.args.detail script c.args.chain c.args.powers.now _ _ c.power-machine.ensures.powered done.after done.turns)
     (c.phi.ensures ∙ done.represents.stands.phi) in
-    plays_ok c.args.detail script c.args.chain _ _ c.power_usual-machine.ensures.powered _ _
+    plays_ok c.args.detail script c.args.chain c.args.powers.now _ _ c.power-machine.ensures.powered _ _
     (rw c.as_slice.ensures.events
-    at (c.happen_at.ensures.came_first _ (c.power_usual-machine.ensures.pair c.requires.whole c.requires.ports))) _
+    at (c.happen_at.ensures.came_first _ (c.power-machine.ensures.pair c.requires.whole c.requires.ports))) _
     (reset_heard c.reset-outcome.result _ _ _ _ refines) c.reset-outcome.ensures.follows.ran _
     (reset_is c.args.detail c.reset-outcome.result _ _ _ _ refines) _ _ c.in_ok-tell_outcome.ensures.ok
     done.after done.turns _ _ c.run.result
@@ -66,27 +66,27 @@ returns-in-Done-clause-plays g c =
 
 pub returns-in-Done-clause-failed : goal.returns-in-Done-clause-failed
 returns-in-Done-clause-failed g c =
-    let powered = c.happen_at.ensures.begins _ (c.power_usual-machine.ensures.pair c.requires.whole c.requires.ports) in
+    let powered = c.happen_at.ensures.begins _ (c.power-machine.ensures.pair c.requires.whole c.requires.ports) in
     let refines = c.reset-outcome.ensures.refines _ (rw c.as_slice.ensures.events at powered) in
     let done = rw c.in-Done.is at refines in
     let script = seen c.args.script.now in
     let keeps =
     keeps_new c.phi.result done.after.flat.state
-    (after_writes c.args.detail script c.args.chain _ _ c.power_usual-machine.ensures.powered done.after done.turns)
-    (after_count c.args.detail script c.args.chain _ _ c.power_usual-machine.ensures.powered done.after done.turns)
+    (after_writes c.args.detail script c.args.chain c.args.powers.now _ _ c.power-machine.ensures.powered done.after done.turns)
+    (after_count c.args.detail script c.args.chain c.args.powers.now _ _ c.power-machine.ensures.powered done.after done.turns)
     (c.phi.ensures ∙ done.represents.stands.phi) in
-    plays_err c.args.detail script c.args.chain _ _ c.power_usual-machine.ensures.powered _ _
+    plays_err c.args.detail script c.args.chain c.args.powers.now _ _ c.power-machine.ensures.powered _ _
     (rw c.as_slice.ensures.events
-    at (c.happen_at.ensures.came_first _ (c.power_usual-machine.ensures.pair c.requires.whole c.requires.ports))) _
+    at (c.happen_at.ensures.came_first _ (c.power-machine.ensures.pair c.requires.whole c.requires.ports))) _
     (reset_heard c.reset-outcome.result _ _ _ _ refines) c.reset-outcome.ensures.follows.ran _
     (reset_is c.args.detail c.reset-outcome.result _ _ _ _ refines) _ _ c.in_ok-tell_outcome.ensures.ok
     done.after done.turns _ _ _ _
-    (λ codes within. play_then _ (length c.args.rack.now.items) _ _ _ _ _ c.power_usual-machine.result.index c.happen_at.new.player.index
+    (λ codes within. play_then _ (length c.args.rack.now.items) _ _ _ _ _ c.power-machine.result.index c.happen_at.new.player.index
     (sym (length-map c.args.rack.now.items (λ b. (goal.Chip-dyn g (b.vtable, b.value)).state b.value)))
-    c.power_usual-machine.ensures.chips c.happen_at.ensures.chips c.power_usual-machine.ensures.marks c.power_usual-machine.ensures.parted
-    (power_asks (λ b. (goal.Chip-dyn g (b.vtable, b.value)).queries b.value) c.args.rack.now.items _ c.power_usual-machine.ensures.asked)
+    c.power-machine.ensures.chips c.happen_at.ensures.chips c.power-machine.ensures.marks c.power-machine.ensures.parted
+    (power_asks (λ b. (goal.Chip-dyn g (b.vtable, b.value)).queries b.value) c.args.rack.now.items _ c.power-machine.ensures.asked)
     c.happen_at.ensures.asked _ _ _ c.reset-outcome.new.self.index
-    (reset_codes (begun (views (map (λ b. (goal.Chip-dyn g (b.vtable, b.value)).state b.value) c.args.rack.now.items)) c.args.chain []
+    (reset_codes (begun (views (map (λ b. (goal.Chip-dyn g (b.vtable, b.value)).state b.value) c.args.rack.now.items)) c.args.chain c.args.powers.now
     (seen c.args.script.now))) codes c.reset-outcome.ensures.chips
     (reset_on _ c.reset-outcome.result c.happen_at.new.player c.reset-outcome.new.self _ _ _ _ refines
     c.reset-outcome.ensures.asked _ _ _ c.in-Done.is c.reset-outcome.ensures.follows) within)
@@ -97,7 +97,7 @@ pub returns-in-Fault-clause-plays : goal.returns-in-Fault-clause-plays
 returns-in-Fault-clause-plays g c =
     let powered =
     rw c.as_slice.ensures.events
-    at (c.happen_at.ensures.begins _ (c.power_usual-machine.ensures.pair c.requires.whole c.requires.ports)) in
+    at (c.happen_at.ensures.begins _ (c.power-machine.ensures.pair c.requires.whole c.requires.ports)) in
     let refines = c.reset-outcome.ensures.refines _ powered in
     let faulted = rw c.in-Fault.is at refines in
     let script = seen c.args.script.now in
@@ -106,12 +106,12 @@ returns-in-Fault-clause-plays g c =
     (ap (λ m. m.cpu) faulted.kept)
     (ap (λ m. m.phi) faulted.kept) ∙ powered_reads c.happen_at.new.player _ _ powered in
     let keeps =
-    keeps_new c.phi.result _ (quiet_writes c.args.detail script c.args.chain _ _ c.power_usual-machine.ensures.powered)
-    (quiet_count c.args.detail script c.args.chain _ _ c.power_usual-machine.ensures.powered)
+    keeps_new c.phi.result _ (quiet_writes c.args.detail script c.args.chain c.args.powers.now _ _ c.power-machine.ensures.powered)
+    (quiet_count c.args.detail script c.args.chain c.args.powers.now _ _ c.power-machine.ensures.powered)
     (c.phi.ensures ∙ ap (λ r. r.phi) reads) in
-    plays_not c.args.detail script c.args.chain _ _ c.power_usual-machine.ensures.powered _ _
+    plays_not c.args.detail script c.args.chain c.args.powers.now _ _ c.power-machine.ensures.powered _ _
     (rw c.as_slice.ensures.events
-    at (c.happen_at.ensures.came_first _ (c.power_usual-machine.ensures.pair c.requires.whole c.requires.ports))) _
+    at (c.happen_at.ensures.came_first _ (c.power-machine.ensures.pair c.requires.whole c.requires.ports))) _
     (reset_heard c.reset-outcome.result _ _ _ _ refines) c.reset-outcome.ensures.follows.ran _
     (reset_is c.args.detail c.reset-outcome.result _ _ _ _ refines) _ _
     c.ending.result _ faulted.turns (c.ending.ensures _ reads (rw c.new-progress.ensures keeps))
@@ -119,14 +119,14 @@ returns-in-Fault-clause-plays g c =
 
 pub returns-in-Done-clause-asked : goal.returns-in-Done-clause-asked
 returns-in-Done-clause-asked g c =
-    let powered = c.happen_at.ensures.begins _ (c.power_usual-machine.ensures.pair c.requires.whole c.requires.ports) in
+    let powered = c.happen_at.ensures.begins _ (c.power-machine.ensures.pair c.requires.whole c.requires.ports) in
     let refines = c.reset-outcome.ensures.refines _ (rw c.as_slice.ensures.events at powered) in
     let done = rw c.in-Done.is at refines in
     let script = seen c.args.script.now in
     let keeps =
     keeps_new c.phi.result done.after.flat.state
-    (after_writes c.args.detail script c.args.chain _ _ c.power_usual-machine.ensures.powered done.after done.turns)
-    (after_count c.args.detail script c.args.chain _ _ c.power_usual-machine.ensures.powered done.after done.turns)
+    (after_writes c.args.detail script c.args.chain c.args.powers.now _ _ c.power-machine.ensures.powered done.after done.turns)
+    (after_count c.args.detail script c.args.chain c.args.powers.now _ _ c.power-machine.ensures.powered done.after done.turns)
     (c.phi.ensures ∙ done.represents.stands.phi) in
     asked_ok c.run.result (AsksWithin
     (run_allowed (map (λ b. (goal.Chip-dyn g (b.vtable, b.value)).state b.value) c.args.rack.now.items))
@@ -136,15 +136,15 @@ returns-in-Done-clause-asked g c =
     (sum_by (λ b. (goal.Chip-dyn g (b.vtable, b.value)).queries b.value) c.reset-outcome.new.rack.items)
     (sum_by (λ b. (goal.Chip-dyn g (b.vtable, b.value)).queries b.value) c.run.new.rack.items))
     (tried_codes (rest_on (on_rack (is_traced c.args.detail)) (seen c.args.script.now) done.after)) _
-    (reset_codes (begun (views (map (λ b. (goal.Chip-dyn g (b.vtable, b.value)).state b.value) c.args.rack.now.items)) c.args.chain []
+    (reset_codes (begun (views (map (λ b. (goal.Chip-dyn g (b.vtable, b.value)).state b.value) c.args.rack.now.items)) c.args.chain c.args.powers.now
     (seen c.args.script.now)))
-    (going_codes c.args.detail script c.args.chain _ _ c.power_usual-machine.ensures.powered done.after done.turns)
-    (λ codes within. play_then _ (length c.args.rack.now.items) _ _ _ _ _ c.power_usual-machine.result.index c.happen_at.new.player.index
+    (going_codes c.args.detail script c.args.chain c.args.powers.now _ _ c.power-machine.ensures.powered done.after done.turns)
+    (λ codes within. play_then _ (length c.args.rack.now.items) _ _ _ _ _ c.power-machine.result.index c.happen_at.new.player.index
     (sym (length-map c.args.rack.now.items (λ b. (goal.Chip-dyn g (b.vtable, b.value)).state b.value)))
-    c.power_usual-machine.ensures.chips c.happen_at.ensures.chips c.power_usual-machine.ensures.marks c.power_usual-machine.ensures.parted
-    (power_asks (λ b. (goal.Chip-dyn g (b.vtable, b.value)).queries b.value) c.args.rack.now.items _ c.power_usual-machine.ensures.asked)
+    c.power-machine.ensures.chips c.happen_at.ensures.chips c.power-machine.ensures.marks c.power-machine.ensures.parted
+    (power_asks (λ b. (goal.Chip-dyn g (b.vtable, b.value)).queries b.value) c.args.rack.now.items _ c.power-machine.ensures.asked)
     c.happen_at.ensures.asked _ _ _ c.reset-outcome.new.self.index
-    (reset_codes (begun (views (map (λ b. (goal.Chip-dyn g (b.vtable, b.value)).state b.value) c.args.rack.now.items)) c.args.chain []
+    (reset_codes (begun (views (map (λ b. (goal.Chip-dyn g (b.vtable, b.value)).state b.value) c.args.rack.now.items)) c.args.chain c.args.powers.now
     (seen c.args.script.now))) codes c.reset-outcome.ensures.chips
     (reset_on _ c.reset-outcome.result c.happen_at.new.player c.reset-outcome.new.self _ _ _ _ refines
     c.reset-outcome.ensures.asked _ _ _ c.in-Done.is c.reset-outcome.ensures.follows) within)
@@ -154,20 +154,20 @@ pub returns-in-Fault-clause-asked : goal.returns-in-Fault-clause-asked
 returns-in-Fault-clause-asked g c =
     let powered =
     rw c.as_slice.ensures.events
-    at (c.happen_at.ensures.begins _ (c.power_usual-machine.ensures.pair c.requires.whole c.requires.ports)) in
+    at (c.happen_at.ensures.begins _ (c.power-machine.ensures.pair c.requires.whole c.requires.ports)) in
     let refines = c.reset-outcome.ensures.refines _ powered in
     let faulted = rw c.in-Fault.is at refines in
     subst (AsksWithin
     (run_allowed (map (λ b. (goal.Chip-dyn g (b.vtable, b.value)).state b.value) c.args.rack.now.items))
     (sum_by (λ b. (goal.Chip-dyn g (b.vtable, b.value)).queries b.value) c.args.rack.now.items)
     (sum_by (λ b. (goal.Chip-dyn g (b.vtable, b.value)).queries b.value) c.reset-outcome.new.rack.items))
-    (stopped_codes c.args.detail (seen c.args.script.now) c.args.chain _ _ c.power_usual-machine.ensures.powered _ faulted.turns)
-    (play_first _ (length c.args.rack.now.items) _ _ _ _ _ c.power_usual-machine.result.index c.happen_at.new.player.index
+    (stopped_codes c.args.detail (seen c.args.script.now) c.args.chain c.args.powers.now _ _ c.power-machine.ensures.powered _ faulted.turns)
+    (play_first _ (length c.args.rack.now.items) _ _ _ _ _ c.power-machine.result.index c.happen_at.new.player.index
     (sym (length-map c.args.rack.now.items (λ b. (goal.Chip-dyn g (b.vtable, b.value)).state b.value)))
-    c.power_usual-machine.ensures.chips c.happen_at.ensures.chips c.power_usual-machine.ensures.marks c.power_usual-machine.ensures.parted
-    (power_asks (λ b. (goal.Chip-dyn g (b.vtable, b.value)).queries b.value) c.args.rack.now.items _ c.power_usual-machine.ensures.asked)
+    c.power-machine.ensures.chips c.happen_at.ensures.chips c.power-machine.ensures.marks c.power-machine.ensures.parted
+    (power_asks (λ b. (goal.Chip-dyn g (b.vtable, b.value)).queries b.value) c.args.rack.now.items _ c.power-machine.ensures.asked)
     c.happen_at.ensures.asked _
-    (reset_codes (begun (views (map (λ b. (goal.Chip-dyn g (b.vtable, b.value)).state b.value) c.args.rack.now.items)) c.args.chain []
+    (reset_codes (begun (views (map (λ b. (goal.Chip-dyn g (b.vtable, b.value)).state b.value) c.args.rack.now.items)) c.args.chain c.args.powers.now
     (seen c.args.script.now)))
     (reset_within _ c.reset-outcome.result c.happen_at.new.player c.reset-outcome.new.self _ _ _ _ refines
     c.reset-outcome.ensures.asked))
@@ -176,12 +176,12 @@ pub returns-in-Reserved-clause-asked : goal.returns-in-Reserved-clause-asked
 returns-in-Reserved-clause-asked g c =
     let powered =
     rw c.as_slice.ensures.events
-    at (c.happen_at.ensures.begins _ (c.power_usual-machine.ensures.pair c.requires.whole c.requires.ports)) in
+    at (c.happen_at.ensures.begins _ (c.power-machine.ensures.pair c.requires.whole c.requires.ports)) in
     absurd (rw c.in-Reserved.is at (c.reset-outcome.ensures.refines _ powered))
 
 pub returns-in-Reserved-clause-plays : goal.returns-in-Reserved-clause-plays
 returns-in-Reserved-clause-plays g c =
     let powered =
     rw c.as_slice.ensures.events
-    at (c.happen_at.ensures.begins _ (c.power_usual-machine.ensures.pair c.requires.whole c.requires.ports)) in
+    at (c.happen_at.ensures.begins _ (c.power-machine.ensures.pair c.requires.whole c.requires.ports)) in
     absurd (rw c.in-Reserved.is at (c.reset-outcome.ensures.refines _ powered))

@@ -1,7 +1,7 @@
 use Rattle.std.proofs.Common.{◌≡◌, ◌<◌, Some, List, arith, get_or, length, sym, ap}
 use Rattle.cartridge.specs.Filling.{PlannedChip}
 use Rattle.cartridge.specs.Rooms.{LiesIn}
-use Rattle.cartridge.proofs.PlannedChips.{has_source, source_has, no_source, rom_fits, seen-filled, still_plan}
+use Rattle.cartridge.proofs.PlannedChips.{has_source, source_has, no_source, rom_fits, seen-filled, still_whole}
 use Rattle.cartridge.proofs.Filled.{plan_filled}
 use Rattle.cartridge.proofs.plan.Plan.fill.Goals as goal
 use Rattle.cartridge.proofs.plan.Plan.fill.Goals.{After-from, In-Some, in-Some, in_default}
@@ -28,7 +28,7 @@ fill-requires-clause-inside c =
 
 pub fill-requires-clause-whole : goal.fill-requires-clause-whole
 fill-requires-clause-whole c =
-    rom_fits c.self.inside.specs.items c.self.inside.sources.items c.args.chip c.in-Some.rom c.self.invariant.1.each c.self.invariant.0
+    rom_fits c.self.inside.specs.items c.self.inside.sources.items c.args.chip c.in-Some.rom c.self.invariant.1.chips.each c.self.invariant.0
     (within (goal.at.fill-requires-clause-whole c).After-from) (here (goal.at.fill-requires-clause-whole c).In-Some)
 
 pub invariant_of-self : goal.invariant_of-self
@@ -37,8 +37,9 @@ invariant_of-self c =
     elim c.match-index_mut.branch [
       | in-Some w ↦
           rw (w.self-inside-is, c.from.ensures)
-          (still_plan c.args.image.now.bytes c.self.inside.specs.items c.self.inside.sources.items c.args.chip w.in-Some.rom w.fill.new.self c.self.invariant.0
-          below (sym (rw (w.in-Some.is, c.from.ensures) at c.index_mut.ensures.value)) (rw w.bytes.ensures at w.fill.ensures) c.self.invariant.1)
+          (still_whole c.self.inside.split c.self.inside.powers c.args.image.now.bytes c.self.inside.specs.items c.self.inside.sources.items c.args.chip
+          w.in-Some.rom w.fill.new.self c.self.invariant.0 below (sym (rw (w.in-Some.is, c.from.ensures) at c.index_mut.ensures.value))
+          (rw w.bytes.ensures at w.fill.ensures) c.self.invariant.1)
       | in_default w ↦
           absurd (no_source c.self.inside.specs.items c.self.inside.sources.items c.args.chip (λ s. LiesIn s.room c.args.image.now.bytes) c.self.invariant.0
           below (sym (rw (w.in_default.is, c.from.ensures) at c.index_mut.ensures.value)) (rw (← c.self.view_is) at c.requires))
@@ -50,7 +51,7 @@ returns-clause-plan c =
     elim c.match-index_mut.branch [
       | in-Some w ↦
           rw (w.self-inside-is, c.from.ensures, ← c.self.view_is)
-          (ap (λ (chips : List PlannedChip). record { split = c.self.inside.split; chips = chips })
+          (ap (λ (chips : List PlannedChip). record { split = c.self.inside.split; chips = chips; powers = c.self.inside.powers })
           (seen-filled c.args.image.now.bytes c.self.inside.specs.items c.self.inside.sources.items c.args.chip w.in-Some.rom w.fill.new.self c.self.invariant.0
           below (sym (rw (w.in-Some.is, c.from.ensures) at c.index_mut.ensures.value)) (rw w.bytes.ensures at w.fill.ensures)))
       | in_default w ↦

@@ -12,37 +12,37 @@ use Rattle.chip_debug.proofs.session.Session.start.Goals as goal
 pub returns-clause-at : goal.returns-clause-at
 returns-clause-at g c = λ whole ports.
     let olds = map (λ b. (goal.Chip-dyn g (b.vtable, b.value)).state b.value) c.args.rack.now.items in
-    let begins = c.power_usual-machine.ensures.pair whole ports in
+    let begins = c.power-machine.ensures.pair whole ports in
     let ready : IsReady olds = record { whole = whole; free = ports } in
     let small : c.args.fill < 256 = search rules in
-    let shows = powered_shows c.args.fill c.args.chain c.power_usual-machine.result.index c.args.breaks c.power_usual-machine.result
-    olds _ small c.power_usual-machine.ensures.marks c.power_usual-machine.ensures.machine c.power_usual-machine.ensures.powered ready in
+    let shows = powered_shows c.args.fill c.args.chain c.args.powers c.power-machine.result.index c.args.breaks c.power-machine.result
+    olds _ small c.powers_law.ensures c.power-machine.ensures.marks c.power-machine.ensures.machine c.power-machine.ensures.powered ready in
     rw c.halt_of-halt.ensures
-    (reset_at (powered_scene c.args.fill c.args.chain c.args.breaks (views olds)) c.power_usual-machine.result c.reset.new.self _ _
-    c.args.breaks shows refl refl refl begins c.reset.result c.reset.ensures.follows (c.reset.ensures.refines _ begins))
+    (reset_at (powered_scene c.args.fill c.args.chain c.args.powers c.args.breaks (views olds)) c.power-machine.result c.reset.new.self _ _
+    c.args.breaks c.args.powers shows refl refl refl refl begins c.reset.result c.reset.ensures.follows (c.reset.ensures.refines _ begins))
 
 pub returns-clause-patches : goal.returns-clause-patches
 returns-clause-patches g c =
     ran_patches _ _ _ c.reset.ensures.follows.ran
-    ∙ powered_patches c.args.fill c.args.chain _ _ c.power_usual-machine.ensures.powered
+    ∙ powered_patches c.args.fill c.args.chain c.args.powers _ _ c.power-machine.ensures.powered
 
 pub returns-clause-asked : goal.returns-clause-asked
 returns-clause-asked g c = λ whole ports.
     let olds = map (λ b. (goal.Chip-dyn g (b.vtable, b.value)).state b.value) c.args.rack.now.items in
-    let mids = c.power_usual-machine.new.rack.items in
-    let begins = c.power_usual-machine.ensures.pair whole ports in
+    let mids = c.power-machine.new.rack.items in
+    let begins = c.power-machine.ensures.pair whole ports in
     let ready : IsReady olds = record { whole = whole; free = ports } in
     let small : c.args.fill < 256 = search rules in
-    let shows = powered_shows c.args.fill c.args.chain c.power_usual-machine.result.index c.args.breaks c.power_usual-machine.result
-    olds _ small c.power_usual-machine.ensures.marks c.power_usual-machine.ensures.machine c.power_usual-machine.ensures.powered ready in
+    let shows = powered_shows c.args.fill c.args.chain c.args.powers c.power-machine.result.index c.args.breaks c.power-machine.result
+    olds _ small c.powers_law.ensures c.power-machine.ensures.marks c.power-machine.ensures.machine c.power-machine.ensures.powered ready in
     let refines = c.reset.ensures.refines _ begins in
-    let at = reset_at (powered_scene c.args.fill c.args.chain c.args.breaks (views olds)) c.power_usual-machine.result
-    c.reset.new.self _ _ c.args.breaks shows refl refl refl begins c.reset.result c.reset.ensures.follows refines in
+    let at = reset_at (powered_scene c.args.fill c.args.chain c.args.powers c.args.breaks (views olds)) c.power-machine.result
+    c.reset.new.self _ _ c.args.breaks c.args.powers shows refl refl refl refl begins c.reset.result c.reset.ensures.follows refines in
     let power = power_asks (λ b. (goal.Chip-dyn g (b.vtable, b.value)).queries b.value) c.args.rack.now.items mids
-    c.power_usual-machine.ensures.asked in
-    let rooms = rw (← c.power_usual-machine.ensures.chips) at power in
-    start_asks (length mids) c.args.fill c.args.chain c.args.breaks c.reset.result c.power_usual-machine.result c.reset.new.self
+    c.power-machine.ensures.asked in
+    let rooms = rw (← c.power-machine.ensures.chips) at power in
+    start_asks (length mids) c.args.fill c.args.chain c.args.powers c.args.breaks c.reset.result c.power-machine.result c.reset.new.self
     olds _ _
     (length-map mids (λ b. (goal.Chip-dyn g (b.vtable, b.value)).state b.value))
     (length-map c.reset.new.rack.items (λ b. (goal.Chip-dyn g (b.vtable, b.value)).state b.value) ∙ c.reset.ensures.chips)
-    shows c.reset.ensures.follows refines at c.power_usual-machine.ensures.fits c.reset.ensures.fits _ _ _ rooms c.reset.ensures.asked
+    shows c.reset.ensures.follows refines at c.power-machine.ensures.fits c.reset.ensures.fits _ _ _ rooms c.reset.ensures.asked
