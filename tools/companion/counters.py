@@ -47,7 +47,8 @@ class Copies:
 
     @classmethod
     def of(cls, chip: Chip, power: int) -> Copies:
-        return cls(chip.name, chip.socket, [(257 * power + chip.socket) % ADDRESSES] * len(Counter), chip.kind is Kind.SMI)
+        start = (257 * power + chip.socket) % ADDRESSES if chip.start is None else chip.start
+        return cls(chip.name, chip.socket, [start] * len(Counter), chip.kind is Kind.SMI)
 
     def __post_init__(self):
         self.shown = tuple(Counter)[:4 if self.exchanges else 3]

@@ -1,15 +1,16 @@
-"""A cartridge's description: its chips with their sockets, spaces, ports and bytes, and the registers that are tracked.
+"""A cartridge's description: its chips with their sockets, spaces, ports, bytes and power-on, and the registers that are tracked.
 
 `Description.of` reads any bytes as far as they make sense, and says what hinders TOML's reader in `fault`.  It doesn't
 refuse what the program refuses: `Description.read` asks the program first, and gives the chips their bytes.
 """
 from __future__ import annotations
 
+import re
 from contextlib import suppress
 from dataclasses import dataclass, field, replace
 from enum import Enum
 from pathlib import Path
-from typing import Any, Iterator
+from typing import Any, Iterable, Iterator
 
 from companion.assembly import Text
 from companion.program import Program
@@ -26,6 +27,8 @@ PSU_BYTES = 1024
 SMI_PORTS = 12  # the first port of every 3853
 PULSE = 0x80  # the bit of a vector that is set for a pulse, and clear for the timer
 EMPTY_ROM = 0xFF  # a byte of ROM that nothing gives
+PAGE_TEXTS = 2  # the format in which the pages of a 3853 are texts
+PAGE_TEXT = re.compile('(rom|ram|void) ([0-9A-Fa-f]{2})(?:-([0-9A-Fa-f]{2}))?')
 
 
 class Kind(Enum):
@@ -44,7 +47,7 @@ class Kind(Enum):
 
 
 class Holding(Enum):
-    """What a chip has at addresses of its space, by the beginning of the keys in a description."""
+    """What a chip has at addresses of its space, by its word in a description."""
     ROM = 'rom'
     RAM = 'ram'
     VOID = 'void'
@@ -60,7 +63,7 @@ class Chip:
     number: int  # in the order of the description, from 0
     kind: Kind
     socket: int
-    spaces: dict[Holding, range] = field(default_factory=dict)
+    spaces: tuple[tuple[Holding, range], ...] = ()  # runs of addresses, in the order of the description
     ports: range = range(0)
     vector: int = 0
     interrupt: bool = False
@@ -68,19 +71,26 @@ class Chip:
     source: str | None = None
     bytes: dict[int, int] = field(default_factory=dict)  # the whole ROM by address, once it is read
     text: Text | None = None  # of the source, once it is read
+    fill: int | None = None  # the byte in its RAM at power-on, where the description says it
+    start: int | None = None  # the address of its counters at power-on, likewise
+
+    def runs(self, holding: Holding) -> tuple[range, ...]:
+        """The addresses of a sort as runs, ascending, of which none touches another."""
+        return joined(space for sort, space in self.spaces if sort is holding)
 
     @property
-    def rom(self) -> range:
-        return self.spaces.get(Holding.ROM, range(0))
+    def rom(self) -> tuple[range, ...]:
+        return self.runs(Holding.ROM)
 
     @property
-    def ram(self) -> range:
-        return self.spaces.get(Holding.RAM, range(0))
+    def rom_addresses(self) -> list[int]:
+        """The addresses to which the bytes of `rom` go, one after another."""
+        return [address for run in self.rom for address in run]
 
     @property
     def name(self) -> str:
         """The chip in words: its socket, kind and first address, as `0: 3851 at 0000`."""
-        first = next((space.start for space in self.spaces.values()), None)
+        first = next((space.start for _, space in self.spaces), None)
         return f'{self.socket}: {self.kind.value}' + (f' at {first:04X}' if first is not None else '')
 
     @property
@@ -90,25 +100,56 @@ class Chip:
         return tuple(self.vector & 0xFF7F | high for high in (0, PULSE)) if is_known else ()
 
     def holds(self, address: int) -> Holding | None:
-        return next((holding for holding, space in self.spaces.items() if address in space), None)
+        return next((holding for holding, space in self.spaces if address in space), None)
+
+
+def joined(runs: Iterable[range]) -> tuple[range, ...]:
+    """Runs of addresses by ascending addresses, those that touch as one."""
+    found: list[range] = []
+    for run in sorted(runs, key=lambda run: run.start):
+        if found and run.start <= found[-1].stop:
+            found[-1] = range(found[-1].start, max(found[-1].stop, run.stop))
+        else:
+            found.append(run)
+    return tuple(found)
+
+
+def number_in(table: dict[str, Any], key: str) -> int | None:
+    """A whole number of a table, None where it is left out or something else."""
+    value = table.get(key)
+    return value if isinstance(value, int) and not isinstance(value, bool) else None
 
 
 def whole(table: dict[str, Any], key: str) -> int:
-    """A whole number of a table, 0 where it is left out or something else."""
-    value = table.get(key)
-    return value if isinstance(value, int) and not isinstance(value, bool) else 0
+    """The same, with 0 where there is none."""
+    return number_in(table, key) or 0
 
 
-def spaces_of(kind: Kind, table: dict[str, Any]) -> Iterator[tuple[Holding, range]]:
-    """The addresses of a chip, a run of them for each sort."""
-    if kind is Kind.PSU:
-        if isinstance(table.get('base'), int):
-            yield Holding.ROM, range(whole(table, 'base'), whole(table, 'base') + PSU_BYTES)
+def page_run(text: Any) -> tuple[Holding, range] | None:
+    """The pages of a text such as `ram 28-2B`, None where it is none."""
+    match = PAGE_TEXT.fullmatch(text) if isinstance(text, str) else None
+    first, last = (int(match[2], 16), int(match[3] or match[2], 16)) if match else (0, -1)
+    return (Holding(match[1]), range(first, last + 1)) if match and first <= last else None
+
+
+def pages_of(format: int, table: dict[str, Any]) -> Iterator[tuple[Holding, range]]:
+    """The pages of a 3853 as runs, each with its sort."""
+    if format == PAGE_TEXTS:
+        texts = table.get('pages')
+        yield from (run for text in (texts if isinstance(texts, list) else []) if (run := page_run(text)))
         return
     for holding in Holding:
         first, count = whole(table, f'{holding.value}_page'), whole(table, f'{holding.value}_pages')
         if count > 0:
-            yield holding, range(PAGE * first, PAGE * (first + count))
+            yield holding, range(first, first + count)
+
+
+def spaces_of(format: int, kind: Kind, table: dict[str, Any]) -> Iterator[tuple[Holding, range]]:
+    """The addresses of a chip as runs, each with its sort."""
+    if kind is Kind.SMI:
+        yield from ((holding, range(PAGE * run.start, PAGE * run.stop)) for holding, run in pages_of(format, table))
+    elif isinstance(table.get('base'), int):
+        yield Holding.ROM, range(whole(table, 'base'), whole(table, 'base') + PSU_BYTES)
 
 
 def ports_of(kind: Kind, table: dict[str, Any]) -> range:
@@ -116,13 +157,14 @@ def ports_of(kind: Kind, table: dict[str, Any]) -> range:
     return range(first, first + 4) if first else range(0)
 
 
-def chip_of(number: int, kind: Kind, socket: int, table: dict[str, Any]) -> Chip:
+def chip_of(number: int, format: int, kind: Kind, socket: int, table: dict[str, Any]) -> Chip:
     texts = {key: value for key in ('rom', 'source') if isinstance(value := table.get(key), str)}
-    return Chip(number, kind, socket, dict(spaces_of(kind, table)), ports_of(kind, table), whole(table, 'vector'),
-                table.get('interrupt') is True, texts.get('rom'), texts.get('source'))
+    power = {key: number_in(table, key) for key in ('fill', 'start')} if format == PAGE_TEXTS else {}
+    return Chip(number, kind, socket, tuple(spaces_of(format, kind, table)), ports_of(kind, table), whole(table, 'vector'),
+                table.get('interrupt') is True, texts.get('rom'), texts.get('source'), **power)
 
 
-def chips_of(tables: Any) -> list[Chip]:
+def chips_of(format: int, tables: Any) -> list[Chip]:
     """The chips whose kind is known, each in the next socket of its kind."""
     found: list[Chip] = []
     for number, table in enumerate(tables if isinstance(tables, list) else []):
@@ -130,7 +172,7 @@ def chips_of(tables: Any) -> list[Chip]:
         kind = next((kind for kind in Kind if kind.value == name), None)
         if kind is not None:
             socket = kind.first_socket + sum(chip.kind is kind for chip in found)
-            found.append(chip_of(number, kind, socket, table))
+            found.append(chip_of(number, format, kind, socket, table))
     return found
 
 
@@ -160,7 +202,7 @@ class Description:
             return cls(path, text, fault='Lists or tables are nested too deep: at most 80 are taken.')
         except ValueError:
             return cls(path, text, fault='A number has too many digits.')
-        return cls(path, text, values, tuple(chips_of(values.get('chip'))))
+        return cls(path, text, values, tuple(chips_of(whole(values, 'format'), values.get('chip'))))
 
     @classmethod
     def read(cls, path: str | Path, program: Program) -> Description:
@@ -181,6 +223,11 @@ class Description:
         with suppress(OSError, ValueError):
             return cls.of(Path(path).read_bytes(), path)
         return cls(path)
+
+    @property
+    def format(self) -> int:
+        """The number of its form, 0 where it gives none."""
+        return whole(self.values, 'format')
 
     @property
     def tables(self) -> list[dict[str, Any]]:
@@ -205,10 +252,10 @@ class Description:
 
 def filled(chip: Chip, program: Program) -> Chip:
     """A chip with the bytes of its ROM: those of `rom` or of the source, and FF where neither gives one."""
-    found = dict.fromkeys(chip.rom, EMPTY_ROM)
+    found = dict.fromkeys(chip.rom_addresses, EMPTY_ROM)
     text = Text.read(chip.source, program) if chip.source is not None else None
     if text is not None:
         found.update(text.image.bytes)
     elif chip.digits is not None:
-        found.update(zip(chip.rom, bytes.fromhex(chip.digits)))
+        found.update(zip(chip.rom_addresses, bytes.fromhex(chip.digits)))
     return replace(chip, bytes=found, text=text)

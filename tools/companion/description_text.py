@@ -2,9 +2,9 @@
 from __future__ import annotations
 
 import json
-from typing import Any, Iterator, Mapping, Sequence
+from typing import Any, Iterable, Iterator, Mapping, Sequence
 
-from companion.description import EMPTY_ROM, Chip
+from companion.description import EMPTY_ROM, PAGE_TEXTS, Chip, Holding
 
 BYTES_A_LINE = 32
 
@@ -20,9 +20,25 @@ def rom_lines(data: bytes) -> Iterator[str]:
     yield '"""'
 
 
+def page_text(holding: Holding, run: range) -> str:
+    """Pages as a text, such as `ram 28-2B`."""
+    return f'{holding.value} {run.start:02X}' + (f'-{run.stop - 1:02X}' if len(run) > 1 else '')
+
+
+def page_lines(format: int, runs: Iterable[tuple[Holding, range]]) -> Iterator[str]:
+    """The keys that give a 3853 its pages. In format 1 each sort has at most one run."""
+    given = [(holding, run) for holding, run in runs if run]
+    if format == PAGE_TEXTS:
+        yield f'pages = {value_of([page_text(holding, run) for holding, run in given])}'
+        return
+    for holding, run in given:
+        yield f'{holding.value}_page = 0x{run.start:02X}'
+        yield f'{holding.value}_pages = {len(run)}'
+
+
 def digits_of(chip: Chip) -> bytes:
     """The bytes that `rom` has to spell: those behind the last that isn't FF need no digits."""
-    return bytes(chip.bytes[address] for address in chip.rom).rstrip(bytes([EMPTY_ROM]))
+    return bytes(chip.bytes[address] for address in chip.rom_addresses).rstrip(bytes([EMPTY_ROM]))
 
 
 def written_anew(values: Mapping[str, Any], tables: Sequence[Mapping[str, Any]], chips: Sequence[Chip]) -> str:
@@ -35,5 +51,5 @@ def written_anew(values: Mapping[str, Any], tables: Sequence[Mapping[str, Any]],
 
 
 def value_of(value: Any) -> str:
-    """A value as TOML has it: a number, a truth value, a list of numbers, or a text of ASCII."""
+    """A value as TOML has it: a number, a truth value, a text of ASCII, or a list of numbers or of such texts."""
     return json.dumps(value)

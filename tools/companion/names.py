@@ -11,7 +11,7 @@ from pathlib import Path
 from typing import Iterable
 
 from companion.assembly import Text
-from companion.description import Description
+from companion.description import Description, Holding
 from companion.instructions import Flow, Instruction
 from companion.name_files import read_names
 from companion.places import LAST_ADDRESS, Name, Place
@@ -29,7 +29,7 @@ class Names:
     @classmethod
     def of(cls, description: Description, files: Iterable[str | Path] = ()) -> Names:
         """The labels and lines of a description's sources, and of files of names."""
-        found = cls(spaces=[space for chip in description.chips for space in chip.spaces.values()])
+        found = cls(spaces=[run for chip in description.chips for holding in Holding for run in chip.runs(holding)])
         for chip in description.chips:
             if chip.text is not None:
                 found.add_text(chip.text)

@@ -171,11 +171,11 @@ def mended(random: Random, made: list[Chip], description: Description) -> bool:
     found = list(refused(Rules(Memory(description.chips), description.split)))
     for at in found:
         for chip, known in zip(made, description.chips):
-            if at in known.rom:
-                place = at - known.rom.start
+            if at in (addresses := known.rom_addresses):
+                place = addresses.index(at)
                 chip.rom += bytes([EMPTY_ROM]) * (place + 2 - len(chip.rom))
                 chip.rom[place:place + 2] = random.choice(MENDS) or bytes([random.randrange(256), chip.rom[place + 1]])
-                del chip.rom[len(known.rom):]
+                del chip.rom[len(addresses):]
     return bool(found)
 
 

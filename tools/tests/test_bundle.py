@@ -45,6 +45,15 @@ class Bundle(unittest.TestCase):
                                                                'rom': 'FFFF2B'}]})
         self.assertFalse((self.folder / 'there/cart.cert').exists())
 
+    def test_format_2(self):
+        """All keys of format 2 stay, also where the table is written anew."""
+        (self.folder / 'cart.toml').write_text('format = 2\nchip = [{kind = "3853", pages = ["ram 28", "rom 00-01"], fill = 1, start = 2, source = "a.f8"}]\n')
+        (self.folder / 'a.f8').write_text(' BR .\n')
+        done = call('bundle', 'cart.toml', '--to', 'there', cwd=self.folder)
+        self.assertTrue(done.text.endswith(' bytes, whole 1\n'), done.text + done.told)
+        self.assertEqual(tomllib.loads((self.folder / 'there/cart.toml').read_text()),
+                         {'format': 2, 'chip': [{'kind': '3853', 'pages': ['ram 28', 'rom 00-01'], 'fill': 1, 'start': 2, 'rom': '90'}]})
+
     def test_what_cannot_be_done(self):
         (self.folder / 'cart.toml').write_text('format = 1\n')
         for words, hint in ((['cart.toml', '--to', '.'], 'would be written over'), (['no.toml'], 'error store cart'),

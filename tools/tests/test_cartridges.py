@@ -31,6 +31,12 @@ CANDLE = [
     's00 C1 23 04 00 00 BD 29 18 3F 00 00 01 00 00 00 00',
     'total 53298 instructions 417622 phi']
 
+RESTARTED = [
+    'stop done',
+    'regs P=000E P1=0000 D0=2801 D1=0000 A=03 IS=50 W=07',
+    's00 28 28 28 28 28 28 28 28 28 28 28 28 28 28 28 28',
+    'total 40 instructions 546 phi']
+
 # What a run has to end with, by the words in front of the cartridge's files. The lines are those of the cartridge's README. The totals were
 # counted by hand, by docs/MACHINE.md: 14 clocks of reset, and then, for instance in `parted`, DCI 24, XDC 8, DCI 24, LIS 4, LR 4, LM 10,
 # XDC 8, ST 10, XDC 8, DS 6 and BNZ 14 up to the LM that isn't served. Those of `heartbeat` and `candle`, which are too long for that, were
@@ -81,6 +87,8 @@ RUNS = [
     (['ref'], 'heartbeat', 0, HEARTBEAT),
     (['play'], 'candle', 0, ['verdict whole', *CANDLE]),
     (['ref'], 'candle', 0, CANDLE),
+    (['play'], 'restarted', 0, ['verdict none', *RESTARTED]),
+    (['ref'], 'restarted', 0, RESTARTED),
 ]
 
 # Without chips the copy of `parted` is done: four bytes are gone over, the last of them is 11, and r0 is 0.
@@ -93,7 +101,8 @@ PARTED_WITHOUT_CHIPS = ['stop done', 'regs P=0010 P1=0000 D0=0016 D1=2804 A=11 I
 VERDICTS = {
     'product': (0, 'whole 30'), 'copied': (0, 'whole 30'), 'summed': (0, 'agreed 11'), 'two_roms': (0, 'agreed 27'), 'lighthouse': (0, 'agreed'),
     'signboard': (0, 'whole'),
-    'parted': (7, 'refused 0009 ---- . 7'), 'heartbeat': (7, 'refused 0019 ---- . 10'), 'candle': (0, 'whole 180')}
+    'parted': (7, 'refused 0009 ---- . 7'), 'heartbeat': (7, 'refused 0019 ---- . 10'), 'candle': (0, 'whole 180'),
+    'restarted': (7, 'refused 000D ---- . 6')}
 
 
 def run(command: list[str], name: str) -> tuple[int, list[str]]:
@@ -175,6 +184,25 @@ class Cartridges(unittest.TestCase):
                 done = subprocess.run([PROGRAM, 'check', 'cart.toml'], cwd=folder, capture_output=True, text=True, timeout=60)
                 self.assertEqual(done.stdout, f'{line}\n')
                 self.assertIn(f'`{line}`', said)
+
+    def test_what_is_said_of_other_power_ons(self):
+        cart = (TOP / 'cartridges/restarted/cart.toml').read_text()
+        start, said = 'start = 0x0000\n', (TOP / 'cartridges/restarted/README.md').read_text()
+        for text, line in [(cart.replace(start, ''), 'stop astray romc 00 socket 12 at 2834 reference 0000'),
+                           (cart.removesuffix(start), 'stop conflict romc 00 socket 0 at 0000 socket 12 at 2834'),
+                           (cart.replace(start, '', 1), 'stop undriven romc 00 at 0000')]:
+            self.assertEqual(self.restarted(text, '28')[1:3], [line, 'regs P=000D P1=0000 D0=2801 D1=0000 A=01 IS=50 W=01'])
+            self.assertIn(f'`{line}`', said)
+        self.assertEqual(self.restarted(cart.replace(start, '').replace('fill = 0x00\n', ''), '00')[1], 'stop done')
+
+    def restarted(self, cart: str, power: str) -> list[str]:
+        """The lines of a run of another description with this power-on byte."""
+        with tempfile.TemporaryDirectory() as folder:
+            Path(folder, 'cart.toml').write_text(cart)
+            Path(folder, 'script.txt').write_text(f'power {power}\nsteps 40\n')
+            done = subprocess.run([PROGRAM, 'play', f'{folder}/cart.toml', f'{folder}/script.txt'], cwd=TOP, capture_output=True, text=True,
+                                  timeout=60)
+        return done.stdout.splitlines()
 
     def test_letters_of_the_signboard(self):
         _, lines = run(['play'], 'signboard')

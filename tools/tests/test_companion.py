@@ -12,7 +12,7 @@ from unittest import mock
 
 import tool
 from companion.calls import Reach
-from companion.description import Description, Kind
+from companion.description import Description, Holding, Kind
 from companion.instructions import OPCODES, Operand, decode
 from companion.names import Names
 from companion.places import Name
@@ -121,7 +121,7 @@ class Descriptions(Room):
         smi, psu = self.nested().chips
         self.assertEqual([(chip.kind, chip.socket, chip.ports, chip.name) for chip in (smi, psu)],
                          [(Kind.SMI, 12, range(12, 16), '12: 3853 at 2800'), (Kind.PSU, 0, range(8, 12), '0: 3851 at 0000')])
-        self.assertEqual((smi.ram, smi.bytes, psu.rom), (range(0x2800, 0x2A00), {}, range(1024)))
+        self.assertEqual((smi.runs(Holding.RAM), smi.bytes, psu.rom), ((range(0x2800, 0x2A00),), {}, (range(1024),)))
         self.assertEqual([psu.bytes[at] for at in (0, 1, 2, 3, 4, 5, 6, 1023)], [0x2A, 0, 3, 0x28, 0, 0x10, 0x90, 0xFF])
 
     def test_addresses_of_two_chips_have_no_byte(self):
@@ -131,7 +131,7 @@ class Descriptions(Room):
         self.assertEqual([len(found.holders(at)) for at in (0, 0x100, 0x200, 0x300)], [1, 2, 1, 0])
 
     def test_what_the_program_refuses(self):
-        for text, line in (('format = 2\n', 'error cart key format cause 4'), ('format', 'error cart toml')):
+        for text, line in (('format = 3\n', 'error cart key format cause 4'), ('format', 'error cart toml')):
             with self.assertRaises(Fault) as raised:
                 Description.read(self.put('cart.toml', text), PROGRAM)
             self.assertEqual(raised.exception.answer.last, line)

@@ -7,6 +7,7 @@ import unittest
 from pathlib import Path
 
 import tool
+from companion.description import Description
 from tool import call, needs_program, needs_toml, tomllib
 
 
@@ -59,6 +60,22 @@ class Describe(unittest.TestCase):
         self.assertEqual(chips, [{'kind': '3853', 'rom_page': 1, 'rom_pages': 2, 'ram_page': 0x28, 'ram_pages': 1, 'rom': '2B' * 257}])
 
     @needs_toml
+    def test_format_2(self):
+        done = self.described('--format', '2', '--smi', '--ram', '28-2B', '--at', '0100', 'a', 'b', a=b'\x2b' * 257, b=b'\x17')
+        self.assertEqual((done.text.splitlines()[0], done.returncode), ('format = 2', 0))
+        self.assertEqual(tomllib.loads(done.text)['chip'], [{'kind': '3853', 'pages': ['rom 01-02', 'ram 28-2B'], 'rom': '2B' * 257},
+                                                           {'kind': '3853', 'pages': ['rom 03'], 'rom': '17'}])
+        chips = tomllib.loads(self.described('--format', '2', '--ram', 'FF', 'a', a=b'\x2b').text)['chip']
+        self.assertEqual(chips, [{'kind': '3851', 'base': 0, 'ports': 4, 'rom': '2B'}, {'kind': '3853', 'pages': ['ram FF']}])
+
+    @needs_toml
+    def test_both_formats_say_the_same(self):
+        for words in (['a', '--ram', '28'], ['--smi', '--ram', '20-27', 'a'], ['a'], ['--smi', 'a', 'b@1000']):
+            one, two = (Description.of(self.described('--format', format, *words, a=b'\x2b' * 1025, b=b'\x17').stdout) for format in (1, 2))
+            self.assertEqual((one.format, two.format, one.fault), (1, 2, ''))
+            self.assertEqual(one.chips, two.chips)
+
+    @needs_toml
     def test_files_at_addresses_of_their_own_and_a_jump(self):
         chips = tomllib.loads(self.described('a@0800', 'b', '--jump', '0802', a=b'\x2b', b=b'\x17').text)['chip']
         self.assertEqual([(chip['base'], chip['ports'], chip['rom']) for chip in chips],
@@ -101,6 +118,7 @@ class Describe(unittest.TestCase):
         self.refused('no/such/file', 'no/such/file')
         self.assertEqual(self.described('--ram', '2800', 'a').returncode, 2)
         self.assertEqual(self.described('--ports', '5', 'a').returncode, 2)
+        self.assertEqual(self.described('--format', '3', 'a').returncode, 2)
         self.assertEqual(self.described().returncode, 2)
 
     @needs_program
@@ -108,11 +126,12 @@ class Describe(unittest.TestCase):
         script = self.folder / 'script.txt'
         script.write_text('steps 3\n')
         long = bytes.fromhex('290800') + b'\x2b' * 2045 + bytes.fromhex('90ff')
-        for words, regs in ((['a'], 'P=0800'), (['a', '--ram', '28'], 'P=0800'), (['--smi', '--ram', '28', 'a'], 'P=0800')):
-            (self.folder / 'cart.toml').write_text(self.described(*words, a=long).text)
-            done = call('explain', tool.PROGRAM, 'play', 'cart.toml', script, cwd=self.folder)
-            self.assertIn(f'stop done\nregs {regs}', done.text)
-            self.assertEqual(done.returncode, 0)
+        for format in (1, 2):
+            for words in (['a'], ['a', '--ram', '28'], ['--smi', '--ram', '28', 'a']):
+                (self.folder / 'cart.toml').write_text(self.described('--format', format, *words, a=long).text)
+                done = call('explain', tool.PROGRAM, 'play', 'cart.toml', script, cwd=self.folder)
+                self.assertIn('stop done\nregs P=0800', done.text)
+                self.assertEqual(done.returncode, 0)
 
 
 if __name__ == '__main__':

@@ -14,6 +14,7 @@ from companion.explaining.lines import explain
 from tool import call, needs_program
 
 CHIP = 'format = 1\n\n[[chip]]\nkind = "3851"\nbase = 0x0000\nports = 4\n'
+SMI = 'format = 2\n\n[[chip]]\nkind = "3853"\n'
 HAS_TOML = sys.version_info >= (3, 11)
 
 
@@ -100,6 +101,62 @@ class Explain(unittest.TestCase):
         self.assertIn('`kind = "3851"`', self.explained('error cart chip 0 key kind cause 3', cart=CHIP.replace('"', '')))
         self.assertIn('Put it before', self.explained('error cart key format cause 1', cart=CHIP[10:] + 'format = 1\n'))
         self.assertIn('too many digits', self.explained('error cart chip 0 key base cause 4', cart=CHIP.replace('0x0000', '0x' + 'F' * 5000)))
+
+    def assert_pages(self, pages: str, cause: int, *hints: str) -> None:
+        told = self.explained(f'error cart chip 0 key pages cause {cause}', cart=f'{SMI}pages = {pages}\n')
+        self.assertIn(f'cart, line 5\n    pages = {pages}\nCause {cause}, ', told)
+        self.assertIn('The rule for `pages`: ', told)
+        for hint in hints:
+            self.assertIn(hint, told)
+
+    @unittest.skipUnless(HAS_TOML, 'Python before 3.11 has no reader of TOML')
+    def test_pages_of_format_2(self):
+        self.assert_pages('"ram 28"', 3, 'in brackets: `pages = ["ram 28"]`')
+        self.assert_pages('0x28', 3, 'a list of texts')
+        self.assert_pages('["rom 20", 5]', 3, 'Entry 2 is no text')
+        for text, hint in (('RAM 28', 'in small letters'), ('ram 0x28', 'without a mark'), ('ram 2800', '`28` for all from 2800 to 28FF'),
+                           ('ram  28', 'One blank stands'), ('ram 28 - 2B', 'One blank stands'), ('ram 2', '`02`'), ('ram 2B-28', '`ram 28-2B`'),
+                           ('ram 28,29', 'has a hyphen'), ('28', 'A text is `rom`, `ram` or `void`'), ('ram 28-', 'A text is')):
+            self.assert_pages(f'["void 30", "{text}"]', 4, f'`{text}` gives no pages. ', hint)
+        told = self.explained('error cart chip 0 key pages cause 4', cart=SMI + 'pages = [' + '"ram 28",' * 257 + ']\n')
+        self.assertIn('There are 257 texts, and at most 256', told)
+        self.assert_pages('["ram 28", "rom 20-28"]', 5, 'Page 28 stands in `ram 28` and in `rom 20-28`')
+
+    @unittest.skipUnless(HAS_TOML, 'Python before 3.11 has no reader of TOML')
+    def test_keys_by_format(self):
+        def unknown(cart: str) -> str:
+            return self.explained('error cart chip 0 key ? cause 2', cart=cart)
+
+        self.assertIn('`ram_page` is a key of format 1. In format 2 the pages of a 3853 are texts', unknown(SMI + 'ram_page = 0x28\n'))
+        told = unknown(SMI.replace('2', '1', 1) + 'pages = ["ram 28"]\n')
+        self.assertIn('`pages` is a key of format 2: in format 1 they are given by `ram_page`', told)
+        self.assertIn('`start` is a key of format 2. `./channel_f migrate CART` makes', unknown(CHIP + 'start = 0\n'))
+        self.assertIn('`fill` is no key of a 3851, but of a 3853. The keys of a 3851 are kind, base, ports, vector, interrupt, start, rom, source.',
+                      unknown(CHIP.replace('1', '2', 1) + 'fill = 0\n'))
+        self.assertIn('is `pages` meant?', unknown(SMI + 'page = ["ram 28"]\n'))
+        self.assertIn('The formats are 1 and 2', self.explained('error cart key format cause 4', cart='format = 3\n'))
+        for key, cause, hint in (('fill', 4, '0 to 255'), ('start', 4, '0 to 65,535'), ('fill', 3, 'without quotes: `fill = 0x33`')):
+            told = self.explained(f'error cart chip 0 key {key} cause {cause}', cart=SMI + f'{key} = "0x33"\n')
+            self.assertRegex(told, f'The rule for `{key}`: 0 to ')
+            self.assertIn(hint, told)
+
+    @unittest.skipUnless(HAS_TOML, 'Python before 3.11 has no reader of TOML')
+    def test_a_source_for_pages_with_a_gap(self):
+        told = self.explained('error cart chip 0 key source cause 4', cart=SMI + 'pages = ["rom 24", "ram 28", "rom 20-21"]\nsource = "a.f8"\n')
+        self.assertIn('The pages 22 to 23 lie between its ROM pages', told)
+        told = self.explained('error cart chip 0 key source cause 4', cart=SMI + 'pages = ["rom 21", "rom 20"]\nsource = ""\n')
+        self.assertNotIn('lie between', told)
+
+    @unittest.skipUnless(HAS_TOML, 'Python before 3.11 has no reader of TOML')
+    def test_a_fill_of_nothing(self):
+        warned = [self.explained_all(SMI + f'pages = ["{pages}"]\nfill = 0x33\n') for pages in ('rom 20', 'ram 28')]
+        self.assertEqual([('Warning: chip 0 has `fill` and no page of RAM' in told) for told in warned], [True, False])
+
+    def explained_all(self, cart: str) -> str:
+        """What is said of a description whatever the command answers."""
+        with tempfile.TemporaryDirectory() as folder:
+            (Path(folder) / 'cart.toml').write_text(cart)
+            return call('explain', '--cart', 'cart.toml', stdin='whole 1\n', cwd=Path(folder)).told
 
     @unittest.skipUnless(HAS_TOML, 'Python before 3.11 has no reader of TOML')
     def test_a_source_beside_the_description(self):
@@ -204,7 +261,8 @@ class Explain(unittest.TestCase):
         lines = [f'error asm {what} line 1 column 1 cause {n}' for what in ('file', 'source 0') for n in (1, 2, 3, 4, 5, 6, 7, 8, 9, 11)]
         lines += [f'error cart key {key} cause {n}' for key, n in (('format', 1), ('?', 2), ('chip', 3), ('split', 4), ('chip', 6))]
         lines += [f'error cart chip 0 key {key} cause {n}'
-                  for key, n in (('rom', 1), ('?', 2), ('base', 3), ('base', 4), ('base', 5), ('rom', 7), ('source', 8))]
+                  for key, n in (('rom', 1), ('?', 2), ('base', 3), ('base', 4), ('base', 5), ('rom', 7), ('source', 8),
+                                 ('pages', 3), ('pages', 4), ('pages', 5), ('fill', 3), ('fill', 4), ('start', 3), ('start', 4))]
         lines += [f'error script line 1 cause {n}' for n in range(1, 7)]
         lines += [f'error cert line 1 cause {n}' for n in range(1, 7)]
         lines += [f'error debug line 1 cause {n}' for n in range(1, 5)]

@@ -125,6 +125,7 @@ class Mistakes(unittest.TestCase):
     def test_keys_in_another_place(self):
         self.assert_said(self.said('check', self.put('c.toml', 'base = 0\n' + CART)), '`base` is a key of a chip')
         self.assert_said(self.said('check', self.put('c.toml', CART + 'ram_page = 1\n')), 'no key of a 3851, but of a 3853')
+        self.assert_said(self.said('migrate', self.put('c.toml', CART + 'start = 0\n')), '`start` is a key of format 2')
         told = self.said('check', self.put('c.toml', CART.replace('4', '12345678901234567890123')))
         self.assert_said(told, 'c.toml, line 5, column 9', 'too many digits')
         self.assertNotIn('nested', told)
@@ -141,6 +142,7 @@ class Mistakes(unittest.TestCase):
         self.assert_said(self.said('play', 'script.txt', 'cart.toml'), 'This is a script: it is the second file after `play`')
         self.assert_said(self.said('debug', 'commands.txt', 'cart.toml'), 'These are commands of the debugger')
         self.assert_said(self.said('verify', 'made.cert', 'cart.toml'), 'This is a certificate')
+        self.assert_said(self.said('migrate', 'script.txt'), 'This is a script')
         self.assert_said(self.said('play', 'cart.toml', 'cart.toml'), 'This is a description')
         self.assert_said(self.said('verify', 'cart.toml', 'cart.toml'), 'This is a description')
         self.assert_said(self.said('check', 'game.f8'), 'This is an assembly text', '`source = "game.f8"`')

@@ -5,8 +5,9 @@ import re
 from itertools import combinations
 from typing import Any, Iterator
 
-from companion.description import PSU_BYTES, Chip, Kind, tomllib
+from companion.description import PAGE, PAGE_TEXTS, PSU_BYTES, Chip, Holding, Kind, tomllib
 from companion.explaining.files import Files, Sort
+from companion.explaining.page_texts import pages_hint
 from companion.page_tables import cause_of, close, row_about, tables
 
 HEX = '[0-9A-Fa-f]'
@@ -24,10 +25,12 @@ HINTS = [
     (rf'=\s*{HEX}+\s*(#|$)', 'A hexadecimal number of TOML begins with 0x: `0x0400`.'),
 ]
 PLAIN_HINTS = {
-    ('format', 1): 'The first line is `format = 1`.', ('rom', 1): 'Give the chip a `source`, or its bytes in `rom`.',
+    ('format', 1): 'The first line is `format = 1` or `format = 2`.', ('rom', 1): 'Give the chip a `source`, or its bytes in `rom`.',
     ('source', 8): 'Leave out `rom` or `source`.', ('kind', 4): 'The kinds are `"3851"` and `"3853"`.',
-    ('kind', 1): 'The kinds are `"3851"` and `"3853"`.', ('format', 4): 'The only format is 1: `format = 1`.',
+    ('kind', 1): 'The kinds are `"3851"` and `"3853"`.', ('format', 4): 'The formats are 1 and 2: `format = 2`.',
 }
+KINDS = tuple(kind.value for kind in Kind)
+ALIKE = 'the same'
 
 
 def first(text: str) -> str:
@@ -77,49 +80,78 @@ def line_of(text: str, chip: int | None, key: str) -> int:
     return head
 
 
-def known_keys(column: str) -> list[str]:
-    """The keys of a table, by the column of its kind in docs/FORMATS.md."""
+def known_keys(column: str, format: int) -> list[str]:
+    """The keys of a table in a format, by the column of its kind in docs/FORMATS.md. Those at the top are the same in both formats."""
     return [name for table in tables('FORMATS.md') if column in table.head for row in table.rows
-            if table.cell(row, column) != 'unknown' for name in re.findall(r'`(\w+)`', row[0])]
+            if table.cell(row, column) != 'unknown' and str(format) in (table.cell(row, 'format') or str(format))
+            for name in re.findall(r'`(\w+)`', row[0])]
 
 
 def key(files: Files, chip: str | None, key: str, cause: str) -> list[str]:
     description, number = files.description, None if chip is None else int(chip)
-    chips = description.tables
+    chips, format = description.tables, description.format or 1
     values = description.values if number is None else chips[number] if number < len(chips) else {}
     kind = str(values.get('kind')) if number is not None else ''
-    column = f'in a {kind}' if kind in ('3851', '3853') else 'value' if number is None else 'in a 3851'
-    known = known_keys(column)
+    column = f'in a {kind}' if kind in KINDS else 'value' if number is None else 'in a 3851'
+    known = known_keys(column, format)
     lines = []
     for name in [name for name in values if name not in known] or ['?'] if key == '?' else [key]:
         places = [number, *range(len(chips))] if key == 'format' else [number]
         if at := next((at for place in places if (at := line_of(description.text, place, name))), 0):
             lines += files.line('cart', at)[0]
         if key == '?':
-            lines.append(unknown_key(name, known, number, kind))
-    rule = row_about('FORMATS.md', key, column) if key != '?' else ''
+            lines.append(unknown_key(name, known, number, kind, format))
+    rule = rule_of(key, column) if key != '?' else ''
     sentence = cause_of('FORMATS.md', 'Description', f'error cart {"" if chip is None else f"chip {chip} "}key {key} cause {cause}')
-    hint = key_hint(key, int(cause), values.get(key), chips)
+    hint = key_hint(key, int(cause), values.get(key), chips) or gap_hint(files, key, number)
     return [*lines, sentence, *([f'The rule for `{key}`: {rule}.'] if rule else []), *filter(None, [hint])]
 
 
-def unknown_key(name: str, known: list[str], chip: int | None, kind: str) -> str:
+def rule_of(key: str, column: str) -> str:
+    """What docs/FORMATS.md says of the value at a key. A 3853 has many keys alike with a 3851."""
+    rule, first = row_about('FORMATS.md', key, column), row_about('FORMATS.md', key, 'in a 3851')
+    return first + rule[len(ALIKE):] if rule.startswith(ALIKE) and first != 'unknown' else rule
+
+
+def unknown_key(name: str, known: list[str], chip: int | None, kind: str, format: int) -> str:
     """Where a key belongs that isn't known in its place, or which one is meant."""
-    if chip is not None and name in known_keys('value'):
+    if chip is not None and name in known_keys('value', format):
         return f'`{name}` is no key of a chip: TOML takes all that is below a `[[chip]]` for keys of that chip. Put it before the first one.'
-    other = next((other for other in ('3851', '3853') if name in known_keys(f'in a {other}')), '')
+    other = next((other for other in KINDS if name in known_keys(f'in a {other}', format)), '')
     if other and chip is None:
         return f'`{name}` is a key of a chip: it stands below a line `[[chip]]`.'
-    if other and kind in ('3851', '3853'):
+    if other and kind in KINDS:
         return f'`{name}` is no key of a {kind}, but of a {other}. The keys of a {kind} are {", ".join(known)}.'
+    if kind in KINDS and name in known_keys(f'in a {kind}', 3 - format):
+        return of_other_format(name, format)
     meant = close(name, known)
     return f'`{name}` is no key here' + (f': is `{meant}` meant?' if meant else f'. The keys are {", ".join(known)}.')
+
+
+def of_other_format(name: str, format: int) -> str:
+    """What is said of a key that the kind has in the other format."""
+    if format == PAGE_TEXTS:
+        return (f'`{name}` is a key of format 1. In format 2 the pages of a 3853 are texts, as in `pages = ["ram 28"]`. '
+                'Of a whole description in format 1 `./channel_f migrate CART` makes one in format 2.')
+    instead = ': in format 1 they are given by `ram_page` and `ram_pages`, and so on' if name == 'pages' else ''
+    return f'`{name}` is a key of format 2{instead}. `./channel_f migrate CART` makes a description in format 2 of this one without that key.'
+
+
+def gap_hint(files: Files, key: str, number: int | None) -> str:
+    """Which pages lack for the source of a 3853, whose ROM has to be in one piece."""
+    chip = next((chip for chip in files.description.chips if chip.number == number), None)
+    if key != 'source' or chip is None or chip.kind is not Kind.SMI or len(chip.rom) < 2:
+        return ''
+    gap = f'{chip.rom[0].stop // PAGE:02X} to {chip.rom[1].start // PAGE - 1:02X}'
+    return f'The pages {gap} lie between its ROM pages and are no ROM: give the bytes in `rom`, which may have such gaps, or part the text over two chips.'
 
 
 def key_hint(key: str, cause: int, value: Any, chips: list[dict]) -> str:
     """What is likely meant by the value of a key."""
     if key == 'split' and cause in (3, 4):
         return split_hint(value)
+    if key == 'pages':
+        return pages_hint(cause, value)
     if isinstance(value, str) and cause == 3 and key not in ('kind', 'rom', 'source'):
         return f'A number is written without quotes: `{key} = {value}`.'
     if isinstance(value, int) and value.bit_length() > 64:
@@ -176,6 +208,9 @@ def warnings(files: Files) -> Iterator[str]:
         if both and (one.kind is Kind.PSU or other.kind is Kind.PSU):
             yield (f'Warning: {names_of((one, other))} have the ports {both[0]:02X} to {both[-1]:02X} in common. '
                    'A run stops where one of them is read or written: give each 3851 `ports` of its own, and not 12 beside a 3853.')
+    for chip in description.chips:
+        if chip.fill is not None and not chip.runs(Holding.RAM):
+            yield f'Warning: chip {chip.number} has `fill` and no page of RAM, so that nothing is filled.'
     for number, table in enumerate(description.tables):
         for sort in ('rom', 'ram', 'void'):
             if table.get(f'{sort}_page') and not table.get(f'{sort}_pages') and table.get('kind') == '3853':

@@ -14,9 +14,10 @@ from companion.names import Names
 from companion.page_tables import forms_of, mnemonics
 from companion.program import Program
 
-COMMANDS = ('play', 'debug', 'check', 'verify', 'ref', 'asm', 'dis', 'gen')
+COMMANDS = ('play', 'debug', 'check', 'verify', 'migrate', 'ref', 'asm', 'dis', 'gen')
 NAMES = ('cart', 'script', 'commands', 'cert', 'file')
-FILES_OF = {'play': ('cart', 'script'), 'debug': ('cart', 'commands'), 'ref': ('cart', 'script'), 'check': ('cart',), 'verify': ('cart', 'cert')}
+FILES_OF = {'play': ('cart', 'script'), 'debug': ('cart', 'commands'), 'ref': ('cart', 'script'), 'check': ('cart',), 'verify': ('cart', 'cert'),
+            'migrate': ('cart',)}
 FEWEST_DIGITS = 16  # of a file of digits, which a short word like BC would be too
 MOST_OF = 0.7  # of the lines of a script or of commands have a word of theirs in front
 SHOWN = 140  # characters of a line, at most
@@ -25,7 +26,7 @@ SHOWN = 140  # characters of a line, at most
 class Sort(Enum):
     """What a file looks like, with what is said of it in the place of another one."""
     NOTHING = 'This file is empty.'
-    DESCRIPTION = 'This is a description of a cartridge: it is the first file after `play`, `ref`, `debug`, `check` and `verify`.'
+    DESCRIPTION = 'This is a description of a cartridge: it is the first file after `play`, `ref`, `debug`, `check`, `verify` and `migrate`.'
     SCRIPT = 'This is a script: it is the second file after `play` and `ref`, behind the description.'
     COMMANDS = 'These are commands of the debugger: they are the second file after `debug`, behind the description.'
     CERTIFICATE = 'This is a certificate: it is the second file after `verify`, behind the description.'

@@ -15,7 +15,7 @@ UNKNOWN_VECTOR = '10'
 
 
 def chip_in_words(chip: Chip) -> str:
-    first = f' at {chip.rom.start:04X}' if chip.rom else ''
+    first = f' at {chip.rom[0].start:04X}' if chip.rom else ''
     return f'chip {chip.number} of the description, the {chip.kind.value}{first}'
 
 

@@ -7,7 +7,7 @@ from pathlib import Path
 from typing import Sequence
 
 from companion.causes import Words
-from companion.description import Description
+from companion.description import Chip, Description
 from companion.names import Names
 from companion.pictures import Colour
 from companion.run_page.fault import fault_section
@@ -112,14 +112,21 @@ def verdict_section(subject: Subject) -> Markup | None:
     return section('verdict', title, *map(linked, lines))
 
 
+def power_on(chip: Chip) -> str:
+    """What the description says of a chip's power-on."""
+    said = [f'RAM {chip.fill:02X}'] if chip.fill is not None else []
+    said += [f'counters {chip.start:04X}'] if chip.start is not None else []
+    return ', '.join(said) or 'by the power-on byte'
+
+
 def chips_section(subject: Subject) -> Markup:
-    heads = ('chip', 'kind', 'socket', 'holds', 'ports', 'interrupts')
+    heads = ('chip', 'kind', 'socket', 'holds', 'ports', 'interrupts', 'power-on')
     rows = []
     for chip in subject.description.chips:
-        holds = ', '.join(f'{holding.word} {space.start:04X} to {space.stop - 1:04X}' for holding, space in chip.spaces.items())
+        holds = ', '.join(f'{holding.word} {space.start:04X} to {space.stop - 1:04X}' for holding, space in chip.spaces)
         ports = f'{chip.ports.start:02X} to {chip.ports.stop - 1:02X}' if chip.ports else ''
         rows.append(row(str(chip.number), chip.kind.value, str(chip.socket), holds or 'nothing', ports,
-                        f'vector {chip.vector:04X}' if chip.vectors else 'vector in ports' if chip.interrupt else 'no'))
+                        f'vector {chip.vector:04X}' if chip.vectors else 'vector in ports' if chip.interrupt else 'no', power_on(chip)))
     split = ', '.join(f'r{register}' for register in subject.description.split)
     return section('chips', 'Chips', table(heads, rows), element('p', f'Tracked registers: {split or "none"}.'))
 

@@ -65,15 +65,19 @@ class Listing:
 
     def decoded_rows(self, chip: Chip) -> Iterator[Row]:
         """Bytes without a text: instructions where points stand, and data between them."""
-        at = chip.rom.start
-        while at in chip.rom:
+        for run in chip.rom:
+            yield from self.decoded_run(chip, run)
+
+    def decoded_run(self, chip: Chip, run: range) -> Iterator[Row]:
+        at = run.start
+        while at in run:
             instruction = decoded(chip.bytes, at) if at in self.starts else None
             if instruction is not None:
                 label = self.names.at(instruction.target) if instruction.target is not None else None
                 yield Row(self.labelled(at, instruction.text(label.text if label else None)), None, at, instruction.bytes, is_code=True)
                 at += instruction.size
                 continue
-            end = next((later for later in range(at + 1, chip.rom.stop) if later in self.starts or self.names.at(later)), chip.rom.stop)
+            end = next((later for later in range(at + 1, run.stop) if later in self.starts or self.names.at(later)), run.stop)
             yield from self.data_rows(chip, at, end)
             at = end
 
@@ -188,7 +192,7 @@ KEY = ('A, r0 to r63, IS: the accumulator, the scratchpad and ISAR. D0, D1: the 
 def listing(parts: Listing) -> Markup:
     chips = [parts.chip(chip) for chip in parts.description.chips if chip.rom]
     unmapped = [f'{holding.word} {space.start:04X} to {space.stop - 1:04X} of socket {chip.socket}' for chip in parts.description.chips
-                for holding, space in chip.spaces.items() if holding is not Holding.ROM]
+                for holding, space in chip.spaces if holding is not Holding.ROM]
     rest = element('p', 'Without a listing: ', '; '.join(unmapped), '.') if unmapped else None
     key = element('p', KEY, class_='small') if parts.knowledge.basis is not Basis.NONE else None
     return section('listing', 'Listing', element('p', LEGENDS[parts.knowledge.basis]), key, *chips, rest)

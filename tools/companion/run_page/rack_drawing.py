@@ -28,7 +28,7 @@ def at_map(address: int) -> float:
 def pages_of(part: Part, top: int) -> Iterator[Markup]:
     """The map of all 256 pages, with those that the chip holds."""
     yield element('rect', x=MAP_LEFT, y=top, width=MAP_WIDTH, height=10, class_='map')
-    for holding, space in part.chip.spaces.items():
+    for holding, space in part.chip.spaces:
         pages = f'{holding.word} {space.start:04X} to {space.stop - 1:04X}'
         wide = max(round(MAP_WIDTH * len(space) / ADDRESSES, 1), 3)
         yield element('rect', element('title', pages), x=at_map(space.start), y=top, width=wide, height=10, class_=f'page {holding.value}')
@@ -64,7 +64,7 @@ def arrow(part: Part, y: int) -> Markup | None:
 def place_of(part: Part) -> str:
     """What a chip holds."""
     found = [f'{holding.word} {space.start:04X}-{space.stop - 1:04X}'
-             for holding, space in part.chip.spaces.items()]
+             for holding, space in part.chip.spaces]
     return ', '.join(found) or 'no memory'
 
 
