@@ -187,7 +187,7 @@ class Called(unittest.TestCase):
 
     def test_a_description_that_is_refused(self):
         with tempfile.TemporaryDirectory() as folder:
-            Path(folder, 'cart.toml').write_text('format = 2\n')
+            Path(folder, 'cart.toml').write_text('format = 3\n')
             done = call('why', 'cart.toml', cwd=Path(folder))
         self.assertEqual((done.returncode, done.text), (2, 'error cart key format cause 4\n'))
         self.assertIn('tools/explain', done.told)
