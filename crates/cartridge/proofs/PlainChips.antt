@@ -23,7 +23,7 @@ use Rattle.cartridge.specs.declared.refusal.CartCause.{CartCause}
 use Rattle.cartridge.specs.declared.refusal.CartCause.TheVariants.{TooMany}
 use Rattle.cartridge.specs.declared.refusal.CartFault.{CartFault}
 use Rattle.cartridge.specs.Faults.{◌>>=◌, of_chip}
-use Rattle.cartridge.specs.Keys.{value_at, known, top_keys, psu_keys, smi_keys, run_keys}
+use Rattle.cartridge.specs.Keys.{value_at, known, top_keys, psu_keys, smi_keys, pio_keys, run_keys}
 use Rattle.cartridge.specs.Values.{each, value_needed, usually, value_of_type, text, truth, within, number_in, multiple_of, multiple_in, maybe_number}
 use Rattle.cartridge.specs.Values.{kind_named, kind_in, fitting, rom_in, source_named, source_in, filled, count_of, registers, register}
 use Rattle.cartridge.specs.Values.{split_of, split_in, few_tables, tables_in}
@@ -31,7 +31,7 @@ use Rattle.cartridge.specs.Pages.{run_at, pages_of, rom_room, rom_size_of}
 use Rattle.cartridge.specs.PageTexts.{runs_in}
 use Rattle.cartridge.specs.Rooms.{room_size, psu_room}
 use Rattle.cartridge.specs.ChipTables.{DescribedChip, DescribedSource, wired_of, source_of, rom_of, mask_of, source_with, start_of, psu_of}
-use Rattle.cartridge.specs.ChipTables.{three_runs, runs_of, smi_with, smi_of, chip_of_kind, chip_of}
+use Rattle.cartridge.specs.ChipTables.{three_runs, runs_of, smi_with, smi_of, pio_of, chip_of_kind, chip_of}
 use Rattle.cartridge.specs.Description.{Described, Top, format_numbered, format_in, top_of, chips_from, description_in}
 use Rattle.cartridge.specs.DistinctKeys.{are_distinct, entry_is_distinct, entries_are_distinct, list_is_distinct, chips_are_distinct}
 use Rattle.cartridge.proofs.Answered.{bind-ok, if-ok, needed-judged, usually-judged}
@@ -229,6 +229,31 @@ smi_plain format ms c at_kind h =
     bind-ok (PlainAtKeys 1 ms (smi_keys format)) (runs_of format ms) _ c h (λ runs at_runs h.
     with_plain format (pages_of runs) ms c at_kind (own_plain format ms runs at_runs) h)
 
+-- ---- a 3861
+
+pio_plain : (ms : Members) (c : DescribedChip) → PlainAt 1 ms Kind → pio_of ms ≡ Ok c → PlainAtKeys 1 ms pio_keys
+unfolding pio_of
+pio_plain ms c at_kind h =
+    bind-ok (PlainAtKeys 1 ms pio_keys) (value_needed Ports (multiple_in 4 252 4) ms) _ c h (λ ports at_ports h.
+    bind-ok (PlainAtKeys 1 ms pio_keys) (usually Vector 0 (number_in 0 65535) ms) _ c h (λ vector at_vector h.
+    bind-ok (PlainAtKeys 1 ms pio_keys) (wired_of ms) _ c h (λ wired at_wired h. (
+      at_kind,
+      (
+        wired_plain ms wired at_wired,
+        (
+          needed_plain 1 Ports (multiple_in 4 252 4) ms ports (multiple_judges 1 4 252 4) at_ports,
+          (usual_plain 1 Vector 0 (number_in 0 65535) ms vector (number_judges 1 0 65535) at_vector, tt),
+        ),
+      ),
+    ))))
+
+pio_in_plain : (format : CartFormat) (ms : Members) (c : DescribedChip) → PlainAt 1 ms Kind → are_distinct ms ≡ true
+    → chip_of_kind format kind.Pio ms ≡ Ok c → AllPlain 1 ms
+pio_in_plain One ms c at_kind distinct h = cc h
+pio_in_plain Two ms c at_kind distinct h =
+    bind-ok (AllPlain 1 ms) (known pio_keys ms) _ c h (λ u knows h.
+    plain_all 1 pio_keys ms (known-ok pio_keys ms u knows) distinct (pio_plain ms c at_kind h))
+
 -- ---- a chip
 
 either_plain : (format : CartFormat) (k : ChipKind) (ms : Members) (c : DescribedChip) → PlainAt 1 ms Kind → are_distinct ms ≡ true
@@ -239,7 +264,7 @@ either_plain format kind.Psu ms c at_kind distinct h =
 either_plain format kind.Smi ms c at_kind distinct h =
     bind-ok (AllPlain 1 ms) (known (smi_keys format) ms) _ c h (λ u knows h.
     plain_all 1 (smi_keys format) ms (known-ok (smi_keys format) ms u knows) distinct (smi_plain format ms c at_kind h))
-either_plain format kind.Pio ms c at_kind distinct h = cc h
+either_plain format kind.Pio ms c at_kind distinct h = pio_in_plain format ms c at_kind distinct h
 
 chip_plain : (format : CartFormat) (ms : Members) (c : DescribedChip) → are_distinct ms ≡ true → chip_of format ms ≡ Ok c → AllPlain 1 ms
 unfolding chip_of

@@ -13,10 +13,11 @@ use Rattle.f8_spec.specs.declared.chips.ChipKind.{ChipKind}
 use Rattle.f8_spec.specs.declared.chips.ChipKind.TheVariants as kind
 use Rattle.f8_spec.specs.declared.chips.Page.{Page}
 use Rattle.f8_spec.specs.declared.chips.PowerOn.{PowerOn}
+use Rattle.f8_spec.specs.Powers.{usual_power}
 use Rattle.f8_asm.specs.declared.answers.Room.{Room}
 use Rattle.chip_face.specs.Fitting.{rom_of as rom_of_spec}
 use Rattle.chip_face.specs.declared.specification.ChipSpec.{ChipSpec}
-use Rattle.chip_face.specs.declared.specification.ChipSpec.TheVariants.{Psu, Smi}
+use Rattle.chip_face.specs.declared.specification.ChipSpec.TheVariants.{Psu, Smi, Pio}
 use Rattle.cartridge.specs.declared.keys.Key.{Key}
 use Rattle.cartridge.specs.declared.keys.Key.TheVariants.{Kind, Base, Ports, Vector, Fill, Rom, Source}
 use Rattle.cartridge.specs.declared.format.CartFormat.{CartFormat}
@@ -31,7 +32,7 @@ use Rattle.cartridge.specs.Values.{multiple_in, maybe_number, kind_in, filled, f
 use Rattle.cartridge.specs.Rooms.{room_size, psu_room}
 use Rattle.cartridge.specs.Filling.{HasRom, IsPlannedChip, planned_chip, without_image}
 use Rattle.cartridge.specs.ChipTables.{DescribedSource, DescribedChip, named_source, source_with, rom_of, mask_of, source_of, wired_of, start_of}
-use Rattle.cartridge.specs.ChipTables.{psu_of, runs_of, smi_with, smi_of, chip_of_kind, chip_of}
+use Rattle.cartridge.specs.ChipTables.{psu_of, runs_of, smi_with, smi_of, pio_of, known_pio, chip_of_kind, chip_of}
 use Rattle.cartridge.proofs.Answered.{bind-ok, if-ok, at_key-ok}
 use Rattle.cartridge.proofs.PageNumbers.{pages_of-ascends}
 
@@ -239,7 +240,27 @@ smi_of-whole format table chip h =
     bind-ok (IsPlannedChip (planned_chip chip)) (runs_of format table) _ chip h (λ runs at_runs h.
     smi_with-whole (pages_of runs) table chip (pages_of-ascends runs) h)
 
--- ---- either
+-- ---- a 3861
+
+pio-whole : (ports vector : ℕ) (wired : Bool) (power : PowerOn) → IsMultiple 4 252 4 ports
+    → IsPlannedChip (planned_chip (record { spec = Pio ports vector wired; source = None; power = power }))
+pio-whole ports vector wired power first =
+    record {
+      specified = record { above_cpu = first.above; below_end = first.below; boundary = first.even };
+      no_blank = refl;
+      has_rom = tt;
+    }
+
+pio_of-whole : (table : Members) (chip : DescribedChip) → pio_of table ≡ Ok chip → IsPlannedChip (planned_chip chip)
+unfolding pio_of
+pio_of-whole table chip h =
+    bind-ok (IsPlannedChip (planned_chip chip)) (value_needed Ports (multiple_in 4 252 4) table) _ chip h (λ ports at_ports h.
+    bind-ok (IsPlannedChip (planned_chip chip)) (usually Vector 0 (number_in 0 65535) table) _ chip h (λ vector at_vector h.
+    bind-ok (IsPlannedChip (planned_chip chip)) (wired_of table) _ chip h (λ wired at_wired h.
+    let e : record { spec = Pio ports vector wired; source = None; power = usual_power } ≡ chip = cc h in
+    rw (← e) (pio-whole ports vector wired usual_power (value_needed-multiple Ports 4 252 4 table ports at_ports)))))
+
+-- ---- any
 
 either-whole : (format : CartFormat) (k : ChipKind) (table : Members) (chip : DescribedChip) → chip_of_kind format k table ≡ Ok chip
     → IsPlannedChip (planned_chip chip)
@@ -247,7 +268,8 @@ either-whole format kind.Psu table chip h =
     bind-ok (IsPlannedChip (planned_chip chip)) (known (psu_keys format) table) _ chip h (λ _ knows h. psu_of-whole table chip h)
 either-whole format kind.Smi table chip h =
     bind-ok (IsPlannedChip (planned_chip chip)) (known (smi_keys format) table) _ chip h (λ _ knows h. smi_of-whole format table chip h)
-either-whole format kind.Pio table chip h = cc
+either-whole format kind.Pio table chip h =
+    bind-ok (IsPlannedChip (planned_chip chip)) (known_pio format table) _ chip h (λ _ knows h. pio_of-whole table chip h)
 
 pub chip_of-whole : (format : CartFormat) (table : Members) (chip : DescribedChip) → chip_of format table ≡ Ok chip → IsPlannedChip (planned_chip chip)
 unfolding chip_of

@@ -5,13 +5,13 @@ use Rattle.hex.specs.Hex.{decode_pairs}
 use Rattle.toml.specs.Data.{Data, Items, Members, string, integer, array, table, no_items, item, no_members, member}
 use Rattle.f8_spec.specs.declared.chips.PageSort.TheVariants.{Rom, Ram}
 use Rattle.f8_spec.specs.Powers.{usual_power}
-use Rattle.chip_face.specs.declared.specification.ChipSpec.TheVariants.{Psu, Smi}
+use Rattle.chip_face.specs.declared.specification.ChipSpec.TheVariants.{Psu, Smi, Pio}
 use Rattle.cartridge.specs.declared.keys.Key.{Key}
 use Rattle.cartridge.specs.declared.keys.Key.TheVariants as key
 use Rattle.cartridge.specs.declared.refusal.CartCause.{CartCause}
 use Rattle.cartridge.specs.declared.refusal.CartCause.TheVariants.{Missing, Unknown, WrongType, Range, Boundary, TooMany, BadHex, Both}
 use Rattle.cartridge.specs.declared.refusal.CartFault.{CartFault}
-use Rattle.cartridge.specs.ChipTables.{chip_of, psu_of, smi_of, smi_with}
+use Rattle.cartridge.specs.ChipTables.{chip_of, psu_of, smi_of, smi_with, pio_of}
 use Rattle.cartridge.specs.Description.{Described, chips_from, description_in, top_of}
 use Rattle.cartridge.specs.Pages.{pages_of}
 use Rattle.cartridge.specs.PageTexts.{run_of_text}
@@ -72,6 +72,10 @@ texts (t ∷ ts) = item (text t) (texts ts)
 abbrev smi : Items → Members → Members
 smi pages rest = member (codes "fill") (number 0x33) (kind (codes "3853") (member (codes "pages") (array pages) rest))
 
+-- a 3861
+abbrev pio : Members → Members
+pio rest = kind (codes "3861") rest
+
 abbrev at_top : Key → CartCause → Result Described CartFault
 at_top key cause = Err (record { chip = None; key = key; cause = cause })
 
@@ -122,6 +126,13 @@ rom_in_two_pages : description_in (in_two (smi (texts (codes "rom 22" ∷ codes 
 })
 unfolding description_in top_of chips_from chip_of smi_of smi_with pages_of run_of_text decode_pairs
 rom_in_two_pages = refl
+
+parallel_ports : description_in (in_two (pio (ports 8 (member (codes "vector") (number 0x100) no_members)))) ≡ Ok (record {
+  split = [];
+  chips = record { spec = Pio 8 0x100 false; source = None; power = usual_power } ∷ [];
+})
+unfolding description_in top_of chips_from chip_of pio_of
+parallel_ports = refl
 
 -- ---- faults at the top
 
@@ -236,7 +247,38 @@ too_many_texts : description_in (in_two (smi (texts (replicate 257 (codes "rom 2
 unfolding description_in top_of chips_from chip_of smi_of
 too_many_texts = refl
 
--- ---- keys that another format or kind knows
+-- ---- faults of a 3861
+
+no_ports_of_a_3861 : description_in (in_two (pio no_members)) ≡ at_chip key.Ports Missing
+unfolding description_in top_of chips_from chip_of pio_of
+no_ports_of_a_3861 = refl
+
+ports_of_a_3861_off_their_boundary : description_in (in_two (pio (ports 6 (member (codes "vector") (number 65536) no_members)))) ≡ at_chip key.Ports Boundary
+unfolding description_in top_of chips_from chip_of pio_of
+ports_of_a_3861_off_their_boundary = refl
+
+vector_of_a_3861_out_of_range : description_in (in_two (member (codes "interrupt") (number 1) (pio (ports 8 (member (codes "vector") (number 65536) no_members)))))
+    ≡ at_chip key.Vector Range
+unfolding description_in top_of chips_from chip_of pio_of
+vector_of_a_3861_out_of_range = refl
+
+interrupt_of_a_3861_as_a_number : description_in (in_two (member (codes "interrupt") (number 1) (pio (ports 8 no_members)))) ≡ at_chip key.Interrupt WrongType
+unfolding description_in top_of chips_from chip_of pio_of
+interrupt_of_a_3861_as_a_number = refl
+
+-- ---- kinds and keys that another format or kind knows
+
+pio_in_format_one : description_in (with_chip (member (codes "colour") (number 1) (pio (ports 8 no_members)))) ≡ at_chip key.Kind Range
+unfolding description_in top_of chips_from chip_of
+pio_in_format_one = refl
+
+start_of_a_3861 : description_in (in_two (pio (ports 8 (start no_members)))) ≡ at_chip key.Other Unknown
+unfolding description_in top_of chips_from chip_of
+start_of_a_3861 = refl
+
+rom_of_a_3861 : description_in (in_two (pio (ports 8 (rom (codes "71") no_members)))) ≡ at_chip key.Other Unknown
+unfolding description_in top_of chips_from chip_of
+rom_of_a_3861 = refl
 
 fill_of_a_3851 : description_in (in_two (base 0 (member (codes "fill") (number 0) (kind (codes "3851") (ports 4 (rom (codes "712B90FE") no_members))))))
     ≡ at_chip key.Other Unknown

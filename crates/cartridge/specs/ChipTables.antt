@@ -7,9 +7,10 @@ use Rattle.f8_spec.specs.declared.chips.ChipKind.TheVariants as kind
 use Rattle.f8_spec.specs.declared.chips.Page.{Page}
 use Rattle.f8_spec.specs.declared.chips.PageSort.TheVariants as sort
 use Rattle.f8_spec.specs.declared.chips.PowerOn.{PowerOn}
+use Rattle.f8_spec.specs.Powers.{usual_power}
 use Rattle.f8_asm.specs.declared.answers.Room.{Room}
 use Rattle.chip_face.specs.declared.specification.ChipSpec.{ChipSpec}
-use Rattle.chip_face.specs.declared.specification.ChipSpec.TheVariants.{Psu, Smi}
+use Rattle.chip_face.specs.declared.specification.ChipSpec.TheVariants.{Psu, Smi, Pio}
 use Rattle.cartridge.specs.declared.keys.Key.TheVariants.{Kind, Base, Ports, Vector, RomPage, RomPages, RamPage}
 use Rattle.cartridge.specs.declared.keys.Key.TheVariants.{RamPages, VoidPage, VoidPages, Pages, Interrupt, Fill, Start, Rom, Source}
 use Rattle.cartridge.specs.declared.format.CartFormat.{CartFormat}
@@ -18,7 +19,7 @@ use Rattle.cartridge.specs.declared.page_run.PageRun.{PageRun}
 use Rattle.cartridge.specs.declared.refusal.CartCause.TheVariants.{Missing, Range}
 use Rattle.cartridge.specs.declared.refusal.KeyFault.{KeyFault}
 use Rattle.cartridge.specs.Faults.{◌>>=◌}
-use Rattle.cartridge.specs.Keys.{known, psu_keys, smi_keys, value_at}
+use Rattle.cartridge.specs.Keys.{known, psu_keys, smi_keys, pio_keys, value_at}
 use Rattle.cartridge.specs.Pages.{run_at, pages_of, rom_size_of, rom_room}
 use Rattle.cartridge.specs.PageTexts.{runs_in}
 use Rattle.cartridge.specs.Rooms.{psu_room, room_size}
@@ -103,12 +104,25 @@ smi_with pages table =
 unfoldable pub smi_of : CartFormat → Members → Result DescribedChip KeyFault
 smi_of format table = runs_of format table >>= λ runs. smi_with (pages_of runs) table
 
--- Which keys are known goes by the format, and so do the keys of a 3853's pages. All other keys are read alike in both, since a key that
--- isn't known was refused before. No description has a 3861.
+-- a 3861, which has no memory and no counters
+unfoldable pub pio_of : Members → Result DescribedChip KeyFault
+pio_of table =
+    value_needed Ports (multiple_in 4 252 4) table >>= λ ports.
+    usually Vector 0 (number_in 0 65535) table >>= λ vector.
+    wired_of table >>= λ wired.
+    Ok (record { spec = Pio ports vector wired; source = None; power = usual_power })
+
+-- format 1 has no 3861, whatever else its table says
+abbrev pub known_pio : CartFormat → Members → Result (Unit {0}) KeyFault
+known_pio One table = Err (record { key = Kind; cause = Range })
+known_pio Two table = known pio_keys table
+
+-- Which kinds and which keys are known goes by the format, and so do the keys of a 3853's pages. All other keys are read alike in both,
+-- since a key that isn't known was refused before.
 abbrev pub chip_of_kind : CartFormat → ChipKind → Members → Result DescribedChip KeyFault
 chip_of_kind format kind.Psu table = known (psu_keys format) table >>= λ _. psu_of table
 chip_of_kind format kind.Smi table = known (smi_keys format) table >>= λ _. smi_of format table
-chip_of_kind format kind.Pio table = Err (record { key = Kind; cause = Range })
+chip_of_kind format kind.Pio table = known_pio format table >>= λ _. pio_of table
 
 unfoldable pub chip_of : CartFormat → Members → Result DescribedChip KeyFault
 chip_of format table =

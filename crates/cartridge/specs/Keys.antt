@@ -37,7 +37,7 @@ key_word Other = codes "?"
 abbrev pub top_keys : List Key
 top_keys = Format ∷ Split ∷ Chip ∷ []
 
--- the keys that every chip has in both formats, and then its own
+-- the keys that a chip with memory has in both formats, and then its own
 abbrev pub chip_keys : List Key → List Key
 chip_keys own = Kind ∷ Interrupt ∷ Rom ∷ Source ∷ own
 
@@ -52,6 +52,10 @@ run_keys = RomPage ∷ RomPages ∷ RamPage ∷ RamPages ∷ VoidPage ∷ VoidPa
 abbrev pub smi_keys : CartFormat → List Key
 smi_keys One = chip_keys run_keys
 smi_keys Two = chip_keys (Pages ∷ Fill ∷ Start ∷ [])
+
+-- format 2 alone has a 3861
+abbrev pub pio_keys : List Key
+pio_keys = Kind ∷ Interrupt ∷ Ports ∷ Vector ∷ []
 
 -- the name is the spelling of one of the keys
 abbrev pub is_spelled : List Key → List ℕ → Bool

@@ -9,7 +9,7 @@ use Rattle.hex.specs.Hex.{decode_of}
 use Rattle.hex.specs.declared.error.FromHexError.{FromHexError}
 use Rattle.toml.specs.Data.{Data, Items, no_items, item, Members, as_integer, as_str, as_bool, as_array, as_table}
 use Rattle.f8_spec.specs.declared.chips.ChipKind.{ChipKind}
-use Rattle.f8_spec.specs.declared.chips.ChipKind.TheVariants.{Psu, Smi}
+use Rattle.f8_spec.specs.declared.chips.ChipKind.TheVariants.{Psu, Smi, Pio}
 use Rattle.chip_face.specs.declared.sizes.TheConstants.{MOST_CHIPS}
 use Rattle.text_lines.specs.Printable.{is_printable}
 use Rattle.cartridge.specs.declared.keys.Key.{Key}
@@ -74,6 +74,7 @@ abbrev pub kind_named : List ℕ → Result ChipKind CartCause
 kind_named name =
     if bytes_eq name (codes "3851") then Ok Psu else
     if bytes_eq name (codes "3853") then Ok Smi else
+    if bytes_eq name (codes "3861") then Ok Pio else
     Err Range
 
 abbrev pub kind_in : Data → Result ChipKind CartCause

@@ -3,7 +3,7 @@ ghost use Rattle.std.specs.Prelude.{◌≡◌, ◌≤◌, length, option_map, st
 ghost use Rattle.toml.specs.View.{table_view};
 ghost use Rattle.text_lines.specs.ReadErrors.{SaysSeen};
 ghost use Rattle.cartridge.specs.Keys.{known as known_told, psu_keys, smi_keys};
-ghost use Rattle.cartridge.specs.ChipTables.{psu_of as psu_told, three_runs as three_told, runs_of as runs_told, smi_with as smi_given, smi_of as smi_told, chip_of as chip_told, named_source as source_told, source_with as source_given};
+ghost use Rattle.cartridge.specs.ChipTables.{psu_of as psu_told, three_runs as three_told, runs_of as runs_told, smi_with as smi_given, smi_of as smi_told, pio_of as pio_told, known_pio, chip_of as chip_told, named_source as source_told, source_with as source_given};
 ghost use Rattle.cartridge.specs.Rooms.{psu_room as room_told};
 ghost use Rattle.cartridge.specs.Plans.{seen_chip, seen_source};
 
@@ -17,7 +17,7 @@ use super::refusal::{CartCause, KeyFault, TableStop};
 use super::rom_room::{rom_room, rom_size, room_size};
 use super::rom_source::ChipSource;
 use super::values::{kind_at, maybe_address, maybe_byte, multiple_at, number_at, truth_at};
-use chip_face::{ChipKind, ChipSpec, PSU_ROM_SIZE, PageList, PageSort, PowerOn};
+use chip_face::{ChipKind, ChipSpec, PSU_ROM_SIZE, PageList, PageSort, PowerOn, USUAL_POWER};
 use f8_asm::Room;
 use std::alloc::Global;
 use toml::Table;
@@ -38,7 +38,7 @@ fn named_source(room: Room, name: Option<String>) -> Option<ChipSource>
     Some(ChipSource { name, room })
 }
 
-/// The source whose image may have these addresses. Without addresses there is none.
+/// The source whose image may have these addresses. Where there are none, a source is out of range.
 fn source_with(
     alloc: Global,
     room: Option<Room>,
@@ -148,6 +148,25 @@ fn smi_of(alloc: Global, format: CartFormat, table: &Table) -> Result<ChipPlan, 
     smi_with(alloc, pages, table)
 }
 
+/// A 3861, which has no memory and no counters.
+#[tactic(auto, unfolding(crate::specs::ChipTables::pio_of))]
+fn pio_of(table: &Table) -> Result<ChipPlan, TableStop>
+    ensures { SaysSeen seen_chip result (pio_told (table_view table.now)) }
+{
+    let ports = multiple_at(table, Key::Ports, 4, 252, 4)? as u8;
+    let vector = number_at(table, Key::Vector, 65_535)?;
+    let wired = truth_at(table, Key::Interrupt)?;
+    Ok(ChipPlan {
+        spec: ChipSpec::Pio {
+            ports,
+            vector,
+            wired,
+        },
+        source: None,
+        power: USUAL_POWER,
+    })
+}
+
 /// The keys of a 3851 in format 1.
 const PSU_KEYS: [Key; 7] = [
     Key::Kind,
@@ -196,6 +215,9 @@ const SMI_KEYS_TWO: [Key; 7] = [
     Key::Start,
 ];
 
+/// The keys of a 3861, in format 2.
+const PIO_KEYS: [Key; 4] = [Key::Kind, Key::Interrupt, Key::Ports, Key::Vector];
+
 /// Refuses the table of a 3851 with a key that its format doesn't know.
 fn known_of_psu(format: CartFormat, table: &Table) -> Result<(), KeyFault>
     ensures { result ≡ known_told (psu_keys format) (table_view table.now) }
@@ -216,7 +238,20 @@ fn known_of_smi(format: CartFormat, table: &Table) -> Result<(), KeyFault>
     }
 }
 
-/// The chip of a table. No description has a 3861.
+/// Refuses a 3861 in format 1, which has none, and its table with a key that format 2 doesn't know.
+fn known_of_pio(format: CartFormat, table: &Table) -> Result<(), KeyFault>
+    ensures { result ≡ known_pio format (table_view table.now) }
+{
+    match format {
+        CartFormat::One => Err(KeyFault {
+            key: Key::Kind,
+            cause: CartCause::Range,
+        }),
+        CartFormat::Two => known(&PIO_KEYS, table),
+    }
+}
+
+/// The chip of a table.
 #[tactic(auto, unfolding(crate::specs::ChipTables::chip_of))]
 pub fn chip_of(alloc: Global, format: CartFormat, table: &Table) -> Result<ChipPlan, TableStop>
     ensures { SaysSeen seen_chip result (chip_told format (table_view table.now)) }
@@ -230,9 +265,9 @@ pub fn chip_of(alloc: Global, format: CartFormat, table: &Table) -> Result<ChipP
             known_of_smi(format, table)?;
             smi_of(alloc, format, table)
         }
-        ChipKind::Pio => Err(TableStop::Fault(KeyFault {
-            key: Key::Kind,
-            cause: CartCause::Range,
-        })),
+        ChipKind::Pio => {
+            known_of_pio(format, table)?;
+            pio_of(table)
+        }
     }
 }

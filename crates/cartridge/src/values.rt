@@ -73,6 +73,7 @@ fn kind_named(name: &str) -> Result<ChipKind, CartCause>
     match name {
         "3851" => Ok(ChipKind::Psu),
         "3853" => Ok(ChipKind::Smi),
+        "3861" => Ok(ChipKind::Pio),
         _ => Err(CartCause::Range),
     }
 }
