@@ -34,7 +34,7 @@ pub break_some : break_line ≢ []
 unfolding break_line
 break_some e = cc
 
-pub chip_some : (socket : ℕ) (kind : ChipKind) (counters : Counters) → chip_line socket kind counters ≢ []
+pub chip_some : (socket : ℕ) (kind : ChipKind) (counters : Option Counters) → chip_line socket kind counters ≢ []
 unfolding chip_line
 chip_some socket kind counters e = cc
 

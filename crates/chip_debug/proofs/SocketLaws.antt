@@ -6,12 +6,12 @@ use Rattle.std.specs.List.{enumerate_from, filter, list_any}
 use Rattle.std.proofs.lemmas.List.{length-map}
 use Rattle.std.proofs.lemmas.Option.{slice_get-map}
 use Rattle.std.proofs.lemmas.List.FromFn.{length-enumerate_from}
-use Rattle.f8_spec.specs.ChipState.{ChipView, ChipState, held_byte, told_counters}
+use Rattle.f8_spec.specs.ChipState.{ChipView, ChipState, held_byte}
 use Rattle.f8_spec.specs.declared.bus.Counters.{Counters}
 use Rattle.data_bus.specs.Racks.{views}
 use Rattle.console_spec.specs.RunText.{text_of}
 use Rattle.report.proofs.TextLaws.{text_of-nil, text_of-cons}
-use Rattle.chip_debug.specs.Breaks.{is_parted, are_apart}
+use Rattle.chip_debug.specs.Breaks.{own_counters, is_parted, are_apart}
 use Rattle.chip_debug.specs.Carried.{fitted_lines, sole}
 use Rattle.chip_debug.specs.DebugText.{chip_line}
 use Rattle.chip_debug.proofs.ChainLaws.{passes, any_named}
@@ -117,17 +117,17 @@ fitted_none chain socket states past = ap (filter (is_in chain)) (named_none soc
 -- the chip in a socket parts, if one sits there
 abbrev pub parts_in : Counters → List ChipState → ℕ → Bool
 parts_in reference states socket =
-    passes (λ v. is_parted reference (told_counters v)) (slice_get (views states) socket)
+    passes (λ v. is_parted reference (own_counters v)) (slice_get (views states) socket)
 
 -- the chips of the chain decide
 pub apart_by_chain : (reference : Counters) (chain : List ℕ) (states : List ChipState) →
     are_apart reference chain (views states) ≡ list_any (parts_in reference states) chain
-apart_by_chain reference chain states = any_named (λ v. is_parted reference (told_counters v)) chain (views states)
+apart_by_chain reference chain states = any_named (λ v. is_parted reference (own_counters v)) chain (views states)
 
 pub parts_seated : (b : Bool) (reference : Counters) (states : List ChipState) (socket : ℕ) (s : ChipState) →
-    slice_get states socket ≡ Some s → is_parted reference (told_counters s.view) ≡ b → parts_in reference states socket ≡ b
+    slice_get states socket ≡ Some s → is_parted reference (own_counters s.view) ≡ b → parts_in reference states socket ≡ b
 parts_seated b reference states socket s here is =
-    ap (passes (λ v. is_parted reference (told_counters v)))
+    ap (passes (λ v. is_parted reference (own_counters v)))
     (slice_get-map (λ (t : ChipState). t.view) states socket
     ∙ ap (λ (o : Option ChipState). option_map (λ (t : ChipState). t.view) o) here)
     ∙ is
@@ -140,7 +140,7 @@ nothing_past (x ∷ xs) (suc place) past = nothing_past xs place (omega (arith, 
 pub parts_past : (reference : Counters) (states : List ChipState) (socket : ℕ) → length states ≤ socket →
     parts_in reference states socket ≡ false
 parts_past reference states socket past =
-    ap (passes (λ v. is_parted reference (told_counters v)))
+    ap (passes (λ v. is_parted reference (own_counters v)))
     (nothing_past (views states) socket (omega (arith, past, length-map states (λ (s : ChipState). s.view))))
 
 -- ---- their lines
@@ -151,10 +151,10 @@ lines_from chain socket states = text_of (fitted_lines (fitted_from chain socket
 pub lines_here : (chain : List ℕ) (socket : ℕ) (states : List ChipState) (s : ChipState) →
     slice_get states socket ≡ Some s → list_any (λ held. held == socket) chain ≡ true →
     lines_from chain socket states
-    ≡ chip_line socket s.view.kind (told_counters s.view) ++ lines_from chain (socket + 1) states
+    ≡ chip_line socket s.view.kind (own_counters s.view) ++ lines_from chain (socket + 1) states
 lines_here chain socket states s here is =
     ap (λ xs. text_of (fitted_lines xs)) (fitted_here chain socket states s here is)
-    ∙ text_of-cons (chip_line socket s.view.kind (told_counters s.view))
+    ∙ text_of-cons (chip_line socket s.view.kind (own_counters s.view))
     (fitted_lines (fitted_from chain (socket + 1) states))
 
 pub lines_not : (chain : List ℕ) (socket : ℕ) (states : List ChipState) → socket < length states →

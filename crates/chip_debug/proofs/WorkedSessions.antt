@@ -4,10 +4,11 @@ use Rattle.std.specs.Fmt.{digits}
 use Rattle.f8_spec.specs.ChipState.{ChipState, blank_view}
 use Rattle.f8_spec.specs.Instructions.{decoded}
 use Rattle.f8_spec.specs.ShiftTimer.{steps_to_expiry}
+use Rattle.f8_spec.specs.declared.chips.ChipKind.{ChipKind}
 use Rattle.f8_spec.specs.declared.chips.ChipKind.TheVariants as kind
 use Rattle.f8_spec.specs.declared.chips.PageSort.TheVariants.{Ram}
 use Rattle.chip_face.specs.declared.specification.ChipSpec.{ChipSpec}
-use Rattle.chip_face.specs.declared.specification.ChipSpec.TheVariants.{Psu, Smi}
+use Rattle.chip_face.specs.declared.specification.ChipSpec.TheVariants.{Psu, Smi, Pio}
 use Rattle.console_spec.specs.FlatMemory.{first_memory}
 use Rattle.console_spec.specs.FlatStep.{chosen_at}
 use Rattle.console_spec.specs.Processor.{own_inputs, effect}
@@ -19,18 +20,29 @@ use Rattle.chip_debug.specs.declared.command.Command.TheVariants.{BreakApart, Sh
 use Rattle.chip_debug.specs.Asking.{session_allowed}
 use Rattle.chip_debug.specs.Breaks.{no_breaks}
 use Rattle.chip_debug.specs.Carried.{told_by}
-use Rattle.chip_debug.specs.DebugText.{ran_line, break_line, chip_line, probe_line, mem_line}
+use Rattle.chip_debug.specs.DebugText.{ready_line, ran_line, break_line, chip_line, probe_line, mem_line}
 use Rattle.chip_debug.specs.Scenes.{Scene, going, started}
 
 -- ---- racks
 
+-- blank chips of these kinds
+abbrev blank_rack : List ChipKind → List ChipState
+blank_rack kinds = map (λ kind. record { view = blank_view kind; heard_steps = None; patch = None }) kinds
+
 -- twelve sockets for 3851s and two for 3853s
 abbrev own_rack : List ChipState
-own_rack = map (λ kind. record { view = blank_view kind; heard_steps = None; patch = None }) (replicate 12 kind.Psu ++ replicate 2 kind.Smi)
+own_rack = blank_rack (replicate 12 kind.Psu ++ replicate 2 kind.Smi)
 
--- power-on with this byte and reset of a description's chips
+-- and two for 3861s behind them
+abbrev three_kinds : List ChipState
+three_kinds = blank_rack (replicate 12 kind.Psu ++ replicate 2 kind.Smi ++ replicate 2 kind.Pio)
+
+-- power-on with this byte and reset of a description's chips on a rack
+abbrev scene_on : List ChipState → ℕ → List ChipSpec → Scene
+scene_on rack fill chips = started fill (chain_of chips (kinds_of rack)) [] no_breaks (fitted_views chips rack)
+
 abbrev first_scene : ℕ → List ChipSpec → Scene
-first_scene fill chips = started fill (chain_of chips (kinds_of own_rack)) [] no_breaks (fitted_views chips own_rack)
+first_scene fill chips = scene_on own_rack fill chips
 
 -- a 3851 at 0 with these bytes
 abbrev psu_with : List ℕ → ℕ → ChipSpec
@@ -98,3 +110,23 @@ after_a_cut_jump : told_by (Step 9 ∷ ShowChips ∷ []) cut_jump
     ∷ []
 unfolding digits going ran_line chip_line probe_line stop_line fault_line own_inputs chosen_at steps_to_expiry effect decoded first_memory
 after_a_cut_jump = refl
+
+-- ---- NOP and a branch to itself, beside a 3861, which has no counters: it has none to show, and none that part. Power-on with 04 leaves the
+-- stack register of the 3851 apart from the probe's
+
+abbrev beside_pio : Scene
+beside_pio = scene_on three_kinds 0 (psu_with (0x2B ∷ 0x90 ∷ 0xFE ∷ []) 1021 ∷ Pio 8 0 false ∷ [])
+
+pio_never_parts : told_by (BreakApart ∷ Run 4 ∷ ShowChips ∷ []) beside_pio
+    ≡ codes "ran 4\n"
+    ∷ codes "chip 0 3851 PC0=0001 PC1=0000 DC0=0000\n"
+    ∷ codes "chip 14 3861\n"
+    ∷ codes "probe PC0=0001 PC1=0000 DC0=0000 DC1=0000\n"
+    ∷ []
+unfolding digits going ran_line chip_line probe_line own_inputs chosen_at steps_to_expiry effect decoded first_memory
+pio_never_parts = refl
+
+psu_parts_beside_a_pio : told_by (Power 4 ∷ BreakApart ∷ Run 4 ∷ []) beside_pio
+    ≡ codes "ready\n" ∷ codes "ran 1\n" ∷ codes "break\n" ∷ []
+unfolding digits going ready_line ran_line break_line own_inputs chosen_at steps_to_expiry effect decoded first_memory
+psu_parts_beside_a_pio = refl

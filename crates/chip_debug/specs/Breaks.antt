@@ -1,7 +1,7 @@
 -- The breaks of a session, and which of them an instruction meets (this project's own).
-use Rattle.std.specs.Prelude.{ℕ, ◌==◌, ◌||◌, ◌&&◌, not, Bool, true, false, List, Option, Some, None}
+use Rattle.std.specs.Prelude.{ℕ, ◌==◌, ◌||◌, ◌&&◌, not, Bool, true, false, if◌then◌else◌, List, Option, Some, None}
 use Rattle.std.specs.List.{list_any, filter, enumerate_from}
-use Rattle.f8_spec.specs.ChipState.{ChipView, told_counters}
+use Rattle.f8_spec.specs.ChipState.{ChipView, has_counters, told_counters}
 use Rattle.f8_spec.specs.declared.bus.Counters.{Counters}
 use Rattle.f8_machine.specs.Rounds.{is_socket}
 use Rattle.f8_machine.specs.declared.heard.Heard.{Heard}
@@ -61,15 +61,20 @@ seconds_differ None reference = false
 seconds_differ (Some dc1) None = false
 seconds_differ (Some dc1) (Some reference) = not (dc1 == reference)
 
--- one of the counters that a chip tells is not the probe's
-abbrev pub is_parted : Counters → Counters → Bool
-is_parted reference c =
+-- the counters that a chip tells, where it has any
+abbrev pub own_counters : ChipView → Option Counters
+own_counters v = if has_counters v.kind then Some (told_counters v) else None
+
+-- one of the counters that a chip tells is not the probe's; a chip without counters never parts
+abbrev pub is_parted : Counters → Option Counters → Bool
+is_parted reference None = false
+is_parted reference (Some c) =
     not (c.pc0 == reference.pc0) || not (c.pc1 == reference.pc1) || not (c.dc0 == reference.dc0)
     || seconds_differ c.dc1 reference.dc1
 
 -- and so it is with a chip of the description
 abbrev pub are_apart : Counters → List ℕ → List ChipView → Bool
-are_apart reference chain vs = list_any (λ x. is_parted reference (told_counters x.1)) (fitted chain vs)
+are_apart reference chain vs = list_any (λ x. is_parted reference (own_counters x.1)) (fitted chain vs)
 
 -- ---- an instruction that is done
 

@@ -1,7 +1,7 @@
 -- What a command makes of a session, and what it tells.
 use Rattle.std.specs.Prelude.{ℕ, ◌+◌, ◌%◌, Bool, true, false, List, [], ◌∷◌, ◌++◌, map, filter_map, Option, Some, None}
 use Rattle.std.specs.List.{range_with_len}
-use Rattle.f8_spec.specs.ChipState.{ChipView, held_byte, told_counters}
+use Rattle.f8_spec.specs.ChipState.{ChipView, held_byte}
 use Rattle.f8_spec.specs.declared.bus.Counters.{Counters}
 use Rattle.f8_spec.specs.declared.chips.PowerOn.{PowerOn}
 use Rattle.console_spec.specs.declared.Regs.{Regs}
@@ -16,7 +16,7 @@ use Rattle.chip_debug.specs.declared.command.Command.TheVariants.{BreakChip, Bre
 use Rattle.chip_debug.specs.declared.breaks.Breaks.{Breaks}
 use Rattle.chip_face.specs.declared.specification.ChipSpec.{ChipSpec}
 use Rattle.rack_run.specs.Sockets.{chain_of}
-use Rattle.chip_debug.specs.Breaks.{breaks_after, fitted, no_breaks}
+use Rattle.chip_debug.specs.Breaks.{breaks_after, fitted, no_breaks, own_counters}
 use Rattle.chip_debug.specs.DebugText.{ready_line, ran_line, break_line, chip_line, probe_line, mem_line}
 use Rattle.chip_debug.specs.Scenes.{Scene, Going, started, happened, going}
 
@@ -77,7 +77,7 @@ abbrev pub state_lines : State → List (List ℕ)
 state_lines s = registers_lines (told_regs s) s.count s.phi
 
 abbrev pub fitted_lines : List (ℕ × ChipView) → List (List ℕ)
-fitted_lines chips = map (λ x. chip_line x.0 x.1.kind (told_counters x.1)) chips
+fitted_lines chips = map (λ x. chip_line x.0 x.1.kind (own_counters x.1)) chips
 
 -- the chips described, and then the probe
 abbrev pub chips_lines : Counters → List ℕ → List ChipView → List (List ℕ)

@@ -26,10 +26,15 @@ abbrev pub counters_text : Counters → List ℕ
 counters_text c =
     codes " PC0=" ++ hex4 c.pc0 ++ codes " PC1=" ++ hex4 c.pc1 ++ codes " DC0=" ++ hex4 c.dc0 ++ second_text c.dc1
 
+-- the counters of a chip, where it has any
+abbrev pub own_text : Option Counters → List ℕ
+own_text None = []
+own_text (Some c) = counters_text c
+
 -- a chip, by its socket, its kind and its own counters
-unfoldable pub chip_line : ℕ → ChipKind → Counters → List ℕ
+unfoldable pub chip_line : ℕ → ChipKind → Option Counters → List ℕ
 chip_line socket kind counters =
-    codes "chip " ++ decimal socket ++ codes " " ++ kind_text kind ++ counters_text counters ++ codes "\n"
+    codes "chip " ++ decimal socket ++ codes " " ++ kind_text kind ++ own_text counters ++ codes "\n"
 
 -- the counters of the probe
 unfoldable pub probe_line : Counters → List ℕ

@@ -2,7 +2,7 @@
 ghost use Rattle.std.specs.Prelude.{◌≡◌, ◌≤◌, ◌+◌, ◌*◌, ◌++◌, length, map, sum_by};
 ghost use Rattle.data_bus.specs.Racks.{views};
 ghost use Rattle.chip_debug.specs.Carried.{bytes_held};
-ghost use Rattle.chip_debug.specs.DebugText.{ready_line as spelled_ready, ran_line as spelled_ran, break_line as spelled_break, second_text, counters_text, chip_line as spelled_chip, probe_line as spelled_probe, byte_text, mem_line as spelled_mem};
+ghost use Rattle.chip_debug.specs.DebugText.{ready_line as spelled_ready, ran_line as spelled_ran, break_line as spelled_break, second_text, counters_text, own_text, chip_line as spelled_chip, probe_line as spelled_probe, byte_text, mem_line as spelled_mem};
 
 use super::sockets::byte_held;
 use chip_face::{Chip, ChipKind, Counters, MOST_CHIPS};
@@ -67,17 +67,28 @@ fn write_counters(line: &mut Line, counters: &Counters)
     write_second(line, counters.dc1);
 }
 
-/// `chip`: a chip by its socket and kind, with its own counters.
+/// Writes the counters of a chip, where it has any.
+fn write_own(line: &mut Line, counters: Option<Counters>)
+    requires { length line.old + 36 ≤ LINE_ROOM }
+    ensures text { line.new ≡ line.old ++ own_text counters }
+    ensures len { length line.new ≤ length line.old + 36 }
+{
+    if let Some(counters) = counters {
+        write_counters(line, &counters);
+    }
+}
+
+/// `chip`: a chip by its socket and kind, with its own counters, where it has any.
 #[tactic(auto, unfolding(crate::specs::DebugText::chip_line))]
-pub(crate) fn chip_line(socket: u8, kind: ChipKind, counters: &Counters) -> Line
-    ensures { result ≡ spelled_chip socket kind counters.now }
+pub(crate) fn chip_line(socket: u8, kind: ChipKind, counters: Option<Counters>) -> Line
+    ensures { result ≡ spelled_chip socket kind counters }
 {
     let mut line = Line::new();
     line.text(b"chip ");
     line.small(socket);
     line.text(b" ");
     line.text(kind_text(kind));
-    write_counters(&mut line, counters);
+    write_own(&mut line, counters);
     line.text(b"\n");
     line
 }

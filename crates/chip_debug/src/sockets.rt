@@ -1,8 +1,8 @@
 // The chips in the sockets of a rack, as a session reads them.
 ghost use Rattle.std.specs.Prelude.{◌≡◌, ◌<◌, ◌≤◌, ◌+◌, length, map, slice_get, sum_by, Some};
-ghost use Rattle.f8_spec.specs.ChipState.{ChipState, held_byte, told_counters};
+ghost use Rattle.f8_spec.specs.ChipState.{ChipState, held_byte};
 ghost use Rattle.data_bus.specs.Racks.{views};
-ghost use Rattle.chip_debug.specs.Breaks.{seconds_differ as differ_second, is_parted as parted_from, are_apart as apart_from};
+ghost use Rattle.chip_debug.specs.Breaks.{own_counters, seconds_differ as differ_second, is_parted as parted_from, are_apart as apart_from};
 ghost use Rattle.chip_debug.specs.Carried.{byte_held as held_by_one};
 
 use chip_face::{Chip, ChipKind, Counters, MOST_CHIPS};
@@ -22,19 +22,23 @@ pub(crate) fn kind_in(rack: &Rack, socket: u8) -> ChipKind
     kind_of(&rack[usize::from(socket)])
 }
 
-fn counters_of(chip: &mut Box<dyn Chip>) -> Counters
-    ensures answer { result ≡ told_counters (state chip.old).view }
+/// The counters of a chip, by one question; a 3861 has none (Mostek 3861 data sheet), and isn't asked.
+fn counters_of(chip: &mut Box<dyn Chip>) -> Option<Counters>
+    ensures answer { result ≡ own_counters (state chip.old).view }
     ensures stays { state chip.new ≡ state chip.old }
     ensures asked { queries chip.new ≤ queries chip.old + 1 }
 {
-    chip.counters()
+    match chip.kind() {
+        ChipKind::Psu | ChipKind::Smi => Some(chip.counters()),
+        ChipKind::Pio => None,
+    }
 }
 
-/// The counters that the chip in a socket tells, by one question.
-pub(crate) fn counters_in(rack: &mut Rack, socket: u8) -> Counters
+/// The counters of the chip in a socket, by one question at most.
+pub(crate) fn counters_in(rack: &mut Rack, socket: u8) -> Option<Counters>
     requires within { socket < length rack.old.items }
     ensures answer { (s : ChipState) → slice_get (map state rack.old.items) socket ≡ Some s →
-        result ≡ told_counters s.view }
+        result ≡ own_counters s.view }
     ensures stays { map state rack.new.items ≡ map state rack.old.items }
     ensures asked { sum_by queries rack.new.items ≤ sum_by queries rack.old.items + 1 }
     ensures chips { length rack.new.items ≡ length rack.old.items }
@@ -52,10 +56,13 @@ fn seconds_differ(dc1: Option<u16>, reference: Option<u16>) -> bool
     }
 }
 
-/// One of the counters isn't the probe's.
-fn is_parted(reference: &Counters, counters: &Counters) -> bool
-    ensures { result ≡ parted_from reference.now counters.now }
+/// One of the counters isn't the probe's. A chip without counters never parts.
+fn is_parted(reference: &Counters, counters: Option<Counters>) -> bool
+    ensures { result ≡ parted_from reference.now counters }
 {
+    let Some(counters) = counters else {
+        return false;
+    };
     counters.pc0 != reference.pc0
         || counters.pc1 != reference.pc1
         || counters.dc0 != reference.dc0
@@ -73,7 +80,7 @@ pub(crate) fn are_apart(reference: &Counters, chain: &Chain, rack: &mut Rack) ->
 {
     for &socket in chain.as_slice() {
         let sits = usize::from(socket) < rack.len();
-        if sits && is_parted(reference, &counters_in(rack, socket)) {
+        if sits && is_parted(reference, counters_in(rack, socket)) {
             return true;
         }
     }

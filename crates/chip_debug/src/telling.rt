@@ -1,11 +1,11 @@
 // What a session tells. Each line is one put.
 ghost use Rattle.std.specs.Prelude.{◌≡◌, ◌≤◌, ◌<◌, ◌+◌, ◌∷◌, length, map, option_map, slice_get, sum_by, Some};
-ghost use Rattle.f8_spec.specs.ChipState.{ChipState, told_counters};
+ghost use Rattle.f8_spec.specs.ChipState.{ChipState};
 ghost use Rattle.console_spec.specs.RunText.{stop_line, text_of};
 ghost use Rattle.data_bus.specs.Racks.{views};
 ghost use Rattle.rack_run.specs.Endings.{stop_of};
 ghost use Rattle.rack_run.specs.Texts.{Puts};
-ghost use Rattle.chip_debug.specs.Breaks.{fitted};
+ghost use Rattle.chip_debug.specs.Breaks.{fitted, own_counters};
 ghost use Rattle.chip_debug.specs.Carried.{start_lines, halt_lines, scratchpad_lines, registers_lines};
 ghost use Rattle.chip_debug.specs.Carried.{fitted_lines, chips_lines};
 ghost use Rattle.chip_debug.specs.DebugText.{ran_line as spelled_ran, chip_line as spelled_chip};
@@ -93,17 +93,17 @@ pub(crate) fn put_regs<K: Sink>(
     sink.put(total_line(count, phi).as_bytes())
 }
 
-/// The line of the chip in a socket, which is asked once.
+/// The line of the chip in a socket, which is asked once at most.
 fn line_of_chip(rack: &mut Rack, socket: u8) -> Line
     requires within { socket < length rack.old.items }
     ensures line { (s : ChipState) → slice_get (map state rack.old.items) socket ≡ Some s →
-        result ≡ spelled_chip socket s.view.kind (told_counters s.view) }
+        result ≡ spelled_chip socket s.view.kind (own_counters s.view) }
     ensures stays { map state rack.new.items ≡ map state rack.old.items }
     ensures asked { sum_by queries rack.new.items ≤ sum_by queries rack.old.items + 1 }
     ensures chips { length rack.new.items ≡ length rack.old.items }
 {
     let kind = kind_in(rack, socket);
-    chip_line(socket, kind, &counters_in(rack, socket))
+    chip_line(socket, kind, counters_in(rack, socket))
 }
 
 /// The chips described, by their sockets. Each is asked once at most.

@@ -3,8 +3,8 @@ use Rattle.std.proofs.Common.{◌≡◌, ◌∙◌, ◌<◌, ◌≤◌, ap, sym,
 use Rattle.std.specs.Prelude.{sum_by}
 use Rattle.std.proofs.lemmas.List.{length-map}
 use Rattle.std.proofs.lemmas.Result.{err_from_is_err_and}
-use Rattle.f8_spec.specs.ChipState.{told_counters}
 use Rattle.rack_run.proofs.PutLaws.{so_far_more, so_far_all, so_far_cut}
+use Rattle.chip_debug.specs.Breaks.{own_counters}
 use Rattle.chip_debug.specs.DebugText.{chip_line}
 use Rattle.chip_debug.proofs.PutLines.{chip_some}
 use Rattle.chip_debug.proofs.SocketLaws.{asked_not, asked_once, seated, still_seated, lines_here, lines_not, lines_none}
@@ -18,7 +18,7 @@ returns-in_err-put-clause-puts g c =
     let within : c.loop-socket.socket < length states =
     omega (arith, length-map c.args.rack.now.items (λ b. (goal.Chip-dyn g (b.vtable, b.value)).state b.value)) in
     let s = seated states c.loop-socket.socket within in
-    let line : c.as_bytes.result.now ≡ chip_line c.loop-socket.socket s.0.view.kind (told_counters s.0.view) =
+    let line : c.as_bytes.result.now ≡ chip_line c.loop-socket.socket s.0.view.kind (own_counters s.0.view) =
     c.as_bytes.ensures.value
     ∙ c.line_of_chip.ensures.line s.0 (still_seated states _ c.loop-socket.socket s.0 c.loop-socket.invariant.stays s.1) in
     rw p.1
@@ -34,7 +34,7 @@ loop-socket-preserved g c =
     let s = seated states c.loop-socket.socket within in
     elim c.if-contains.branch [
       | then-contains+in_ok-put w ↦
-          let line : w.as_bytes.result.now ≡ chip_line c.loop-socket.socket s.0.view.kind (told_counters s.0.view) =
+          let line : w.as_bytes.result.now ≡ chip_line c.loop-socket.socket s.0.view.kind (own_counters s.0.view) =
           w.as_bytes.ensures.value
           ∙ w.line_of_chip.ensures.line s.0 (still_seated states _ c.loop-socket.socket s.0 c.loop-socket.invariant.stays s.1) in
           let lines = rw line at w.in_ok-put.ensures.ok in
