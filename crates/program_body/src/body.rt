@@ -1,5 +1,5 @@
 // `main`'s body as a macro: no function may make a boxed chip and hand it out, and two programs have it. So this crate stands on no other,
-// and is none that a build waits for. A program that calls it names psu3851, smi3853, f8_machine, outside and channel_f beside it.
+// and is none that a build waits for. A program that calls it names psu3851, smi3853, pio3861, f8_machine, outside and channel_f beside it.
 
 /// Puts so many chips into a rack, or ends `main` where memory is wanting.
 #[macro_export]
@@ -16,7 +16,7 @@ macro_rules! seat {
     };
 }
 
-/// All that `main` does: the words behind the program's name, a rack of 12 blank 3851s and behind them 4 blank 3853s, the system's files
+/// All that `main` does: the words behind the program's name, a rack of 12 blank 3851s, 2 blank 3853s and 2 blank 3861s, the system's files
 /// and standard output go to `console`, whose number is the exit status.
 #[macro_export]
 macro_rules! program_body {
@@ -32,7 +32,8 @@ macro_rules! program_body {
         };
         let mut rack: f8_machine::Rack = Vec::new($rt.alloc());
         $crate::seat!($rt, rack, 12, psu3851::Psu::blank());
-        $crate::seat!($rt, rack, 4, smi3853::Smi::blank());
+        $crate::seat!($rt, rack, 2, smi3853::Smi::blank());
+        $crate::seat!($rt, rack, 2, pio3861::Pio::blank());
         let mut sink = outside::OutSink::new(std::io::writer(&$rt));
         let mut store = outside::FileStore::new(&$rt);
         $crate::exit_code(channel_f::console(
