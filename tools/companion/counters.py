@@ -7,7 +7,7 @@ from enum import IntEnum
 from typing import Callable, Iterable, Iterator
 
 from companion.bus import PORT_READ, PORT_WRITE, Step, Turn
-from companion.description import Chip, Kind
+from companion.description import Chip
 from companion.instructions import ADDRESSES, signed
 
 
@@ -48,7 +48,7 @@ class Copies:
     @classmethod
     def of(cls, chip: Chip, power: int) -> Copies:
         start = (257 * power + chip.socket) % ADDRESSES if chip.start is None else chip.start
-        return cls(chip.name, chip.socket, [start] * len(Counter), chip.kind is Kind.SMI)
+        return cls(chip.name, chip.socket, [start] * len(Counter), chip.kind.has_second_data_counter)
 
     def __post_init__(self):
         self.shown = tuple(Counter)[:4 if self.exchanges else 3]
@@ -101,7 +101,7 @@ class Heard:
 
 
 class Rack:
-    """The chips of a description and the reference, as they hear the steps of a run."""
+    """The chips of a description that have counters and the reference, as they hear the steps of a run."""
 
     def __init__(self, chips: list[Copies]):
         self.reference = Copies(REFERENCE, -1, [0] * len(Counter), True)
@@ -115,7 +115,7 @@ class Rack:
 
     @classmethod
     def of(cls, chips: Iterable[Chip], power: int) -> Rack:
-        return cls([Copies.of(chip, power) for chip in chips])
+        return cls([Copies.of(chip, power) for chip in chips if chip.kind.has_memory])
 
     @property
     def address(self) -> int:

@@ -27,23 +27,45 @@ PSU_BYTES = 1024
 SMI_PORTS = 12  # the first port of every 3853
 PULSE = 0x80  # the bit of a vector that is set for a pulse, and clear for the timer
 EMPTY_ROM = 0xFF  # a byte of ROM that nothing gives
-PAGE_TEXTS = 2  # the format in which the pages of a 3853 are texts
+PAGE_TEXTS = 2  # the format in which the pages of a 3853 are texts, and in which a chip may be a 3861
+FORMATS = (1, PAGE_TEXTS)
 PAGE_TEXT = re.compile('(rom|ram|void) ([0-9A-Fa-f]{2})(?:-([0-9A-Fa-f]{2}))?')
 
 
 class Kind(Enum):
-    """The kinds of chips, by their names in a description."""
+    """The kinds of chips, by their names in a description and in the order of their sockets in the rack."""
     PSU = '3851'
     SMI = '3853'
-
-    @property
-    def first_socket(self) -> int:
-        """The rack has twelve sockets for 3851s and then four for 3853s."""
-        return {Kind.PSU: 0, Kind.SMI: 12}[self]
+    PIO = '3861'
 
     @property
     def sockets(self) -> int:
-        return {Kind.PSU: 12, Kind.SMI: 4}[self]
+        """How many sockets the rack has for it."""
+        return {Kind.PSU: 12, Kind.SMI: 2, Kind.PIO: 2}[self]
+
+    @property
+    def first_socket(self) -> int:
+        kinds = list(Kind)
+        return sum(kind.sockets for kind in kinds[:kinds.index(self)])
+
+    @property
+    def formats(self) -> tuple[int, ...]:
+        """The formats of descriptions that have it."""
+        return (PAGE_TEXTS,) if self is Kind.PIO else FORMATS
+
+    @property
+    def has_memory(self) -> bool:
+        """Whether it has memory, and the counters that go with it."""
+        return self is not Kind.PIO
+
+    @property
+    def has_second_data_counter(self) -> bool:
+        return self is Kind.SMI
+
+    @property
+    def has_fixed_ports(self) -> bool:
+        """Whether all chips of the kind have the same ports, none of which is a data port, and of which two write the vector."""
+        return self is Kind.SMI
 
 
 class Holding(Enum):
@@ -96,8 +118,13 @@ class Chip:
     @property
     def vectors(self) -> tuple[int, ...]:
         """Where its interrupts lead: for its timer, and for a pulse. None is known of a 3853, whose vector ports write."""
-        is_known = self.interrupt and self.kind is Kind.PSU
+        is_known = self.interrupt and not self.kind.has_fixed_ports
         return tuple(self.vector & 0xFF7F | high for high in (0, PULSE)) if is_known else ()
+
+    @property
+    def data_ports(self) -> range:
+        """The ports that can be read: the first two of the four, where there are such."""
+        return range(0) if self.kind.has_fixed_ports else self.ports[:2]
 
     def holds(self, address: int) -> Holding | None:
         return next((holding for holding, space in self.spaces if address in space), None)
@@ -148,18 +175,18 @@ def spaces_of(format: int, kind: Kind, table: dict[str, Any]) -> Iterator[tuple[
     """The addresses of a chip as runs, each with its sort."""
     if kind is Kind.SMI:
         yield from ((holding, range(PAGE * run.start, PAGE * run.stop)) for holding, run in pages_of(format, table))
-    elif isinstance(table.get('base'), int):
+    elif kind is Kind.PSU and isinstance(table.get('base'), int):
         yield Holding.ROM, range(whole(table, 'base'), whole(table, 'base') + PSU_BYTES)
 
 
 def ports_of(kind: Kind, table: dict[str, Any]) -> range:
-    first = SMI_PORTS if kind is Kind.SMI else whole(table, 'ports')
+    first = SMI_PORTS if kind.has_fixed_ports else whole(table, 'ports')
     return range(first, first + 4) if first else range(0)
 
 
 def chip_of(number: int, format: int, kind: Kind, socket: int, table: dict[str, Any]) -> Chip:
     texts = {key: value for key in ('rom', 'source') if isinstance(value := table.get(key), str)}
-    power = {key: number_in(table, key) for key in ('fill', 'start')} if format == PAGE_TEXTS else {}
+    power = {key: number_in(table, key) for key in ('fill', 'start')} if format == PAGE_TEXTS and kind.has_memory else {}
     return Chip(number, kind, socket, tuple(spaces_of(format, kind, table)), ports_of(kind, table), whole(table, 'vector'),
                 table.get('interrupt') is True, texts.get('rom'), texts.get('source'), **power)
 

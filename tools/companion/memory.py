@@ -62,8 +62,8 @@ class Memory:
         return bool(self.held_by[kind])
 
     def readers(self, port: int) -> list[Chip]:
-        """The chips that have a port as a data port: of the four ports of a 3851 these are the first two, and a 3853 has none."""
-        return [chip for chip in self.chips if chip.kind is Kind.PSU and port in chip.ports[:2]]
+        """The chips that have a port as a data port."""
+        return [chip for chip in self.chips if port in chip.data_ports]
 
     def takers(self, port: int) -> list[Chip]:
         """The chips that have a port, whatever it is to them."""

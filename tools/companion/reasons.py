@@ -125,7 +125,7 @@ class Explained:
                 'write to eight registers, of which none may be tracked.')
 
 
-NO_DATA_PORT = 'the data port of no chip: the first two of the four ports of a 3851 are data ports, and a 3853 has none.'
+NO_DATA_PORT = 'the data port of no chip: the first two of the four ports of a 3851 or a 3861 are data ports, and a 3853 has none.'
 SENTENCES: dict[Reason, Callable[[Explained], str]] = {
     Reason.CODE_NOT_HELD_ONCE: lambda told: told.code() + f' {told.came()}',
     Reason.CODE_IN_RAM: lambda told: told.code() + f' {told.came()}',
@@ -147,7 +147,7 @@ HELPS: dict[Reason, Callable[[Explained], str]] = {
     Reason.RETURN_UNSET: lambda told: 'No list helps: call by PI or PK on each way to it; where an interrupt leads, it has set the return.',
     Reason.RETURN_NOT_HELD_ONCE: lambda told: 'No list helps: a return has to lie in exactly one chip.',
     Reason.BAD_PORT: lambda told: "No list helps: mend the number, or the chip's `ports`.",
-    Reason.VECTOR_LOST: lambda told: ('No list helps: ports write the vector of a 3853. Let a 3851 interrupt in its place, whose vector '
-                                          'the description has; or leave out `EI`, or `interrupt = true`.'),
+    Reason.VECTOR_LOST: lambda told: ('No list helps: ports write the vector of a 3853. Let a 3851 or a 3861 interrupt in its place, whose '
+                                          'vector the description has; or leave out `EI`, or `interrupt = true`.'),
     Reason.BLURRED: Explained.isar_helps,
 }

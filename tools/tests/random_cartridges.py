@@ -1,4 +1,4 @@
-"""Random descriptions for trials of the checker's rules: chips of both kinds, with pages of all sorts, ports, wires, split lists and code.
+"""Random descriptions for trials of the checker's rules: chips of all kinds, with pages of all sorts, ports, wires, split lists and code.
 
 Most random code is refused at its first instructions.  So a cartridge is mended some rounds long: where the rules refuse a
 state, its opcode gives way to another one.
@@ -16,11 +16,12 @@ from companion.effects import RULES, Data, PortUse
 from companion.instructions import OPCODES, Flow
 from companion.memory import Memory
 from companion.rules import Refusal, Rules
+from migration import migrated_chip
 
 SET_RETURN, EI, IN, OUT, BT_0 = 0x09, 0x1B, 0x26, 0x27, 0x80  # LR P,K sets the return
 ROUTINE = b'\x1B\x1C'  # EI; POP
 SKIP = (2, 0x1F)  # the displacement of a branch over an INC
-DATA_PORTS = (4, 5, 8, 9)  # of 3851s one behind another
+DATA_PORTS = (4, 5, 8, 9)  # of chips one behind another
 MOST_POINTS = 1500  # that a round of mending goes over
 ROM_BYTES = 1024
 
@@ -38,8 +39,13 @@ class Chip:
     keys: dict[str, object]
     rom: bytearray = field(default_factory=bytearray)
 
-    def lines(self) -> str:
-        return '[[chip]]\n' + ''.join(f'{key} = {json.dumps(value)}\n' for key, value in self.keys.items()) + f'rom = "{self.rom.hex()}"\n'
+    @property
+    def is_pio(self) -> bool:
+        return self.keys['kind'] == '3861'
+
+    def lines(self, format: int = 1) -> str:
+        keys = (migrated_chip(self.keys) if format == 2 else self.keys) | ({} if self.is_pio else {'rom': self.rom.hex()})
+        return '[[chip]]\n' + ''.join(f'{key} = {json.dumps(value)}\n' for key, value in keys.items())
 
 
 def code(random: Random, size: int, pages: list[int]) -> bytearray:
@@ -108,13 +114,28 @@ def smi(random: Random, wired: bool, pages: list[int]) -> Chip:
     return Chip(keys, code(random, 256 * keys['rom_pages'], pages))
 
 
+def pio(random: Random, first: Chip, ports: int, wired: bool) -> Chip:
+    """A 3861. Where it can interrupt, most of the first chips have a routine at both addresses of its vector."""
+    vector = random.randrange(ROM_BYTES)
+    if wired:
+        first.rom[:1] = bytes([EI])
+        for high in (0, PULSE) if random.random() < 0.8 else ():
+            first.rom = with_routine(first.rom, vector & 0xFF7F | high)
+    return Chip({'kind': '3861', 'ports': ports, 'interrupt': wired, 'vector': vector})
+
+
 def chips(random: Random) -> Iterator[Chip]:
     pages = [0, 1, 2, 3, *random.sample((4, 8, 0x20, 0x28, 0x2C, 0x40, 0xF0), 3)]
     wired, ports = random.random() < 0.4, 4
+    first = None
     for base in (0, 0x400, 0x800):
         if not base or random.random() < 0.3:
-            yield psu(random, 0 if random.random() < 0.04 else base, ports, wired and random.random() < 0.5, pages)
+            chip = psu(random, 0 if random.random() < 0.04 else base, ports, wired and random.random() < 0.5, pages)
+            first = first or chip
+            yield chip
             ports += 4 if random.random() < 0.95 else 0
+    if random.random() < 0.3:
+        yield pio(random, first, ports, wired and random.random() < 0.5)
     if random.random() < 0.7:
         yield smi(random, wired and random.random() < 0.3, pages)
 
@@ -129,8 +150,10 @@ def cartridge(seed: int) -> str:
     count = random.choice((0, 0, 1, 1, 2, 3, 8))
     split = random.sample(range(16 if random.random() < 0.7 else 64), count)
 
+    format = 2 if any(chip.is_pio for chip in made) else 1
+
     def text() -> str:
-        return f'format = 1\nsplit = {split}\n' + ''.join(chip.lines() for chip in made)
+        return f'format = {format}\nsplit = {split}\n' + ''.join(chip.lines(format) for chip in made)
 
     for _ in range(rounds):
         if not mended(random, made, described(text())):

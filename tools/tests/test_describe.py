@@ -69,6 +69,20 @@ class Describe(unittest.TestCase):
         self.assertEqual(chips, [{'kind': '3851', 'base': 0, 'ports': 4, 'rom': '2B'}, {'kind': '3853', 'pages': ['ram FF']}])
 
     @needs_toml
+    def test_a_3861(self):
+        done = self.described('--pio', 'a', a=b'\x2b')
+        self.assertEqual(done.text.split('\n\n')[0::2], ['format = 2', '[[chip]]\nkind = "3861"\nports = 8\n'])
+        for words, ports in ((['a', '--ram', '28'], [4, 8, None, 16]), (['--smi', 'a'], [None, 4]), (['--smi', '--ports', '12', 'a'], [None, 16]),
+                             (['--pio', 'a'], [4, 8, 12])):
+            chips = tomllib.loads(self.described('--pio', *words, a=b'\x2b' * (1025 if 'a' == words[0] else 1)).text)['chip']
+            self.assertEqual([chip.get('ports') for chip in chips], ports)
+            self.assertEqual(chips[-1]['kind'], '3861')
+        self.assertEqual(self.described('--pio', '--format', '2', 'a').text, self.described('--pio', 'a').text)
+        self.refused('format 1 has no 3861', '--pio', '--format', '1', 'a')
+        self.refused('3 chips of the kind 3861 are needed, and the rack has sockets for 2', *['--pio'] * 3, 'a')
+        self.refused('the ports would go up to 259', '--pio', '--ports', '252', 'a', a=b'\x2b')
+
+    @needs_toml
     def test_both_formats_say_the_same(self):
         for words in (['a', '--ram', '28'], ['--smi', '--ram', '20-27', 'a'], ['a'], ['--smi', 'a', 'b@1000']):
             one, two = (Description.of(self.described('--format', format, *words, a=b'\x2b' * 1025, b=b'\x17').stdout) for format in (1, 2))
@@ -127,7 +141,7 @@ class Describe(unittest.TestCase):
         script.write_text('steps 3\n')
         long = bytes.fromhex('290800') + b'\x2b' * 2045 + bytes.fromhex('90ff')
         for format in (1, 2):
-            for words in (['a'], ['a', '--ram', '28'], ['--smi', '--ram', '28', 'a']):
+            for words in (['a'], ['a', '--ram', '28'], ['--smi', '--ram', '28', 'a'], *[['--pio', '--smi', 'a']] * (format == 2)):
                 (self.folder / 'cart.toml').write_text(self.described('--format', format, *words, a=long).text)
                 done = call('explain', tool.PROGRAM, 'play', 'cart.toml', script, cwd=self.folder)
                 self.assertIn('stop done\nregs P=0800', done.text)

@@ -209,7 +209,7 @@ class Explain(unittest.TestCase):
         self.assertIn('0180 is where an interrupt of chip 0 leads, by a pulse. Both addresses of a vector need code', told)
         self.assertNotIn('Both addresses', self.explained('refused 0001 ---- . 3', cart=cart))
         told = self.explained('refused 0001 ---- . 10', cart=cart)
-        self.assertRegex(told, '(?s)Reason 10: an interrupt may be taken.*What helps: a 3851 in its place.*The vector of chip 1 is in ports')
+        self.assertRegex(told, '(?s)Reason 10: an interrupt may be taken.*What helps: a 3851 or a 3861 in its place.*The vector of chip 1 is in ports')
         self.assertIn('gives one more return', self.explained('toomany', cart=cart))
         self.assertNotIn('gives one more return', call('explain', 'toomany').told)
 

@@ -17,7 +17,7 @@ from companion.rules import Reason, Rules
 from companion.search import Search, Verdict
 from random_cartridges import cartridge, described, every_instruction
 
-RANDOM = range(1, 25)  # the numbers of the random descriptions; a call of the program takes a fifth of a second
+RANDOM = range(1, 30)  # the numbers of the random descriptions; a call of the program takes a fifth of a second
 
 ONE_CHIP = 'format = 1\nsplit = {split}\n[[chip]]\nkind = "3851"\nbase = 0\nports = 4\nrom = "{code}"\n{keys}'
 

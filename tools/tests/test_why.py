@@ -93,7 +93,7 @@ class Told(unittest.TestCase):
     def test_a_vector_in_ports(self):
         told = self.told(of_code('1B90FF', more='[[chip]]\nkind = "3853"\ninterrupt = true\n'))
         self.assertIn("Reason 10: BR $0001 may end with an interrupt: ICB may be 1, and the vector of chip 1 isn't known.", told)
-        self.assertIn('Let a 3851 interrupt in its place', told)
+        self.assertIn('Let a 3851 or a 3861 interrupt in its place', told)
 
     def test_a_write_by_an_unknown_isar(self):
         # LIS 3; LR 3,A; INS 0; LR IS,A; LR S,A, with r3 tracked

@@ -5,7 +5,7 @@ import re
 from itertools import combinations
 from typing import Any, Iterator
 
-from companion.description import PAGE, PAGE_TEXTS, PSU_BYTES, Chip, Holding, Kind, tomllib
+from companion.description import FORMATS, PAGE, PAGE_TEXTS, PSU_BYTES, Chip, Holding, Kind, tomllib
 from companion.explaining.files import Files, Sort
 from companion.explaining.page_texts import pages_hint
 from companion.page_tables import cause_of, close, row_about, tables
@@ -26,8 +26,7 @@ HINTS = [
 ]
 PLAIN_HINTS = {
     ('format', 1): 'The first line is `format = 1` or `format = 2`.', ('rom', 1): 'Give the chip a `source`, or its bytes in `rom`.',
-    ('source', 8): 'Leave out `rom` or `source`.', ('kind', 4): 'The kinds are `"3851"` and `"3853"`.',
-    ('kind', 1): 'The kinds are `"3851"` and `"3853"`.', ('format', 4): 'The formats are 1 and 2: `format = 2`.',
+    ('source', 8): 'Leave out `rom` or `source`.', ('format', 4): 'The formats are 1 and 2: `format = 2`.',
 }
 KINDS = tuple(kind.value for kind in Kind)
 ALIKE = 'the same'
@@ -89,7 +88,7 @@ def known_keys(column: str, format: int) -> list[str]:
 
 def key(files: Files, chip: str | None, key: str, cause: str) -> list[str]:
     description, number = files.description, None if chip is None else int(chip)
-    chips, format = description.tables, description.format or 1
+    chips, format = description.tables, description.format if description.format in FORMATS else FORMATS[0]
     values = description.values if number is None else chips[number] if number < len(chips) else {}
     kind = str(values.get('kind')) if number is not None else ''
     column = f'in a {kind}' if kind in KINDS else 'value' if number is None else 'in a 3851'
@@ -103,7 +102,7 @@ def key(files: Files, chip: str | None, key: str, cause: str) -> list[str]:
             lines.append(unknown_key(name, known, number, kind, format))
     rule = rule_of(key, column) if key != '?' else ''
     sentence = cause_of('FORMATS.md', 'Description', f'error cart {"" if chip is None else f"chip {chip} "}key {key} cause {cause}')
-    hint = key_hint(key, int(cause), values.get(key), chips) or gap_hint(files, key, number)
+    hint = key_hint(key, int(cause), values.get(key), chips, format) or gap_hint(files, key, number)
     return [*lines, sentence, *([f'The rule for `{key}`: {rule}.'] if rule else []), *filter(None, [hint])]
 
 
@@ -121,11 +120,16 @@ def unknown_key(name: str, known: list[str], chip: int | None, kind: str, format
     if other and chip is None:
         return f'`{name}` is a key of a chip: it stands below a line `[[chip]]`.'
     if other and kind in KINDS:
-        return f'`{name}` is no key of a {kind}, but of a {other}. The keys of a {kind} are {", ".join(known)}.'
+        return f'`{name}` is no key of a {kind}, but of a {other}. The keys of a {kind} are {", ".join(known)}.' + lacking(kind)
     if kind in KINDS and name in known_keys(f'in a {kind}', 3 - format):
         return of_other_format(name, format)
     meant = close(name, known)
     return f'`{name}` is no key here' + (f': is `{meant}` meant?' if meant else f'. The keys are {", ".join(known)}.')
+
+
+def lacking(kind: str) -> str:
+    """Why a kind has few keys."""
+    return '' if Kind(kind).has_memory else f' A {kind} has neither memory nor counters.'
 
 
 def of_other_format(name: str, format: int) -> str:
@@ -146,8 +150,19 @@ def gap_hint(files: Files, key: str, number: int | None) -> str:
     return f'The pages {gap} lie between its ROM pages and are no ROM: give the bytes in `rom`, which may have such gaps, or part the text over two chips.'
 
 
-def key_hint(key: str, cause: int, value: Any, chips: list[dict]) -> str:
+def kind_hint(value: Any, format: int) -> str:
+    """Which kinds there are in a format, or in which format there is one."""
+    if value in KINDS and format not in (formats := Kind(value).formats):
+        return (f'A {value} is a chip of format {formats[0]}: begin with `format = {formats[0]}`. '
+                f'`./channel_f migrate CART` makes a description in format {formats[0]} of this one without that chip.')
+    *most, last = [f'`"{kind.value}"`' for kind in Kind if format in kind.formats]
+    return f'The kinds of format {format} are {", ".join(most)} and {last}.'
+
+
+def key_hint(key: str, cause: int, value: Any, chips: list[dict], format: int) -> str:
     """What is likely meant by the value of a key."""
+    if key == 'kind' and cause in (1, 4):
+        return kind_hint(value, format)
     if key == 'split' and cause in (3, 4):
         return split_hint(value)
     if key == 'pages':
@@ -193,7 +208,8 @@ def sockets(files: Files, kind: str, need: str, have: str) -> list[str]:
     *most, last = numbers or ['']
     chips = [f'The chips {", ".join(most)} and {last} of the description are of the kind {kind}.'] if most else []
     return [*chips, {'3851': 'A 3853 can hold as much ROM as all of them, in its pages, but it has no data ports.',
-                     '3853': 'One 3853 can have several pages of ROM, of RAM and of void.'}.get(kind, '')]
+                     '3853': 'One 3853 can have several pages of ROM, of RAM and of void.',
+                     '3861': 'A 3851 has two data ports, a timer and an interrupt too.'}.get(kind, '')]
 
 
 def names_of(chips: tuple[Chip, ...]) -> str:
@@ -205,9 +221,9 @@ def warnings(files: Files) -> Iterator[str]:
     description = files.description
     for one, other in combinations(description.chips, 2):
         both = range(max(one.ports.start, other.ports.start), min(one.ports.stop, other.ports.stop))
-        if both and (one.kind is Kind.PSU or other.kind is Kind.PSU):
-            yield (f'Warning: {names_of((one, other))} have the ports {both[0]:02X} to {both[-1]:02X} in common. '
-                   'A run stops where one of them is read or written: give each 3851 `ports` of its own, and not 12 beside a 3853.')
+        if both and not (one.kind.has_fixed_ports and other.kind.has_fixed_ports):
+            yield (f'Warning: {names_of((one, other))} have the ports {both[0]:02X} to {both[-1]:02X} in common. A run stops where one of '
+                   'them is read or written: give each 3851 and 3861 `ports` of its own, and not 12 beside a 3853.')
     for chip in description.chips:
         if chip.fill is not None and not chip.runs(Holding.RAM):
             yield f'Warning: chip {chip.number} has `fill` and no page of RAM, so that nothing is filled.'

@@ -6,7 +6,7 @@ from typing import Callable, Iterable
 
 from companion.explaining.assembly import asm, lone_returns
 from companion.explaining.commands import store, too_long, wrong_words
-from companion.explaining.descriptions import key, sockets, toml, warnings
+from companion.explaining.descriptions import KINDS, key, sockets, toml, warnings
 from companion.explaining.files import Files
 from companion.explaining.runs import agreed, fault, not_closed, refused, reserved, stopped_at, too_many, unsafe
 from companion.explaining.scripts import cert, debug, digits, script
@@ -22,7 +22,7 @@ EXPLAINERS: list[tuple[str, Callable[..., list[str]]]] = [
     (rf'error cart(?: chip {NUMBER})? key (\S+) cause {NUMBER}', key), (rf'error script line {NUMBER} cause {NUMBER}', script),
     (rf'error cert line {NUMBER} cause {NUMBER}', cert), (rf'error debug line {NUMBER} cause {NUMBER}', debug),
     (rf'error store {WHAT}', store), (rf'error long {WHAT}', too_long), (r'error hex', digits), (r'error words', wrong_words),
-    (rf'error sockets (385[13]) need {NUMBER} have {NUMBER}', sockets), (rf'error rack {NUMBER}', lambda *_: []),
+    (rf'error sockets ({"|".join(KINDS)}) need {NUMBER} have {NUMBER}', sockets), (rf'error rack {NUMBER}', lambda *_: []),
     (rf'stop (conflict|undriven|astray) romc (..)((?: socket \d\d? at {ADDRESS}| at {ADDRESS}| reference {ADDRESS})+)', fault),
     (rf'stop reserved (..) at ({ADDRESS})', reserved),
     (rf'refused {POINT} (\d\d?)', refused), (rf'unsafe {POINT} (\d\d?)', unsafe), (r'toomany', too_many), (r'agreed \d{1,5}', agreed),

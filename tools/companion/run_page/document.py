@@ -114,6 +114,8 @@ def verdict_section(subject: Subject) -> Markup | None:
 
 def power_on(chip: Chip) -> str:
     """What the description says of a chip's power-on."""
+    if not chip.kind.has_memory:
+        return 'no RAM, no counters'
     said = [f'RAM {chip.fill:02X}'] if chip.fill is not None else []
     said += [f'counters {chip.start:04X}'] if chip.start is not None else []
     return ', '.join(said) or 'by the power-on byte'

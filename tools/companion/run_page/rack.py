@@ -8,7 +8,7 @@ from typing import BinaryIO, Iterator
 
 from companion.bus import FETCH, PORT_READ, PORT_WRITE, STORE, Step, Turn, pieces, step_of, turn_of
 from companion.counters import USED, Copies, Counter, Heard, Rack
-from companion.description import Chip, Description, Holding, Kind
+from companion.description import Chip, Description, Holding
 from companion.names import Names
 from companion.program import Program
 from companion.words import Progress
@@ -104,7 +104,7 @@ def followed(program: Program, cart: str, script: str, description: Description,
 class Part:
     """A chip's part in the step that wasn't served."""
     chip: Chip
-    copies: Copies
+    copies: Copies | None  # of a chip that has counters
     role: Role
     words: str
 
@@ -145,19 +145,22 @@ class Fault:
         if self.step.code == PORT_WRITE:
             return address in chip.ports
         if self.step.code == PORT_READ:
-            return address in chip.ports[:2] and chip.kind is Kind.PSU
+            return address in chip.data_ports
         holding = chip.holds(address)
         return holding is Holding.RAM if self.step.code == STORE else holding is not None
 
     def parts(self) -> Iterator[Part]:
-        driving = [chip for chip, copies in zip(self.chips, self.rack.chips) if self.answers(chip, self.own(copies))]
-        for chip, copies in zip(self.chips, self.rack.chips):
-            yield self.part(chip, copies, len(driving))
+        by_socket = {copies.socket: copies for copies in self.rack.chips}
+        pairs = [(chip, by_socket.get(chip.socket)) for chip in self.chips]
+        driving = sum(self.answers(chip, self.own(copies)) for chip, copies in pairs)
+        for chip, copies in pairs:
+            yield self.part(chip, copies, driving)
 
-    def own(self, copies: Copies) -> int:
-        return self.reference if self.counter is None else copies.counters[self.counter]
+    def own(self, copies: Copies | None) -> int:
+        """Where a chip stands. One without counters answers nowhere but for its ports, so the reference does for it."""
+        return self.reference if self.counter is None or copies is None else copies.counters[self.counter]
 
-    def part(self, chip: Chip, copies: Copies, driving: int) -> Part:
+    def part(self, chip: Chip, copies: Copies | None, driving: int) -> Part:
         own, reference, verb = self.own(copies), self.reference, self.verb
         has, hasnt = ('has RAM at', 'has no RAM at') if self.step.code == STORE else ('holds', "doesn't hold")
         drives, holds = self.answers(chip, own), self.answers(chip, reference)

@@ -42,7 +42,7 @@ def marker(address: int, top: int, class_: str, name: str) -> Markup:
 def counters(fault: Fault, part: Part, top: int) -> Iterator[Markup]:
     """Each counter of the chip, above that of the reference."""
     reference = fault.rack.reference.counters
-    for number, at in enumerate(part.copies.shown):
+    for number, at in enumerate(part.copies.shown if part.copies else ()):
         x = MAP_LEFT + COLUMN * number
         own, known = part.copies.counters[at], reference[at]
         is_used, is_apart = at is fault.counter, own != known
@@ -78,15 +78,21 @@ def heading(fault: Fault, part: Part, top: int) -> list[Markup]:
     return [name, text(RIGHT - 12, top + 19, held, 'mono small', text_anchor='end')]
 
 
+def markers(fault: Fault, part: Part, top: int) -> Iterator[Markup]:
+    """Where the chip's own counter lies in its map, and the reference where that is another place."""
+    if fault.counter is None or part.copies is None:
+        return
+    yield marker(fault.own(part.copies), top, 'own', f'its own {fault.counter.name}')
+    if fault.own(part.copies) != fault.reference:
+        yield marker(fault.reference, top, 'reference', 'the reference')
+
+
 def card(fault: Fault, part: Part, top: int) -> list[Markup | None]:
     """A chip: what it is, its pages, its counters, and its part in the step."""
-    marks = [marker(fault.own(part.copies), top + 46, 'own', f'its own {fault.counter.name}')] if fault.counter is not None else []
-    if fault.counter is not None and fault.own(part.copies) != fault.reference:
-        marks.append(marker(fault.reference, top + 46, 'reference', 'the reference'))
     lines = textwrap.wrap(part.words, TEXT_WIDTH)[:2]
     return [element('rect', x=LEFT, y=top, width=RIGHT - LEFT, height=CARD - GAP, rx=6, class_=f'card {part.role.value}'),
             arrow(part, top + 20),
-            *heading(fault, part, top), *pages_of(part, top + 46), *marks, *counters(fault, part, top + 73),
+            *heading(fault, part, top), *pages_of(part, top + 46), *markers(fault, part, top + 46), *counters(fault, part, top + 73),
             *(text(MAP_LEFT, top + 111 + 13 * number, line, f'words {part.role.value}') for number, line in enumerate(lines))]
 
 
