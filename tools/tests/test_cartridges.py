@@ -30,6 +30,14 @@ CANDLE = [
     'regs P=0032 P1=0067 D0=0000 D1=0000 A=00 IS=00 W=15',
     's00 C1 23 04 00 00 BD 29 18 3F 00 00 01 00 00 00 00',
     'total 53298 instructions 417622 phi']
+SNAIL = [
+    'frame 14 phi 417622 tone 0',
+    'out 894002 09 6A',
+    'frame 32 phi 954562 tone 0',
+    'stop done',
+    'regs P=0018 P1=0016 D0=0000 D1=0000 A=00 IS=00 W=05',
+    's00 C4 1D 01 6A 00 00 00 00 00 00 00 00 00 00 00 00',
+    'total 134384 instructions 954562 phi']
 
 RESTARTED = [
     'stop done',
@@ -39,8 +47,8 @@ RESTARTED = [
 
 # What a run has to end with, by the words in front of the cartridge's files. The lines are those of the cartridge's README. The totals were
 # counted by hand, by docs/MACHINE.md: 14 clocks of reset, and then, for instance in `parted`, DCI 24, XDC 8, DCI 24, LIS 4, LR 4, LM 10,
-# XDC 8, ST 10, XDC 8, DS 6 and BNZ 14 up to the LM that isn't served. Those of `heartbeat` and `candle`, which are too long for that, were
-# computed by models of their programs and timers that were written apart, in Python.
+# XDC 8, ST 10, XDC 8, DS 6 and BNZ 14 up to the LM that isn't served. Those of `heartbeat`, `candle` and `snail`, which are too long for
+# that, were computed by models of their programs and timers that were written apart, in Python.
 RUNS = [
     (['play'], 'product', 0, PRODUCT),
     (['ref'], 'product', 0, PRODUCT),
@@ -87,6 +95,8 @@ RUNS = [
     (['ref'], 'heartbeat', 0, HEARTBEAT),
     (['play'], 'candle', 0, ['verdict whole', *CANDLE]),
     (['ref'], 'candle', 0, CANDLE),
+    (['play'], 'snail', 0, ['verdict whole', *SNAIL]),
+    (['ref'], 'snail', 0, SNAIL),
     (['play'], 'restarted', 0, ['verdict none', *RESTARTED]),
     (['ref'], 'restarted', 0, RESTARTED),
 ]
@@ -97,11 +107,13 @@ PARTED_WITHOUT_CHIPS = ['stop done', 'regs P=0010 P1=0000 D0=0016 D1=2804 A=11 I
 
 # The verdict on each cartridge. Where no register is tracked, the points are the instructions that a run can come to; of `copied`, the five
 # before the loop, six in each of its four turns, and the branch at the end. Those of `lighthouse` weren't counted by hand, so its
-# row has the word of the verdict alone. Of `candle` they are 80 instructions that are met with one return, and 25 with four.
+# row has the word of the verdict alone. Of `candle` they are 80 instructions that are met with one return, and 25 with four; of `snail` 59
+# with one and 15 with three.
 VERDICTS = {
     'product': (0, 'whole 30'), 'copied': (0, 'whole 30'), 'summed': (0, 'agreed 11'), 'two_roms': (0, 'agreed 27'), 'lighthouse': (0, 'agreed'),
     'signboard': (0, 'whole'),
     'parted': (7, 'refused 0009 ---- . 7'), 'heartbeat': (7, 'refused 0019 ---- . 10'), 'candle': (0, 'whole 180'),
+    'snail': (0, 'whole 104'),
     'restarted': (7, 'refused 000D ---- . 6')}
 
 
@@ -166,11 +178,36 @@ class Cartridges(unittest.TestCase):
         rows = [[line[52:80].translate(str.maketrans('0123', ' .o#')) for line in lines[at + 15:at + 55:2]] for at in starts]
         self.assertEqual([f'    {"   ".join(row)}'.rstrip() for row in zip(*rows)], [line.rstrip() for line in shown])
 
-    def test_the_certificate_of_the_candle(self):
-        """It is there as the checker writes it, and shows the verdict."""
-        text = (TOP / 'cartridges/candle/cart.cert').read_text()
-        self.assertEqual(ran('check', '--cert', 'cartridges/candle/cart.toml'), (0, text.splitlines()))
-        self.assertEqual(ran('verify', 'cartridges/candle/cart.toml', 'cartridges/candle/cart.cert'), (0, ['whole 180']))
+    def test_the_shell_of_the_snail(self):
+        _, lines = run(['play'], 'snail')
+        text = (TOP / 'cartridges/snail/README.md').read_text()
+        shown = text.partition('`#` for 3:\n\n')[2].partition('\n\nThe other')[0].splitlines()
+        at = next(at for at, line in enumerate(lines) if line.startswith('frame 32 '))
+        rows = [line[2:].translate(str.maketrans('0123', ' .o#')) for line in lines[at + 1:at + 65]]
+        self.assertEqual([f'    {row[46:84]}'.rstrip() for row in rows[16:43]], [line.rstrip() for line in shown])
+        self.assertEqual(set(''.join(rows[:16] + rows[43:])), {' '})
+
+    def test_certificates(self):
+        """They are there as the checker writes them, and show the verdict."""
+        for name in ('candle', 'snail'):
+            cart, cert = (f'cartridges/{name}/{file}' for file in ('cart.toml', 'cart.cert'))
+            self.assertEqual(ran('check', '--cert', cart), (0, (TOP / cert).read_text().splitlines()))
+            self.assertEqual(ran('verify', cart, cert), (0, [VERDICTS[name][1]]))
+
+    def test_what_is_said_of_other_snails(self):
+        source, cart = ((TOP / 'cartridges/snail' / name).read_text() for name in ('snail.f8', 'cart.toml'))
+        said = (TOP / 'cartridges/snail/README.md').read_text()
+        other = cart.replace('kind = "3861"\nports = 8\nvector = 0x0100\n', 'kind = "3853"\n')
+        with tempfile.TemporaryDirectory() as folder:
+            for source_of, cart_of, line in [(source.partition('        ORG $0180')[0], cart, 'refused 0180 0016 . 3'),
+                                             (source, cart.replace('ports = 8', 'ports = 4'), 'refused 0059 000F . 9'),
+                                             (source, other, 'refused 0015 000F . 10'),
+                                             (source, cart.replace('format = 2', 'format = 1'), 'error cart chip 1 key kind cause 4')]:
+                Path(folder, 'snail.f8').write_text(source_of)
+                Path(folder, 'cart.toml').write_text(cart_of.replace('cartridges/snail/', ''))
+                done = subprocess.run([PROGRAM, 'check', 'cart.toml'], cwd=folder, capture_output=True, text=True, timeout=60)
+                self.assertEqual(done.stdout, f'{line}\n')
+                self.assertIn(f'`{line}`', said)
 
     def test_what_is_said_of_other_candles(self):
         source, cart = ((TOP / 'cartridges/candle' / name).read_text() for name in ('candle.f8', 'cart.toml'))
