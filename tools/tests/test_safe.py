@@ -12,6 +12,8 @@ from tool import PROGRAM, TOP, needs_program
 
 CHIPS = 'format = 1\nsplit = [{split}]\n[[chip]]\nkind = "3851"\nbase = 0\nports = 4\n{wired}source = "text.f8"\n'
 RAM = '[[chip]]\nkind = "3853"\nram_page = 0x28\nram_pages = 1\n'
+VECTOR = 'vector = 0x0100\ninterrupt = true\n'
+PIO = '[[chip]]\nkind = "3861"\nports = 8\n' + VECTOR
 VERDICT = re.compile(r'(whole \d+|agreed \d+|refused .*)')
 
 
@@ -33,8 +35,8 @@ def checked(text: str, folder: Path) -> str:
     first = text.split('\n')[0]
     split = re.search(r'split = \[(.*?)\]', first)
     (folder / 'text.f8').write_text(text + '\n')
-    chips = CHIPS.format(split=split[1] if split else '', wired='vector = 0x0100\ninterrupt = true\n' * ('interrupt' in first))
-    (folder / 'cart.toml').write_text(chips + RAM * ('RAM' in first))
+    chips = CHIPS.format(split=split[1] if split else '', wired=VECTOR * ('interrupt' in first)) + RAM * ('RAM' in first)
+    (folder / 'cart.toml').write_text(chips.replace('format = 1', 'format = 2') + PIO if '3861' in first else chips)
     return subprocess.run([PROGRAM, 'check', 'cart.toml'], cwd=folder, capture_output=True, text=True, timeout=60).stdout.strip()
 
 
@@ -75,6 +77,8 @@ class Safe(unittest.TestCase):
             open_wide = re.sub('.* DI\n', '', found['whole 19'])
             self.assertEqual(checked(open_wide, Path(folder)), 'whole 36')
             self.assertEqual(checked(found['whole 19'].partition('        ORG $0180')[0], Path(folder)), 'refused 0180 0007 . 3')
+            other = found['whole 19'].replace('; interrupt', '; 3861').replace('OUTS 6 ', 'OUTS 10')
+            self.assertEqual(checked(other, Path(folder)), 'whole 19')
 
     def test_a_signboard_that_wipes_less(self):
         """The numbers of points in the page and in the signboard's README."""
