@@ -1,4 +1,4 @@
-"""The 3861, a chip with ports, a timer and an interrupt and without memory: what the program does with it, and what the companions say of it.
+"""The 3861, a chip with ports, timer and interrupt and without memory: what the program does with it, and what the companions say.
 
 Ends of runs, verdicts and clocks were worked out by a model that was written apart.
 """
