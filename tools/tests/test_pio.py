@@ -12,7 +12,8 @@ from test_debugger_prompt import prompt_of
 from test_rules import searched
 from tool import PROGRAM, call, needs_program, needs_toml
 
-from companion.counters import Rack
+from companion.bus import FETCH, Step
+from companion.counters import PC0, Rack
 from companion.description import Description, Kind
 from companion.names import Names
 from companion.program import Program
@@ -87,6 +88,14 @@ class Known(Room):
         for line in ('      5  1B L  30  14     port 08  0001 0000 0000 0000  .     .     .',
                      '      8  0F L  80  14              0080 0001 0000 0000  .     .     .'):
             self.assertIn(line, [line.rstrip() for line in lines])
+
+    def test_it_has_no_part_in_a_step_of_memory(self):
+        chips = described(HAS_THE_PORT).chips
+        rack = Rack.of(chips, 0)
+        rack.chips[0].counters[PC0] = 0x0400
+        fault = Fault('stop undriven romc 00 at 0400', Step(FETCH, False, None, ''), PC0, 0x0400, rack, chips)
+        self.assertEqual([(part.role, part.words) for part in fault.parts()], [(Role.QUIET, "keeps off the bus: doesn't hold 0400")] * 2)
+        self.assertEqual(rack_drawing(fault).count('its own PC0'), 1)
 
     def explained(self, line: str, cart: str) -> str:
         return call('explain', '--cart', self.put('cart.toml', cart), stdin=line + '\n', cwd=self.room).told
