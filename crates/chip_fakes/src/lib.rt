@@ -1,5 +1,5 @@
-//! Storage chips for trying what stands on them: one that tells the steps that it heard, and one whose ROM differs in a byte from what
-//! is described. They are this project's own.
+//! Chips for trying what stands on them: one that tells the steps that it heard, and one whose ROM differs in a byte from what is
+//! described. They are this project's own.
 #![tactic(auto)]
 
 mod listener;

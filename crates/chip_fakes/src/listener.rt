@@ -6,13 +6,14 @@ ghost use Rattle.chip_fakes.specs.RecorderView.{heard_step};
 use super::recorder::{Heard, Recorder};
 use super::round::Round;
 use chip_face::{Chip, ChipKind, ChipSpec, FitFault, Memory, Offer};
+use pio3861::Pio;
 use psu3851::Psu;
 use romc_table::{Counters, Romc};
 use smi3853::Smi;
 use std::alloc::Global;
 
-/// A storage chip that tells the steps that it heard since power-on, as long as they are no more than its room. Past that it no longer
-/// tells. It has no patch. What it tells is seen by contracts alone.
+/// A chip that tells the steps that it heard since power-on, as long as they are no more than its room. Past that it no longer tells. It
+/// has no patch. What it tells is seen by contracts alone.
 #[derive(Drop)]
 pub struct Listener {
     chip: Round,
@@ -20,7 +21,7 @@ pub struct Listener {
 }
 
 impl Listener {
-    ghost use Rattle.f8_spec.specs.declared.chips.ChipKind.TheVariants.{Psu as PsuKind, Smi as SmiKind};
+    ghost use Rattle.f8_spec.specs.declared.chips.ChipKind.TheVariants.{Psu as PsuKind, Smi as SmiKind, Pio as PioKind};
     ghost use Rattle.chip_fakes.specs.ListenerState.{blank_listener, listener_state, listener_queries, recording_of};
 
     /// A blank 3851 that tells up to `room` steps, at most 1,000,000, or want of memory: the room is taken here.
@@ -45,6 +46,19 @@ impl Listener {
     {
         Ok(Listener {
             chip: Round::OfSmi(Smi::blank()),
+            recorder: Recorder::with_room(alloc, room)?,
+        })
+    }
+
+    /// A blank 3861 that tells up to `room` steps, at most 1,000,000, or want of memory: the room is taken here.
+    pub fn round_pio(alloc: Global, room: u32) -> Result<Listener, Memory>
+        requires { room ≤ 1000000 }
+        ensures state { IfOk result (λ listener. listener_state listener ≡ blank_listener PioKind) }
+        ensures asked { IfOk result (λ listener. listener_queries listener ≡ 0) }
+        ensures room { IfOk result (λ listener. (recording_of listener).room ≡ room) }
+    {
+        Ok(Listener {
+            chip: Round::OfPio(Pio::blank()),
             recorder: Recorder::with_room(alloc, room)?,
         })
     }

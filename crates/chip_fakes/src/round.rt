@@ -1,15 +1,17 @@
-// A chip of one of the two kinds.
+// A chip of one of the three kinds.
 use chip_face::{Chip, ChipKind, ChipSpec, FitFault, Offer};
+use pio3861::Pio;
 use psu3851::Psu;
 use romc_table::{Counters, Romc};
 use smi3853::Smi;
 use std::alloc::Global;
 
-/// A chip of one of the two kinds, which tells no step that it heard and has no patch.
+/// A chip of one of the three kinds, which tells no step that it heard and has no patch.
 #[derive(Drop)]
 pub enum Round {
     OfPsu(Psu),
     OfSmi(Smi),
+    OfPio(Pio),
 }
 
 impl Chip for Round {
@@ -26,6 +28,7 @@ impl Chip for Round {
         match self {
             Round::OfPsu(psu) => psu.kind(),
             Round::OfSmi(smi) => smi.kind(),
+            Round::OfPio(pio) => pio.kind(),
         }
     }
 
@@ -42,6 +45,7 @@ impl Chip for Round {
         match self {
             Round::OfPsu(psu) => psu.fit(alloc, spec),
             Round::OfSmi(smi) => smi.fit(alloc, spec),
+            Round::OfPio(pio) => pio.fit(alloc, spec),
         }
     }
 
@@ -49,6 +53,7 @@ impl Chip for Round {
         match self {
             Round::OfPsu(psu) => psu.power(fill, start),
             Round::OfSmi(smi) => smi.power(fill, start),
+            Round::OfPio(pio) => pio.power(fill, start),
         }
     }
 
@@ -56,6 +61,7 @@ impl Chip for Round {
         match self {
             Round::OfPsu(psu) => psu.offer(romc, first),
             Round::OfSmi(smi) => smi.offer(romc, first),
+            Round::OfPio(pio) => pio.offer(romc, first),
         }
     }
 
@@ -63,6 +69,7 @@ impl Chip for Round {
         match self {
             Round::OfPsu(psu) => psu.settle(romc, byte, phi, first),
             Round::OfSmi(smi) => smi.settle(romc, byte, phi, first),
+            Round::OfPio(pio) => pio.settle(romc, byte, phi, first),
         }
     }
 
@@ -70,6 +77,7 @@ impl Chip for Round {
         match self {
             Round::OfPsu(psu) => psu.asks(),
             Round::OfSmi(smi) => smi.asks(),
+            Round::OfPio(pio) => pio.asks(),
         }
     }
 
@@ -77,6 +85,7 @@ impl Chip for Round {
         match self {
             Round::OfPsu(psu) => psu.counters(),
             Round::OfSmi(smi) => smi.counters(),
+            Round::OfPio(pio) => pio.counters(),
         }
     }
 
@@ -84,6 +93,7 @@ impl Chip for Round {
         match self {
             Round::OfPsu(psu) => psu.peek(at),
             Round::OfSmi(smi) => smi.peek(at),
+            Round::OfPio(pio) => pio.peek(at),
         }
     }
 
@@ -91,6 +101,7 @@ impl Chip for Round {
         match self {
             Round::OfPsu(psu) => psu.takes(at),
             Round::OfSmi(smi) => smi.takes(at),
+            Round::OfPio(pio) => pio.takes(at),
         }
     }
 
@@ -98,6 +109,7 @@ impl Chip for Round {
         match self {
             Round::OfPsu(psu) => psu.latch(port),
             Round::OfSmi(smi) => smi.latch(port),
+            Round::OfPio(pio) => pio.latch(port),
         }
     }
 
@@ -105,6 +117,7 @@ impl Chip for Round {
         match self {
             Round::OfPsu(psu) => psu.keys(port, byte),
             Round::OfSmi(smi) => smi.keys(port, byte),
+            Round::OfPio(pio) => pio.keys(port, byte),
         }
     }
 
@@ -112,6 +125,7 @@ impl Chip for Round {
         match self {
             Round::OfPsu(psu) => psu.pulse(),
             Round::OfSmi(smi) => smi.pulse(),
+            Round::OfPio(pio) => pio.pulse(),
         }
     }
 
@@ -119,6 +133,7 @@ impl Chip for Round {
         match self {
             Round::OfPsu(psu) => psu.asked(),
             Round::OfSmi(smi) => smi.asked(),
+            Round::OfPio(pio) => pio.asked(),
         }
     }
 }

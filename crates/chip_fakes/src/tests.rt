@@ -64,3 +64,23 @@ fn listens_to_a_3853(rt: HostRuntime) -> Result<(), Fail> {
     assert_eq!(rt; smi.asks(), true);
     Ok(())
 }
+
+// A listener acts as the 3861 in it.
+#[test]
+fn listens_to_a_3861(rt: HostRuntime) -> Result<(), Fail> {
+    let mut rack: Vec<Box<dyn Chip>> = Vec::new(rt.alloc());
+    rack.push(Box::new(rt.alloc(), Listener::round_pio(rt.alloc(), 100)?)?)?;
+    let pio = &mut rack[0];
+    let spec = ChipSpec::Pio {
+        ports: 8,
+        vector: 0,
+        wired: true,
+    };
+    pio.fit(rt.alloc(), &spec)?;
+    pio.power(0, 0);
+    pio.settle(Romc::IDLE, 0x0A, 6, false);
+    pio.settle(Romc::WRITE_PORT, 0x01, 6, false);
+    pio.pulse();
+    assert_eq!(rt; pio.asks(), true);
+    Ok(())
+}
