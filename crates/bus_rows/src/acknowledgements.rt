@@ -4,8 +4,8 @@ ghost use Rattle.bus_rows.specs.Indexed.{FitsIndexed};
 
 use super::bus::{Bus, WAYS, Way, pulse};
 use super::cart::{Cart, empty, psu_at, smi_at};
-use super::seats::{PsuSeat, psu, smi};
-use super::walk::walk;
+use super::seats::{PioSeat, PsuSeat, pio, psu, smi};
+use super::walk::{Row, walk};
 use chip_face::{Chip, PageSort};
 use data_bus::Rack;
 use romc_table::Romc;
@@ -57,9 +57,29 @@ fn acknowledge(
     Ok(())
 }
 
-/// Two 3851s at 0000 with the vectors 1234 and 5678, and a 3853 that stands by there with the vector 9A3C. All let pulses in. A fetch is
-/// a conflict.
-fn seat_three(rt: &impl Abort, alloc: Global, rack: &mut Rack, way: Way) -> Result<Bus, Fail>
+/// Each chip comes to let pulses in, and the 3853 to have its vector. A fetch is a conflict.
+const BEGIN: [Row; 13] = [
+    (Romc::IDLE, 0x06, "served 06"),
+    (Romc::WRITE_PORT, 0x01, "served 01 socket 0"),
+    (Romc::IDLE, 0x0A, "served 0A"),
+    (Romc::WRITE_PORT, 0x01, "served 01 socket 1"),
+    (Romc::IDLE, 0x0C, "served 0C"),
+    (Romc::WRITE_PORT, 0x9A, "served 9A socket 2"),
+    (Romc::IDLE, 0x0D, "served 0D"),
+    (Romc::WRITE_PORT, 0x3C, "served 3C socket 2"),
+    (Romc::IDLE, 0x0E, "served 0E"),
+    (Romc::WRITE_PORT, 0x01, "served 01 socket 2"),
+    (Romc::IDLE, 0x12, "served 12"),
+    (Romc::WRITE_PORT, 0x01, "served 01 socket 4"),
+    (
+        Romc::FETCH,
+        0x77,
+        "conflict romc 00 socket 0 at 0000 socket 1 at 0000",
+    ),
+];
+
+/// Two 3851s at 0000 with the vectors 1234 and 5678, a 3853 that stands by there with the vector 9A3C, and a 3861 with the vector 2345.
+fn seat_four(rt: &impl Abort, alloc: Global, rack: &mut Rack, way: Way) -> Result<Bus, Fail>
     ensures fits { IfOk result (λ bus. FitsIndexed bus.index bus.probe (map state rack.new.items)) }
 {
     let cart = Cart {
@@ -74,65 +94,40 @@ fn seat_three(rt: &impl Abort, alloc: Global, rack: &mut Rack, way: Way) -> Resu
             },
         ],
         smis: &[smi(2, 0x00, PageSort::Void, 0x9000)],
+        pios: &[PioSeat {
+            vector: 0x2345,
+            ..pio(0x10)
+        }],
         ..empty()
     };
     let mut bus = cart.seat(alloc, rack, way)?;
-    let rows = [
-        (Romc::IDLE, 0x06, "served 06"),
-        (Romc::WRITE_PORT, 0x01, "served 01 socket 0"),
-        (Romc::IDLE, 0x0A, "served 0A"),
-        (Romc::WRITE_PORT, 0x01, "served 01 socket 1"),
-        (Romc::IDLE, 0x0C, "served 0C"),
-        (Romc::WRITE_PORT, 0x9A, "served 9A socket 2"),
-        (Romc::IDLE, 0x0D, "served 0D"),
-        (Romc::WRITE_PORT, 0x3C, "served 3C socket 2"),
-        (Romc::IDLE, 0x0E, "served 0E"),
-        (Romc::WRITE_PORT, 0x01, "served 01 socket 2"),
-        (
-            Romc::FETCH,
-            0x77,
-            "conflict romc 00 socket 0 at 0000 socket 1 at 0000",
-        ),
-    ];
-    walk(rt, alloc, rack, &mut bus, None, &rows)?;
+    walk(rt, alloc, rack, &mut bus, None, &BEGIN)?;
     Ok(bus)
 }
 
-/// Three acknowledgements are served all the same. A pulse sets bit 7 of the vector.
-fn three(rt: &impl Abort, alloc: Global, rack: &mut Rack, way: Way) -> Result<(), Fail> {
-    let mut bus = seat_three(rt, alloc, rack, way)?;
-    pulse_one(rt, rack, &bus, 0)?;
-    pulse_one(rt, rack, &bus, 1)?;
-    pulse_one(rt, rack, &bus, 2)?;
-    acknowledge(
-        rt,
-        alloc,
-        rack,
-        &mut bus,
-        1,
-        ["served F8 socket 1", "served 56 socket 1"],
-    )?;
-    acknowledge(
-        rt,
-        alloc,
-        rack,
-        &mut bus,
-        2,
-        ["served BC socket 2", "served 9A socket 2"],
-    )?;
-    acknowledge(
-        rt,
-        alloc,
-        rack,
-        &mut bus,
-        0,
-        ["served B4 socket 0", "served 12 socket 0"],
-    )?;
-    let psu = psu_at(0x12B4, 0x9ABC, 0x0000);
+/// The chips that are acknowledged, one after another, and both halves of their vectors: a pulse sets bit 7 of the low one.
+const HALVES: [(u8, [&str; 2]); 4] = [
+    (1, ["served F8 socket 1", "served 56 socket 1"]),
+    (2, ["served BC socket 2", "served 9A socket 2"]),
+    (4, ["served C5 socket 4", "served 23 socket 4"]),
+    (0, ["served B4 socket 0", "served 12 socket 0"]),
+];
+
+/// Four acknowledgements are served all the same. All chips with counters take each vector.
+fn four(rt: &impl Abort, alloc: Global, rack: &mut Rack, way: Way) -> Result<(), Fail> {
+    let mut bus = seat_four(rt, alloc, rack, way)?;
+    for pulsed in [0, 1, 2, 4] {
+        pulse_one(rt, rack, &bus, pulsed)?;
+    }
+    for (socket, halves) in HALVES {
+        acknowledge(rt, alloc, rack, &mut bus, socket, halves)?;
+    }
+    let psu = psu_at(0x12B4, 0x23C5, 0x0000);
     let ends = Cart {
         name: "acknowledgements",
-        chips: &[psu, psu, smi_at(0x12B4, 0x9ABC, 0x9000, 0x9000)],
-        probe: smi_at(0x12B4, 0x9ABC, 0x0000, 0x0000),
+        chips: &[psu, psu, smi_at(0x12B4, 0x23C5, 0x9000, 0x9000)],
+        pios: &[pio(0x10)],
+        probe: smi_at(0x12B4, 0x23C5, 0x0000, 0x0000),
         ..empty()
     };
     ends.check(rt, rack, &bus);
@@ -142,7 +137,7 @@ fn three(rt: &impl Abort, alloc: Global, rack: &mut Rack, way: Way) -> Result<()
 /// With every chip asked, and by an index.
 pub(crate) fn all(rt: &impl Abort, alloc: Global, rack: &mut Rack) -> Result<(), Fail> {
     for way in WAYS {
-        three(rt, alloc, rack, way)?;
+        four(rt, alloc, rack, way)?;
     }
     Ok(())
 }

@@ -3,7 +3,7 @@ ghost use Rattle.std.specs.Prelude.{map, IfOk};
 ghost use Rattle.bus_rows.specs.Indexed.{FitsIndexed};
 
 use super::bus::{Bus, WAYS, Way};
-use super::seats::{PsuSeat, SmiSeat, clear, rom_of, seat_psu, seat_smi};
+use super::seats::{PioSeat, PsuSeat, SmiSeat, clear, rom_of, seat_pio, seat_psu, seat_smi};
 use super::walk::{Row, walk};
 use data_bus::Rack;
 use romc_table::Counters;
@@ -23,6 +23,7 @@ pub(crate) struct Cart<'a> {
     pub(crate) last: [u8; 2],
 
     pub(crate) smis: &'a [SmiSeat],
+    pub(crate) pios: &'a [PioSeat],
     pub(crate) rows: &'a [Row<'a>],
 
     /// The counters of the chips in the first sockets, and of the probe.
@@ -44,6 +45,7 @@ pub(crate) fn empty<'a>() -> Cart<'a> {
         program: &[],
         last: [0xFF, 0xFF],
         smis: &[],
+        pios: &[],
         rows: &[],
         chips: &[],
         probe: smi_at(0, 0, 0, 0),
@@ -72,6 +74,14 @@ pub(crate) fn smi_at(pc0: u16, pc1: u16, dc0: u16, dc1: u16) -> Counters {
     }
 }
 
+/// What a 3861 tells, which has no counters.
+const NO_COUNTERS: Counters = Counters {
+    pc0: 0,
+    pc1: 0,
+    dc0: 0,
+    dc1: None,
+};
+
 /// The counters of a 3851 that hasn't moved since power-on.
 pub(crate) fn psu_still(at: u16) -> Counters {
     psu_at(at, at, at)
@@ -95,6 +105,11 @@ impl Cart<'_> {
                 return smi.start;
             }
         }
+        for pio in self.pios {
+            if pio.socket == socket {
+                return pio.start;
+            }
+        }
         0
     }
 
@@ -110,6 +125,9 @@ impl Cart<'_> {
         for smi in self.smis {
             seat_smi(alloc, rack, *smi)?;
         }
+        for pio in self.pios {
+            seat_pio(alloc, rack, *pio)?;
+        }
         if rack.len() > 16 {
             return Err("more than 16 chips".into());
         }
@@ -122,6 +140,10 @@ impl Cart<'_> {
         assert_eq!(rt; bus.probe.counters(), self.probe, "{name}");
         for (socket, (chip, want)) in rack.iter_mut().zip(self.chips).enumerate() {
             assert_eq!(rt; chip.counters(), *want, "{name}, socket {socket}");
+        }
+        for pio in self.pios {
+            let told = rack.get_mut(pio.socket).map(|chip| chip.counters());
+            assert_eq!(rt; told, Some(NO_COUNTERS), "{name}, a 3861");
         }
         for (socket, at, byte) in self.bytes {
             let held = rack.get_mut(*socket).and_then(|chip| chip.peek(*at));

@@ -1,6 +1,7 @@
-//! Steps in which the byte is the CPU's, or nobody's: all are served, wherever the counters are.
+//! Steps in which the byte is the CPU's, or nobody's: all are served, wherever the counters are. A 3861 hears them, and has no counter that
+//! one could move.
 use super::cart::{Cart, empty, psu_at, smi_at};
-use super::seats::{psu, smi};
+use super::seats::{pio, psu, smi};
 use chip_face::PageSort;
 use data_bus::Rack;
 use romc_table::Romc;
@@ -14,6 +15,7 @@ fn program_counters(rt: &impl Abort, alloc: Global, rack: &mut Rack) -> Result<(
         name: "program counters",
         psus: &[psu(0, 0x0001), psu(1, 0x9002)],
         smis: &[smi(2, 0x00, PageSort::Ram, 0x2803)],
+        pios: &[pio(0x10)],
         rows: &[
             (Romc::SET_PROGRAM_LOW, 0x34, "served 34"),
             (Romc::SAVE_NEXT, 0x77, "served 00"),
@@ -37,6 +39,7 @@ fn calls_and_returns(rt: &impl Abort, alloc: Global, rack: &mut Rack) -> Result<
         name: "calls and returns",
         psus: &[psu(0, 0x0001), psu(1, 0x9002)],
         smis: &[smi(2, 0x00, PageSort::Ram, 0x2803)],
+        pios: &[pio(0x10)],
         rows: &[
             (Romc::RESET, 0x00, "served 00"),
             (Romc::SET_STACK_LOW, 0x67, "served 67"),
@@ -60,6 +63,7 @@ fn data_counters(rt: &impl Abort, alloc: Global, rack: &mut Rack) -> Result<(), 
         name: "data counters",
         psus: &[psu(0, 0x0001), psu(1, 0x9002)],
         smis: &[smi(2, 0x00, PageSort::Ram, 0x2803)],
+        pios: &[pio(0x10)],
         rows: &[
             (Romc::SET_DATA_LOW, 0xAB, "served AB"),
             (Romc::EXCHANGE, 0x77, "served 00"),

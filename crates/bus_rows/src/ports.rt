@@ -1,6 +1,6 @@
 //! Port steps, which go by the last byte on the bus: it names the port. A 3853 has the ports 0C to 0F.
 use super::cart::{Cart, empty, psu_still, smi_still};
-use super::seats::{PsuSeat, psu, smi};
+use super::seats::{PsuSeat, pio, psu, smi};
 use chip_face::PageSort;
 use data_bus::Rack;
 use romc_table::Romc;
@@ -143,10 +143,71 @@ fn two_share(rt: &impl Abort, alloc: Global, rack: &mut Rack) -> Result<(), Fail
     cart.play(rt, alloc, rack)
 }
 
+/// A 3861 takes a byte at each of its four ports, and drives one at its two data ports alone. A fault leaves the last byte.
+fn parallel(rt: &impl Abort, alloc: Global, rack: &mut Rack) -> Result<(), Fail> {
+    let cart = Cart {
+        name: "ports of a 3861",
+        psus: &[psu(0, 0)],
+        pios: &[pio(0x10)],
+        rows: &[
+            (Romc::IDLE, 0x10, "served 10"),
+            (Romc::WRITE_PORT, 0x81, "served 81 socket 4"),
+            (Romc::IDLE, 0x10, "served 10"),
+            (Romc::READ_PORT, 0x77, "served 81 socket 4"),
+            (Romc::IDLE, 0x11, "served 11"),
+            (Romc::WRITE_PORT, 0x42, "served 42 socket 4"),
+            (Romc::IDLE, 0x11, "served 11"),
+            (Romc::READ_PORT, 0x77, "served 42 socket 4"),
+            (Romc::IDLE, 0x12, "served 12"),
+            (Romc::READ_PORT, 0x77, "undriven romc 1B at 0012"),
+            (Romc::WRITE_PORT, 0x01, "served 01 socket 4"),
+            (Romc::IDLE, 0x13, "served 13"),
+            (Romc::READ_PORT, 0x77, "undriven romc 1B at 0013"),
+            (Romc::WRITE_PORT, 0xFE, "served FE socket 4"),
+        ],
+        chips: &[psu_still(0x0000)],
+        latches: &[(0, 0x04, 0x00), (4, 0x10, 0x81), (4, 0x11, 0x42)],
+        ..empty()
+    };
+    cart.play(rt, alloc, rack)
+}
+
+const TWO_TAKE_08: &str = "conflict romc 1A socket 0 at 0008 socket 4 at 0008";
+
+const TWO_DRIVE_08: &str = "conflict romc 1B socket 0 at 0008 socket 4 at 0008";
+
+const TWO_TAKE_0A: &str = "conflict romc 1A socket 0 at 000A socket 4 at 000A";
+
+/// A 3851 and a 3861 with ports from 08: both would take a byte, and both drive one at a data port.
+fn kinds_share(rt: &impl Abort, alloc: Global, rack: &mut Rack) -> Result<(), Fail> {
+    let cart = Cart {
+        name: "a 3851 and a 3861 share their ports",
+        psus: &[PsuSeat {
+            ports: 0x08,
+            ..psu(0, 0)
+        }],
+        pios: &[pio(0x08)],
+        rows: &[
+            (Romc::IDLE, 0x08, "served 08"),
+            (Romc::WRITE_PORT, 0x55, TWO_TAKE_08),
+            (Romc::READ_PORT, 0x77, TWO_DRIVE_08),
+            (Romc::IDLE, 0x0A, "served 0A"),
+            (Romc::WRITE_PORT, 0x55, TWO_TAKE_0A),
+            (Romc::READ_PORT, 0x77, "undriven romc 1B at 000A"),
+        ],
+        chips: &[psu_still(0x0000)],
+        latches: &[(0, 0x08, 0x00), (4, 0x08, 0x00)],
+        ..empty()
+    };
+    cart.play(rt, alloc, rack)
+}
+
 /// Each fault, and port steps that are served.
 pub(crate) fn all(rt: &impl Abort, alloc: Global, rack: &mut Rack) -> Result<(), Fail> {
     served(rt, alloc, rack)?;
     undriven(rt, alloc, rack)?;
     four_share(rt, alloc, rack)?;
-    two_share(rt, alloc, rack)
+    two_share(rt, alloc, rack)?;
+    parallel(rt, alloc, rack)?;
+    kinds_share(rt, alloc, rack)
 }

@@ -1,7 +1,8 @@
-//! Steps in which a chip has to drive a byte of memory or of a counter.
+//! Steps in which a chip has to drive a byte of memory or of a counter. A 3861 has neither: it takes no part in any of them, though each
+//! counter that it tells is 0, as the probe's are at first.
 use super::bus::{WAYS, Way};
 use super::cart::{Cart, empty, psu_at, psu_still, smi_at, smi_still};
-use super::seats::{PsuSeat, psu, smi};
+use super::seats::{PsuSeat, pio, psu, smi};
 use super::walk::walk;
 use chip_face::PageSort;
 use data_bus::Rack;
@@ -63,6 +64,7 @@ fn conflict(rt: &impl Abort, alloc: Global, rack: &mut Rack) -> Result<(), Fail>
         name: "three drive",
         psus: &[psu(0, 0x0000), psu(1, 0x0001)],
         smis: &[smi(2, 0x00, PageSort::Rom, 0x0002)],
+        pios: &[pio(0x10)],
         chips: &[psu_still(0x0000), psu_still(0x0001), smi_still(0x0002)],
         ..empty()
     };
@@ -70,11 +72,12 @@ fn conflict(rt: &impl Abort, alloc: Global, rack: &mut Rack) -> Result<(), Fail>
     each_fails(rt, alloc, rack, &cart, "conflict", parties)
 }
 
-/// The only chip holds the probe's address, but not its own.
+/// The only chip with memory holds the probe's address, but not its own.
 fn undriven(rt: &impl Abort, alloc: Global, rack: &mut Rack) -> Result<(), Fail> {
     let cart = Cart {
         name: "none drives",
         psus: &[psu(0, 0x9000)],
+        pios: &[pio(0x10)],
         chips: &[psu_still(0x9000)],
         ..empty()
     };
@@ -86,6 +89,7 @@ fn driver_astray(rt: &impl Abort, alloc: Global, rack: &mut Rack) -> Result<(), 
     let cart = Cart {
         name: "the driver is astray",
         psus: &[psu(0, 0x9000), psu(1, 0x0005)],
+        pios: &[pio(0x10)],
         chips: &[psu_still(0x9000), psu_still(0x0005)],
         ..empty()
     };
@@ -107,6 +111,7 @@ fn bystander(rt: &impl Abort, alloc: Global, rack: &mut Rack) -> Result<(), Fail
         name: "two stand by",
         psus: &[psu(0, 0x9000), psu(1, 0x0000)],
         smis: &[void],
+        pios: &[pio(0x10)],
         chips: &[psu_still(0x9000), psu_still(0x0000)],
         ..empty()
     };
@@ -122,6 +127,7 @@ fn bystander(rt: &impl Abort, alloc: Global, rack: &mut Rack) -> Result<(), Fail
         name: "one stands by",
         psus: &[psu(0, 0x0000)],
         smis: &[void],
+        pios: &[pio(0x10)],
         chips: &[psu_still(0x0000)],
         ..empty()
     };
@@ -135,7 +141,7 @@ fn bystander(rt: &impl Abort, alloc: Global, rack: &mut Rack) -> Result<(), Fail
     )
 }
 
-/// All thirteen steps, served by one chip; blank chips of both kinds hear them as well.
+/// All thirteen steps, served by one chip; blank chips with counters and a 3861 hear them as well.
 fn served(rt: &impl Abort, alloc: Global, rack: &mut Rack) -> Result<(), Fail> {
     let one_counter = psu_at(0x0404, 0x0462, 0x0406);
     let two_counters = smi_at(0x0404, 0x0462, 0x0406, 0x0000);
@@ -146,6 +152,7 @@ fn served(rt: &impl Abort, alloc: Global, rack: &mut Rack) -> Result<(), Fail> {
             ..psu(0, 0x0000)
         }],
         program: &[0x2A, 0x04, 0x05, 0xFE, 0xFF, 0x5A],
+        pios: &[pio(0x10)],
         rows: &[
             (Romc::SET_PROGRAM_HIGH, 0x04, "served 04"),
             (Romc::FETCH, 0x77, "served 2A socket 0"),

@@ -29,6 +29,17 @@ pub(crate) struct SmiSeat {
     pub(crate) start: u16,
 }
 
+/// A 3861, its interrupts wired.
+#[derive(Clone, Copy)]
+pub(crate) struct PioSeat {
+    pub(crate) socket: usize,
+    pub(crate) ports: u8,
+    pub(crate) vector: u16,
+
+    /// The address at power-on, which it doesn't keep.
+    pub(crate) start: u16,
+}
+
 /// A 3851 at 0000 in one of the first two sockets, with ports from 04 in the first and from 08 in the second.
 pub(crate) fn psu(socket: usize, start: u16) -> PsuSeat {
     PsuSeat {
@@ -47,6 +58,16 @@ pub(crate) fn smi(socket: usize, page: u8, sort: PageSort, start: u16) -> SmiSea
         page,
         sort,
         start,
+    }
+}
+
+/// A 3861 in the last socket, which is powered on at 9000.
+pub(crate) fn pio(ports: u8) -> PioSeat {
+    PioSeat {
+        socket: 4,
+        ports,
+        vector: 0x0000,
+        start: 0x9000,
     }
 }
 
@@ -113,6 +134,19 @@ pub(crate) fn seat_smi(alloc: Global, rack: &mut Rack, place: SmiSeat) -> Result
     let spec = ChipSpec::Smi {
         pages: PageList::of(alloc, &[page])?,
         rom,
+        wired: true,
+    };
+    seat(alloc, &mut rack[place.socket], &spec)
+}
+
+pub(crate) fn seat_pio(alloc: Global, rack: &mut Rack, place: PioSeat) -> Result<(), Fail> {
+    let boundary = place.ports % 4 == 0 && place.ports >= 4;
+    if !boundary || place.socket >= rack.len() {
+        return Err("no place for a 3861".into());
+    }
+    let spec = ChipSpec::Pio {
+        ports: place.ports,
+        vector: place.vector,
         wired: true,
     };
     seat(alloc, &mut rack[place.socket], &spec)

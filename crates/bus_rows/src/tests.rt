@@ -7,6 +7,7 @@ use super::{acknowledgements, carts, free_steps, ports, reads, stores};
 use chip_face::Chip;
 use chip_fakes::Listener;
 use data_bus::Rack;
+use pio3861::Pio;
 use psu3851::Psu;
 use romc_table::Romc;
 use smi3853::Smi;
@@ -14,14 +15,15 @@ use std::alloc::Global;
 use std::process::Abort;
 use std::test::Fail;
 
-/// A rack of two 3851s and two 3853s, each made anew.
+/// A rack of two 3851s, two 3853s and a 3861, each made anew.
 macro_rules! rack_of {
-    ($rt:ident, $psu:expr, $smi:expr) => {{
+    ($rt:ident, $psu:expr, $smi:expr, $pio:expr) => {{
         let mut rack: Rack = Vec::new($rt.alloc());
         rack.push(Box::new($rt.alloc(), $psu)?)?;
         rack.push(Box::new($rt.alloc(), $psu)?)?;
         rack.push(Box::new($rt.alloc(), $smi)?)?;
         rack.push(Box::new($rt.alloc(), $smi)?)?;
+        rack.push(Box::new($rt.alloc(), $pio)?)?;
         rack
     }};
 }
@@ -38,7 +40,7 @@ fn play_all(rt: &impl Abort, alloc: Global, rack: &mut Rack) -> Result<(), Fail>
 
 #[test]
 fn on_plain_chips(rt: HostRuntime) -> Result<(), Fail> {
-    let mut rack = rack_of!(rt, Psu::blank(), Smi::blank());
+    let mut rack = rack_of!(rt, Psu::blank(), Smi::blank(), Pio::blank());
     play_all(&rt, rt.alloc(), &mut rack)
 }
 
@@ -47,7 +49,8 @@ fn on_listeners(rt: HostRuntime) -> Result<(), Fail> {
     let mut rack = rack_of!(
         rt,
         Listener::round_psu(rt.alloc(), 1000)?,
-        Listener::round_smi(rt.alloc(), 1000)?
+        Listener::round_smi(rt.alloc(), 1000)?,
+        Listener::round_pio(rt.alloc(), 1000)?
     );
     play_all(&rt, rt.alloc(), &mut rack)
 }
