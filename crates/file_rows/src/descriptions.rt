@@ -1,6 +1,6 @@
 // Descriptions and what is answered to them.
 use cartridge::{Cart, CartAnswer, Plan, read_cart};
-use chip_face::ChipSpec;
+use chip_face::{ChipSpec, Page, PageSort, PowerOn, USUAL_POWER};
 use f8_asm::{Room, assemble};
 use std::alloc::Global;
 use std::test::Fail;
@@ -138,6 +138,60 @@ fn byte_at(cart: &Cart, chip: usize, place: usize) -> Option<u8> {
         ChipSpec::Psu { rom, .. } => rom.get(place),
         ChipSpec::Smi { rom, .. } => rom.get(place),
     }
+}
+
+/// A description of format 2: a 3853 with its pages and how it is powered on, and a 3861.
+const FORMAT_2: &str = "format = 2\n\
+     [[chip]]\nkind = '3853'\npages = ['ram 28', 'rom 20-21']\nrom = '70'\nfill = 0x33\nstart = 0x2000\n\
+     [[chip]]\nkind = '3861'\nports = 8\nvector = 0x0100\ninterrupt = true\n";
+
+/// The pages of that 3853, in ascending order.
+const PAGES: [Page; 3] = [
+    Page {
+        number: 0x20,
+        sort: PageSort::Rom,
+    },
+    Page {
+        number: 0x21,
+        sort: PageSort::Rom,
+    },
+    Page {
+        number: 0x28,
+        sort: PageSort::Ram,
+    },
+];
+
+#[test]
+fn format_2_has_page_texts_power_on_and_the_3861(rt: HostRuntime) -> Result<(), Fail> {
+    let table = toml::table_from_str(rt.alloc(), FORMAT_2)?;
+    let plan = read_cart(rt.alloc(), &table)?;
+    let Ok(cart) = plan.cart() else {
+        return Err("a source isn't filled".into());
+    };
+    let pages = match cart.chips.as_slice().get(0) {
+        Some(ChipSpec::Smi { pages, .. }) => pages.as_slice(),
+        _ => return Err("no 3853".into()),
+    };
+    assert_eq!(rt; pages, PAGES.as_slice());
+    assert_eq!(rt; byte_at(&cart, 0, 0), Some(0x70));
+    assert_eq!(rt; byte_at(&cart, 0, 511), Some(0xFF));
+    assert_eq!(rt; byte_at(&cart, 0, 512), None);
+    match cart.chips.as_slice().get(1) {
+        Some(
+            ChipSpec::Pio {
+                ports,
+                vector,
+                wired,
+            },
+        ) => assert_eq!(rt; (*ports, *vector, *wired), (8, 0x0100, true)),
+        _ => return Err("no 3861".into()),
+    }
+    let said = PowerOn {
+        fill: Some(0x33),
+        start: Some(0x2000),
+    };
+    assert_eq!(rt; cart.powers.as_slice(), [said, USUAL_POWER].as_slice());
+    Ok(())
 }
 
 #[test]

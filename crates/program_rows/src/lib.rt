@@ -19,6 +19,8 @@ mod limits;
 #[cfg(test)]
 mod migrations;
 #[cfg(test)]
+mod parallel;
+#[cfg(test)]
 mod powers;
 #[cfg(test)]
 mod questions;

@@ -39,7 +39,7 @@ const SEVENTEEN_CHIPS: &str = "format = 1\n\
      [[chip]]\n[[chip]]\n[[chip]]\n[[chip]]\n[[chip]]\n[[chip]]\n[[chip]]\n[[chip]]\n[[chip]]\n\
      [[chip]]\n[[chip]]\n[[chip]]\n[[chip]]\n[[chip]]\n[[chip]]\n[[chip]]\n[[chip]]\n";
 
-const ROWS: [Row; 48] = [
+const ROWS: [Row; 59] = [
     (Change::Cart(""), 2, "error cart key format cause 1\n"),
     (
         Change::Cart("format = 3\n[[chip]]\nkind = '3851'\nbase = 0\nports = 4\nrom = '71'\n"),
@@ -178,9 +178,66 @@ const ROWS: [Row; 48] = [
         "error cart chip 0 key source cause 4\n",
     ),
     (
-        Change::Cart("format = 2\n[[chip]]\nkind = '3861'\nports = 4\n"),
+        Change::Cart("format = 1\n[[chip]]\nkind = '3861'\nports = 4\n"),
         2,
         "error cart chip 0 key kind cause 4\n",
+    ),
+    (
+        Change::Cart("format = 2\n[[chip]]\nkind = '3861'\nports = 8\nbase = 0\n"),
+        2,
+        "error cart chip 0 key ? cause 2\n",
+    ),
+    (
+        Change::Cart("format = 2\n[[chip]]\nkind = '3861'\nports = 8\nrom = ''\n"),
+        2,
+        "error cart chip 0 key ? cause 2\n",
+    ),
+    (
+        Change::Cart("format = 2\n[[chip]]\nkind = '3861'\nports = 8\nsource = 'a'\n"),
+        2,
+        "error cart chip 0 key ? cause 2\n",
+    ),
+    (
+        Change::Cart("format = 2\n[[chip]]\nkind = '3861'\nports = 8\nstart = 0\n"),
+        2,
+        "error cart chip 0 key ? cause 2\n",
+    ),
+    (
+        Change::Cart("format = 2\n[[chip]]\nkind = '3861'\nports = 8\nfill = 0\n"),
+        2,
+        "error cart chip 0 key ? cause 2\n",
+    ),
+    (
+        Change::Cart("format = 2\n[[chip]]\nkind = '3861'\nports = 8\npages = []\n"),
+        2,
+        "error cart chip 0 key ? cause 2\n",
+    ),
+    (
+        Change::Cart("format = 2\n[[chip]]\nkind = '3861'\nvector = 65536\n"),
+        2,
+        "error cart chip 0 key ports cause 1\n",
+    ),
+    (
+        Change::Cart("format = 2\n[[chip]]\nkind = '3861'\nports = 6\n"),
+        2,
+        "error cart chip 0 key ports cause 5\n",
+    ),
+    (
+        Change::Cart("format = 2\n[[chip]]\nkind = '3861'\nports = 256\n"),
+        2,
+        "error cart chip 0 key ports cause 4\n",
+    ),
+    (
+        Change::Cart(
+            "format = 2\n[[chip]]\nkind = '3861'\nports = 8\nvector = 65536\ninterrupt = 1\n",
+        ),
+        2,
+        "error cart chip 0 key vector cause 4\n",
+    ),
+    (
+        Change::Cart("format = 2\n[[chip]]\nkind = '3861'\nports = 8\ninterrupt = 1\n"),
+        2,
+        "error cart chip 0 key interrupt cause 3\n",
     ),
     (
         Change::Source(" BT 1,$200"),

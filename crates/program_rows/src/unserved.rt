@@ -135,7 +135,7 @@ fn check_all(rt: &impl Abort, alloc: Global, rack: &mut Rack) -> Result<(), Fail
     Ok(())
 }
 
-/// Sockets for twelve 3851s, and behind them for one 3853.
+/// Sockets for twelve 3851s, and behind them for one 3853; and then for a 3861 too, which changes nothing.
 #[test]
 fn ends_runs_on_listeners(rt: HostRuntime) -> Result<(), Fail> {
     let mut rack: Rack = Vec::new(rt.alloc());
@@ -145,5 +145,8 @@ fn ends_runs_on_listeners(rt: HostRuntime) -> Result<(), Fail> {
     }
     let smi = Listener::round_smi(rt.alloc(), 10_000)?;
     rack.push(Box::new(rt.alloc(), smi)?)?;
+    check_all(&rt, rt.alloc(), &mut rack)?;
+    let pio = Listener::round_pio(rt.alloc(), 10_000)?;
+    rack.push(Box::new(rt.alloc(), pio)?)?;
     check_all(&rt, rt.alloc(), &mut rack)
 }

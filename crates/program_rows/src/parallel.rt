@@ -1,0 +1,235 @@
+// The 3861 in whole runs: its ports and its interrupt, the sockets that it needs, and what the debugger shows of it.
+use super::calls::{File, Row, answered, check_rows, files_of};
+use chip_fakes::Listener;
+use f8_machine::Rack;
+use pio3861::Pio;
+use psu3851::Psu;
+use smi3853::Smi;
+use std::alloc::Global;
+use std::process::Abort;
+use std::test::Fail;
+
+/// LI 0F, OUTS 8, INS 8, and a branch to itself: the 3861 takes the write and answers the read.
+const PORT_CART: &str = "format = 2\n\
+     [[chip]]\nkind = '3851'\nbase = 0\nports = 4\nrom = '200FB8A890FF'\n\
+     [[chip]]\nkind = '3861'\nports = 8\n";
+
+/// The same, and both chips have the port.
+const SHARED_CART: &str = "format = 2\n\
+     [[chip]]\nkind = '3851'\nbase = 0\nports = 8\nrom = '200FB8A890FF'\n\
+     [[chip]]\nkind = '3861'\nports = 8\n";
+
+const PORT_SCRIPT: &str = "at 0 keys 08 30\nsteps 3\n";
+
+/// A pulse to the 3861, which is described first. Its vector leads to EI and POP.
+const PULSE_CART: &str = "format = 2\n\
+     [[chip]]\nkind = '3861'\nports = 8\nvector = 0x0100\ninterrupt = true\n\
+     [[chip]]\nkind = '3851'\nbase = 0\nports = 4\nsource = 'loop.f8'\n";
+
+const PULSE_SOURCE: &str =
+    " ORG 0\n DB $71,$BA,$1B,$90,$FF\n ORG $100\n DB $1B,$1C\n ORG $180\n DB $1B,$1C\n";
+
+/// Played and checked.
+const RUNS: [Row; 6] = [
+    (
+        &[("cart", PORT_CART), ("script", PORT_SCRIPT)],
+        &["play", "cart", "script"],
+        0,
+        "verdict whole\n\
+         out 40 08 0F\n\
+         stop done\n\
+         regs P=0004 P1=0000 D0=0000 D1=0000 A=3F IS=00 W=01\n\
+         s00 00 00 00 00 00 00 00 00 00 00 00 00 00 00 00 00\n\
+         s10 00 00 00 00 00 00 00 00 00 00 00 00 00 00 00 00\n\
+         s20 00 00 00 00 00 00 00 00 00 00 00 00 00 00 00 00\n\
+         s30 00 00 00 00 00 00 00 00 00 00 00 00 00 00 00 00\n\
+         total 3 instructions 56 phi\n",
+    ),
+    (&[("cart", PORT_CART)], &["check", "cart"], 0, "whole 4\n"),
+    (
+        &[("cart", SHARED_CART), ("script", PORT_SCRIPT)],
+        &["play", "cart", "script"],
+        3,
+        "verdict none\n\
+         stop conflict romc 1A socket 0 at 0008 socket 14 at 0008\n\
+         regs P=0002 P1=0000 D0=0000 D1=0000 A=0F IS=00 W=00\n\
+         s00 00 00 00 00 00 00 00 00 00 00 00 00 00 00 00 00\n\
+         s10 00 00 00 00 00 00 00 00 00 00 00 00 00 00 00 00\n\
+         s20 00 00 00 00 00 00 00 00 00 00 00 00 00 00 00 00\n\
+         s30 00 00 00 00 00 00 00 00 00 00 00 00 00 00 00 00\n\
+         total 1 instructions 24 phi\n",
+    ),
+    (
+        &[("cart", SHARED_CART)],
+        &["check", "cart"],
+        7,
+        "refused 0002 ---- . 9\n",
+    ),
+    (
+        &[
+            ("cart", PULSE_CART),
+            ("loop.f8", PULSE_SOURCE),
+            ("script", "at 1 pulse 0\nframes 2\n"),
+        ],
+        &["play", "cart", "script"],
+        0,
+        "verdict whole\n\
+         out 34 0A 01\n\
+         stop done\n\
+         regs P=0003 P1=0003 D0=0000 D1=0000 A=01 IS=00 W=10\n\
+         s00 00 00 00 00 00 00 00 00 00 00 00 00 00 00 00 00\n\
+         s10 00 00 00 00 00 00 00 00 00 00 00 00 00 00 00 00\n\
+         s20 00 00 00 00 00 00 00 00 00 00 00 00 00 00 00 00\n\
+         s30 00 00 00 00 00 00 00 00 00 00 00 00 00 00 00 00\n\
+         total 4261 instructions 59664 phi\n",
+    ),
+    (
+        &[("cart", PULSE_CART), ("loop.f8", PULSE_SOURCE)],
+        &["check", "cart"],
+        0,
+        "whole 9\n",
+    ),
+];
+
+/// The pulse comes at the end of a branch at Φ 29,834, the 2,131st instruction.
+const PULSE: [File; 3] = [
+    ("cart", PULSE_CART),
+    ("loop.f8", PULSE_SOURCE),
+    ("script", "at 1 pulse 0\nsteps 2132\n"),
+];
+
+/// The branch behind it: the 3861 alone drives both halves of its vector, of which a pulse sets bit 7.
+const PULSE_TRACE_END: &str = "\
+     bus 1C S 00 -\nbus 01 L FF 0\n\
+     bus 10 L 00 -\nbus 1C S 00 -\nbus 0F L 80 14\nbus 13 L 01 14\nbus 00 S 1B 0\n\
+     stop done\n\
+     regs P=0180 P1=0003 D0=0000 D1=0000 A=01 IS=00 W=00\n\
+     s00 00 00 00 00 00 00 00 00 00 00 00 00 00 00 00 00\n\
+     s10 00 00 00 00 00 00 00 00 00 00 00 00 00 00 00 00\n\
+     s20 00 00 00 00 00 00 00 00 00 00 00 00 00 00 00 00\n\
+     s30 00 00 00 00 00 00 00 00 00 00 00 00 00 00 00 00\n\
+     total 2132 instructions 29870 phi\n";
+
+fn check_trace(rt: &impl Abort, alloc: Global, rack: &mut Rack) -> Result<(), Fail> {
+    let words = ["play", "--trace", "cart", "script"];
+    let files = files_of(alloc, &PULSE)?;
+    let (status, sink) = answered(alloc, 100_000, files, &words, rack)?;
+    assert_eq!(rt; status, 0);
+    assert!(rt; sink.bytes().ends_with(PULSE_TRACE_END.as_bytes()));
+    Ok(())
+}
+
+/// Each run, and one with its trace.
+fn check_all(rt: &impl Abort, alloc: Global, rack: &mut Rack) -> Result<(), Fail> {
+    check_rows(rt, alloc, &RUNS, rack)?;
+    check_trace(rt, alloc, rack)
+}
+
+/// A rack as the program's, each chip made anew.
+macro_rules! rack_of {
+    ($rt:ident, $psu:expr, $smi:expr, $pio:expr) => {{
+        let mut rack: Rack = Vec::new($rt.alloc());
+        for _ in 0..12 {
+            rack.push(Box::new($rt.alloc(), $psu)?)?;
+        }
+        for _ in 0..2 {
+            rack.push(Box::new($rt.alloc(), $smi)?)?;
+        }
+        for _ in 0..2 {
+            rack.push(Box::new($rt.alloc(), $pio)?)?;
+        }
+        rack
+    }};
+}
+
+const THREE_EACH: &str = "format = 2\n\
+     [[chip]]\nkind = '3861'\nports = 4\n\
+     [[chip]]\nkind = '3861'\nports = 8\n\
+     [[chip]]\nkind = '3861'\nports = 12\n\
+     [[chip]]\nkind = '3853'\n[[chip]]\nkind = '3853'\n[[chip]]\nkind = '3853'\n";
+
+const THREE_ALONE: &str = "format = 2\n\
+     [[chip]]\nkind = '3861'\nports = 4\n\
+     [[chip]]\nkind = '3861'\nports = 8\n\
+     [[chip]]\nkind = '3861'\nports = 12\n";
+
+const ONE_ALONE: &str = "format = 2\n[[chip]]\nkind = '3861'\nports = 8\n";
+
+/// Sockets are missing, the 3853's first; and a fetch that no chip answers, since a 3861 holds no address.
+const WITHOUT_A_PLACE: [Row; 3] = [
+    (
+        &[("cart", THREE_EACH), ("script", "steps 1\n")],
+        &["play", "cart", "script"],
+        2,
+        "error sockets 3853 need 3 have 2\n",
+    ),
+    (
+        &[("cart", THREE_ALONE), ("script", "steps 1\n")],
+        &["play", "cart", "script"],
+        2,
+        "error sockets 3861 need 3 have 2\n",
+    ),
+    (
+        &[("cart", ONE_ALONE), ("script", "steps 1\n")],
+        &["play", "cart", "script"],
+        3,
+        "verdict none\n\
+         stop undriven romc 00 at 0000\n\
+         regs P=0000 P1=0000 D0=0000 D1=0000 A=00 IS=00 W=00\n\
+         s00 00 00 00 00 00 00 00 00 00 00 00 00 00 00 00 00\n\
+         s10 00 00 00 00 00 00 00 00 00 00 00 00 00 00 00 00\n\
+         s20 00 00 00 00 00 00 00 00 00 00 00 00 00 00 00 00\n\
+         s30 00 00 00 00 00 00 00 00 00 00 00 00 00 00 00 00\n\
+         total 0 instructions 0 phi\n",
+    ),
+];
+
+/// NOP, and a branch back to it.
+const LOOP_CART: &str = "format = 2\n\
+     [[chip]]\nkind = '3851'\nbase = 0\nports = 4\nrom = '2B90FE'\n\
+     [[chip]]\nkind = '3861'\nports = 8\n";
+
+/// A 3861 shows no counters, and is never apart. With the power-on byte 04 the 3851 is, in its stack register.
+const SESSIONS: [Row; 2] = [
+    (
+        &[
+            ("cart", LOOP_CART),
+            ("commands", "break apart\nrun 4\nshow chips\n"),
+        ],
+        &["debug", "cart", "commands"],
+        0,
+        "ran 4\n\
+         chip 0 3851 PC0=0001 PC1=0000 DC0=0000\n\
+         chip 14 3861\n\
+         probe PC0=0001 PC1=0000 DC0=0000 DC1=0000\n",
+    ),
+    (
+        &[
+            ("cart", LOOP_CART),
+            ("commands", "power 04\nbreak apart\nrun 4\n"),
+        ],
+        &["debug", "cart", "commands"],
+        0,
+        "ready\nran 1\nbreak\n",
+    ),
+];
+
+#[test]
+fn plays_a_3861(rt: HostRuntime) -> Result<(), Fail> {
+    let mut rack = rack_of!(rt, Psu::blank(), Smi::blank(), Pio::blank());
+    check_all(&rt, rt.alloc(), &mut rack)?;
+    check_rows(&rt, rt.alloc(), &WITHOUT_A_PLACE, &mut rack)?;
+    check_rows(&rt, rt.alloc(), &SESSIONS, &mut rack)
+}
+
+/// On chips that hear each of the steps.
+#[test]
+fn plays_a_3861_on_listeners(rt: HostRuntime) -> Result<(), Fail> {
+    let mut rack = rack_of!(
+        rt,
+        Listener::round_psu(rt.alloc(), 20_000)?,
+        Listener::round_smi(rt.alloc(), 20_000)?,
+        Listener::round_pio(rt.alloc(), 20_000)?
+    );
+    check_all(&rt, rt.alloc(), &mut rack)
+}
