@@ -2,6 +2,7 @@
 use super::calls::{LOOP_CART, LOOP_PLAY, LOOP_SCRIPT, Row, check_rows, files_of, status_of};
 use f8_machine::Rack;
 use outside::{SureSink, SureStore};
+use pio3861::Pio;
 use psu3851::Psu;
 use smi3853::Smi;
 use std::test::Fail;
@@ -235,15 +236,18 @@ const REFUSALS: [Row; 10] = [
     ),
 ];
 
-/// Sockets for twelve 3851s and four 3853s, as the program's own rack has them.
+/// Sockets for twelve 3851s, two 3853s and two 3861s, as the program's own rack has them.
 #[test]
 fn answers_on_a_whole_rack(rt: HostRuntime) -> Result<(), Fail> {
     let mut rack: Rack = Vec::new(rt.alloc());
     for _ in 0..12 {
         rack.push(Box::new(rt.alloc(), Psu::blank())?)?;
     }
-    for _ in 0..4 {
+    for _ in 0..2 {
         rack.push(Box::new(rt.alloc(), Smi::blank())?)?;
+    }
+    for _ in 0..2 {
+        rack.push(Box::new(rt.alloc(), Pio::blank())?)?;
     }
     check_rows(&rt, rt.alloc(), &ANSWERS, &mut rack)?;
     check_rows(&rt, rt.alloc(), &REFUSALS, &mut rack)
