@@ -1,0 +1,13 @@
+mod FreeInputs
+mod Courses
+mod SameSteps
+mod ToldSteps
+mod PortReads
+mod Asking
+mod FreeChoices
+mod Shadows
+mod Behind
+mod Beside
+mod Exact
+pub mod Laws
+mod WorkedTraces

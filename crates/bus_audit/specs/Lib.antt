@@ -1,0 +1,5 @@
+pub mod PlainSteps
+pub mod FreeRuns
+pub mod Choices
+pub mod DictatedRuns
+pub mod Determinacy
