@@ -1,7 +1,7 @@
 -- With the pulse that a trace dictates, and none before it that still counts, the same chip's interrupt is taken.
-use Rattle.std.proofs.Common.{◌≡◌, ℕ, zero, suc, ◌+◌, ◌<◌, ◌≤◌, ◌==◌, ◌&&◌, ◌||◌, ◌⊎◌, Bool, true, false, List, [], ◌∷◌, refl, ◌∙◌, ap, sym}
+use Rattle.std.proofs.Common.{◌≡◌, ℕ, ◌+◌, ◌<◌, ◌≤◌, ◌==◌, ◌&&◌, ◌||◌, ◌⊎◌, Bool, true, false, List, [], ◌∷◌, refl, ◌∙◌, ap, sym}
 use Rattle.std.proofs.Common.{Option, Some, None, inl, inr, arith, eq-eqb, add-one, subst, ◌-◌}
-use Rattle.std.proofs.lemmas.Bool.{and_parts, eqb-true, or_cases, cases_eq}
+use Rattle.std.proofs.lemmas.Bool.{eqb-true}
 use Rattle.std.proofs.lemmas.Bool.Decides.{nat_tests}
 use Rattle.std.specs.Prelude.{nat_lt, nat_le, not, if◌then◌else◌, slice_get, option_map}
 use Rattle.std.specs.List.{AllByRecursion}
@@ -11,7 +11,7 @@ use Rattle.f8_spec.specs.Instructions.{is_shielding}
 use Rattle.f8_spec.specs.declared.instructions.Op.{Op}
 use Rattle.console_spec.specs.FlatStep.{chosen_at, with_acknowledged}
 use Rattle.console_spec.specs.InterruptChoice.{control_of, first_asking, has_request_by, is_asking_in, is_asking_at}
-use Rattle.console_spec.specs.InterruptRequests.{Mark, History, has_mark, has_expiry, has_request, request_by, since_of, with_mark, control_port, effect_time}
+use Rattle.console_spec.specs.InterruptRequests.{Mark, History, has_mark, has_expiry, since_of, with_mark, control_port, effect_time}
 use Rattle.console_spec.specs.InterruptRequests.{timer_port, last_write_time, last_mark_time}
 use Rattle.console_spec.specs.Writes.{latch_of}
 use Rattle.console_spec.specs.declared.PortWrite.{PortWrite}

@@ -1,6 +1,6 @@
 -- What stands behind some steps in a trace.
-use Rattle.std.proofs.Common.{◌≡◌, ℕ, ◌+◌, ◌<◌, ◌≤◌, ◌==◌, ◌&&◌, Bool, true, false, List, [], ◌∷◌, ◌++◌, length, Option, Some, None, refl, ◌∙◌, ap, sym}
-use Rattle.std.proofs.Common.{arith, eq-eqb, length-append}
+use Rattle.std.proofs.Common.{◌≡◌, ℕ, ◌==◌, ◌&&◌, Bool, true, false, List, [], ◌∷◌, ◌++◌, Some, None, refl, ◌∙◌, ap, sym}
+use Rattle.std.proofs.Common.{eq-eqb}
 use Rattle.std.proofs.lemmas.Bool.{and_parts, and_from, eqb-true}
 use Rattle.std.specs.Prelude.{if◌then◌else◌}
 use Rattle.console_spec.specs.declared.Who.{Who}
@@ -87,11 +87,3 @@ behind_is (s ∷ steps) (t ∷ trace) rest is = by (same_step s t) refl is (behi
 pub bytes_behind : (steps rest : List PlainStep) → HaveBytes (steps ++ rest) → HaveBytes rest
 bytes_behind [] rest have = have
 bytes_behind (s ∷ steps) rest have = bytes_behind steps rest have.1
-
--- nothing stands behind steps in a trace without a step
-pub behind_nothing : (steps rest : List PlainStep) → behind steps [] ≡ Some rest → rest ≡ []
-behind_nothing [] rest is = nothing is
-  where
-    nothing : Some [] ≡ Some rest → rest ≡ []
-    nothing e = cc
-behind_nothing (s ∷ steps) rest is = absurd (cc)

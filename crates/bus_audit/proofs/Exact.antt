@@ -18,7 +18,7 @@ use Rattle.console_spec.specs.Scripts.{Script}
 use Rattle.console_spec.specs.Services.{Fault, access_ruling}
 use Rattle.console_spec.specs.Telling.{with_events}
 use Rattle.console_spec.specs.declared.Event.{Event}
-use Rattle.bus_audit.specs.PlainSteps.{PlainStep, HaveBytes, plain, plain_course, plain_fault, behind}
+use Rattle.bus_audit.specs.PlainSteps.{PlainStep, HaveBytes, plain, plain_course, behind}
 use Rattle.bus_audit.specs.FreeRuns.{Setup, AreFree, own_behind, own_begun, BeginsFreely, GoesFreely, IsFreelyAt, IsRecord, broken_off, reset_cut, cut}
 use Rattle.bus_audit.specs.Choices.{choice, with_choice}
 use Rattle.bus_audit.specs.DictatedRuns.{Next, Onward, Over, next_by, next_for, next_dictated, dictated_begun, start_dictated, IsDictatedAt}
@@ -26,7 +26,7 @@ use Rattle.bus_audit.specs.DictatedRuns.{DictatedEnd, end_by, dictated_from, dic
 use Rattle.bus_audit.specs.Determinacy.{with_free}
 use Rattle.bus_audit.proofs.Courses.{none_in, instruction_faults, reset_faults}
 use Rattle.bus_audit.proofs.FreeChoices.{choice_free}
-use Rattle.bus_audit.proofs.Behind.{behind-append, behind_is, bytes_behind, behind_nothing}
+use Rattle.bus_audit.proofs.Behind.{behind-append, behind_is, bytes_behind}
 use Rattle.bus_audit.proofs.Beside.{Beside, beside, plain_served, freely_begun, powered_at, next_is}
 
 -- ---- each instruction tells a step
@@ -132,39 +132,43 @@ reaches setup trace (suc n) z rest at =
 
 -- ---- where nothing is left
 
-empty_by : (count : ℕ) (fault : Option Fault) (found : Option (List PlainStep)) (onward : List PlainStep → Position)
-    (k : Position → List PlainStep → DictatedEnd) → ((later : List PlainStep) → found ≡ Some later → later ≡ []) →
-    ((q : Position) → (k q []).rest ≡ []) → (end_by count (next_by fault found onward []) k).rest ≡ []
-empty_by count None None onward k nothing all = refl
-empty_by count (Some why) None onward k nothing all = refl
-empty_by count None (Some later) onward k nothing all =
-    ap (λ (l : List PlainStep). (k (onward later) l).rest) (nothing later refl) ∙ all (onward later)
-empty_by count (Some why) (Some later) onward k nothing all = nothing later refl
+abbrev whole_in : ℕ → DictatedEnd
+whole_in n = record { count = n; rest = [] }
 
-nothing_left : (script : Script) (count more : ℕ) (z : Position) → (dictated_from script count more z []).rest ≡ []
+none_behind : (steps : List PlainStep) → 0 < length steps → behind steps [] ≡ None
+none_behind [] some = absurd (omega arith)
+none_behind (s ∷ steps) some = refl
+
+over_by : (n : ℕ) (fault : Option Fault) (onward : List PlainStep → Position) (k : Position → List PlainStep → DictatedEnd) →
+    end_by n (next_by fault None onward []) k ≡ whole_in n
+over_by n None onward k = refl
+over_by n (Some fault) onward k = refl
+
+nothing_left : (script : Script) (n more : ℕ) (z : Position) → dictated_from script n more z [] ≡ whole_in n
 unfolding dictated_from
-nothing_left script count zero z = refl
-nothing_left script count (suc more) z = by (decoded (opcode_at z)) (λ q. nothing_left script (count + 1) more q)
+nothing_left script n zero z = refl
+nothing_left script n (suc more) z = by (decoded (opcode_at z))
   where
-    by : (o : Option Op) → ((q : Position) → (dictated_from script (count + 1) more q []).rest ≡ []) →
-        (end_by count (next_for o script z []) (λ q later. dictated_from script (count + 1) more q later)).rest ≡ []
-    by None all = refl
-    by (Some op) all =
-        let told = plain_course (instruction_course op z) in
-        empty_by count (instruction_fault op z) (behind told []) (λ later. with_choice later (own_behind script z (position_after op z)))
-        (λ q later. dictated_from script (count + 1) more q later) (λ later e. behind_nothing told later e) all
+    by : (o : Option Op) → end_by n (next_for o script z []) (λ q later. dictated_from script (n + 1) more q later) ≡ whole_in n
+    by None = refl
+    by (Some op) =
+        let onward : List PlainStep → Position = λ later. with_choice later (own_behind script z (position_after op z)) in
+        let k : Position → List PlainStep → DictatedEnd = λ q later. dictated_from script (n + 1) more q later in
+        ap (λ (found : Option (List PlainStep)). end_by n (next_by (instruction_fault op z) found onward []) k)
+        (none_behind (plain_course (instruction_course op z)) (tells_some op z))
+        ∙ over_by n (instruction_fault op z) onward k
 
 -- ---- a record leaves nothing
 
 over_now : (script : Script) (n more : ℕ) (z : Position) (trace : List PlainStep) → 0 < length trace → length trace ≤ more →
-    next_dictated script z trace ≡ Over [] → (dictated_from script n more z trace).rest ≡ []
+    next_dictated script z trace ≡ Over [] → dictated_from script n more z trace ≡ whole_in n
 unfolding dictated_from
 over_now script n zero z trace some enough is = absurd (omega arith)
 over_now script n (suc more) z trace some enough is =
-    ap (λ (nx : Next). (end_by n nx (λ q later. dictated_from script (n + 1) more q later)).rest) is
+    ap (λ (nx : Next). end_by n nx (λ q later. dictated_from script (n + 1) more q later)) is
 
 reset_over : (setup : Setup) (free : List Event) (fault : Fault) → reset_fault (with_events free (own_begun setup)) ≡ Some fault →
-    (dictated setup (plain_course (reset_course (with_events free (own_begun setup))))).rest ≡ []
+    dictated setup (plain_course (reset_course (with_events free (own_begun setup)))) ≡ whole_in 0
 reset_over setup free fault cuts =
     let p = powered_at setup in
     let told = plain_course (reset_course (with_events free (own_begun setup))) in
@@ -172,22 +176,22 @@ reset_over setup free fault cuts =
     let x = dictated_begun setup told in
     let as_powered = freely_begun setup (choice (drop (length reset_steps) told) (own_begun setup)) in
     let told_is : told ≡ plain_course (reset_course p) ++ [] =
-    ap (λ (q : Position). plain_course (reset_course q)) (freely_begun setup free) ∙ sym (append-nil (plain_course (reset_course p))) in
+        ap (λ (q : Position). plain_course (reset_course q)) (freely_begun setup free) ∙ sym (append-nil (plain_course (reset_course p))) in
     let cut_at : reset_fault p ≡ Some fault = ap reset_fault (sym (freely_begun setup free)) ∙ cuts in
-    ap (λ (q : Position). (end_by 0 (next_by (reset_fault q) (behind (plain_course (reset_course q)) told) (λ later. position_after_reset x) told) k).rest)
+    ap (λ (q : Position). end_by 0 (next_by (reset_fault q) (behind (plain_course (reset_course q)) told) (λ later. position_after_reset x) told) k)
     as_powered
-    ∙ ap (λ (why : Option Fault). (end_by 0 (next_by why (behind (plain_course (reset_course p)) told) (λ later. position_after_reset x) told) k).rest)
+    ∙ ap (λ (why : Option Fault). end_by 0 (next_by why (behind (plain_course (reset_course p)) told) (λ later. position_after_reset x) told) k)
     cut_at
-    ∙ ap (λ (found : Option (List PlainStep)). (end_by 0 (next_by (Some fault) found (λ later. position_after_reset x) told) k).rest)
+    ∙ ap (λ (found : Option (List PlainStep)). end_by 0 (next_by (Some fault) found (λ later. position_after_reset x) told) k)
     (ap (behind (plain_course (reset_course p))) told_is ∙ behind-append (plain_course (reset_course p)) [])
 
-pub complete : (setup : Setup) {trace : List PlainStep} → IsRecord setup trace → HaveBytes trace → (dictated setup trace).rest ≡ []
+pub complete : (setup : Setup) {n : ℕ} {trace : List PlainStep} → IsRecord setup n trace → HaveBytes trace → dictated setup trace ≡ whole_in n
 complete setup (broken_off n x steps at) small =
     let trace = map plain steps in
     let b : Beside setup trace n x [] = beside setup trace small n x steps [] at (append-nil trace) in
     let z = with_choice [] (with_free b.keys b.pulses x) in
     let r : Reaches setup trace n z [] = reaches setup trace n z [] b.dictated in
-    ap (λ (e : DictatedEnd). e.rest) r.is ∙ nothing_left setup.script n r.more z
+    r.is ∙ nothing_left setup.script n r.more z
 complete setup (reset_cut free fault are cuts) small = reset_over setup free fault cuts
 complete setup (cut n x steps op fault at is cuts) small =
     let told = plain_course (instruction_course op x) in
@@ -196,27 +200,34 @@ complete setup (cut n x steps op fault at is cuts) small =
     let z = with_choice told (with_free b.keys b.pulses x) in
     let r : Reaches setup trace n z told = reaches setup trace n z told b.dictated in
     let next : next_dictated setup.script z told ≡ Over [] =
-    next_is x b.keys b.pulses b.shadow op is told [] (bytes_behind (map plain steps) told small) (sym (append-nil told)) setup.script (Some fault) cuts in
-    ap (λ (e : DictatedEnd). e.rest) r.is ∙ over_now setup.script n r.more z told (tells_some op x) r.enough next
+        next_is x b.keys b.pulses b.shadow op is told [] (bytes_behind (map plain steps) told small) (sym (append-nil told)) setup.script (Some fault) cuts in
+    r.is ∙ over_now setup.script n r.more z told (tells_some op x) r.enough next
 
 -- ---- and nothing else does
 
-module _ (setup : Setup) (trace : List PlainStep) where
+abbrev at_end : ℕ → List PlainStep → DictatedEnd
+at_end n rest = record { count = n; rest = rest }
+
+module _ (setup : Setup) (m : ℕ) (trace : List PlainStep) where
   -- a run that is broken off here
   off_here : (n : ℕ) (z : Position) (steps : List TracedStep) (rest : List PlainStep) → IsFreelyAt setup n z steps →
-      map plain steps ++ rest ≡ trace → rest ≡ [] → IsRecord setup trace
-  off_here n z steps rest at is none =
-      subst (IsRecord setup) (sym (append-nil (map plain steps)) ∙ ap (λ (l : List PlainStep). map plain steps ++ l) (sym none) ∙ is)
-      (broken_off n z steps at)
+      map plain steps ++ rest ≡ trace → at_end n rest ≡ whole_in m → IsRecord setup m trace
+  off_here n z steps rest at is ends =
+      let none : rest ≡ [] = ap (λ (e : DictatedEnd). e.rest) ends in
+      subst (λ (count : ℕ). IsRecord setup count trace) (ap (λ (e : DictatedEnd). e.count) ends)
+      (subst (IsRecord setup n) (sym (append-nil (map plain steps)) ∙ ap (λ (l : List PlainStep). map plain steps ++ l) (sym none) ∙ is)
+      (broken_off n z steps at))
 
   -- an instruction that is not done is the last
   cut_here : (n : ℕ) (z : Position) (steps : List TracedStep) (rest later : List PlainStep) (op : Op) (fault : Fault) →
       IsFreelyAt setup n z steps → map plain steps ++ rest ≡ trace → decoded (opcode_at z) ≡ Some op → instruction_fault op z ≡ Some fault →
-      rest ≡ plain_course (instruction_course op z) ++ later → later ≡ [] → IsRecord setup trace
-  cut_here n z steps rest later op fault at is opcode cuts told none =
-      let whole : rest ≡ plain_course (instruction_course op z) =
-      told ∙ ap (λ (l : List PlainStep). plain_course (instruction_course op z) ++ l) none ∙ append-nil (plain_course (instruction_course op z)) in
-      subst (IsRecord setup) (ap (λ (l : List PlainStep). map plain steps ++ l) (sym whole) ∙ is) (cut n z steps op fault at opcode cuts)
+      rest ≡ plain_course (instruction_course op z) ++ later → at_end n later ≡ whole_in m → IsRecord setup m trace
+  cut_here n z steps rest later op fault at is opcode cuts told ends =
+      let course = plain_course (instruction_course op z) in
+      let none : later ≡ [] = ap (λ (e : DictatedEnd). e.rest) ends in
+      let whole : rest ≡ course = told ∙ ap (λ (l : List PlainStep). course ++ l) none ∙ append-nil course in
+      subst (λ (count : ℕ). IsRecord setup count trace) (ap (λ (e : DictatedEnd). e.count) ends)
+      (subst (IsRecord setup n) (ap (λ (l : List PlainStep). map plain steps ++ l) (sym whole) ∙ is) (cut n z steps op fault at opcode cuts))
 
   -- one that is done leads on
   module _ (n : ℕ) (z : Position) (steps : List TracedStep) (rest later : List PlainStep) (op : Op) (at : IsFreelyAt setup n z steps)
@@ -253,39 +264,39 @@ module _ (setup : Setup) (trace : List PlainStep) where
         ∙ is
 
   -- what is left to show where an instruction is done
-  abbrev Onwards : ℕ → ℕ → ℕ → Type 0
-  Onwards more count n = (x : Position) (told : List TracedStep) (later : List PlainStep) →
+  abbrev Onwards : ℕ → ℕ → Type 0
+  Onwards more n = (x : Position) (told : List TracedStep) (later : List PlainStep) →
       (IsFreelyAt setup (suc n) x told) × (map plain told ++ later ≡ trace) → HaveBytes later →
-      (dictated_from setup.script (count + 1) more x later).rest ≡ [] → IsRecord setup trace
+      dictated_from setup.script (suc n) more x later ≡ whole_in m → IsRecord setup m trace
 
-  sound_from : (more count n : ℕ) (z : Position) (steps : List TracedStep) (rest : List PlainStep) → IsFreelyAt setup n z steps →
-      map plain steps ++ rest ≡ trace → HaveBytes rest → (dictated_from setup.script count more z rest).rest ≡ [] → IsRecord setup trace
+  sound_from : (more n : ℕ) (z : Position) (steps : List TracedStep) (rest : List PlainStep) → IsFreelyAt setup n z steps →
+      map plain steps ++ rest ≡ trace → HaveBytes rest → dictated_from setup.script n more z rest ≡ whole_in m → IsRecord setup m trace
   unfolding dictated_from
-  sound_from zero count n z steps rest at is small none = off_here n z steps rest at is none
-  sound_from (suc more) count n z steps rest at is small none =
-      by (decoded (opcode_at z)) refl none
-      (λ x told later onward_is onward_small e. sound_from more (count + 1) (suc n) x told later onward_is.0 onward_is.1 onward_small e)
+  sound_from zero n z steps rest at is small ends = off_here n z steps rest at is ends
+  sound_from (suc more) n z steps rest at is small ends =
+      by (decoded (opcode_at z)) refl ends
+      (λ x told later onward_is onward_small e. sound_from more (suc n) x told later onward_is.0 onward_is.1 onward_small e)
     where
       by_op : (op : Op) → decoded (opcode_at z) ≡ Some op → (fault : Option Fault) (found : Option (List PlainStep)) →
           instruction_fault op z ≡ fault → behind (plain_course (instruction_course op z)) rest ≡ found →
-          (end_by count (next_by fault found (λ later. with_choice later (own_behind setup.script z (position_after op z))) rest)
-          (λ q later. dictated_from setup.script (count + 1) more q later)).rest ≡ [] → Onwards more count n →
-          IsRecord setup trace
+          end_by n (next_by fault found (λ later. with_choice later (own_behind setup.script z (position_after op z))) rest)
+          (λ q later. dictated_from setup.script (n + 1) more q later) ≡ whole_in m → Onwards more n → IsRecord setup m trace
       by_op op opcode None None why left e onwards = off_here n z steps rest at is e
       by_op op opcode (Some fault) None why left e onwards = off_here n z steps rest at is e
       by_op op opcode (Some fault) (Some later) why left e onwards =
           cut_here n z steps rest later op fault at is opcode why (behind_is (plain_course (instruction_course op z)) rest later left) e
       by_op op opcode None (Some later) why left e onwards =
           let told = behind_is (plain_course (instruction_course op z)) rest later left in
-          onwards (onward_at n z steps rest later op at is opcode why told small) (onward_steps n z steps rest later op at is opcode why told small) later (
-            (z, steps, at, goes_freely n z steps rest later op at is opcode why told small),
-            onward_told n z steps rest later op at is opcode why told small,
-          )
-          (small_later n z steps rest later op at is opcode why told small) e
+          let x = onward_at n z steps rest later op at is opcode why told small in
+          onwards x (onward_steps n z steps rest later op at is opcode why told small) later
+          ((z, steps, at, goes_freely n z steps rest later op at is opcode why told small),
+          onward_told n z steps rest later op at is opcode why told small)
+          (small_later n z steps rest later op at is opcode why told small)
+          (ap (λ (count : ℕ). dictated_from setup.script count more x later) (sym (add-one n)) ∙ e)
 
       by : (o : Option Op) → decoded (opcode_at z) ≡ o →
-          (end_by count (next_for o setup.script z rest) (λ q later. dictated_from setup.script (count + 1) more q later)).rest ≡ [] →
-          Onwards more count n → IsRecord setup trace
+          end_by n (next_for o setup.script z rest) (λ q later. dictated_from setup.script (n + 1) more q later) ≡ whole_in m →
+          Onwards more n → IsRecord setup m trace
       by None opcode e onwards = off_here n z steps rest at is e
       by (Some op) opcode e onwards =
           by_op op opcode (instruction_fault op z) (behind (plain_course (instruction_course op z)) rest) refl refl e onwards
@@ -303,38 +314,42 @@ first_free : (setup : Setup) (trace : List PlainStep) → HaveBytes trace → Ar
 first_free setup trace small =
     choice_free (own_begun setup) (drop (length reset_steps) trace) (bytes_drop (length reset_steps) trace small)
 
-sound_by : (setup : Setup) (s : PlainStep) (later : List PlainStep) → HaveBytes (s ∷ later) → (fault : Option Fault)
+some_left : (n m : ℕ) (s : PlainStep) (later : List PlainStep) → at_end n (s ∷ later) ≡ whole_in m → ⊥
+some_left n m s later ends = let none : (s ∷ later) ≡ [] = ap (λ (e : DictatedEnd). e.rest) ends in cc
+
+sound_by : (setup : Setup) (m : ℕ) (s : PlainStep) (later : List PlainStep) → HaveBytes (s ∷ later) → (fault : Option Fault)
     (found : Option (List PlainStep)) → reset_fault (dictated_begun setup (s ∷ later)) ≡ fault →
     behind (plain_course (reset_course (dictated_begun setup (s ∷ later)))) (s ∷ later) ≡ found →
-    (end_by 0 (next_by fault found (λ rest. position_after_reset (dictated_begun setup (s ∷ later))) (s ∷ later))
-    (λ q rest. dictated_from setup.script 0 (length (s ∷ later)) q rest)).rest ≡ [] → IsRecord setup (s ∷ later)
-sound_by setup s later small None None why left none = absurd (cc)
-sound_by setup s later small (Some fault) None why left none = absurd (cc)
-sound_by setup s later small (Some fault) (Some rest) why left none =
+    end_by 0 (next_by fault found (λ rest. position_after_reset (dictated_begun setup (s ∷ later))) (s ∷ later))
+    (λ q rest. dictated_from setup.script 0 (length (s ∷ later)) q rest) ≡ whole_in m → IsRecord setup m (s ∷ later)
+sound_by setup m s later small None None why left ends = absurd (some_left 0 m s later ends)
+sound_by setup m s later small (Some fault) None why left ends = absurd (some_left 0 m s later ends)
+sound_by setup m s later small (Some fault) (Some rest) why left ends =
     let trace : List PlainStep = s ∷ later in
     let told = plain_course (reset_course (dictated_begun setup trace)) in
-    subst (IsRecord setup) (sym (behind_is told trace rest left ∙ ap (λ (l : List PlainStep). told ++ l) none ∙ append-nil told))
-    (reset_cut (first_choice setup trace) fault (first_free setup trace small) why)
-sound_by setup s later small None (Some rest) why left none =
+    let none : rest ≡ [] = ap (λ (e : DictatedEnd). e.rest) ends in
+    subst (λ (count : ℕ). IsRecord setup count trace) (ap (λ (e : DictatedEnd). e.count) ends)
+    (subst (IsRecord setup zero) (sym (behind_is told trace rest left ∙ ap (λ (l : List PlainStep). told ++ l) none ∙ append-nil told))
+    (reset_cut (first_choice setup trace) fault (first_free setup trace small) why))
+sound_by setup m s later small None (Some rest) why left ends =
     let trace : List PlainStep = s ∷ later in
     let x = dictated_begun setup trace in
     let course = reset_course x in
     let told = behind_is (plain_course course) trace rest left in
     let served : course.fault ≡ None = none_in course.fault (reset_faults x ∙ why) in
     let begins : BeginsFreely setup (position_after_reset x) course.steps = record {
-      free = first_choice setup trace;
-      are_free = first_free setup trace small;
-      served = why;
-      at = refl;
-      told = refl;
-    } in
-    sound_from setup trace (length trace) 0 0 (position_after_reset x) course.steps rest begins
+        free = first_choice setup trace;
+        are_free = first_free setup trace small;
+        served = why;
+        at = refl;
+        told = refl } in
+    sound_from setup m trace (length trace) 0 (position_after_reset x) course.steps rest begins
     (ap (λ (l : List PlainStep). l ++ rest) (sym (plain_served course served)) ∙ sym told)
-    (bytes_behind (plain_course course) rest (subst HaveBytes told small)) none
+    (bytes_behind (plain_course course) rest (subst HaveBytes told small)) ends
 
-pub sound : (setup : Setup) (s : PlainStep) (later : List PlainStep) → HaveBytes (s ∷ later) → (dictated setup (s ∷ later)).rest ≡ [] →
-    IsRecord setup (s ∷ later)
-sound setup s later small none =
+pub sound : (setup : Setup) (m : ℕ) (s : PlainStep) (later : List PlainStep) → HaveBytes (s ∷ later) →
+    dictated setup (s ∷ later) ≡ whole_in m → IsRecord setup m (s ∷ later)
+sound setup m s later small ends =
     let trace : List PlainStep = s ∷ later in
     let x = dictated_begun setup trace in
-    sound_by setup s later small (reset_fault x) (behind (plain_course (reset_course x)) trace) refl refl none
+    sound_by setup m s later small (reset_fault x) (behind (plain_course (reset_course x)) trace) refl refl ends

@@ -14,11 +14,11 @@ use Rattle.console_spec.specs.InterruptRequests.{Mark}
 use Rattle.console_spec.specs.Run.{Position, seats_of, opcode_at, position_after_reset}
 use Rattle.console_spec.specs.Writes.{latch_of, readers}
 use Rattle.console_spec.specs.declared.Event.{Event}
-use Rattle.console_spec.specs.declared.Event.TheVariants.{Keys, Pulse}
+use Rattle.console_spec.specs.declared.Event.TheVariants.{Keys}
 use Rattle.console_spec.specs.declared.PortWrite.{PortWrite}
 use Rattle.bus_audit.specs.PlainSteps.{PlainStep, HaveBytes}
 use Rattle.bus_audit.specs.FreeRuns.{AreFree}
-use Rattle.bus_audit.specs.Choices.{data_port_read, unless_own, second_byte, key_to, key_by, key_choice, takes_pulse, place_in_chain, pulse_to}
+use Rattle.bus_audit.specs.Choices.{data_port_read, unless_own, second_byte, key_by, key_choice, takes_pulse, place_in_chain, pulse_to}
 use Rattle.bus_audit.specs.Choices.{interrupting_socket, from_last_fetch, pulse_by, pulse_choice, choice_for, choice}
 use Rattle.bus_audit.specs.Determinacy.{with_free}
 use Rattle.bus_audit.proofs.FreeInputs.{pulses_after, pulses_after-append}

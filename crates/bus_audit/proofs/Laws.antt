@@ -1,5 +1,5 @@
 -- The law of determinacy.
-use Rattle.std.proofs.Common.{◌≡◌, ℕ, List, ◌∷◌, ◌++◌, map, sym, subst}
+use Rattle.std.proofs.Common.{◌≡◌, ℕ, List, ◌++◌, map, sym, subst}
 use Rattle.console_spec.specs.BusTrace.{TracedStep}
 use Rattle.console_spec.specs.Run.{Position}
 use Rattle.bus_audit.specs.PlainSteps.{PlainStep, HaveBytes, plain}
@@ -9,6 +9,7 @@ use Rattle.bus_audit.specs.DictatedRuns.{IsDictatedAt}
 use Rattle.bus_audit.specs.Determinacy.{with_free, DiffersInInputs, DeterminacyLaw}
 use Rattle.bus_audit.proofs.Behind.{bytes_behind}
 use Rattle.bus_audit.proofs.Beside.{Beside, beside, differs}
+use Rattle.bus_audit.proofs.Agreement.{agrees}
 use Rattle.bus_audit.proofs.Exact.{sound, complete}
 
 determines : (setup : Setup) (n : ℕ) (y : Position) (steps : List TracedStep) (trace rest : List PlainStep) → HaveBytes trace →
@@ -24,5 +25,6 @@ determines setup n y steps trace rest small at is =
 pub determinacy : DeterminacyLaw
 determinacy = record {
   determined = λ setup n y steps trace rest small at is. determines setup n y steps trace rest small at is;
-  exact = λ setup s later small. (λ none. sound setup s later small none, λ is_record. complete setup is_record small);
+  agrees = λ y z differs. agrees y z differs;
+  exact = λ setup n s later small. (λ ends. sound setup n s later small ends, λ is_record. complete setup is_record small);
 }

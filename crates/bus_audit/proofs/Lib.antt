@@ -8,6 +8,7 @@ mod FreeChoices
 mod Shadows
 mod Behind
 mod Beside
+mod Agreement
 mod Exact
 pub mod Laws
 mod WorkedTraces

@@ -1,7 +1,7 @@
 -- With the key byte that a trace dictates a port reads as the trace says.
 use Rattle.std.proofs.Common.{◌≡◌, ℕ, ◌+◌, ◌<◌, ◌==◌, ◌&&◌, Bool, true, false, List, [], ◌∷◌, ◌++◌, length, Option, Some, None, refl, ◌∙◌, ap, sym}
 use Rattle.std.proofs.Common.{inl, inr, arith, get_or-set_same, eq-eqb}
-use Rattle.std.proofs.lemmas.Bool.{cases_eq, cases_lt, lt-ltb, ne_eqb, ltb-true}
+use Rattle.std.proofs.lemmas.Bool.{cases_eq, lt-ltb, ne_eqb, ltb-true}
 use Rattle.std.proofs.lemmas.Nat.{and_comm, or_comm, and_or_self}
 use lib.Bits.{or_add_and}
 use Rattle.std.specs.Prelude.{nat_lt, if◌then◌else◌, bit_and, bit_or, slice_get, slice_index}
@@ -14,10 +14,10 @@ use Rattle.console_spec.specs.InterruptRequests.{Mark}
 use Rattle.console_spec.specs.Run.{Position, seats_of, instruction_course}
 use Rattle.console_spec.specs.Writes.{latch_of, readers, port_value, chip_port_byte}
 use Rattle.console_spec.specs.declared.Event.{Event}
-use Rattle.console_spec.specs.declared.Event.TheVariants.{Keys, Pulse}
+use Rattle.console_spec.specs.declared.Event.TheVariants.{Keys}
 use Rattle.console_spec.specs.declared.PortWrite.{PortWrite}
 use Rattle.bus_audit.specs.PlainSteps.{PlainStep, HaveBytes, plain_course}
-use Rattle.bus_audit.specs.Choices.{unless_own, second_byte, key_to, key_by, key_choice, place_in_chain, pulse_to, takes_pulse, pulse_by}
+use Rattle.bus_audit.specs.Choices.{second_byte, key_to, key_by, key_choice, place_in_chain, pulse_to, takes_pulse, pulse_by}
 use Rattle.bus_audit.specs.Determinacy.{with_free}
 use Rattle.bus_audit.proofs.FreeInputs.{keys_after, pulses_after}
 use Rattle.bus_audit.proofs.SameSteps.{before_at, port_at}

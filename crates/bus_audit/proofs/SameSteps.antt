@@ -1,6 +1,6 @@
 -- An instruction at a position with other key bytes and other pulses: where the port that it reads has the same byte, and the same interrupt
 -- is taken, all is the same. Where a step before the last fetch is not served, its steps are the same anyhow.
-use Rattle.std.proofs.Common.{◌≡◌, ℕ, ◌+◌, Bool, true, false, List, [], ◌∷◌, ◌++◌, Option, Some, None, refl, ◌∙◌, ap, sym}
+use Rattle.std.proofs.Common.{◌≡◌, ℕ, ◌+◌, Bool, true, false, List, [], ◌∷◌, Option, Some, None, refl, ◌∙◌, ap, sym}
 use Rattle.std.specs.Prelude.{if◌then◌else◌}
 use Rattle.std.specs.List.{AllByRecursion}
 use Rattle.f8_spec.specs.BusArbitration.{Ruling, Served, Conflict, Undriven, Astray, rule_of}
@@ -27,7 +27,7 @@ use Rattle.console_spec.specs.Processor.{write_of, with_write}
 use Rattle.console_spec.specs.Run.{Position, seats_of, gets_at, gets_all_at, instruction_course, instruction_fault, position_after}
 use Rattle.console_spec.specs.Services.{Fault, access_ruling}
 use Rattle.bus_audit.specs.Determinacy.{with_free}
-use Rattle.bus_audit.proofs.Courses.{course_before, course_behind, in_parts, cut_alone, fault_in, instruction_faults, joined}
+use Rattle.bus_audit.proofs.Courses.{course_before, course_behind, in_parts, cut_alone, fault_in, instruction_faults}
 
 -- ---- what an instruction gets
 

@@ -1,14 +1,13 @@
 -- A position whose pulses are all spent, beside one of a free run: with what the trace dictates, the next instruction does the same at both.
-use Rattle.std.proofs.Common.{◌≡◌, ℕ, zero, suc, ◌+◌, ◌-◌, ◌<◌, ◌≤◌, ◌==◌, Bool, true, false, List, [], ◌∷◌, ◌++◌, length, Option, Some, None, refl, ◌∙◌, ap, sym}
+use Rattle.std.proofs.Common.{◌≡◌, ℕ, ◌+◌, ◌-◌, ◌<◌, ◌≤◌, ◌==◌, Bool, true, false, List, ◌++◌, length, Option, Some, None, ◌∙◌, ap, sym}
 use Rattle.std.proofs.Common.{arith, subst}
-use Rattle.std.specs.Prelude.{if◌then◌else◌, slice_index}
-use Rattle.f8_spec.specs.Instructions.{clocks_before_fetch, clocks_of, interrupt_clocks}
+use Rattle.std.specs.Prelude.{if◌then◌else◌}
+use Rattle.f8_spec.specs.Instructions.{clocks_before_fetch}
 use Rattle.f8_spec.specs.declared.instructions.Op.{Op}
 use Rattle.console_spec.specs.FlatStep.{clocks_by, with_acknowledged}
-use Rattle.console_spec.specs.InterruptRequests.{Mark, History, last_write_time, last_mark_time, with_mark, effect_time}
+use Rattle.console_spec.specs.InterruptRequests.{Mark, last_write_time, last_mark_time}
 use Rattle.console_spec.specs.Processor.{State, history_of, result_of, write_at, written_port, with_write}
-use Rattle.console_spec.specs.Run.{Position, seats_of, gets_at, gets_all_at, instruction_course, instruction_fault, position_after}
-use Rattle.console_spec.specs.Services.{Fault}
+use Rattle.console_spec.specs.Run.{Position, seats_of, gets_at, instruction_course, instruction_fault, position_after}
 use Rattle.console_spec.specs.declared.PortWrite.{PortWrite}
 use Rattle.bus_audit.specs.PlainSteps.{PlainStep, HaveBytes, plain_course}
 use Rattle.bus_audit.specs.Choices.{interrupting_socket, from_last_fetch, key_choice, pulse_choice}
@@ -18,7 +17,7 @@ use Rattle.bus_audit.proofs.Courses.{served_before}
 use Rattle.bus_audit.proofs.SameSteps.{before_at, own_at, port_at, chosen_with, IsWanted, same_gets, same_after, same_steps, same_fault}
 use Rattle.bus_audit.proofs.ToldSteps.{vector_told}
 use Rattle.bus_audit.proofs.PortReads.{OwnAlike, port_reads, pulse_leaves_keys, key_leaves_pulses}
-use Rattle.bus_audit.proofs.Asking.{AreSpent, pulses_now, chosen_again, spent_now}
+use Rattle.bus_audit.proofs.Asking.{AreSpent, chosen_again, spent_now}
 use Rattle.bus_audit.proofs.FreeChoices.{op_free}
 use Rattle.bus_audit.specs.Choices.{data_port_read, second_byte}
 use Rattle.console_spec.specs.AddressSpace.{byte_at}

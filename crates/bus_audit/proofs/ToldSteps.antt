@@ -1,5 +1,5 @@
 -- What the told steps of an instruction say: the byte of the port that it reads, and the chip whose interrupt is taken at its end.
-use Rattle.std.proofs.Common.{◌≡◌, ℕ, ◌<◌, Bool, true, false, List, [], ◌∷◌, ◌++◌, length, drop, map, Option, Some, None, refl, ◌∙◌, ap, sym}
+use Rattle.std.proofs.Common.{◌≡◌, ℕ, ◌<◌, Bool, false, List, [], ◌∷◌, ◌++◌, length, drop, map, Option, Some, None, refl, ◌∙◌, ap, sym}
 use Rattle.std.proofs.Common.{append_assoc, drop_at}
 use Rattle.std.proofs.lemmas.List.{length-map, map-append}
 use Rattle.std.specs.Prelude.{nat_lt, if◌then◌else◌}
@@ -20,7 +20,7 @@ use Rattle.console_spec.specs.Run.{Position, gets_all_at, instruction_course}
 use Rattle.console_spec.specs.Services.{Fault, access_ruling}
 use Rattle.bus_audit.specs.PlainSteps.{What, Byte, Faulted, PlainStep, HasByte, HaveBytes, plain, plain_course, plain_fault}
 use Rattle.bus_audit.specs.Choices.{driving_socket, interrupting_socket, from_last_fetch, told_byte, first_byte, second_byte}
-use Rattle.bus_audit.proofs.Courses.{joined_by, course_before, course_behind, course_tells, before_pairs, in_parts}
+use Rattle.bus_audit.proofs.Courses.{joined_by, course_before, course_tells, before_pairs, in_parts}
 use Rattle.bus_audit.proofs.SameSteps.{before_at, behind_at, port_at, port_in_course, short_in_course}
 
 -- ---- the told steps in two parts

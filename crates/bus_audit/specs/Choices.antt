@@ -18,7 +18,6 @@ use Rattle.console_spec.specs.Writes.{latch_of, readers}
 use Rattle.console_spec.specs.declared.Event.{Event}
 use Rattle.console_spec.specs.declared.Event.TheVariants.{Keys, Pulse}
 use Rattle.console_spec.specs.declared.PortWrite.{PortWrite}
-use Rattle.console_spec.specs.declared.Who.{Who}
 use Rattle.console_spec.specs.declared.Who.TheVariants.{Cpu, Socket, Nobody}
 use Rattle.bus_audit.specs.PlainSteps.{What, Byte, Faulted, PlainStep}
 

@@ -1,6 +1,6 @@
 -- The run that a trace dictates: it goes on as long as the record of reset, and then of each instruction, is what stands next in the trace.
 -- This project's own.
-use Rattle.std.specs.Prelude.{◌≡◌, ℕ, zero, suc, ◌+◌, List, [], length, drop, Option, Some, None}
+use Rattle.std.specs.Prelude.{◌≡◌, ℕ, zero, suc, ◌+◌, List, length, drop, Option, Some, None}
 use Rattle.f8_spec.specs.Instructions.{decoded}
 use Rattle.f8_spec.specs.MicroSteps.{reset_steps}
 use Rattle.f8_spec.specs.declared.instructions.Op.{Op}

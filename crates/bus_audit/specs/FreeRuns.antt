@@ -84,12 +84,12 @@ IsFreelyAt setup (suc n) x steps =
 
 -- ---- its record
 
--- The whole record of a free run: of one that is broken off behind reset or an instruction, or of one that a fault stops, whose step is the
--- last. One that stops at a reserved opcode has the record of one that is broken off there.
-pub data IsRecord (setup : Setup) : List PlainStep → Type 0 where
-  broken_off : (n : ℕ) (x : Position) (steps : List TracedStep) → IsFreelyAt setup n x steps → IsRecord setup (map plain steps)
+-- The whole record of a free run with so many instructions that are done: of one that is broken off behind reset or an instruction, or of one
+-- that a fault stops, whose step is the last. One that stops at a reserved opcode has the record of one that is broken off there.
+pub data IsRecord (setup : Setup) : ℕ → List PlainStep → Type 0 where
+  broken_off : (n : ℕ) (x : Position) (steps : List TracedStep) → IsFreelyAt setup n x steps → IsRecord setup n (map plain steps)
   reset_cut : (free : List Event) (fault : Fault) → AreFree free → reset_fault (with_events free (own_begun setup)) ≡ Some fault →
-      IsRecord setup (plain_course (reset_course (with_events free (own_begun setup))))
+      IsRecord setup zero (plain_course (reset_course (with_events free (own_begun setup))))
   cut : (n : ℕ) (x : Position) (steps : List TracedStep) (op : Op) (fault : Fault) → IsFreelyAt setup n x steps →
       decoded (opcode_at x) ≡ Some op → instruction_fault op x ≡ Some fault →
-      IsRecord setup (map plain steps ++ plain_course (instruction_course op x))
+      IsRecord setup n (map plain steps ++ plain_course (instruction_course op x))
