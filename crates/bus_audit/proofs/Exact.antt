@@ -1,6 +1,6 @@
 -- The dictated run leaves nothing of a trace just where that is the whole record of a free run.
-use Rattle.std.proofs.Common.{◌≡◌, ℕ, zero, suc, ◌+◌, ◌<◌, ◌≤◌, Bool, true, false, List, [], ◌∷◌, ◌++◌, length, map, drop, Option, Some, None, refl, ◌∙◌, ap, sym, subst}
-use Rattle.std.proofs.Common.{arith, append_assoc, append-nil, add-one, length-append}
+use Rattle.std.proofs.Common.{◌≡◌, ℕ, zero, suc, ◌+◌, ◌<◌, ◌≤◌, Bool, true, false, List, [], ◌∷◌, ◌++◌, length, map, drop, refl, ◌∙◌, ap, sym, subst}
+use Rattle.std.proofs.Common.{Option, Some, None, arith, append_assoc, append-nil, add-one, length-append}
 use Rattle.std.proofs.lemmas.List.{map-append}
 use Rattle.std.specs.Prelude.{if◌then◌else◌}
 use Rattle.f8_spec.specs.BusArbitration.{Ruling, Served, Conflict, Undriven, Astray, rule_of}
@@ -176,7 +176,7 @@ reset_over setup free fault cuts =
     let x = dictated_begun setup told in
     let as_powered = freely_begun setup (choice (drop (length reset_steps) told) (own_begun setup)) in
     let told_is : told ≡ plain_course (reset_course p) ++ [] =
-        ap (λ (q : Position). plain_course (reset_course q)) (freely_begun setup free) ∙ sym (append-nil (plain_course (reset_course p))) in
+    ap (λ (q : Position). plain_course (reset_course q)) (freely_begun setup free) ∙ sym (append-nil (plain_course (reset_course p))) in
     let cut_at : reset_fault p ≡ Some fault = ap reset_fault (sym (freely_begun setup free)) ∙ cuts in
     ap (λ (q : Position). end_by 0 (next_by (reset_fault q) (behind (plain_course (reset_course q)) told) (λ later. position_after_reset x) told) k)
     as_powered
@@ -200,7 +200,7 @@ complete setup (cut n x steps op fault at is cuts) small =
     let z = with_choice told (with_free b.keys b.pulses x) in
     let r : Reaches setup trace n z told = reaches setup trace n z told b.dictated in
     let next : next_dictated setup.script z told ≡ Over [] =
-        next_is x b.keys b.pulses b.shadow op is told [] (bytes_behind (map plain steps) told small) (sym (append-nil told)) setup.script (Some fault) cuts in
+    next_is x b.keys b.pulses b.shadow op is told [] (bytes_behind (map plain steps) told small) (sym (append-nil told)) setup.script (Some fault) cuts in
     r.is ∙ over_now setup.script n r.more z told (tells_some op x) r.enough next
 
 -- ---- and nothing else does
@@ -288,9 +288,10 @@ module _ (setup : Setup) (m : ℕ) (trace : List PlainStep) where
       by_op op opcode None (Some later) why left e onwards =
           let told = behind_is (plain_course (instruction_course op z)) rest later left in
           let x = onward_at n z steps rest later op at is opcode why told small in
-          onwards x (onward_steps n z steps rest later op at is opcode why told small) later
-          ((z, steps, at, goes_freely n z steps rest later op at is opcode why told small),
-          onward_told n z steps rest later op at is opcode why told small)
+          onwards x (onward_steps n z steps rest later op at is opcode why told small) later (
+            (z, steps, at, goes_freely n z steps rest later op at is opcode why told small),
+            onward_told n z steps rest later op at is opcode why told small,
+          )
           (small_later n z steps rest later op at is opcode why told small)
           (ap (λ (count : ℕ). dictated_from setup.script count more x later) (sym (add-one n)) ∙ e)
 
@@ -338,11 +339,12 @@ sound_by setup m s later small None (Some rest) why left ends =
     let told = behind_is (plain_course course) trace rest left in
     let served : course.fault ≡ None = none_in course.fault (reset_faults x ∙ why) in
     let begins : BeginsFreely setup (position_after_reset x) course.steps = record {
-        free = first_choice setup trace;
-        are_free = first_free setup trace small;
-        served = why;
-        at = refl;
-        told = refl } in
+      free = first_choice setup trace;
+      are_free = first_free setup trace small;
+      served = why;
+      at = refl;
+      told = refl;
+    } in
     sound_from setup m trace (length trace) 0 (position_after_reset x) course.steps rest begins
     (ap (λ (l : List PlainStep). l ++ rest) (sym (plain_served course served)) ∙ sym told)
     (bytes_behind (plain_course course) rest (subst HaveBytes told small)) ends

@@ -9,6 +9,7 @@ use Rattle.console_spec.specs.declared.Who.{Who}
 use Rattle.console_spec.specs.declared.Who.TheVariants.{Cpu, Socket, Nobody}
 use Rattle.console_spec.proofs.Played.{running, steps_alone}
 use Rattle.console_spec.proofs.WorkedInterrupts.{wired_psu}
+use Rattle.console_spec.proofs.WorkedRacks.{psu}
 use Rattle.console_spec.proofs.WorkedRuns.{rom}
 use Rattle.bus_audit.specs.PlainSteps.{PlainStep, Byte, Faulted}
 use Rattle.bus_audit.specs.FreeRuns.{Setup}
@@ -217,3 +218,46 @@ undescribed_takes_none : dictated (record (of_chips (pulsed_chips true)) { chain
     ≡ left 4 (from_pulse 0 1)
 unfolding running dictated_from
 undescribed_takes_none = refl
+
+-- ---- a trace without a step leaves nothing either; whether a trace has one is another question
+
+no_step : dictated branching [] ≡ left 0 []
+unfolding running dictated_from
+no_step = refl
+
+-- ---- other reads of a port
+
+-- IN of port 4 has the number behind its opcode
+in_told : dictated (of_chips (rom (0x26 ∷ 0x04 ∷ 0x2B ∷ [])))
+    (reset_told 0x26 ++ long 0x03 0x04 (Socket 0) ∷ long 0x1B 0x5A (Socket 0) ∷ fetched_alone 0x2B) ≡ left 1 []
+unfolding running dictated_from
+in_told = refl
+
+-- a port of two chips isn't read in any run
+two_chips_port : dictated (of_chips (psu 0 4 (0xA4 ∷ []) ∷ psu 0x400 4 [] ∷ []))
+    (reset_told 0xA4 ++ long 0x1C 0x04 Cpu ∷ fault_at 0x1B true ∷ []) ≡ left 0 []
+unfolding running dictated_from
+two_chips_port = refl
+
+no_byte_of_two : dictated (of_chips (psu 0 4 (0xA4 ∷ []) ∷ psu 0x400 4 [] ∷ []))
+    (reset_told 0xA4 ++ long 0x1C 0x04 Cpu ∷ long 0x1B 0x5A (Socket 0) ∷ fetched_alone 0xFF)
+    ≡ left 0 (long 0x1C 0x04 Cpu ∷ long 0x1B 0x5A (Socket 0) ∷ fetched_alone 0xFF)
+unfolding running dictated_from
+no_byte_of_two = refl
+
+-- ---- a pulse whose interrupt was taken doesn't count again: control 1, EI and a branch to itself, and at the vector EI and NOPs
+
+abbrev once_pulsed : List ChipView
+once_pulsed = wired_psu 0 4 0x100
+    (0x71 ∷ 0xB6 ∷ 0x1B ∷ 0x90 ∷ 0xFF ∷ replicate 379 0xFF ++ 0x1B ∷ 0x2B ∷ 0x2B ∷ []) ∷ []
+
+abbrev once_told : List PlainStep
+once_told =
+    reset_told 0x71 ++ fetched_alone 0xB6 ++ long 0x1C 0x06 Cpu ∷ long 0x1A 0x01 Cpu ∷ short 0x00 0x1B (Socket 0) ∷ short 0x1C 0 Nobody
+    ∷ short 0x00 0x90 (Socket 0) ∷ short 0x1C 0 Nobody ∷ long 0x01 0xFF (Socket 0) ∷ long 0x10 0 Nobody ∷ short 0x1C 0 Nobody
+    ∷ long 0x0F 0x80 (Socket 0) ∷ long 0x13 0x01 (Socket 0) ∷ short 0x00 0x1B (Socket 0) ∷ short 0x1C 0 Nobody ∷ short 0x00 0x2B (Socket 0)
+    ∷ fetched_alone 0x2B
+
+pulse_counts_once : dictated (of_chips once_pulsed) once_told ≡ left 6 []
+unfolding running dictated_from
+pulse_counts_once = refl
