@@ -15,6 +15,7 @@ use Rattle.f8_asm.specs.declared.operands.Effect.{Effect}
 use Rattle.f8_asm.specs.declared.operands.Effect.TheVariants.{Names, Moves, Fills}
 use Rattle.f8_asm.specs.declared.operands.Statement.{Statement}
 use Rattle.f8_asm.specs.declared.values.Outcome.{Outcome}
+use Rattle.f8_asm.specs.declared.values.Outcome.TheVariants.{OutOfRange}
 use Rattle.f8_asm.specs.Answers.{◌>>=◌}
 use Rattle.text_lines.specs.ReadErrors.{Says}
 use Rattle.f8_asm.specs.Evaluation.{values}
@@ -228,8 +229,8 @@ unfolding place settle place_parsed settle_parsed
 place_alike room s t l p so read =
     let ts : List Token = l.tokens in
     let from = parsed_from l.number ts p read in
-    let has : Statement Outcome = statement_valued (formula_value (values t.names t.here)) from.st in
-    let at_t = statement_with_values (values t.names t.here) (is_some (label_of ts)) (behind_label ts) from.st from.at_st in
+    let has : Statement Outcome = statement_valued (formula_value OutOfRange (values t.names t.here)) from.st in
+    let at_t = statement_with_values OutOfRange (values t.names t.here) (is_some (label_of ts)) (behind_label ts) from.st from.at_st in
     let valued : statement (values s.names s.here) (is_some (label_of ts)) (behind_label ts) ≡ Ok has = rw (so.names, so.here) at_t in
     let goes = after_alike room (label_of ts) (column_of (behind_label ts)) s t (effect_of has) so in
     let same : LineRead l (line_of l.number ts from.st) = rw from.is read in
@@ -251,7 +252,7 @@ unfolding emit line_bytes emit_parsed parsed_bytes
 emit_alike names table other a b same so =
     let ts : List Token = a.line.tokens in
     let from = parsed_from a.line.number ts b.line so.1 in
-    let valued = statement_with_values (values names b.address) (is_some (label_of ts)) (behind_label ts) from.st from.at_st in
+    let valued = statement_with_values OutOfRange (values names b.address) (is_some (label_of ts)) (behind_label ts) from.st from.at_st in
     rw (same, so.0, ← from.is, valued) (alike_self _ (λ t. refl))
 
 -- ---- the image

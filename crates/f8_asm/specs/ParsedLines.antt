@@ -9,6 +9,7 @@ use Rattle.f8_asm.specs.declared.line.ParsedLine.{ParsedLine}
 use Rattle.f8_asm.specs.declared.line.PlacedLine.{PlacedLine}
 use Rattle.f8_asm.specs.declared.operands.Statement.{Statement}
 use Rattle.f8_asm.specs.declared.values.Outcome.{Outcome}
+use Rattle.f8_asm.specs.declared.values.Outcome.TheVariants.{OutOfRange}
 use Rattle.f8_asm.specs.Answers.{◌>>=◌}
 use Rattle.f8_asm.specs.Bytes.{bytes_of}
 use Rattle.f8_asm.specs.Evaluation.{values}
@@ -64,7 +65,7 @@ no_parsing = record { names = []; lines = [] }
 
 -- the statement of a line with the values of names, at an address
 abbrev pub statement_with : List (List ℕ × ℤ) → ℕ → ParsedLine → Statement Outcome
-statement_with names address l = statement_valued (formula_value (values names address)) l.statement
+statement_with names address l = statement_valued (formula_value OutOfRange (values names address)) l.statement
 
 unfoldable pub settle_parsed : Room → Layout PlacedLine → ParsedLine → Result (Layout PlacedLine) LineFault
 settle_parsed room s l = layout_after room l.label l.column s (effect_of (statement_with s.names s.here l))

@@ -198,25 +198,36 @@ statement_valued value (One what o) = One what (operand_valued value o)
 statement_valued value (Test field a b) = Test field (operand_valued value a) (operand_valued value b)
 statement_valued value (Items size os) = Items size (map (operand_valued value) os)
 
--- ---- effects
+-- ---- sizes and effects
 
 abbrev pub item_size : ItemSize → ℕ
 item_size item.Byte = 1
 item_size item.Word = 2
 
+-- the bytes that a statement with one operand takes
+abbrev pub single_size : Single → ℕ
+single_size (single.Byte code) = 2
+single_size (single.Port code) = 2
+single_size (single.Word code) = 3
+single_size (single.Branch code) = 2
+single_size (single.Small field) = 1
+single_size single.Org = 0
+single_size single.Equ = 0
+
+-- and those of any statement, whatever its operands are
+abbrev pub statement_size : {A : Type 0} → Statement A → ℕ
+statement_size Nothing = 0
+statement_size (Fixed code) = 1
+statement_size (One what o) = single_size what
+statement_size (Test field a b) = 2
+statement_size (Items size os) = item_size size * length os
+
 -- what a statement does in the second pass
 abbrev pub single_effect : Single → Operand Outcome → Effect
 single_effect single.Equ o = Names o
 single_effect single.Org o = Moves o
-single_effect (single.Byte code) o = Fills 2
-single_effect (single.Port code) o = Fills 2
-single_effect (single.Word code) o = Fills 3
-single_effect (single.Branch code) o = Fills 2
-single_effect (single.Small field) o = Fills 1
+single_effect other o = Fills (single_size other)
 
 abbrev pub effect_of : Statement Outcome → Effect
-effect_of Nothing = Fills 0
-effect_of (Fixed code) = Fills 1
 effect_of (One what o) = single_effect what o
-effect_of (Test field a b) = Fills 2
-effect_of (Items size os) = Fills (item_size size * length os)
+effect_of other = Fills (statement_size other)

@@ -117,7 +117,7 @@ fn list_bytes(
     operands: &[Operand<Formula>],
 ) -> Result<Vec<u8>, LineStop>
     ensures { let acts = values scope.now.symbols.now scope.now.address in
-        SaysOfBytes result (list_bytes size (map (operand_valued (formula_value acts)) operands.now)) }
+        SaysOfBytes result (list_bytes size (map (operand_valued (formula_value Outcome.OutOfRange acts)) operands.now)) }
 {
     let mut bytes = Vec::new(alloc);
     for operand in operands {
@@ -136,7 +136,7 @@ pub fn bytes_of(
 ) -> Result<Vec<u8>, LineStop>
     ensures { let acts = values scope.now.symbols.now scope.now.address in
         SaysOfBytes result
-        (bytes_of scope.now.address (statement_valued (formula_value acts) statement.now)) }
+        (bytes_of scope.now.address (statement_valued (formula_value Outcome.OutOfRange acts) statement.now)) }
 {
     match statement {
         Statement::Nothing => Ok(Vec::new(alloc)),

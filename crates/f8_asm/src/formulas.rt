@@ -14,7 +14,7 @@ use std::marker::Model;
 /// What names and `.` stand for.
 #[derive(Clone, Copy)]
 pub struct Scope<'a> {
-    pub symbols: &'a Symbols,
+    pub symbols: &'a Symbols<i64>,
     pub address: u32,
 }
 
@@ -75,7 +75,7 @@ impl Formula {
     }
 
     /// The steps in order.
-    fn as_slice(&self) -> &[Step]
+    pub fn as_slice(&self) -> &[Step]
         ensures { result.now ≡ self.now }
     {
         self.steps.as_slice()
@@ -120,7 +120,7 @@ fn take(scope: &Scope, stack: &mut Vec<Outcome>, step: &Step) -> Result<(), Allo
 
 /// The value that is last on a stack.
 fn top_of(stack: &[Outcome]) -> Outcome
-    ensures { result ≡ top_of (last_on stack.now) }
+    ensures { result ≡ top_of Outcome.OutOfRange (last_on stack.now) }
 {
     match stack.last() {
         Some(value) => *value,
@@ -132,7 +132,7 @@ fn top_of(stack: &[Outcome]) -> Outcome
 #[tactic(auto, unfolding(crate::specs::Formulas::formula_value))]
 pub fn formula_value(alloc: Global, scope: &Scope, formula: &Formula) -> Result<Outcome, AllocError>
     ensures { IfOk result (λ o. o
-        ≡ formula_value (values scope.now.symbols.now scope.now.address) formula.now) }
+        ≡ formula_value Outcome.OutOfRange (values scope.now.symbols.now scope.now.address) formula.now) }
 {
     let mut stack = Vec::new(alloc);
     let steps = formula.as_slice();

@@ -18,7 +18,7 @@ use std::marker::Model;
 #[derive(Drop)]
 pub struct Image {
     bytes: Vec<(u16, u8)>,
-    symbols: Symbols,
+    symbols: Symbols<i64>,
 }
 
 impl Model for Image {
@@ -42,6 +42,13 @@ impl Image {
         ensures { result.now ≡ self.now.bytes }
     {
         self.bytes.as_slice()
+    }
+
+    /// The symbols, in the order in which they were defined.
+    pub fn symbols(&self) -> &Symbols<i64>
+        ensures { result.now ≡ self.now.symbols }
+    {
+        &self.symbols
     }
 
     /// How many symbols there are.

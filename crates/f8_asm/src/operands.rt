@@ -2,7 +2,7 @@
 ghost use Rattle.std.specs.Prelude.{◌≡◌, ◌≤◌, IfOk};
 ghost use Rattle.f8_asm.specs.Evaluation.{values};
 ghost use Rattle.f8_asm.specs.Formulas.{formula_value};
-ghost use Rattle.f8_asm.specs.Statements.{item_size, operand_valued, statement_valued, single_effect, effect_of};
+ghost use Rattle.f8_asm.specs.Statements.{item_size, single_size, statement_size, operand_valued, statement_valued, single_effect, effect_of};
 
 use crate::fields::Field;
 use crate::formulas::{Formula, Scope, formula_value};
@@ -81,7 +81,7 @@ pub fn valued(
     operand: &Operand<Formula>,
 ) -> Result<Operand<Outcome>, AllocError>
     ensures { let acts = values scope.now.symbols.now scope.now.address in
-        IfOk result (λ o. o ≡ operand_valued (formula_value acts) operand.now) }
+        IfOk result (λ o. o ≡ operand_valued (formula_value Outcome.OutOfRange acts) operand.now) }
 {
     let value = formula_value(alloc, scope, &operand.value)?;
     Ok(Operand {
@@ -101,6 +101,34 @@ fn item_size(size: ItemSize) -> usize
     }
 }
 
+/// The bytes that a statement with one operand takes.
+fn single_size(single: Single) -> usize
+    ensures { result ≡ single_size single }
+{
+    match single {
+        Single::Byte(_) | Single::Port(_) | Single::Branch(_) => 2,
+        Single::Word(_) => 3,
+        Single::Small(_) => 1,
+        Single::Org | Single::Equ => 0,
+    }
+}
+
+/// The bytes that a statement takes.
+pub fn statement_size<E: Drop>(statement: &Statement<E>) -> usize
+    ensures { result ≡ statement_size statement.now }
+{
+    match statement {
+        Statement::Nothing => 0,
+        Statement::Fixed(_) => 1,
+        Statement::One(single, _) => single_size(*single),
+        Statement::Test(_, _, _) => 2,
+        Statement::Items(size, list) => {
+            let items = list.as_slice();
+            item_size(*size) * items.len()
+        }
+    }
+}
+
 /// What a statement with one operand does.
 fn single_effect(
     alloc: Global,
@@ -109,14 +137,12 @@ fn single_effect(
     operand: &Operand<Formula>,
 ) -> Result<Effect, AllocError>
     ensures { let acts = values scope.now.symbols.now scope.now.address in
-        IfOk result (λ e. e ≡ single_effect single (operand_valued (formula_value acts) operand.now)) }
+        IfOk result (λ e. e ≡ single_effect single (operand_valued (formula_value Outcome.OutOfRange acts) operand.now)) }
 {
     match single {
         Single::Equ => Ok(Effect::Names(valued(alloc, scope, operand)?)),
         Single::Org => Ok(Effect::Moves(valued(alloc, scope, operand)?)),
-        Single::Byte(_) | Single::Port(_) | Single::Branch(_) => Ok(Effect::Fills(2)),
-        Single::Word(_) => Ok(Effect::Fills(3)),
-        Single::Small(_) => Ok(Effect::Fills(1)),
+        other => Ok(Effect::Fills(single_size(other))),
     }
 }
 
@@ -127,16 +153,10 @@ pub fn effect_of(
     statement: &Statement<Formula>,
 ) -> Result<Effect, AllocError>
     ensures { let acts = values scope.now.symbols.now scope.now.address in
-        IfOk result (λ e. e ≡ effect_of (statement_valued (formula_value acts) statement.now)) }
+        IfOk result (λ e. e ≡ effect_of (statement_valued (formula_value Outcome.OutOfRange acts) statement.now)) }
 {
     match statement {
-        Statement::Nothing => Ok(Effect::Fills(0)),
-        Statement::Fixed(_) => Ok(Effect::Fills(1)),
         Statement::One(single, operand) => single_effect(alloc, scope, *single, operand),
-        Statement::Test(_, _, _) => Ok(Effect::Fills(2)),
-        Statement::Items(size, list) => {
-            let items = list.as_slice();
-            Ok(Effect::Fills(item_size(*size) * items.len()))
-        }
+        other => Ok(Effect::Fills(statement_size(other))),
     }
 }

@@ -29,7 +29,7 @@ fn label_name(alloc: Global, tokens: &[Token]) -> Result<Option<Name>, AllocErro
 
 /// A line of these tokens, if they make a statement.
 #[tactic(auto, unfolding(crate::specs::ParsedLines::parsed))]
-fn parsed(alloc: Global, number: u32, tokens: &[Token]) -> Result<ParsedLine, LineStop>
+pub fn parsed(alloc: Global, number: u32, tokens: &[Token]) -> Result<ParsedLine, LineStop>
     ensures { Says result (parsed number tokens.now) }
 {
     let label = label_name(alloc, tokens)?;
@@ -45,7 +45,11 @@ fn parsed(alloc: Global, number: u32, tokens: &[Token]) -> Result<ParsedLine, Li
 }
 
 /// Gives the name of a line's label, if it has one and that is new.
-fn name_label(alloc: Global, symbols: &mut Symbols, tokens: &[Token]) -> Result<(), LineStop>
+pub fn name_label(
+    alloc: Global,
+    symbols: &mut Symbols<i64>,
+    tokens: &[Token],
+) -> Result<(), LineStop>
     ensures { StepsTo result symbols.new
         (names_after symbols.old tokens.now (label_of tokens.now)) }
 {
@@ -65,7 +69,7 @@ fn name_label(alloc: Global, symbols: &mut Symbols, tokens: &[Token]) -> Result<
 /// What is known after some lines: the names, without values yet, and the lines.
 #[derive(Drop)]
 pub struct Parsing {
-    symbols: Symbols,
+    symbols: Symbols<i64>,
     lines: Vec<ParsedLine>,
 }
 

@@ -17,7 +17,11 @@ use std::alloc::Global;
 
 /// The bytes of a line.
 #[tactic(auto, unfolding(crate::specs::ParsedLines::parsed_bytes))]
-fn line_bytes(alloc: Global, symbols: &Symbols, placed: &PlacedLine) -> Result<Vec<u8>, LineStop>
+fn line_bytes(
+    alloc: Global,
+    symbols: &Symbols<i64>,
+    placed: &PlacedLine,
+) -> Result<Vec<u8>, LineStop>
     ensures { SaysOfBytes result (parsed_bytes symbols.now placed.now) }
 {
     let scope = Scope {
@@ -31,7 +35,7 @@ fn line_bytes(alloc: Global, symbols: &Symbols, placed: &PlacedLine) -> Result<V
 #[tactic(auto, unfolding(crate::specs::ParsedLines::emit_parsed))]
 fn emit(
     alloc: Global,
-    symbols: &Symbols,
+    symbols: &Symbols<i64>,
     table: &mut Table,
     placed: &PlacedLine,
 ) -> Result<(), AsmAnswer>
@@ -50,7 +54,7 @@ fn emit(
 }
 
 /// The bytes of lines at their addresses.
-fn emit_all(alloc: Global, symbols: &Symbols, lines: &[PlacedLine]) -> Result<Table, AsmAnswer>
+fn emit_all(alloc: Global, symbols: &Symbols<i64>, lines: &[PlacedLine]) -> Result<Table, AsmAnswer>
     ensures { Says result (emit_all_parsed symbols.now (no_bytes 65536) lines.now) }
 {
     let mut table = Table::new(alloc)?;

@@ -18,7 +18,7 @@ use std::alloc::{AllocError, Global};
 use std::marker::Model;
 
 /// Whether all of so many bytes lie in the room.
-fn is_inside(room: Room, here: u32, size: usize) -> bool
+pub fn is_inside(room: Room, here: u32, size: usize) -> bool
     requires { here ≤ 65536 }
     ensures { result ≡ is_inside room here size }
 {
@@ -31,7 +31,7 @@ fn is_inside(room: Room, here: u32, size: usize) -> bool
 #[derive(Drop)]
 pub struct Layout {
     here: u32,
-    symbols: Symbols,
+    symbols: Symbols<i64>,
     filled: Vec<bool>,
     placed: Vec<PlacedLine>,
 }
@@ -174,14 +174,14 @@ impl Layout {
     }
 
     /// The names with their values.
-    pub fn symbols(&self) -> &Symbols
+    pub fn symbols(&self) -> &Symbols<i64>
         ensures { result.now ≡ self.now.names }
     {
         &self.symbols
     }
 
     /// The names with their values, where nothing else is wanted any more.
-    pub fn into_symbols(self) -> Symbols
+    pub fn into_symbols(self) -> Symbols<i64>
         ensures { result ≡ self.names }
     {
         self.symbols

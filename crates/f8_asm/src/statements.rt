@@ -36,7 +36,7 @@ fn operand_at(alloc: Global, tokens: &[Token]) -> Result<(Operand<Formula>, &[To
 }
 
 /// The tokens behind a comma.
-fn comma(tokens: &[Token]) -> Result<&[Token], LineFault>
+pub fn comma(tokens: &[Token]) -> Result<&[Token], LineFault>
     ensures value { seen_rest result ≡ comma tokens.now }
     ensures consumes { IfOk result (λ rest. length rest.now < length tokens.now) }
 {

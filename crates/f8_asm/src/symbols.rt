@@ -8,27 +8,27 @@ use indexmap::IndexMap;
 use std::alloc::{AllocError, Global};
 use std::marker::Model;
 
-/// Names with their values, in the order in which they were first given one. A contract sees that list.
+/// Names with what they stand for, in the order in which they were first given it. A contract sees that list.
 #[derive(Drop)]
-pub struct Symbols {
-    entries: IndexMap<String, i64>,
+pub struct Symbols<V: Drop> {
+    entries: IndexMap<String, V>,
 }
 
-impl Model for Symbols {
-    ghost use Rattle.std.specs.Prelude.{ℕ, ℤ, List, map, IsTrue};
+impl<V: Drop> Model for Symbols<V> {
+    ghost use Rattle.std.specs.Prelude.{ℕ, List, map, IsTrue};
     ghost use Rattle.std.specs.String.{string_bytes};
     ghost use Rattle.f8_asm.specs.Names.{are_names};
 
-    ghost Value = { List (List ℕ × ℤ) };
+    ghost Value = { List (List ℕ × V) };
 
     ghost view = { λ s. map (λ e. (string_bytes e.0, e.1)) s.entries.entries };
 
     ghost invariant = { λ s. IsTrue (are_names (map (λ e. (string_bytes e.0, e.1)) s.entries.entries)) };
 }
 
-impl Symbols {
+impl<V: Copy + Drop> Symbols<V> {
     /// No name.
-    pub fn new(alloc: Global) -> Symbols
+    pub fn new(alloc: Global) -> Symbols<V>
         ensures { result ≡ [] }
     {
         Symbols {
@@ -38,7 +38,7 @@ impl Symbols {
 
     /// The value of a name.
     #[tactic(auto, using(crate::proofs::NameLookup::looked_up))]
-    pub fn value_of(&self, name: &Name) -> Option<i64>
+    pub fn value_of(&self, name: &Name) -> Option<V>
         ensures { result ≡ value_of self.now name.now }
     {
         self.entries.get(name.as_str()).copied()
@@ -46,7 +46,7 @@ impl Symbols {
 
     /// Gives a name a value. The one error is want of memory, and nothing has changed then.
     #[tactic(auto, using(crate::proofs::NameLookup::inserted))]
-    pub fn define(&mut self, alloc: Global, name: &Name, value: i64) -> Result<(), AllocError>
+    pub fn define(&mut self, alloc: Global, name: &Name, value: V) -> Result<(), AllocError>
         ensures named { OnOk result (self.new ≡ with_name self.old name.now value) }
         ensures same { OnErr result (self.new ≡ self.old) }
     {
@@ -63,7 +63,7 @@ impl Symbols {
     }
 
     /// The name and the value of an entry, counted from 0.
-    pub fn get(&self, k: usize) -> Option<(&str, i64)>
+    pub fn get(&self, k: usize) -> Option<(&str, V)>
         ensures entry { symbol_seen result ≡ slice_get self.now k }
         ensures name { IfSome result (λ s. IsTrue (is_name s.0.now)) }
     {

@@ -59,7 +59,7 @@ fn value_held(value: Option<i64>) -> Outcome
 }
 
 /// Two values joined.
-fn operator_value(operator: Operator, left: i64, right: i64) -> Outcome
+pub fn operator_value(operator: Operator, left: i64, right: i64) -> Outcome
     ensures { result ≡ operator_value operator left right }
 {
     match operator {
@@ -90,7 +90,7 @@ pub fn both(operator: Operator, left: Outcome, right: Outcome) -> Outcome
 }
 
 /// A value behind a prefix.
-fn prefix_value(prefix: Prefix, value: i64) -> Outcome
+pub fn prefix_value(prefix: Prefix, value: i64) -> Outcome
     ensures { result ≡ prefix_value prefix value }
 {
     match prefix {

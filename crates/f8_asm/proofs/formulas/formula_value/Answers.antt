@@ -8,4 +8,4 @@ loop-step-preserved c =
 pub returns : goal.returns
 returns c =
     rw (c.top_of.ensures, c.as_slice.ensures.value)
-    (value_on _ _ _ (stack_all _ _ c.loop-step.step-index c.loop-step.invariant c.loop-step-test.false))
+    (value_on _ _ _ _ (stack_all _ _ c.loop-step.step-index c.loop-step.invariant c.loop-step-test.false))

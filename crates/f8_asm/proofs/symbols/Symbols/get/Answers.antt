@@ -6,7 +6,7 @@ use Rattle.f8_asm.proofs.NameLookup.{name_at}
 use Rattle.f8_asm.proofs.symbols.Symbols.get.Goals as goal
 
 pub returns-clause-name : goal.returns-clause-name
-returns-clause-name c =
+returns-clause-name g c =
     rw c.as_str.ensures.value (name_at (map (λ e. (string_bytes e.0, e.1)) c.self.inside.entries.entries) c.args.k
     (string_bytes c.in_ok-name.name.now) c.in_ok-name.value.now c.self.invariant
     (ap (option_map (λ e. (string_bytes e.0, e.1))) c.in_ok-name.ensures.entry
