@@ -1,0 +1,11 @@
+pub mod Answers
+pub mod Values
+pub mod Evaluation
+pub mod Objects
+pub mod Pieces
+pub mod Directives
+pub mod FirstPass
+pub mod SecondPass
+pub mod ThirdPass
+pub mod Linking
+pub mod OneSource
