@@ -1,5 +1,5 @@
 -- What is left of a module for linking.
-use Rattle.std.specs.Prelude.{ℕ, List, map}
+use Rattle.std.specs.Prelude.{ℕ, List}
 use Rattle.f8_link.specs.declared.objects.Fixup.{Fixup}
 use Rattle.f8_link.specs.declared.values.Named.{Named}
 
@@ -10,7 +10,3 @@ pub record Object : Type 0 where
   pub exports : List (List ℕ × Named)
   pub imports : List (List ℕ)
   pub fixups : List Fixup
-
--- the object of these parts; of the imports only the names are told
-abbrev pub object_seen : List ℕ → List (List ℕ × Named) → List (List ℕ × ℕ) → List Fixup → Object
-object_seen bytes exports imports fixups = record { bytes = bytes; exports = exports; imports = map (λ i. i.0) imports; fixups = fixups }

@@ -1,5 +1,5 @@
 -- The third pass over a module: its bytes, what linking puts into them, and what its exports stand for.
-use Rattle.std.specs.Prelude.{ℕ, List, [], ◌∷◌, ◌++◌, Option, Some, None, Result, Ok, Err}
+use Rattle.std.specs.Prelude.{ℕ, List, [], ◌∷◌, ◌++◌, map, Option, Some, None, Result, Ok, Err}
 use Rattle.f8_asm.specs.Answers.{◌>>=◌}
 use Rattle.f8_asm.specs.Names.{value_of}
 use Rattle.f8_asm.specs.Statements.{statement_valued}
@@ -17,7 +17,7 @@ use Rattle.f8_link.specs.declared.values.Named.{Named}
 use Rattle.f8_link.specs.Answers.{in_line_to, told}
 use Rattle.f8_link.specs.Evaluation.{formula_found}
 use Rattle.f8_link.specs.FirstPass.{no_reading, read_lines}
-use Rattle.f8_link.specs.Objects.{Object, object_seen}
+use Rattle.f8_link.specs.Objects.{Object}
 use Rattle.f8_link.specs.Pieces.{Piece, piece_of}
 use Rattle.f8_link.specs.SecondPass.{no_layout, place_lines}
 use Rattle.text_lines.specs.Lines.{lines}
@@ -59,7 +59,7 @@ emit_lines names imports s ps = steps (emit names imports) s ps
 
 -- the object of some code and its imports
 abbrev pub object_of : Code → List (List ℕ × ℕ) → Object
-object_of s imports = object_seen s.bytes s.exports imports s.fixups
+object_of s imports = record { bytes = s.bytes; exports = s.exports; imports = map (λ i. i.0) imports; fixups = s.fixups }
 
 -- a text's object, or its first fault: three passes over the whole text, and the first fault of the earliest is told
 unfoldable pub compiled : List ℕ → Result Object ModFault

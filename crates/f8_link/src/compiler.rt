@@ -41,5 +41,5 @@ pub fn compile(alloc: Global, text: &[u8]) -> Result<Object, ModAnswer>
     let (imports, lines) = module_lines(alloc, text)?.into_parts();
     let layout = place_lines(alloc, &imports, lines)?;
     let code = emit_lines(alloc, &layout, &imports)?;
-    Ok(code.into_object(imports))
+    Ok(code.into_object(alloc, &imports)?)
 }

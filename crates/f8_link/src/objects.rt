@@ -3,7 +3,6 @@ ghost use Rattle.std.specs.Prelude.{◌≡◌};
 
 use crate::values::{Base, Named};
 use asm_text::Name;
-use f8_asm::Symbols;
 use std::marker::Model;
 
 /// What linking makes of a value.
@@ -39,12 +38,11 @@ pub struct Fixup {
 pub struct Object {
     bytes: Vec<u8>,
     exports: Vec<(Name, Named)>,
-    imports: Symbols<usize>,
+    imports: Vec<Name>,
     fixups: Vec<Fixup>,
 }
 
 impl Model for Object {
-    ghost use Rattle.std.specs.Prelude.{map};
     ghost use Rattle.f8_link.specs.Objects.{Object};
 
     ghost Value = { Object };
@@ -52,23 +50,27 @@ impl Model for Object {
     ghost view = { λ o. record {
         bytes = o.bytes.items;
         exports = o.exports.items;
-        imports = map (λ i. i.0) o.imports;
+        imports = o.imports.items;
         fixups = o.fixups.items;
     } };
 }
 
 impl Object {
-    ghost use Rattle.std.specs.Prelude.{◌≡◌, slice_get, length, map, option_map};
-    ghost use Rattle.f8_link.specs.Objects.{object_seen};
+    ghost use Rattle.std.specs.Prelude.{◌≡◌};
 
-    /// The object of these parts. The imports have their numbers.
+    /// The object of these parts.
     pub fn of(
         bytes: Vec<u8>,
         exports: Vec<(Name, Named)>,
-        imports: Symbols<usize>,
+        imports: Vec<Name>,
         fixups: Vec<Fixup>,
     ) -> Object
-        ensures { result ≡ object_seen bytes.items exports.items imports fixups.items }
+        ensures { result ≡ record {
+            bytes = bytes.items;
+            exports = exports.items;
+            imports = imports.items;
+            fixups = fixups.items;
+        } }
     {
         Object {
             bytes,
@@ -92,11 +94,11 @@ impl Object {
         self.exports.as_slice()
     }
 
-    /// How many names are imported.
-    pub fn import_count(&self) -> usize
-        ensures { result ≡ length self.now.imports }
+    /// The imported names.
+    pub fn imports(&self) -> &[Name]
+        ensures { result.now ≡ self.now.imports }
     {
-        self.imports.len()
+        self.imports.as_slice()
     }
 
     /// What linking puts.

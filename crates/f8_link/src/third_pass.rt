@@ -1,5 +1,5 @@
 // The third pass over a module: its bytes, what linking puts into them, and what its exports stand for.
-ghost use Rattle.std.specs.Prelude.{◌≡◌, ◌≤◌, ◌+◌, All};
+ghost use Rattle.std.specs.Prelude.{◌≡◌, ◌≤◌, ◌+◌, All, IfOk, map};
 ghost use Rattle.text_lines.specs.ReadErrors.{Says, StepsTo};
 ghost use Rattle.f8_asm.specs.Names.{value_of};
 ghost use Rattle.f8_asm.specs.Statements.{statement_size};
@@ -16,7 +16,7 @@ use crate::second_pass::Layout;
 use crate::values::Named;
 use asm_text::Name;
 use f8_asm::{AsmCause, ParsedLine, Symbols};
-use std::alloc::Global;
+use std::alloc::{AllocError, Global};
 use std::marker::Model;
 
 /// What some lines give: bytes with what linking puts into them, and exports.
@@ -35,7 +35,7 @@ impl Model for Code {
 }
 
 impl Code {
-    ghost use Rattle.std.specs.Prelude.{◌≡◌};
+    ghost use Rattle.std.specs.Prelude.{◌≡◌, IfOk};
     ghost use Rattle.f8_link.specs.ThirdPass.{object_of};
 
     /// Nothing before the first line.
@@ -109,13 +109,27 @@ impl Code {
         }
     }
 
-    /// The object of all lines and of the imports.
-    pub fn into_object(self, imports: Symbols<usize>) -> Object
-        ensures { result ≡ object_of self imports }
+    /// The object of all lines and of the imports. The one error is want of memory.
+    pub fn into_object(self, alloc: Global, imports: &Symbols<usize>) -> Result<Object, AllocError>
+        ensures { IfOk result (λ object. object ≡ object_of self imports.now) }
     {
+        let imports = names_of(alloc, imports)?;
         let (bytes, fixups) = self.piece.into_parts();
-        Object::of(bytes, self.exports, imports, fixups)
+        Ok(Object::of(bytes, self.exports, imports, fixups))
     }
+}
+
+/// The names of imports in their order.
+fn names_of(alloc: Global, imports: &Symbols<usize>) -> Result<Vec<Name>, AllocError>
+    ensures { IfOk result (λ names. names.items ≡ map (λ i. i.0) imports.now) }
+{
+    let mut names = Vec::new(alloc);
+    for k in 0..imports.len() {
+        if let Some((name, _number)) = imports.get(k) {
+            names.push(Name::of(alloc, name.as_bytes())?)?;
+        }
+    }
+    Ok(names)
 }
 
 /// The bytes of a statement's line.
