@@ -14,6 +14,7 @@ pub data Command : Type 0 where
   Verify : (cart cert : List ℕ) → Command
   Migrate : (cart : List ℕ) → Command
   Asm : (file : List ℕ) → Command
+  Link : (plan : List ℕ) → Command
   Dis : (file : List ℕ) → Command
   Gen : (seed : ℕ) → Command
 
@@ -120,6 +121,7 @@ command_words =
     ∷ record { name = codes "verify"; asks = λ words. option_map (λ files. Verify files.0 files.1) (two_of words) }
     ∷ record { name = codes "migrate"; asks = λ words. option_map Migrate (one_of words) }
     ∷ record { name = codes "asm"; asks = λ words. option_map Asm (one_of words) }
+    ∷ record { name = codes "link"; asks = λ words. option_map Link (one_of words) }
     ∷ record { name = codes "dis"; asks = λ words. option_map Dis (one_of words) }
     ∷ record { name = codes "gen"; asks = λ words. option_map Gen (option_and_then seed_of (one_of words)) }
     ∷ []

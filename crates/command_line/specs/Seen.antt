@@ -3,7 +3,7 @@ use Rattle.std.specs.Prelude.{ℕ, List}
 use Rattle.std.specs.Borrow.{Bor}
 use Rattle.command_line.specs.CommandLine as line
 use Rattle.command_line.specs.declared.asked.Command.{Command}
-use Rattle.command_line.specs.declared.asked.Command.TheVariants.{Play, Ref, Debug, Check, Verify, Migrate, Asm, Dis, Gen}
+use Rattle.command_line.specs.declared.asked.Command.TheVariants.{Play, Ref, Debug, Check, Verify, Migrate, Asm, Link, Dis, Gen}
 
 abbrev pub seen_command : Command → line.Command
 seen_command (Play cart script traced) = line.Play cart.now script.now traced
@@ -13,6 +13,7 @@ seen_command (Check cart certified) = line.Check cart.now certified
 seen_command (Verify cart cert) = line.Verify cart.now cert.now
 seen_command (Migrate cart) = line.Migrate cart.now
 seen_command (Asm file) = line.Asm file.now
+seen_command (Link plan) = line.Link plan.now
 seen_command (Dis file) = line.Dis file.now
 seen_command (Gen seed) = line.Gen seed
 

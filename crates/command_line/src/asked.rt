@@ -62,6 +62,12 @@ pub enum Command<'a> {
         file: &'a str,
     },
 
+    /// The modules of a program, to be linked.
+    Link {
+        /// The plan, which names them.
+        plan: &'a str,
+    },
+
     /// The bytes of a program, to be disassembled.
     Dis {
         /// The bytes.

@@ -37,6 +37,7 @@ fn asked_for<'a>(alloc: Global, words: &'a [String]) -> Result<Option<Command<'a
         "verify" => Ok(two_files(alloc, words)?.map(|(cart, cert)| Command::Verify { cart, cert })),
         "migrate" => Ok(one_word(alloc, words)?.map(|cart| Command::Migrate { cart })),
         "asm" => Ok(one_word(alloc, words)?.map(|file| Command::Asm { file })),
+        "link" => Ok(one_word(alloc, words)?.map(|plan| Command::Link { plan })),
         "dis" => Ok(one_word(alloc, words)?.map(|file| Command::Dis { file })),
         "gen" => {
             let seed = one_word(alloc, words)?.and_then(seed_of);

@@ -3,7 +3,7 @@ use Rattle.std.specs.Prelude.{ℕ, List, [], ◌++◌, codes, decimal, Option, S
 use Rattle.f8_spec.specs.declared.chips.ChipKind.{ChipKind}
 use Rattle.f8_spec.specs.declared.chips.ChipKind.TheVariants.{Psu, Smi, Pio}
 use Rattle.report.specs.declared.error_lines.Reader.{Reader}
-use Rattle.report.specs.declared.error_lines.Reader.TheVariants.{Script, Cert, Debug}
+use Rattle.report.specs.declared.error_lines.Reader.TheVariants.{Script, Cert, Debug, Plan}
 
 -- ---- words, and files as a whole
 
@@ -49,10 +49,21 @@ asm_line source line column cause =
     codes "error asm" ++ source_text source ++ codes " line " ++ decimal line ++ codes " column " ++ decimal column
     ++ codes " cause " ++ decimal cause ++ codes "\n"
 
+-- a module of a plan by its number
+unfoldable pub module_line : ℕ → ℕ → ℕ → ℕ → List ℕ
+module_line number line column cause =
+    codes "error module " ++ decimal number ++ codes " line " ++ decimal line ++ codes " column " ++ decimal column
+    ++ codes " cause " ++ decimal cause ++ codes "\n"
+
+-- modules that don't go together
+unfoldable pub link_line : ℕ → ℕ → List ℕ
+link_line number cause = codes "error link module " ++ decimal number ++ codes " cause " ++ decimal cause ++ codes "\n"
+
 abbrev pub reader_text : Reader → List ℕ
 reader_text Script = codes "script"
 reader_text Cert = codes "cert"
 reader_text Debug = codes "debug"
+reader_text Plan = codes "plan"
 
 unfoldable pub reader_line : Reader → ℕ → ℕ → List ℕ
 reader_line reader line cause = codes "error " ++ reader_text reader ++ codes " line " ++ decimal line ++ codes " cause " ++ decimal cause ++ codes "\n"

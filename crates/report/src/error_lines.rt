@@ -2,7 +2,7 @@
 ghost use Rattle.std.specs.Prelude.{◌≡◌, ◌+◌, ◌≤◌, ◌++◌, length, IsTrue};
 ghost use Rattle.std.specs.List.{list_all};
 ghost use Rattle.text_lines.specs.Printable.{is_printable};
-ghost use Rattle.report.specs.ErrorLines.{words_line as spelled_words, toml_line as spelled_toml, hex_line as spelled_hex, long_line as spelled_long, store_line as spelled_store, number_text, chip_text, cart_line as spelled_cart, source_text, asm_line as spelled_asm, reader_text as spelled_reader_text, reader_line as spelled_reader, rack_line as spelled_rack, sockets_line as spelled_sockets, kind_text as spelled_kind};
+ghost use Rattle.report.specs.ErrorLines.{words_line as spelled_words, toml_line as spelled_toml, hex_line as spelled_hex, long_line as spelled_long, store_line as spelled_store, number_text, chip_text, cart_line as spelled_cart, source_text, asm_line as spelled_asm, module_line as spelled_module, link_line as spelled_link, reader_text as spelled_reader_text, reader_line as spelled_reader, rack_line as spelled_rack, sockets_line as spelled_sockets, kind_text as spelled_kind};
 
 use super::line_buffer::{LINE_ROOM, Line};
 use f8_spec::ChipKind;
@@ -144,6 +144,39 @@ pub fn error_asm(source: Option<u8>, line: u32, column: u32, cause: u8) -> Line
     told
 }
 
+/// `error module`: the module of a plan that has this number, counted from 0, is at fault: the place of its first fault, and the number of the
+/// cause. Lines and columns are told as they are passed, so counted from 1.
+#[tactic(auto, unfolding(crate::specs::ErrorLines::module_line))]
+pub fn error_module(module: u8, line: u32, column: u32, cause: u8) -> Line
+    ensures { result ≡ spelled_module module line column cause }
+{
+    let mut told = Line::new();
+    told.text(b"error module ");
+    told.small(module);
+    told.text(b" line ");
+    told.decimal(u64::from(line));
+    told.text(b" column ");
+    told.decimal(u64::from(column));
+    told.text(b" cause ");
+    told.small(cause);
+    told.text(b"\n");
+    told
+}
+
+/// `error link`: the modules of a plan don't go together: the number of the first that is at fault, counted from 0, and that of the cause.
+#[tactic(auto, unfolding(crate::specs::ErrorLines::link_line))]
+pub fn error_link(module: u8, cause: u8) -> Line
+    ensures { result ≡ spelled_link module cause }
+{
+    let mut told = Line::new();
+    told.text(b"error link module ");
+    told.small(module);
+    told.text(b" cause ");
+    told.small(cause);
+    told.text(b"\n");
+    told
+}
+
 /// What reads a text line by line.
 #[derive(Clone, Copy, Debug, PartialEq, Eq)]
 pub enum Reader {
@@ -153,6 +186,8 @@ pub enum Reader {
     Cert,
     /// That of debugger scripts.
     Debug,
+    /// That of the linker's plans.
+    Plan,
 }
 
 fn reader_text(reader: Reader) -> &'static [u8]
@@ -163,10 +198,11 @@ fn reader_text(reader: Reader) -> &'static [u8]
         Reader::Script => b"script",
         Reader::Cert => b"cert",
         Reader::Debug => b"debug",
+        Reader::Plan => b"plan",
     }
 }
 
-/// `error script`, `error cert` and `error debug`: a text is at fault at this line, with the number of the cause. The line is told as it is
+/// `error script`, `error cert`, `error debug` and `error plan`: a text is at fault at this line, with the number of the cause. The line is told as it is
 /// passed, so counted from 1.
 #[tactic(auto, unfolding(crate::specs::ErrorLines::reader_line))]
 pub fn error_reader(reader: Reader, line: u32, cause: u8) -> Line

@@ -16,8 +16,8 @@ pub use check_lines::{
 };
 pub use console_spec::VerdictWord;
 pub use error_lines::{
-    Reader, error_asm, error_cart, error_hex, error_long, error_rack, error_reader, error_sockets,
-    error_store, error_toml, error_words, kind_text,
+    Reader, error_asm, error_cart, error_hex, error_link, error_long, error_module, error_rack,
+    error_reader, error_sockets, error_store, error_toml, error_words, kind_text,
 };
 pub use line_buffer::{LINE_ROOM, Line};
 pub use run_lines::{

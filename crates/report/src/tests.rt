@@ -71,6 +71,17 @@ fn refusals_with_a_place(rt: HostRuntime) {
         &error_reader(Reader::Debug, 9, 255),
         "error debug line 9 cause 255\n",
     );
+    tells(
+        &rt,
+        &error_reader(Reader::Plan, 65, 4),
+        "error plan line 65 cause 4\n",
+    );
+    tells(
+        &rt,
+        &error_module(63, 4_294_967_295, 5, 12),
+        "error module 63 line 4294967295 column 5 cause 12\n",
+    );
+    tells(&rt, &error_link(0, 2), "error link module 0 cause 2\n");
 }
 
 #[test]

@@ -38,4 +38,4 @@ returns-in_default-as_str-clause-asked c =
     let first = c.in-Some.ensures.item in
     let it = c.in_default-as_str in
     unknown c.args.words.now c.in-Some.name.now c.as_str.result.now first.3.0 first.1 c.as_str.ensures.value
-    (it.not-play, (it.not-ref, (it.not-debug, (it.not-check, (it.not-verify, (it.not-migrate, (it.not-asm, (it.not-dis, (it.not-gen, tt)))))))))
+    (it.not-play, (it.not-ref, (it.not-debug, (it.not-check, (it.not-verify, (it.not-migrate, (it.not-asm, (it.not-link, (it.not-dis, (it.not-gen, tt))))))))))
