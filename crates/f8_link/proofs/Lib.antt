@@ -1,1 +1,2 @@
 pub mod ModuleLines
+pub mod PlanLines

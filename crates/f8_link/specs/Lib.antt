@@ -9,3 +9,4 @@ pub mod SecondPass
 pub mod ThirdPass
 pub mod Linking
 pub mod OneSource
+pub mod Plans
