@@ -53,9 +53,9 @@ byte_lines entries = flat_map (λ run. map byte_line (pieces_of run)) (runs_of e
 unfoldable pub symbol_line : List ℕ × ℤ → List ℕ
 symbol_line s = codes "sym " ++ s.0 ++ codes " " ++ signed_decimal s.1 ++ codes "\n"
 
-abbrev pub symbol_lines : Picture → List (List ℕ)
-symbol_lines image = map symbol_line image.symbols
+abbrev pub symbol_lines : List (List ℕ × ℤ) → List (List ℕ)
+symbol_lines symbols = map symbol_line symbols
 
 -- the bytes by ascending address, at most 16 a line, and then the names in the order in which they were defined
 unfoldable pub image_lines : Picture → List (List ℕ)
-image_lines image = byte_lines image.bytes ++ symbol_lines image
+image_lines image = byte_lines image.bytes ++ symbol_lines image.symbols

@@ -1,12 +1,13 @@
 // The lines of an image, one after the other.
-ghost use Rattle.std.specs.Prelude.{◌≡◌, ◌≤◌, ◌<◌, length, map, min, OnOk, OnErr};
+ghost use Rattle.std.specs.Prelude.{◌≡◌, ◌≤◌, ◌<◌, ◌++◌, length, map, min, OnOk, OnErr};
 ghost use Rattle.console_spec.specs.RunText.{text_of};
 ghost use Rattle.outside.specs.SinkRules.{Adds, AddsPart};
 ghost use Rattle.asm_lines.specs.ImageLines.{byte_line as spelled_bytes, byte_lines};
 ghost use Rattle.asm_lines.specs.ImageLines.{symbol_line as spelled_symbol, symbol_lines, image_lines};
 ghost use Rattle.asm_lines.specs.Rows.{following};
 
-use f8_asm::Image;
+use f8_asm::{Image, Symbols};
+use f8_link::Linked;
 use outside::{Sink, SinkFault};
 use report::Line;
 
@@ -75,18 +76,33 @@ fn symbol_line(name: &str, value: i64) -> Line
     line
 }
 
-fn put_symbols<K: Sink>(sink: &mut K, image: &Image) -> Result<(), SinkFault>
+fn put_symbols<K: Sink>(sink: &mut K, symbols: &Symbols<i64>) -> Result<(), SinkFault>
     ensures ok { OnOk result (Adds (K.output sink.old) (K.output sink.new)
-        (text_of (symbol_lines image.now))) }
+        (text_of (symbol_lines symbols.now))) }
     ensures err { OnErr result (AddsPart (K.output sink.old) (K.output sink.new)
-        (text_of (symbol_lines image.now))) }
+        (text_of (symbol_lines symbols.now))) }
 {
-    for k in 0..image.symbol_count() {
-        if let Some((name, value)) = image.symbol(k) {
+    for k in 0..symbols.len() {
+        if let Some((name, value)) = symbols.get(k) {
             sink.put(symbol_line(name, value).as_bytes())?;
         }
     }
     Ok(())
+}
+
+/// The lines of bytes with their addresses, and then those of names with their values.
+fn put_picture<K: Sink>(
+    sink: &mut K,
+    bytes: &[(u16, u8)],
+    symbols: &Symbols<i64>,
+) -> Result<(), SinkFault>
+    ensures ok { OnOk result (Adds (K.output sink.old) (K.output sink.new)
+        (text_of (byte_lines bytes.now ++ symbol_lines symbols.now))) }
+    ensures err { OnErr result (AddsPart (K.output sink.old) (K.output sink.new)
+        (text_of (byte_lines bytes.now ++ symbol_lines symbols.now))) }
+{
+    put_bytes(sink, bytes)?;
+    put_symbols(sink, symbols)
 }
 
 /// Writes the lines of an image, each as one put. First come the bytes by ascending address: four hexadecimal digits of the address, a
@@ -104,6 +120,21 @@ pub fn put_image<K: Sink>(sink: &mut K, image: &Image) -> Result<(), SinkFault>
     ensures err { OnErr result (AddsPart (K.output sink.old) (K.output sink.new)
         (text_of (image_lines image.now))) }
 {
-    put_bytes(sink, image.bytes())?;
-    put_symbols(sink, image)
+    put_picture(sink, image.bytes(), image.symbols())
+}
+
+/// Writes the lines of linked modules, as those of an image: the bytes, and then the exported names in the order in which the modules export
+/// them.
+///
+/// # Errors
+///
+/// The sink failed at a line, and a first part of the lines was written.
+#[tactic(auto, unfolding(crate::specs::ImageLines::image_lines))]
+pub fn put_linked<K: Sink>(sink: &mut K, linked: &Linked) -> Result<(), SinkFault>
+    ensures ok { OnOk result (Adds (K.output sink.old) (K.output sink.new)
+        (text_of (image_lines linked.now))) }
+    ensures err { OnErr result (AddsPart (K.output sink.old) (K.output sink.new)
+        (text_of (image_lines linked.now))) }
+{
+    put_picture(sink, linked.bytes(), linked.symbols())
 }

@@ -7,5 +7,5 @@ mod listing_out;
 #[cfg(test)]
 mod tests;
 
-pub use image_out::put_image;
+pub use image_out::{put_image, put_linked};
 pub use listing_out::put_listing;

@@ -20,6 +20,10 @@ cause_number Range = 3
 cause_number TooMany = 4
 cause_number NoModule = 5
 
+-- the first fault of a plan, at its line
+abbrev pub PlanFault : Type 0
+PlanFault = TextFault PlanCause
+
 -- a module's file and its room
 pub record PlannedModule : Type 0 where
   pub file : List ℕ
@@ -86,14 +90,14 @@ TakesMemory line = 0 < length (said_in (line_of line))
 -- ---- all lines
 
 -- the text ends before this line
-abbrev pub plan_at : ℕ → List PlannedModule → Result (List PlannedModule) (TextFault PlanCause)
+abbrev pub plan_at : ℕ → List PlannedModule → Result (List PlannedModule) PlanFault
 plan_at number [] = Err (record { line = number; cause = NoModule })
 plan_at number (m ∷ ms) = Ok (m ∷ ms)
 
 -- the plan of lines, or their first fault
-abbrev pub plan_by : List (List ℕ) → Result (List PlannedModule) (TextFault PlanCause)
+abbrev pub plan_by : List (List ℕ) → Result (List PlannedModule) PlanFault
 plan_by ls = after_lines read_line 1 no_lines ls >>= λ plan. plan_at (length ls + 1) plan
 
 -- and that of a text
-unfoldable pub plan_of : List ℕ → Result (List PlannedModule) (TextFault PlanCause)
+unfoldable pub plan_of : List ℕ → Result (List PlannedModule) PlanFault
 plan_of text = plan_by (lines text)

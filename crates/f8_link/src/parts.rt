@@ -3,6 +3,7 @@ ghost use Rattle.std.specs.Prelude.{◌≡◌};
 
 use crate::objects::Object;
 use f8_asm::Room;
+use std::alloc::{AllocError, Global};
 use std::marker::Model;
 
 /// A module, and the addresses where it may lie. It begins at the room's first.
@@ -28,6 +29,26 @@ impl Model for PartList {
 }
 
 impl PartList {
+    ghost use Rattle.std.specs.Prelude.{◌≡◌, ◌∷◌, ◌++◌, [], OnOk, OnErr};
+
+    /// No module.
+    pub fn new(alloc: Global) -> PartList
+        ensures { result ≡ [] }
+    {
+        PartList {
+            parts: Vec::new(alloc),
+        }
+    }
+
+    /// Adds a module behind the others. The one error is want of memory, and nothing has changed then.
+    pub fn push(&mut self, part: Part) -> Result<(), AllocError>
+        ensures more { OnOk result (self.new ≡ self.old ++ part ∷ []) }
+        ensures same { OnErr result (self.new ≡ self.old) }
+    {
+        self.parts.push(part)?;
+        Ok(())
+    }
+
     /// The list of these modules.
     pub fn from_vec(parts: Vec<Part>) -> PartList
         ensures { result ≡ parts.items }

@@ -1,5 +1,5 @@
 -- What each command wants of its files. A file is read before the next one is asked for.
-use Rattle.std.specs.Prelude.{ℕ, zero, suc, List, map, Option, Some, None}
+use Rattle.std.specs.Prelude.{ℕ, zero, suc, List, [], ◌∷◌, ◌++◌, length, map, slice_get, Option, Some, None}
 use Rattle.abs_domain.specs.AbstractState.{AbstractState}
 use Rattle.abs_domain.specs.declared.points.Point.{Point}
 use Rattle.chip_face.specs.declared.sizes.TheConstants.{MOST_CHIPS}
@@ -11,10 +11,13 @@ use Rattle.toml.specs.Data.{Members}
 use Rattle.f8_asm.specs.declared.answers.Room.{Room}
 use Rattle.f8_asm.specs.Image.{Picture, everywhere}
 use Rattle.console_spec.specs.Scripts.{Script as RunScript}
-use Rattle.loader.specs.declared.purposes.Purpose.TheVariants.{Cart as CartFile, Script, Cert, Commands, File, Source}
+use Rattle.f8_link.specs.Objects.{Object}
+use Rattle.f8_link.specs.Plans.{PlannedModule}
+use Rattle.f8_link.specs.declared.parts.Part.{Part}
+use Rattle.loader.specs.declared.purposes.Purpose.TheVariants.{Cart as CartFile, Script, Cert, Commands, File, Source, Plan, Module}
 use Rattle.chip_debug.specs.declared.command.Command.{Command}
 use Rattle.loader.specs.declared.games.Debugging.{Debugging}
-use Rattle.loader.specs.Readings.{description_of, described_table, image_in, script_in, notes_in, commands_in, bytes_in}
+use Rattle.loader.specs.Readings.{description_of, described_table, image_in, script_in, notes_in, commands_in, bytes_in, modules_in, object_in, linked_in}
 use Rattle.loader.specs.Work.{Work, gives, reads, ask, ◌>>=◌}
 
 -- ---- a cartridge
@@ -104,3 +107,32 @@ image_by file = ask File file 262144 >>= λ text. reads (image_in None everywher
 -- the bytes of a file of digits
 unfoldable pub bytes_by : List ℕ → Work (List ℕ)
 bytes_by file = ask File file 262144 >>= λ text. reads (bytes_in text)
+
+-- ---- modules
+
+-- the object of a module's text, by its name
+unfoldable pub module_for : ℕ → List ℕ → Work Object
+module_for number name = ask (Module number) name 262144 >>= λ text. reads (object_in number text)
+
+-- a module in its room, behind those before it
+unfoldable pub part_added : ℕ → List Part → PlannedModule → Work (List Part)
+part_added number parts m =
+    module_for number m.file >>= λ object. gives (parts ++ (record { object = object; room = m.room }) ∷ [])
+
+abbrev pub part_at : ℕ → List Part → Option PlannedModule → Work (List Part)
+part_at number parts None = gives parts
+part_at number parts (Some m) = part_added number parts m
+
+-- so many modules of a plan, one after another
+unfoldable pub parts_up_to : ℕ → List PlannedModule → Work (List Part)
+parts_up_to zero modules = gives []
+parts_up_to (suc number) modules = parts_up_to number modules >>= λ parts. part_at number parts (slice_get modules number)
+
+-- all modules of a plan
+unfoldable pub parts_of : List PlannedModule → Work (List Part)
+parts_of modules = parts_up_to (length modules) modules
+
+-- the picture of the modules that the plan with this name has
+unfoldable pub linked_by : List ℕ → Work Picture
+linked_by plan =
+    ask Plan plan 65536 >>= λ text. reads (modules_in text) >>= λ modules. parts_of modules >>= λ parts. reads (linked_in parts)

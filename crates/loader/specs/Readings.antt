@@ -15,6 +15,13 @@ use Rattle.chip_debug.specs.declared.command.Command.{Command}
 use Rattle.f8_asm.specs.declared.answers.AsmFault.{AsmFault}
 use Rattle.f8_asm.specs.declared.answers.Room.{Room}
 use Rattle.f8_asm.specs.Image.{Picture, image_of}
+use Rattle.f8_link.specs.Linking.{linked_of}
+use Rattle.f8_link.specs.Objects.{Object}
+use Rattle.f8_link.specs.Plans.{PlanFault, PlannedModule, plan_of as plan_of_modules}
+use Rattle.f8_link.specs.ThirdPass.{compiled}
+use Rattle.f8_link.specs.declared.answers.LinkFault.{LinkFault}
+use Rattle.f8_link.specs.declared.answers.ModFault.{ModFault}
+use Rattle.f8_link.specs.declared.parts.Part.{Part}
 use Rattle.pad_script.specs.Answers.{ScriptFault}
 use Rattle.console_spec.specs.Scripts.{Script}
 use Rattle.pad_script.specs.Reading.{script_of}
@@ -26,6 +33,7 @@ use Rattle.loader.specs.declared.refusals.Stop.{Stop}
 use Rattle.loader.specs.declared.refusals.Stop.TheVariants.{Refused, Store, Memory}
 use Rattle.loader.specs.declared.refusals.Refusal.TheVariants.{Document, Cart, Assembly, Script as AtScript, Cert as AtCert}
 use Rattle.loader.specs.declared.refusals.Refusal.TheVariants.{Commands as AtCommands}
+use Rattle.loader.specs.declared.refusals.Refusal.TheVariants.{Plan as AtPlan, Module as AtModule, Link as AtLink}
 use Rattle.loader.specs.declared.refusals.Refusal.TheVariants.{Digits, Long}
 
 -- an answer, as it is seen, is what is read of bytes; want of memory says nothing of them
@@ -72,6 +80,32 @@ image_told source (Err fault) = Err (Assembly source fault)
 -- the image of an assembly text: that of a chip, or the one file of a command
 unfoldable pub image_in : Option ℕ → Room → List ℕ → Result Picture Refusal
 image_in source room text = image_told source (image_of text room)
+
+-- ---- modules
+
+abbrev pub modules_told : Result (List PlannedModule) PlanFault → Result (List PlannedModule) Refusal
+modules_told (Ok modules) = Ok modules
+modules_told (Err fault) = Err (AtPlan fault)
+
+-- the modules of a plan
+unfoldable pub modules_in : List ℕ → Result (List PlannedModule) Refusal
+modules_in text = modules_told (plan_of_modules text)
+
+abbrev pub object_told : ℕ → Result Object ModFault → Result Object Refusal
+object_told number (Ok object) = Ok object
+object_told number (Err fault) = Err (AtModule number fault)
+
+-- the object of a module's text
+unfoldable pub object_in : ℕ → List ℕ → Result Object Refusal
+object_in number text = object_told number (compiled text)
+
+abbrev pub linked_told : Result Picture LinkFault → Result Picture Refusal
+linked_told (Ok picture) = Ok picture
+linked_told (Err fault) = Err (AtLink fault)
+
+-- the picture of some modules
+unfoldable pub linked_in : List Part → Result Picture Refusal
+linked_in parts = linked_told (linked_of parts)
 
 -- ---- scripts
 

@@ -62,11 +62,13 @@ StoreFails old new (Err Memory) = new.faults ≡ old.faults
 -- ---- refusals
 
 -- The order in which a command asks for its files: a description, the sources of its chips by their numbers, which are bytes, and then a
--- script, a certificate or the debugger's commands; or one file.
+-- script, a certificate or the debugger's commands; or one file; or a plan, and its modules by their numbers, which are bytes.
 abbrev pub order_of : Purpose → ℕ
 order_of purpose.Cart = 0
 order_of purpose.File = 0
+order_of purpose.Plan = 0
 order_of (purpose.Source chip) = chip + 1
+order_of (purpose.Module number) = number + 1
 order_of purpose.Script = 2 ^ 8 + 1
 order_of purpose.Cert = 2 ^ 8 + 1
 order_of purpose.Commands = 2 ^ 8 + 1
@@ -75,7 +77,7 @@ abbrev pub purpose_of_text : Option ℕ → Purpose
 purpose_of_text None = purpose.File
 purpose_of_text (Some chip) = purpose.Source chip
 
--- the file that is refused
+-- The file that is refused. Where modules don't go together that is the last that a plan may have, since all of them are looked at.
 abbrev pub file_of : Refusal → Purpose
 file_of refusal.Document = purpose.Cart
 file_of (refusal.Cart fault) = purpose.Cart
@@ -83,6 +85,9 @@ file_of (refusal.Assembly source fault) = purpose_of_text source
 file_of (refusal.Script fault) = purpose.Script
 file_of (refusal.Cert fault) = purpose.Cert
 file_of (refusal.Commands fault) = purpose.Commands
+file_of (refusal.Plan fault) = purpose.Plan
+file_of (refusal.Module number fault) = purpose.Module number
+file_of (refusal.Link fault) = purpose.Module 63
 file_of refusal.Digits = purpose.File
 file_of (refusal.Long purpose) = purpose
 

@@ -6,6 +6,7 @@ mod claims;
 mod fetching;
 mod games;
 mod loading;
+mod modules;
 mod purposes;
 mod readings;
 mod refusals;
@@ -17,6 +18,7 @@ pub use games::{Debugging, Game};
 pub use loading::{
     load_bytes, load_cart, load_claim, load_debugging, load_game, load_image, load_table,
 };
+pub use modules::load_linked;
 pub use purposes::Purpose;
 pub use readings::migrated_text;
 pub use refusals::{Refusal, Stop};

@@ -14,4 +14,8 @@ pub enum Purpose {
     File,
     /// The assembly text of a chip's bytes. Chips are counted from 0, in the order of the description.
     Source(u8),
+    /// The plan of some modules.
+    Plan,
+    /// The text of a module. Modules are counted from 0, in the order of the plan.
+    Module(u8),
 }

@@ -7,7 +7,7 @@ ghost use Rattle.cartridge.specs.Rooms.{LiesIn};
 ghost use Rattle.certificate.specs.CertificateLaws.{AllFit};
 ghost use Rattle.pad_script.specs.Limits.{HasLimits};
 ghost use Rattle.pad_script.specs.Reading.{seen};
-ghost use Rattle.loader.specs.Readings.{Says, bytes_in, commands_in, plan_told, table_of, description_of, described_table, image_in, notes_in, script_in};
+ghost use Rattle.loader.specs.Readings.{Says, bytes_in, commands_in, linked_in, modules_in, object_in, plan_told, table_of, description_of, described_table, image_in, notes_in, script_in};
 
 use super::purposes::Purpose;
 use super::refusals::{Refusal, Stop};
@@ -16,6 +16,9 @@ use cartridge::{CartAnswer, Plan, Split, migrate, read_cart};
 use certificate::{CertAnswer, read_cert};
 use chip_debug::{CommandList, DebugAnswer, read_commands};
 use f8_asm::{AsmAnswer, Image, Room, assemble};
+use f8_link::{
+    LinkAnswer, Linked, ModAnswer, ModuleList, Object, PartList, PlanAnswer, compile, link,
+};
 use f8_spec::Memory;
 use hex_file::{HexAnswer, read_hex};
 use pad_script::{Script, ScriptAnswer, read_script};
@@ -87,6 +90,45 @@ pub fn read_image(alloc: Global, source: Option<u8>, text: &[u8], room: Room) ->
         Ok(image) => Ok(image),
         Err(AsmAnswer::Fault(fault)) => Err(Stop::Refused(Refusal::Assembly { source, fault })),
         Err(AsmAnswer::Memory) => Err(Stop::Memory),
+    }
+}
+
+/// The modules of a plan.
+#[tactic(auto, unfolding(crate::specs::Readings::modules_in))]
+pub fn read_modules(alloc: Global, text: &[u8]) -> Result<ModuleList, Stop>
+    requires { length text.now ≤ 65536 }
+    ensures { Says (λ modules. modules) result (modules_in text.now) }
+{
+    match f8_link::read_plan(alloc, text) {
+        Ok(modules) => Ok(modules),
+        Err(PlanAnswer::Fault(fault)) => Err(Stop::Refused(Refusal::Plan(fault))),
+        Err(PlanAnswer::Memory) => Err(Stop::Memory),
+    }
+}
+
+/// The object of a module's text.
+#[tactic(auto, unfolding(crate::specs::Readings::object_in))]
+pub fn read_module(alloc: Global, module: u8, text: &[u8]) -> Result<Object, Stop>
+    requires { length text.now ≤ 262144 }
+    ensures { Says (λ object. object) result (object_in module text.now) }
+{
+    match compile(alloc, text) {
+        Ok(object) => Ok(object),
+        Err(ModAnswer::Fault(fault)) => Err(Stop::Refused(Refusal::Module { module, fault })),
+        Err(ModAnswer::Memory) => Err(Stop::Memory),
+    }
+}
+
+/// The picture of some modules, at most 64.
+#[tactic(auto, unfolding(crate::specs::Readings::linked_in))]
+pub fn link_modules(alloc: Global, parts: &PartList) -> Result<Linked, Stop>
+    requires { length parts.now ≤ 64 }
+    ensures { Says (λ linked. linked) result (linked_in parts.now) }
+{
+    match link(alloc, parts) {
+        Ok(linked) => Ok(linked),
+        Err(LinkAnswer::Fault(fault)) => Err(Stop::Refused(Refusal::Link(fault))),
+        Err(LinkAnswer::Memory) => Err(Stop::Memory),
     }
 }
 

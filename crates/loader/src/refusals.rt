@@ -4,6 +4,7 @@ use cartridge::CartFault;
 use certificate::CertFault;
 use chip_debug::DebugFault;
 use f8_asm::AsmFault;
+use f8_link::{LinkFault, ModFault, PlanFault};
 use pad_script::ScriptFault;
 use thiserror::Error;
 
@@ -28,6 +29,15 @@ pub enum Refusal {
     /// The debugger's commands are at fault.
     #[error("the commands are at fault")]
     Commands(DebugFault),
+    /// The plan of some modules is at fault.
+    #[error("the plan is at fault")]
+    Plan(PlanFault),
+    /// The text of a module is at fault. Modules are counted from 0, in the order of the plan.
+    #[error("a module is at fault")]
+    Module { module: u8, fault: ModFault },
+    /// The modules of a plan don't go together.
+    #[error("the modules don't go together")]
+    Link(LinkFault),
     /// The file isn't pairs of hexadecimal digits.
     #[error("the file is no hexadecimal digits")]
     Digits,

@@ -7,5 +7,5 @@ use Rattle.asm_lines.proofs.image_out.put_symbols.Given as goal
 
 abbrev pub invariant-loop-k : goal.invariant-loop-k
 invariant-loop-k g l =
-    PutSoFar (g.K.Sink.output l.fn.sink) (g.K.Sink.output l.sink) (text_of (symbol_lines l.image))
-    (text_of (map symbol_line (drop l.k l.image.symbols)))
+    PutSoFar (g.K.Sink.output l.fn.sink) (g.K.Sink.output l.sink) (text_of (symbol_lines l.symbols))
+    (text_of (map symbol_line (drop l.k l.symbols)))
