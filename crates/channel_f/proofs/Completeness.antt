@@ -9,7 +9,7 @@ use Rattle.console_spec.specs.RunText.{text_of}
 use Rattle.outside.specs.Counts.{Rose}
 use Rattle.outside.specs.SinkRules.{Adds}
 use Rattle.outside.specs.StoreRules.{NamedBytes, Input}
-use Rattle.command_line.specs.CommandLine.{Command, Play, Check, Verify, Migrate, Ref, Debug, Asm, Dis, Gen}
+use Rattle.command_line.specs.CommandLine.{Command, Play, Check, Verify, Migrate, Ref, Debug, Asm, Link, Dis, Gen}
 use Rattle.console_spec.specs.Telling.{Telling}
 use Rattle.console_spec.specs.declared.VerdictWord.{VerdictWord}
 use Rattle.cart_checker.specs.Verdicts.{verdict_word}
@@ -23,7 +23,7 @@ use Rattle.loader.specs.declared.refusals.Stop.{Stop}
 use Rattle.loader.specs.declared.refusals.Stop.TheVariants.{Refused, Store, Memory}
 use Rattle.chip_face.specs.declared.specification.ChipSpec.{ChipSpec}
 use Rattle.loader.specs.declared.games.Debugging.{Debugging}
-use Rattle.loader.specs.Games.{Game, game_of, cart_of, table_by, claim_of, debugging_of, image_by, bytes_by}
+use Rattle.loader.specs.Games.{Game, game_of, cart_of, table_by, claim_of, debugging_of, image_by, linked_by, bytes_by}
 use Rattle.loader.specs.Work.{End, Gives, Refuses, Lacks, Work, gives, ◌>>=◌}
 use Rattle.loader.specs.Works.{HasFiles, Misses, order_of, file_of, Works, outcome_as}
 use Rattle.loader.proofs.WorkLaws.{works_gives, works_done, works_stop}
@@ -473,6 +473,9 @@ completed old new said (Some (Debug cart commands)) says =
     says.works says.ends
 completed old new said (Some (Asm file)) says =
     complete_of old new said (image_by file) (λ picture. Plain (asm_answer picture)) says.told.outcome
+    (λ picture. done_ordinary old.rack _) says.told.works says.told.ends
+completed old new said (Some (Link plan)) says =
+    complete_of old new said (linked_by plan) (λ picture. Plain (asm_answer picture)) says.told.outcome
     (λ picture. done_ordinary old.rack _) says.told.works says.told.ends
 completed old new said (Some (Dis file)) says =
     complete_of old new said (bytes_by file) (λ bytes. Plain (dis_answer bytes)) says.told.outcome

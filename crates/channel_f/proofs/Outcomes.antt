@@ -5,12 +5,12 @@ use Rattle.std.specs.Prelude.{IsTrue, is_some, option_and_then}
 use Rattle.outside.specs.SinkRules.{Output}
 use Rattle.outside.specs.StoreRules.{Input}
 use Rattle.outside.proofs.SinkLaws.{adds_none}
-use Rattle.command_line.specs.CommandLine.{Command, Play, Check, Verify, Migrate, Ref, Debug, Asm, Dis, Gen, command_of, has_command}
+use Rattle.command_line.specs.CommandLine.{Command, Play, Check, Verify, Migrate, Ref, Debug, Asm, Link, Dis, Gen, command_of, has_command}
 use Rattle.command_line.specs.CommandLine.{CommandWord, command_word}
 use Rattle.loader.specs.declared.refusals.Stop.{Stop}
 use Rattle.loader.specs.declared.refusals.Stop.TheVariants.{Memory}
 use Rattle.loader.specs.declared.games.Debugging.{Debugging}
-use Rattle.loader.specs.Games.{Game, game_of, cart_of, table_by, claim_of, debugging_of, image_by, bytes_by}
+use Rattle.loader.specs.Games.{Game, game_of, cart_of, table_by, claim_of, debugging_of, image_by, linked_by, bytes_by}
 use Rattle.loader.specs.Work.{Work}
 use Rattle.loader.specs.Works.{Works}
 use Rattle.loader.proofs.WorkLaws.{works_memory}
@@ -104,6 +104,11 @@ module _ (old new : Around) (said : Status) where
       new.rack ≡ old.rack → new.asked ≡ old.asked → Says old new said command
   says_asm file command is told same none = rw (← is) (record { told = told; same = same; unasked = none })
 
+  pub says_link : (plan : List ℕ) (command : Option Command) → Some (Link plan) ≡ command →
+      Told old.output new.output old.input new.input said (linked_by plan) (λ picture. Plain (asm_answer picture)) →
+      new.rack ≡ old.rack → new.asked ≡ old.asked → Says old new said command
+  says_link plan command is told same none = rw (← is) (record { told = told; same = same; unasked = none })
+
   pub says_dis : (file : List ℕ) (command : Option Command) → Some (Dis file) ≡ command →
       Told old.output new.output old.input new.input said (bytes_by file) (λ bytes. Plain (dis_answer bytes)) →
       new.rack ≡ old.rack → new.asked ≡ old.asked → Says old new said command
@@ -148,6 +153,7 @@ module _ (now : Around) where
       tells_no_debugging now now status.Memory (debugging_of cart commands) Memory
       (works_memory now.input (debugging_of cart commands)) wanting refl refl
   says_wanting (Some (Asm file)) = tells_wanting (image_by file) (λ picture. Plain (asm_answer picture))
+  says_wanting (Some (Link plan)) = tells_wanting (linked_by plan) (λ picture. Plain (asm_answer picture))
   says_wanting (Some (Dis file)) = tells_wanting (bytes_by file) (λ bytes. Plain (dis_answer bytes))
   says_wanting (Some (Gen seed)) = record {
     answers = due_wanting now.output (gen_due now.rack seed);

@@ -31,11 +31,11 @@ use Rattle.asm_lines.specs.ImageLines.{image_lines}
 use Rattle.chip_face.specs.declared.specification.ChipSpec.{ChipSpec}
 use Rattle.chip_debug.specs.Carried.{first_scene, told_by}
 use Rattle.chip_debug.specs.Scenes.{Scene}
-use Rattle.command_line.specs.CommandLine.{Command, Play, Check, Verify, Migrate, Ref, Debug, Asm, Dis, Gen}
+use Rattle.command_line.specs.CommandLine.{Command, Play, Check, Verify, Migrate, Ref, Debug, Asm, Link, Dis, Gen}
 use Rattle.loader.specs.declared.purposes.Purpose.{Purpose}
 use Rattle.loader.specs.declared.refusals.Refusal.{Refusal}
 use Rattle.loader.specs.declared.games.Debugging.{Debugging}
-use Rattle.loader.specs.Games.{Game, Claim, game_of, cart_of, table_by, claim_of, debugging_of, image_by, bytes_by}
+use Rattle.loader.specs.Games.{Game, Claim, game_of, cart_of, table_by, claim_of, debugging_of, image_by, linked_by, bytes_by}
 use Rattle.loader.specs.Work.{Work, gives, ◌>>=◌}
 use Rattle.channel_f.specs.Manners.{run_by, lines_by}
 use Rattle.channel_f.specs.ErrorLines.{refusal_line, missing_line}
@@ -193,6 +193,7 @@ due_of rack (Some (Migrate cart)) = table_by cart >>= λ table. gives (migrate_d
 due_of rack (Some (Ref cart script)) = game_of cart script >>= λ game. gives (Plain (ref_answer game))
 due_of rack (Some (Debug cart commands)) = debugging_of cart commands >>= λ asked. gives (debug_due rack asked)
 due_of rack (Some (Asm file)) = image_by file >>= λ picture. gives (Plain (asm_answer picture))
+due_of rack (Some (Link plan)) = linked_by plan >>= λ picture. gives (Plain (asm_answer picture))
 due_of rack (Some (Dis file)) = bytes_by file >>= λ bytes. gives (Plain (dis_answer bytes))
 due_of rack (Some (Gen seed)) = gives (gen_due rack seed)
 

@@ -3,10 +3,10 @@ use Rattle.std.specs.Prelude.{◌≡◌, ℕ, Bool, List, Option, Some, None, Re
 use Rattle.f8_spec.specs.ChipState.{ChipState}
 use Rattle.outside.specs.SinkRules.{Output}
 use Rattle.outside.specs.StoreRules.{Input}
-use Rattle.command_line.specs.CommandLine.{Command, Play, Check, Verify, Migrate, Ref, Debug, Asm, Dis, Gen}
+use Rattle.command_line.specs.CommandLine.{Command, Play, Check, Verify, Migrate, Ref, Debug, Asm, Link, Dis, Gen}
 use Rattle.loader.specs.declared.refusals.Stop.{Stop}
 use Rattle.loader.specs.declared.games.Debugging.{Debugging}
-use Rattle.loader.specs.Games.{Game, game_of, cart_of, table_by, claim_of, debugging_of, image_by, bytes_by}
+use Rattle.loader.specs.Games.{Game, game_of, cart_of, table_by, claim_of, debugging_of, image_by, linked_by, bytes_by}
 use Rattle.loader.specs.Work.{Work}
 use Rattle.loader.specs.Works.{Works, outcome_as}
 use Rattle.channel_f.specs.Answers.{Due, Plain, generated_game, gen_due, play_due, check_due, ref_answer, asm_answer, dis_answer}
@@ -83,6 +83,7 @@ Says old new said (Some (Migrate cart)) = Tells old new said (table_by cart) mig
 Says old new said (Some (Ref cart script)) = Tells old new said (game_of cart script) (λ game. Plain (ref_answer game))
 Says old new said (Some (Debug cart commands)) = TellsDebugging old new said (debugging_of cart commands)
 Says old new said (Some (Asm file)) = Tells old new said (image_by file) (λ picture. Plain (asm_answer picture))
+Says old new said (Some (Link plan)) = Tells old new said (linked_by plan) (λ picture. Plain (asm_answer picture))
 Says old new said (Some (Dis file)) = Tells old new said (bytes_by file) (λ bytes. Plain (dis_answer bytes))
 Says old new said (Some (Gen seed)) = TellsGenerated old new said seed
 Says old new said None = TellsWords old new said

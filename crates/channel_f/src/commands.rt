@@ -3,7 +3,7 @@ ghost use Rattle.std.specs.Prelude.{◌≡◌, ◌≤◌, ◌⊎◌, IfOk, IsOk,
 ghost use Rattle.toml.specs.View.{table_view};
 ghost use Rattle.cartridge.specs.Filling.{plan_of};
 ghost use Rattle.certificate.specs.CertificateLaws.{AllFit};
-ghost use Rattle.loader.specs.Games.{game_of, cart_of, table_by, claim_of, debugging_of, image_by, bytes_by};
+ghost use Rattle.loader.specs.Games.{game_of, cart_of, table_by, claim_of, debugging_of, image_by, linked_by, bytes_by};
 ghost use Rattle.channel_f.specs.Answers.{Plain, generated_game, gen_due, check_due, ref_answer};
 ghost use Rattle.channel_f.specs.Answers.{asm_answer, cert_answer, dis_answer, migrate_due, verify_answer};
 ghost use Rattle.channel_f.specs.Commands.{around, Told, TellsDebugging, TellsGame};
@@ -15,7 +15,7 @@ ghost use Rattle.channel_f.specs.SafeGames.{KeepsVerdict};
 
 use super::debugging::debug;
 use super::error_lines::put_stop;
-use super::lines_out::{put_document, put_found, put_picture, put_text, put_verdict};
+use super::lines_out::{put_document, put_found, put_modules, put_picture, put_text, put_verdict};
 use super::manner::Manner;
 use super::playing::{play_game, refer_game};
 use super::status::Status;
@@ -30,7 +30,7 @@ use f8_spec::Memory;
 use generator::generated_chips;
 use loader::{
     Claim, Game, load_bytes, load_cart, load_claim, load_debugging, load_game, load_image,
-    load_table, migrated_text,
+    load_linked, load_table, migrated_text,
 };
 use outside::{Sink, Store};
 use pad_script::{EventList, Script, ShowList};
@@ -225,6 +225,23 @@ pub fn answer_asm<S: Store, K: Sink>(
 {
     match load_image(alloc, store, file) {
         Ok(image) => put_picture(sink, &image),
+        Err(stop) => put_stop(sink, stop),
+    }
+}
+
+/// `link PLAN`.
+#[tactic(auto, using(crate::proofs::Outcomes::told_ok, crate::proofs::Outcomes::told_stop))]
+pub fn answer_link<S: Store, K: Sink>(
+    alloc: Global,
+    plan: &str,
+    store: &mut S,
+    sink: &mut K,
+) -> Status
+    ensures { Told (K.output sink.old) (K.output sink.new) (S.input store.old) (S.input store.new)
+        result (linked_by plan.now) (λ picture. Plain (asm_answer picture)) }
+{
+    match load_linked(alloc, store, plan) {
+        Ok(linked) => put_modules(sink, &linked),
         Err(stop) => put_stop(sink, stop),
     }
 }

@@ -25,6 +25,8 @@ fn purpose_word(purpose: Purpose) -> &'static str
         Purpose::Commands => "commands",
         Purpose::File => "file",
         Purpose::Source(_) => "source",
+        Purpose::Plan => "plan",
+        Purpose::Module(_) => "module",
     }
 }
 
@@ -33,8 +35,13 @@ fn purpose_number(purpose: Purpose) -> Option<u8>
     ensures { result ≡ told_number purpose }
 {
     match purpose {
-        Purpose::Source(chip) => Some(chip),
-        Purpose::Cart | Purpose::Script | Purpose::Cert | Purpose::Commands | Purpose::File => None,
+        Purpose::Source(number) | Purpose::Module(number) => Some(number),
+        Purpose::Cart
+        | Purpose::Script
+        | Purpose::Cert
+        | Purpose::Commands
+        | Purpose::File
+        | Purpose::Plan => None,
     }
 }
 
@@ -71,6 +78,18 @@ fn refusal_line(refusal: Refusal) -> Line
             fault.line,
             fault.cause.number(),
         ),
+        Refusal::Plan(fault) => report::error_reader(
+            Reader::Plan,
+            fault.line,
+            fault.cause.number(),
+        ),
+        Refusal::Module { module, fault } => report::error_module(
+            module,
+            fault.line,
+            fault.column,
+            fault.cause.number(),
+        ),
+        Refusal::Link(fault) => report::error_link(fault.module, fault.cause.number()),
         Refusal::Digits => report::error_hex(),
         Refusal::Long(purpose) => report::error_long(
             purpose_word(purpose),

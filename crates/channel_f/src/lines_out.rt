@@ -10,11 +10,12 @@ ghost use Rattle.outside.specs.SinkRules.{Adds, AddsPart};
 
 use super::manner::Manner;
 use super::status::Status;
-use asm_lines::{put_image, put_listing};
+use asm_lines::{put_image, put_linked, put_listing};
 use cart_checker::Verdict;
 use cartridge::Split;
 use certificate::VerifyAnswer;
 use f8_asm::{Image, Text};
+use f8_link::Linked;
 use generator::{gen_line, scratch_sum, scratch_sum_line, writes_line};
 use outside::{Sink, SinkFault};
 use rack_run::{Ending, Halt};
@@ -207,6 +208,17 @@ pub fn put_picture<K: Sink>(sink: &mut K, image: &Image) -> Status
         result Status.Done (image_lines image.now) }
 {
     match put_image(sink, image) {
+        Ok(()) => Status::Done,
+        Err(SinkFault) => Status::Sink,
+    }
+}
+
+/// Writes the lines of linked modules.
+pub fn put_modules<K: Sink>(sink: &mut K, linked: &Linked) -> Status
+    ensures { Reports (K.output sink.old) (K.output sink.new)
+        result Status.Done (image_lines linked.now) }
+{
+    match put_linked(sink, linked) {
         Ok(()) => Status::Done,
         Err(SinkFault) => Status::Sink,
     }

@@ -7,8 +7,8 @@ ghost use Rattle.channel_f.specs.Completeness.{IsComplete};
 ghost use Rattle.channel_f.specs.Statuses.{exit_code, HasStatus};
 
 use super::commands::{
-    answer_asm, answer_check, answer_debug, answer_dis, answer_gen, answer_migrate, answer_play,
-    answer_ref, answer_verify,
+    answer_asm, answer_check, answer_debug, answer_dis, answer_gen, answer_link, answer_migrate,
+    answer_play, answer_ref, answer_verify,
 };
 use super::lines_out::put_lines;
 use super::status::Status;
@@ -19,7 +19,7 @@ use f8_spec::Memory;
 use outside::{Sink, Store};
 use std::alloc::Global;
 
-#[tactic(auto, using(crate::proofs::Outcomes::says_play, crate::proofs::Outcomes::says_check, crate::proofs::Outcomes::says_verify, crate::proofs::Outcomes::says_migrate, crate::proofs::Outcomes::says_ref, crate::proofs::Outcomes::says_debug, crate::proofs::Outcomes::says_asm, crate::proofs::Outcomes::says_dis, crate::proofs::Outcomes::says_gen, crate::proofs::Outcomes::says_words, crate::proofs::Outcomes::says_wanting, crate::proofs::Outcomes::command_named, crate::proofs::Outcomes::words_not_memory, crate::proofs::Games::answers_of))]
+#[tactic(auto, using(crate::proofs::Outcomes::says_play, crate::proofs::Outcomes::says_check, crate::proofs::Outcomes::says_verify, crate::proofs::Outcomes::says_migrate, crate::proofs::Outcomes::says_ref, crate::proofs::Outcomes::says_debug, crate::proofs::Outcomes::says_asm, crate::proofs::Outcomes::says_link, crate::proofs::Outcomes::says_dis, crate::proofs::Outcomes::says_gen, crate::proofs::Outcomes::says_words, crate::proofs::Outcomes::says_wanting, crate::proofs::Outcomes::command_named, crate::proofs::Outcomes::words_not_memory, crate::proofs::Games::answers_of))]
 fn answer_words<S: Store, K: Sink>(
     alloc: Global,
     words: &[String],
@@ -55,6 +55,7 @@ fn answer_words<S: Store, K: Sink>(
             answer_debug(alloc, cart, commands, store, sink, rack)
         }
         Ok(Some(Command::Asm { file })) => answer_asm(alloc, file, store, sink),
+        Ok(Some(Command::Link { plan })) => answer_link(alloc, plan, store, sink),
         Ok(Some(Command::Dis { file })) => answer_dis(alloc, file, store, sink),
         Ok(Some(Command::Gen { seed })) => answer_gen(alloc, seed, sink, rack),
         Ok(None) => put_lines(sink, [report::error_words()].as_slice(), Status::Words),
@@ -75,11 +76,12 @@ fn answer_words<S: Store, K: Sink>(
 /// - `ref CART SCRIPT`: the same bytes run on the flat instruction set alone, and the rack stays as it was.
 /// - `debug CART COMMANDS`: the rack is fitted for the chips described, powered and reset, and carries out the debugger's commands.
 /// - `asm FILE`: the bytes that an assembly text makes, and its names.
+/// - `link PLAN`: the bytes that the modules of a plan make together, each in its room, and the names that they export.
 /// - `dis FILE`: the assembly text of a file of hexadecimal digits.
 /// - `gen N`: the rack is fitted for a large cartridge that is generated from the number, and runs for 60 frames. Its run is summed up.
 ///
 /// Each file is read before the next is asked for: the description, then the source of each chip that has one, then the script, the
-/// debugger's commands or the certificate. `play`, `debug` and `gen` look at the rack after all of them, and then its chips are fitted.
+/// debugger's commands or the certificate; the plan, and then each of its modules. `play`, `debug` and `gen` look at the rack after all of them, and then its chips are fitted.
 /// The first refusal ends the call with its one line. Each line is one put.
 ///
 /// Where the store tells its files and has those that are asked for, neither count of faults rose, and memory wasn't wanting, what is

@@ -8,7 +8,10 @@ ghost use Rattle.f8_link.specs.FirstPass.{no_reading, with_export, with_import, 
 use crate::directives::{Directive, directive_of, name_at, statement_line};
 use crate::lines::ModuleLine;
 use asm_text::{Name, Token};
-use f8_asm::{AsmAnswer, AsmCause, LineFault, LineStop, Symbols, comma, end_of, fault_by, line_tokens, name_label};
+use f8_asm::{
+    AsmAnswer, AsmCause, LineFault, LineStop, Symbols, comma, end_of, fault_by, line_tokens,
+    name_label,
+};
 use std::alloc::{AllocError, Global};
 use std::marker::Model;
 use text_lines::first_line;

@@ -35,6 +35,7 @@ pub enum Filling {
 
 /// The least and the greatest value of an import.
 const LEAST: i64 = -2_147_418_113;
+
 const GREATEST: i64 = 4_294_901_760;
 
 /// The value of a base: none is 0, the module is where it begins, and an import is what it was found to be.
@@ -117,7 +118,11 @@ fn put(bytes: &mut [u8], offset: u32, fixed: Filling)
 fn fix(first: u16, imports: &[i64], bytes: &mut [u8], fixup: &Fixup) -> Result<(), LinkCause>
     ensures { caused result bytes.new ≡ fixup_put first imports.now bytes.old fixup.now }
 {
-    let sum = operator_value(Operator::Plus, base_value(first, imports, fixup.base), fixup.k);
+    let sum = operator_value(
+        Operator::Plus,
+        base_value(first, imports, fixup.base),
+        fixup.k,
+    );
     let address = u64::from(first) + u64::from(fixup.offset);
     match fixed(fixup.kind, address, sum) {
         Some(fixed) => {

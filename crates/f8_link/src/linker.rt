@@ -165,11 +165,7 @@ fn all_marked(alloc: Global, parts: &[Part]) -> Result<Vec<bool>, LinkAnswer>
 }
 
 /// The bytes of all modules at their addresses, with the values of their imports.
-fn all_written(
-    alloc: Global,
-    values: &[ImportValues],
-    parts: &[Part],
-) -> Result<Table, LinkAnswer>
+fn all_written(alloc: Global, values: &[ImportValues], parts: &[Part]) -> Result<Table, LinkAnswer>
     requires { length parts.now ≤ 64 }
     ensures { Says result (all_written 65536 values.now parts.now) }
 {

@@ -48,10 +48,10 @@ impl Model for Object {
     ghost Value = { Object };
 
     ghost view = { λ o. record {
-        bytes = o.bytes.items;
-        exports = o.exports.items;
-        imports = o.imports.items;
-        fixups = o.fixups.items;
+      bytes = o.bytes.items;
+      exports = o.exports.items;
+      imports = o.imports.items;
+      fixups = o.fixups.items;
     } };
 }
 
@@ -66,10 +66,10 @@ impl Object {
         fixups: Vec<Fixup>,
     ) -> Object
         ensures { result ≡ record {
-            bytes = bytes.items;
-            exports = exports.items;
-            imports = imports.items;
-            fixups = fixups.items;
+          bytes = bytes.items;
+          exports = exports.items;
+          imports = imports.items;
+          fixups = fixups.items;
         } }
     {
         Object {

@@ -12,7 +12,10 @@ use crate::faults::{ModuleLineFault, ModuleLineStop, fault_at, line_fault_of};
 use crate::objects::{Fixup, FixupKind};
 use crate::scope::{Scope, operand_found};
 use crate::values::{Base, Found, Half, Value};
-use f8_asm::{AsmCause, Field, Formula, ItemSize, Operand, Outcome, Single, Statement, byte, octet, unsigned_value, with_field};
+use f8_asm::{
+    AsmCause, Field, Formula, ItemSize, Operand, Outcome, Single, Statement, byte, octet,
+    unsigned_value, with_field,
+};
 use f8_ops::encode;
 use f8_spec::Op;
 use std::alloc::{AllocError, Global};
@@ -200,8 +203,9 @@ fn word_of(alloc: Global, offset: u32, operand: Operand<Found>) -> Result<Piece,
 {
     match operand.value {
         Found::Value(Value::Constant(value)) => {
-            let word = unsigned_value(u16::MAX, constant_operand(operand.column, value))
-                .map_err(line_fault_of)?;
+            let word = unsigned_value(u16::MAX, constant_operand(operand.column, value)).map_err(
+                line_fault_of,
+            )?;
             Ok(Piece::whole(alloc, &[(word / 256) as u8, (word % 256) as u8])?)
         }
         Found::Value(Value::Placed(base, k)) => Ok(Piece::open_at(

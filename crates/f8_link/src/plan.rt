@@ -128,11 +128,7 @@ impl ModuleList {
 }
 
 /// A file and its room, by their words.
-fn entry<'a>(
-    file: &'a [u8],
-    first: &[u8],
-    last: &[u8],
-) -> Result<(&'a [u8], Room), PlanCause>
+fn entry<'a>(file: &'a [u8], first: &[u8], last: &[u8]) -> Result<(&'a [u8], Room), PlanCause>
     requires { IsTrue (list_all is_printable file.now) }
     ensures value { entry_seen result ≡ entry file.now first.now last.now }
     ensures printable { IfOk result (λ e. IsTrue (list_all is_printable e.0.now)) }

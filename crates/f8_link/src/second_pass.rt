@@ -10,7 +10,10 @@ use crate::pieces::constant_of;
 use crate::scope::{Scope, names_import, operand_found};
 use crate::values::Named;
 use asm_text::Name;
-use f8_asm::{AsmCause, Formula, Operand, ParsedLine, Room, Single, Statement, Symbols, is_inside, statement_size};
+use f8_asm::{
+    AsmCause, Formula, Operand, ParsedLine, Room, Single, Statement, Symbols, is_inside,
+    statement_size,
+};
 use std::alloc::{AllocError, Global};
 use std::marker::Model;
 
@@ -127,7 +130,12 @@ impl Layout {
                 self.name(alloc, line.label.as_ref(), value)?;
                 Ok(())
             }
-            other => self.fill(alloc, line.label.as_ref(), line.column, statement_size(other)),
+            other => self.fill(
+                alloc,
+                line.label.as_ref(),
+                line.column,
+                statement_size(other),
+            ),
         }
     }
 
