@@ -83,8 +83,8 @@ fn refusal_line(refusal: Refusal) -> Line
             fault.line,
             fault.cause.number(),
         ),
-        Refusal::Module { module, fault } => report::error_module(
-            module,
+        Refusal::Module { number, fault } => report::error_module(
+            number,
             fault.line,
             fault.column,
             fault.cause.number(),

@@ -108,13 +108,13 @@ pub fn read_modules(alloc: Global, text: &[u8]) -> Result<ModuleList, Stop>
 
 /// The object of a module's text.
 #[tactic(auto, unfolding(crate::specs::Readings::object_in))]
-pub fn read_module(alloc: Global, module: u8, text: &[u8]) -> Result<Object, Stop>
+pub fn read_module(alloc: Global, number: u8, text: &[u8]) -> Result<Object, Stop>
     requires { length text.now ≤ 262144 }
-    ensures { Says (λ object. object) result (object_in module text.now) }
+    ensures { Says (λ object. object) result (object_in number text.now) }
 {
     match compile(alloc, text) {
         Ok(object) => Ok(object),
-        Err(ModAnswer::Fault(fault)) => Err(Stop::Refused(Refusal::Module { module, fault })),
+        Err(ModAnswer::Fault(fault)) => Err(Stop::Refused(Refusal::Module { number, fault })),
         Err(ModAnswer::Memory) => Err(Stop::Memory),
     }
 }

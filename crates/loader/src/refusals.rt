@@ -34,7 +34,7 @@ pub enum Refusal {
     Plan(PlanFault),
     /// The text of a module is at fault. Modules are counted from 0, in the order of the plan.
     #[error("a module is at fault")]
-    Module { module: u8, fault: ModFault },
+    Module { number: u8, fault: ModFault },
     /// The modules of a plan don't go together.
     #[error("the modules don't go together")]
     Link(LinkFault),

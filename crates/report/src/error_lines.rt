@@ -147,12 +147,12 @@ pub fn error_asm(source: Option<u8>, line: u32, column: u32, cause: u8) -> Line
 /// `error module`: the module of a plan that has this number, counted from 0, is at fault: the place of its first fault, and the number of the
 /// cause. Lines and columns are told as they are passed, so counted from 1.
 #[tactic(auto, unfolding(crate::specs::ErrorLines::module_line))]
-pub fn error_module(module: u8, line: u32, column: u32, cause: u8) -> Line
-    ensures { result ≡ spelled_module module line column cause }
+pub fn error_module(number: u8, line: u32, column: u32, cause: u8) -> Line
+    ensures { result ≡ spelled_module number line column cause }
 {
     let mut told = Line::new();
     told.text(b"error module ");
-    told.small(module);
+    told.small(number);
     told.text(b" line ");
     told.decimal(u64::from(line));
     told.text(b" column ");
@@ -165,12 +165,12 @@ pub fn error_module(module: u8, line: u32, column: u32, cause: u8) -> Line
 
 /// `error link`: the modules of a plan don't go together: the number of the first that is at fault, counted from 0, and that of the cause.
 #[tactic(auto, unfolding(crate::specs::ErrorLines::link_line))]
-pub fn error_link(module: u8, cause: u8) -> Line
-    ensures { result ≡ spelled_link module cause }
+pub fn error_link(number: u8, cause: u8) -> Line
+    ensures { result ≡ spelled_link number cause }
 {
     let mut told = Line::new();
     told.text(b"error link module ");
-    told.small(module);
+    told.small(number);
     told.text(b" cause ");
     told.small(cause);
     told.text(b"\n");
