@@ -4,7 +4,6 @@ use Rattle.std.proofs.Math.Seq.{drop-cons}
 use Rattle.std.proofs.lemmas.List.{drop_all}
 use Rattle.text_lines.specs.declared.read_error.ReadError.{ReadError}
 use Rattle.text_lines.specs.declared.read_error.ReadError.TheVariants as answer
-use Rattle.f8_asm.specs.declared.answers.AsmFault.{AsmFault}
 use Rattle.f8_asm.specs.Answers.{◌>>=◌}
 use Rattle.text_lines.specs.ReadErrors.{Says, StepsTo}
 use Rattle.f8_asm.specs.Steps.{steps}
@@ -73,22 +72,22 @@ module _ {S T X Y E : Type 0} (R : S → T → Type 0) (Q : X → Y → Type 0) 
 
 -- ---- loops whose steps may want memory
 
-module _ {S X : Type 0} (step : S → X → Result S AsmFault) where
+module _ {S X F : Type 0} (step : S → X → Result S F) where
   -- a step fails, or memory is missing
-  pub steps_stop : (s t : S) (x : X) (xs : List X) (e : ReadError AsmFault) (whole : Result S AsmFault) → steps step s (x ∷ xs) ≡ whole
+  pub steps_stop : (s t : S) (x : X) (xs : List X) (e : ReadError F) (whole : Result S F) → steps step s (x ∷ xs) ≡ whole
       → StepsTo (Err e) t (step s x) → Says {A = S} (Err e) whole
   steps_stop s t x xs (answer.Fault fault) whole is told = sym is ∙ steps_fail step s x xs fault told
   steps_stop s t x xs answer.Memory whole is told = tt
 
   -- the steps taken and those that follow make the whole
-  pub record StepsOn (s : S) (rest : List X) (whole : Result S AsmFault) : Type 0 where
+  pub record StepsOn (s : S) (rest : List X) (whole : Result S F) : Type 0 where
     pub is : steps step s rest ≡ whole
 
   -- what is left of a list begins with the next
   cut : (xs : List X) (i : ℕ) (x : X) → i < length xs → x ≡ get_or xs i x → drop i xs ≡ x ∷ drop (i + 1) xs
   cut xs i x within is = rw (add-one i, drop-cons xs i x) (ap (λ q. q ∷ drop (suc i) xs) (sym is))
 
-  module _ {s : S} {whole : Result S AsmFault} where
+  module _ {s : S} {whole : Result S F} where
     pub all_at : (xs : List X) (i : ℕ) → StepsOn s (drop i xs) whole → length xs ≤ i → whole ≡ Ok s
     all_at xs i on past = sym (rw (drop_all i xs past) at on.is) ∙ steps_end step s
 
@@ -96,6 +95,6 @@ module _ {S X : Type 0} (step : S → X → Result S AsmFault) where
         → StepsOn t (drop (i + 1) xs) whole
     more_at xs i x t on within is told = record { is = steps_more step s t x (drop (i + 1) xs) told ∙ rw (cut xs i x within is) at on.is }
 
-    pub stop_at : (xs : List X) (i : ℕ) (x : X) (t : S) (e : ReadError AsmFault) → StepsOn s (drop i xs) whole → i < length xs → x ≡ get_or xs i x
+    pub stop_at : (xs : List X) (i : ℕ) (x : X) (t : S) (e : ReadError F) → StepsOn s (drop i xs) whole → i < length xs → x ≡ get_or xs i x
         → StepsTo (Err e) t (step s x) → Says {A = S} (Err e) whole
     stop_at xs i x t e on within is told = steps_stop s t x (drop (i + 1) xs) e whole (rw (cut xs i x within is) at on.is) told
