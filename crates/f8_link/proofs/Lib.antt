@@ -1,2 +1,5 @@
 pub mod ModuleLines
 pub mod PlanLines
+pub mod Strays
+pub mod NamesTaken
+pub mod ListPiece

@@ -2,7 +2,7 @@
 ghost use Rattle.std.specs.Prelude.{◌≡◌, ◌<◌, length, IfOk};
 ghost use Rattle.text_lines.specs.ReadErrors.{Says};
 ghost use Rattle.f8_asm.specs.ParsedLines.{parsed};
-ghost use Rattle.f8_link.specs.Directives.{directive_word, directive_of, name_at, name_at_seen, is_stray, stray, first_fault, unless_stray};
+ghost use Rattle.f8_link.specs.Directives.{directive_word, directive_of, name_at, name_at_seen, is_stray, stray_in, stray, first_fault, unless_stray};
 
 use asm_text::{Name, Token, TokenKind};
 use f8_asm::{LineFault, LineStop, ParsedLine, form, is_reserved, is_word, parsed};
@@ -66,14 +66,22 @@ fn is_stray(name: &[u8]) -> bool
     is_word(name, b"ORG") || directive_word(name).is_some()
 }
 
+/// Whether a token is such a word.
+fn stray_in(kind: &TokenKind) -> bool
+    ensures { result ≡ stray_in kind.now }
+{
+    match kind {
+        TokenKind::Name(name) => is_stray(name.as_str().as_bytes()),
+        _ => false,
+    }
+}
+
 /// Where the first word stands that a statement may not have.
-pub fn stray(tokens: &[Token]) -> Option<u32>
+fn stray(tokens: &[Token]) -> Option<u32>
     ensures { result ≡ stray tokens.now }
 {
     for token in tokens {
-        if let TokenKind::Name(name) = &token.kind
-            && is_stray(name.as_str().as_bytes())
-        {
+        if stray_in(&token.kind) {
             return Some(token.column);
         }
     }

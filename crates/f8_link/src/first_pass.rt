@@ -1,5 +1,5 @@
 // The first pass over a module: the tokens of each line, what they make, and whether a name is given twice.
-ghost use Rattle.std.specs.Prelude.{◌≡◌, ◌≤◌, ◌<◌, ◌+◌, ℕ, length, drop};
+ghost use Rattle.std.specs.Prelude.{◌≡◌, ◌≤◌, ◌<◌, ◌+◌, ℕ, length, drop, OnOk};
 ghost use Rattle.text_lines.specs.Lines.{lines};
 ghost use Rattle.text_lines.specs.ReadErrors.{Says, StepsTo};
 ghost use Rattle.f8_link.specs.Directives.{names_taken};
@@ -56,7 +56,8 @@ impl Reading {
         column: u32,
         name: &Name,
     ) -> Result<(), LineStop>
-        ensures { StepsTo result self.new (name_taken Directive.Export number self.old column name.now) }
+        ensures steps { StepsTo result self.new (name_taken Directive.Export number self.old column name.now) }
+        ensures count { self.new.count ≡ self.old.count }
     {
         let name = Name::of(alloc, name.as_str().as_bytes())?;
         self.lines.push(ModuleLine::Export(number, column, name))?;
@@ -65,8 +66,9 @@ impl Reading {
 
     /// Takes a name that a line imports at a column, if it is new.
     fn take_import(&mut self, alloc: Global, column: u32, name: &Name) -> Result<(), LineStop>
-        ensures { (number : ℕ) → StepsTo result self.new
+        ensures steps { (number : ℕ) → StepsTo result self.new
             (name_taken Directive.Import number self.old column name.now) }
+        ensures count { self.new.count ≡ self.old.count }
     {
         if self.known.value_of(name).is_some() {
             return Err(LineStop::Fault(LineFault {
@@ -80,6 +82,24 @@ impl Reading {
         Ok(())
     }
 
+    /// Takes a name that a directive of line `number` has at a column.
+    fn take_name(
+        &mut self,
+        alloc: Global,
+        directive: Directive,
+        number: u32,
+        column: u32,
+        name: &Name,
+    ) -> Result<(), LineStop>
+        ensures steps { StepsTo result self.new (name_taken directive number self.old column name.now) }
+        ensures count { self.new.count ≡ self.old.count }
+    {
+        match directive {
+            Directive::Export => self.take_export(alloc, number, column, name),
+            Directive::Import => self.take_import(alloc, column, name),
+        }
+    }
+
     /// Takes the names behind a directive.
     fn take_names(
         &mut self,
@@ -88,16 +108,14 @@ impl Reading {
         number: u32,
         tokens: &[Token],
     ) -> Result<(), LineStop>
-        ensures { StepsTo result self.new
+        ensures steps { StepsTo result self.new
             (names_taken (name_taken directive number) self.old tokens.now) }
+        ensures count { self.new.count ≡ self.old.count }
     {
         let mut rest = tokens;
         loop {
             let (column, name, behind) = name_at(rest)?;
-            match directive {
-                Directive::Export => self.take_export(alloc, number, column, name)?,
-                Directive::Import => self.take_import(alloc, column, name)?,
-            }
+            self.take_name(alloc, directive, number, column, name)?;
             if behind.is_empty() {
                 return Ok(());
             }
@@ -112,7 +130,8 @@ impl Reading {
         number: u32,
         tokens: &[Token],
     ) -> Result<(), LineStop>
-        ensures { StepsTo result self.new (statement_taken number self.old tokens.now) }
+        ensures steps { StepsTo result self.new (statement_taken number self.old tokens.now) }
+        ensures count { self.new.count ≡ self.old.count }
     {
         name_label(alloc, &mut self.known, tokens)?;
         let line = statement_line(alloc, number, tokens)?;
@@ -123,7 +142,8 @@ impl Reading {
     /// Takes the tokens of one line more.
     #[tactic(auto, unfolding(crate::specs::FirstPass::tokens_taken))]
     fn take(&mut self, alloc: Global, number: u32, tokens: &[Token]) -> Result<(), LineStop>
-        ensures { StepsTo result self.new (tokens_taken number self.old tokens.now) }
+        ensures steps { StepsTo result self.new (tokens_taken number self.old tokens.now) }
+        ensures count { self.new.count ≡ self.old.count }
     {
         match directive_of(tokens) {
             Some(directive) => self.take_names(alloc, directive, number, behind_first(tokens)),
@@ -136,7 +156,8 @@ impl Reading {
     fn read_line(&mut self, alloc: Global, bytes: &[u8]) -> Result<(), AsmAnswer>
         requires line { length bytes.now ≤ 16777216 }
         requires lines { self.old.count ≤ 16777216 }
-        ensures { StepsTo result self.new (read_line self.old bytes.now) }
+        ensures steps { StepsTo result self.new (read_line self.old bytes.now) }
+        ensures count { OnOk result (self.new.count ≡ self.old.count + 1) }
     {
         let number = self.count + 1;
         let tokens = line_tokens(alloc, number, bytes)?;

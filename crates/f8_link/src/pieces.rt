@@ -3,7 +3,7 @@ ghost use Rattle.std.specs.Prelude.{◌≡◌, ◌≤◌, ◌+◌, ◌*◌, ◌�
 ghost use Rattle.text_lines.specs.ReadErrors.{Says};
 ghost use Rattle.f8_spec.specs.Instructions.{InRange};
 ghost use Rattle.f8_asm.specs.Bytes.{word_bytes};
-ghost use Rattle.f8_asm.specs.Statements.{item_size, operand_valued, statement_size, statement_valued};
+ghost use Rattle.f8_asm.specs.Statements.{item_size, single_size, operand_valued, statement_size, statement_valued};
 ghost use Rattle.f8_link.specs.Evaluation.{formula_found};
 ghost use Rattle.f8_link.specs.Pieces.{whole, open_at, behind, joined, kind_of, no_value, constant_of, constant_operand, number_of, field_of, byte_of, word_of, displaced, branch_of, single_piece, item_piece, list_piece, piece_of};
 
@@ -275,7 +275,7 @@ fn single_piece(
     single: Single,
     operand: Operand<Found>,
 ) -> Result<Piece, ModuleLineStop>
-    requires { offset ≤ 65535 }
+    requires { offset + single_size single ≤ 65536 }
     ensures { Says result (single_piece offset single operand) }
 {
     match single {

@@ -1,6 +1,7 @@
 // The second pass over a module: the offset of each line, and what the labels stand for.
 ghost use Rattle.std.specs.Prelude.{◌≡◌, ◌≤◌, ◌+◌, IfOk, OnOk, OnErr, option_copied};
 ghost use Rattle.text_lines.specs.ReadErrors.{Says, StepsTo};
+ghost use Rattle.f8_asm.specs.Statements.{statement_size};
 ghost use Rattle.f8_link.specs.SecondPass.{no_layout, with_label, constant_at, filled, settle, line_settled, place, place_lines, Ends};
 
 use crate::answers::{ModAnswer, ModCause};
@@ -101,7 +102,8 @@ impl Layout {
         column: Option<u32>,
         size: usize,
     ) -> Result<(), ModuleLineStop>
-        ensures { StepsTo result self.new (filled (option_copied label.entry) column size self.old) }
+        ensures steps { StepsTo result self.new (filled (option_copied label.entry) column size self.old) }
+        ensures ends { OnOk result (self.old.here + size ≤ 65536) }
     {
         if !is_inside(EVERYWHERE, self.here, size) {
             return Err(ModuleLineStop::Fault(ModuleLineFault {
@@ -122,7 +124,9 @@ impl Layout {
         imports: &Symbols<usize>,
         line: &ParsedLine,
     ) -> Result<(), ModuleLineStop>
-        ensures { StepsTo result self.new (settle imports.now self.old line.now) }
+        ensures steps { StepsTo result self.new (settle imports.now self.old line.now) }
+        ensures ends { self.old.here ≤ 65536
+            → OnOk result (self.old.here + statement_size line.now.statement ≤ 65536) }
     {
         match &line.statement {
             Statement::One(Single::Equ, operand) => {
@@ -147,7 +151,8 @@ impl Layout {
         line: &ModuleLine,
     ) -> Result<(), ModAnswer>
         ensures steps { StepsTo result self.new (line_settled imports.now self.old line.now) }
-        ensures ends { OnOk result (Ends (record { offset = self.old.here; line = line.now })) }
+        ensures ends { self.old.here ≤ 65536
+            → OnOk result (Ends (record { offset = self.old.here; line = line.now })) }
     {
         match line {
             ModuleLine::Statement(line) => match self.settle(alloc, imports, line) {
