@@ -116,6 +116,7 @@ fn files_alone(rt: HostRuntime) -> Result<(), Fail> {
         ("asm a.asm", Command::Asm { file: "a.asm" }),
         ("asm ", Command::Asm { file: "" }),
         ("asm -- --", Command::Asm { file: "--" }),
+        ("link plan", Command::Link { plan: "plan" }),
         ("dis -", Command::Dis { file: "-" }),
         ("dis b --", Command::Dis { file: "b" }),
         ("dis -- --help", Command::Dis { file: "--help" }),
@@ -162,6 +163,8 @@ fn numbers_refused(rt: HostRuntime) -> Result<(), Fail> {
         "asm",
         "asm --",
         "asm a b",
+        "link",
+        "link a b",
         "dis",
         "dis a -- b",
     ];

@@ -17,6 +17,8 @@ mod interrupts;
 #[cfg(test)]
 mod limits;
 #[cfg(test)]
+mod linking;
+#[cfg(test)]
 mod migrations;
 #[cfg(test)]
 mod parallel;
