@@ -3,3 +3,4 @@ pub mod PlanLines
 pub mod Strays
 pub mod NamesTaken
 pub mod ListPiece
+pub mod Goes
