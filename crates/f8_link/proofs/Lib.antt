@@ -4,3 +4,5 @@ pub mod Strays
 pub mod NamesTaken
 pub mod ListPiece
 pub mod Goes
+pub mod Settles
+pub mod SettlesOperands
