@@ -32,7 +32,7 @@ use Rattle.f8_link.specs.Answers.{line_told}
 use Rattle.f8_link.specs.Linking.{half_byte, one_byte, fixed_value, fixed}
 use Rattle.f8_link.specs.Pieces.{Piece, whole, open_at, kind_of, constant_operand, constant_in, byte_in, word_in, reached, displaced, branch_in}
 use Rattle.f8_link.proofs.Goes.{at_base, real, prefix_of, Goes}
-use Rattle.f8_link.proofs.Settles.{Settles, settles_same, settles_whole, settles_open}
+use Rattle.f8_link.proofs.Settles.{Settles, settles_same, settles_whole, settles_open, settles_behind}
 
 -- ---- what was read
 
@@ -140,3 +140,124 @@ module _ (first : ℕ) (values : List ℤ) where
   byte_settles offset column found.OutOfRange p piece so is = cc is
   byte_settles offset column found.Shapeless p piece so is = cc is
   byte_settles offset column (found.Undefined at) p piece so is = cc is
+
+  -- a half in a word is its second byte
+  half_put_in_word : (half : Half) (offset : ℕ) (base : Base) (k : ℤ) (p : Operand Outcome) (bs : List ℕ)
+      → p.value ≡ prefix_value (prefix_of half) (at_base first values base +ℤ k)
+      → fixed (kind_of half) (first + offset) (within (at_base first values base +ℤ k)) ≡ Some bs
+      → (item_bytes item.Word p ≡ Ok (0 ∷ bs)) × (length bs ≡ 1)
+  half_put_in_word half offset base k p bs so is =
+      let h = half_fixed half (first + offset) (at_base first values base +ℤ k) bs
+          (fixed_real (kind_of half) (first + offset) (at_base first values base +ℤ k) bs is) in
+      (word_read p (pos h.0) h.0 (so ∙ h.1) (small_of h.0 h.3) ∙ ap Ok (half_word h.0 h.3 ∙ ap (λ (r : List ℕ). 0 ∷ r) (sym h.2)), ap length h.2)
+
+  word_put : (offset : ℕ) (base : Base) (k : ℤ) (p : Operand Outcome) (bs : List ℕ) → p.value ≡ outcome.Value (at_base first values base +ℤ k)
+      → fixed kind.Word (first + offset) (within (at_base first values base +ℤ k)) ≡ Some bs → (item_bytes item.Word p ≡ Ok bs) × (length bs ≡ 2)
+  word_put offset base k p bs so is =
+      let m = mapped word_bytes (small 65535 (at_base first values base +ℤ k)) bs
+          (fixed_real kind.Word (first + offset) (at_base first values base +ℤ k) bs is) in
+      (word_read p (at_base first values base +ℤ k) m.0 so m.1 ∙ ap Ok (sym m.2), ap length m.2)
+
+  pub word_settles : (offset column : ℕ) (x : Found) (p : Operand Outcome) (piece : Piece) → Goes first values x p.value → word_in offset column x ≡ Ok piece
+      → Settles first values offset piece (λ bs. item_bytes item.Word p ≡ Ok bs)
+  word_settles offset column (found.Value (Constant v)) p piece so is =
+      read-ok (Settles first values offset piece (λ bs. item_bytes item.Word p ≡ Ok bs)) (line_told (unsigned_value 65535 (constant_operand column v)))
+      (λ w. Ok (whole (word_bytes w))) piece is (λ w at_w e.
+      settles_same first values offset (whole (word_bytes w)) piece (λ bs. item_bytes item.Word p ≡ Ok bs) e
+      (settles_whole first values offset (word_bytes w) (λ bs. item_bytes item.Word p ≡ Ok bs)
+      (word_read p v w so (fits_some column Range (small 65535 v) w (told_ok _ w at_w)))))
+  word_settles offset column (found.Value (Placed base k)) p piece so is =
+      settles_same first values offset (open_at (0 ∷ 0 ∷ []) offset kind.Word (Some base) k) piece (λ bs. item_bytes item.Word p ≡ Ok bs) is
+      (settles_open first values (0 ∷ 0 ∷ []) offset kind.Word (Some base) k (λ bs. item_bytes item.Word p ≡ Ok bs)
+      (λ bs put. word_put offset base k p bs so put))
+  word_settles offset column (found.Half half base k) p piece so is =
+      settles_same first values offset (open_at (0 ∷ 0 ∷ []) (offset + 1) (kind_of half) (Some base) k) piece (λ bs. item_bytes item.Word p ≡ Ok bs) is
+      (settles_behind first values 0 offset (open_at (0 ∷ []) (offset + 1) (kind_of half) (Some base) k)
+      (λ bs. item_bytes item.Word p ≡ Ok (0 ∷ bs)) (λ bs. item_bytes item.Word p ≡ Ok bs) (λ bs so. so)
+      (settles_open first values (0 ∷ []) (offset + 1) (kind_of half) (Some base) k (λ bs. item_bytes item.Word p ≡ Ok (0 ∷ bs))
+      (λ bs put. half_put_in_word half (offset + 1) base k p bs so put)))
+  word_settles offset column found.OutOfRange p piece so is = cc is
+  word_settles offset column found.Shapeless p piece so is = cc is
+  word_settles offset column (found.Undefined at) p piece so is = cc is
+
+-- ---- branches
+
+-- the displacement byte of a branch whose opcode stands at this address
+abbrev pub displacement_bytes : ℕ → Operand Outcome → Result (List ℕ) LineFault
+displacement_bytes address p = displacement address p >>= λ d. Ok (d ∷ [])
+
+branch_read : (address : ℕ) (p : Operand Outcome) (v w : ℤ) (d : ℕ) → p.value ≡ outcome.Value v → octet 127 w ≡ Some d → v -ℤ pos (address + 1) ≡ w
+    → displacement_bytes address p ≡ Ok (d ∷ [])
+branch_read address p v w d is fits same = rw (is, same, fits) refl
+
+from_first : (first offset address : ℕ) (k : ℤ) → address + 1 ≡ first + offset → (pos first +ℤ k) -ℤ pos (address + 1) ≡ k -ℤ pos offset
+from_first first offset address k at = omega (arith, ints)
+
+reached_some : (column : ℕ) (o : Option ℕ) (d : ℕ) → reached column o ≡ Ok d → o ≡ Some d
+reached_some column (Some b) d is = let same : b ≡ d = cc is in ap Some same
+reached_some column None d is = cc is
+
+module _ (first : ℕ) (values : List ℤ) where
+  -- a branch that linking judges, to this value
+  branch_put : (offset address : ℕ) (z : ℤ) (p : Operand Outcome) (bs : List ℕ) → address + 1 ≡ first + offset → p.value ≡ outcome.Value z
+      → fixed kind.Branch (first + offset) (within z) ≡ Some bs → (displacement_bytes address p ≡ Ok bs) × (length bs ≡ 1)
+  branch_put offset address z p bs at so is =
+      let m = mapped one_byte (octet 127 (z -ℤ pos (first + offset))) bs (fixed_real kind.Branch (first + offset) z bs is) in
+      (branch_read address p z (z -ℤ pos (first + offset)) m.0 so m.1 (ap (λ (n : ℕ). z -ℤ pos n) at) ∙ ap Ok (sym m.2), ap length m.2)
+
+  constant_put : (offset address : ℕ) (v : ℤ) (p : Operand Outcome) (bs : List ℕ) → address + 1 ≡ first + offset → p.value ≡ outcome.Value v
+      → fixed kind.Branch (first + offset) (within (pos 0 +ℤ v)) ≡ Some bs → (displacement_bytes address p ≡ Ok bs) × (length bs ≡ 1)
+  constant_put offset address v p bs at so is =
+      let same : pos 0 +ℤ v ≡ v = omega (arith, ints) in
+      branch_put offset address v p bs at so (ap (λ (z : ℤ). fixed kind.Branch (first + offset) (within z)) (sym same) ∙ is)
+
+  pub branch_settles : (offset address column : ℕ) (x : Found) (p : Operand Outcome) (piece : Piece) → address + 1 ≡ first + offset
+      → Goes first values x p.value → branch_in offset column x ≡ Ok piece → Settles first values offset piece (λ bs. displacement_bytes address p ≡ Ok bs)
+  branch_settles offset address column (found.Value (Constant v)) p piece at so is =
+      settles_same first values offset (open_at (0 ∷ []) offset kind.Branch None v) piece (λ bs. displacement_bytes address p ≡ Ok bs) is
+      (settles_open first values (0 ∷ []) offset kind.Branch None v (λ bs. displacement_bytes address p ≡ Ok bs)
+      (λ bs put. constant_put offset address v p bs at so put))
+  branch_settles offset address column (found.Value (Placed Module k)) p piece at so is =
+      read-ok (Settles first values offset piece (λ bs. displacement_bytes address p ≡ Ok bs)) (displaced column offset k)
+      (λ d. Ok (whole (d ∷ []))) piece is (λ d at_d e. settles_same first values offset (whole (d ∷ [])) piece (λ bs. displacement_bytes address p ≡ Ok bs) e
+      (settles_whole first values offset (d ∷ []) (λ bs. displacement_bytes address p ≡ Ok bs)
+      (branch_read address p (pos first +ℤ k) (k -ℤ pos offset) d so (reached_some column (octet 127 (k -ℤ pos offset)) d at_d)
+      (from_first first offset address k at))))
+  branch_settles offset address column (found.Value (Placed (Import i) k)) p piece at so is =
+      settles_same first values offset (open_at (0 ∷ []) offset kind.Branch (Some (Import i)) k) piece (λ bs. displacement_bytes address p ≡ Ok bs) is
+      (settles_open first values (0 ∷ []) offset kind.Branch (Some (Import i)) k (λ bs. displacement_bytes address p ≡ Ok bs)
+      (λ bs put. branch_put offset address (at_base first values (Import i) +ℤ k) p bs at so put))
+  branch_settles offset address column (found.Half half base k) p piece at so is = cc is
+  branch_settles offset address column found.OutOfRange p piece at so is = cc is
+  branch_settles offset address column found.Shapeless p piece at so is = cc is
+  branch_settles offset address column (found.Undefined at_name) p piece at so is = cc is
+
+  -- ---- numbers and fields
+
+  pub number_goes : (last column : ℕ) (x : Found) (p : Operand Outcome) (b : ℕ) → Goes first values x p.value
+      → (constant_in column x >>= λ v. line_told (unsigned_value last (constant_operand column v))) ≡ Ok b → unsigned_value last p ≡ Ok b
+  number_goes last column (found.Value (Constant v)) p b so is =
+      let fits = fits_some column Range (small last v) b (told_ok _ b is) in rw (so, fits) refl
+  number_goes last column (found.Value (Placed base k)) p b so is = cc is
+  number_goes last column (found.Half half base k) p b so is = cc is
+  number_goes last column found.OutOfRange p b so is = cc is
+  number_goes last column found.Shapeless p b so is = cc is
+  number_goes last column (found.Undefined at) p b so is = cc is
+
+  field_given : (field : Field) (column : ℕ) (v : ℤ) (p : Operand Outcome) (op : Op) → p.value ≡ outcome.Value v
+      → with_field field (constant_operand column v) ≡ Ok op → with_field field p ≡ Ok op
+  field_given field column v p op so is =
+      read-ok (with_field field p ≡ Ok op) (unsigned_value (last_of field) (constant_operand column v))
+      (λ n. fitting column Range (op_with field n)) op is (λ n at_n e.
+      let fits = fits_some column Range (small (last_of field) v) n at_n in
+      let goes = fits_some column Range (op_with field n) op e in
+      rw (so, fits, goes) refl)
+
+  pub field_goes : (field : Field) (column : ℕ) (x : Found) (p : Operand Outcome) (op : Op) → Goes first values x p.value
+      → (constant_in column x >>= λ v. line_told (with_field field (constant_operand column v))) ≡ Ok op → with_field field p ≡ Ok op
+  field_goes field column (found.Value (Constant v)) p op so is = field_given field column v p op so (told_ok _ op is)
+  field_goes field column (found.Value (Placed base k)) p op so is = cc is
+  field_goes field column (found.Half half base k) p op so is = cc is
+  field_goes field column found.OutOfRange p op so is = cc is
+  field_goes field column found.Shapeless p op so is = cc is
+  field_goes field column (found.Undefined at) p op so is = cc is
