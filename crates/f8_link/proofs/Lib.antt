@@ -6,3 +6,5 @@ pub mod ListPiece
 pub mod Goes
 pub mod Settles
 pub mod SettlesOperands
+pub mod SettlesStatements
+pub mod PieceLength
