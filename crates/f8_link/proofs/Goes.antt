@@ -254,3 +254,18 @@ all_told false u is = cc is
 pub reaches : (first : ℕ) (values : List ℤ) (u : Unit {0}) → first ≤ 65536 → all_in_reach values ≡ Ok u → Reach first values
 reaches first values u low is Module = low_reach first low
 reaches first values u low is (Import i) = value_reach values i (all_told (list_all in_reach values) u is)
+
+-- ---- what EQU may name
+
+own_alone : (first : ℕ) (values : List ℤ) (own : Option Named) (o : Option ℤ) → ((v : Named) → own ≡ Some v → o ≡ Some (named_value first v))
+    → NameGoes first values own None o
+own_alone first values (Some v) o given = given v refl
+own_alone first values None o given = tt
+
+-- the same with the module's own names alone
+pub constants_go : (first : ℕ) (rename : List ℕ → List ℕ) → first ≤ 65536 → (names : List (List ℕ × Named)) (offset : ℕ) (others : List (List ℕ × ℤ))
+    → ((x : List ℕ) (v : Named) → value_of names x ≡ Some v → value_of others (rename x) ≡ Some (named_value first v))
+    → Actalike (Goes first []) (placed_values names [] offset) (renamed_values rename others (first + offset))
+constants_go first rename low names offset others given =
+    expressions_go first [] names [] offset rename others (first + offset) (reaches first [] tt low refl) refl
+    (λ x. own_alone first [] (value_of names x) (value_of others (rename x)) (given x))

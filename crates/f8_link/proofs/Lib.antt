@@ -8,3 +8,4 @@ pub mod Settles
 pub mod SettlesOperands
 pub mod SettlesStatements
 pub mod PieceLength
+pub mod LinesGo

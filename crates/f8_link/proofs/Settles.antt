@@ -81,6 +81,14 @@ module _ (first : ℕ) (values : List ℤ) where
         record { bytes = s.bytes; said = so s.bytes s.said; size_is = s.size_is; is = s.is };
   }
 
+  -- they are as many as linking found
+  pub settles_sized : (offset : ℕ) (p : Piece) (Q : List ℕ → Type 0) → Settles offset p Q → Settles offset p (λ bs. Q bs × (length bs ≡ length p.bytes))
+  settles_sized offset p Q on = record {
+    is = λ xs ys z at all.
+        let s = on.is xs ys z at all in
+        record { bytes = s.bytes; said = (s.said, s.size_is); size_is = s.size_is; is = s.is };
+  }
+
   -- bytes that are known
   pub settles_whole : (offset : ℕ) (bs : List ℕ) (Q : List ℕ → Type 0) → Q bs → Settles offset (whole bs) Q
   settles_whole offset bs Q so = record {
