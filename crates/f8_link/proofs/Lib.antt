@@ -9,3 +9,4 @@ pub mod SettlesOperands
 pub mod SettlesStatements
 pub mod PieceLength
 pub mod LinesGo
+pub mod PartEmitted
