@@ -10,3 +10,6 @@ pub mod SettlesStatements
 pub mod PieceLength
 pub mod LinesGo
 pub mod PartEmitted
+pub mod MarkRuns
+pub mod PlacedNames
+pub mod NoOrigin
