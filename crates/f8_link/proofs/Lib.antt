@@ -13,3 +13,5 @@ pub mod PartEmitted
 pub mod MarkRuns
 pub mod PlacedNames
 pub mod NoOrigin
+pub mod EquGoes
+pub mod LinePlaced
