@@ -1,5 +1,5 @@
 -- What an EQU of a module comes to, beside its value in the one source.
-use Rattle.std.proofs.Common.{◌≡◌, ℕ, ◌+◌, ℤ, Bool, List, [], ◌∷◌, Option, Some, Ok, refl, ap}
+use Rattle.std.proofs.Common.{◌≡◌, ℕ, ◌+◌, ℤ, Bool, List, [], Some, Ok, refl}
 use Rattle.asm_text.specs.declared.answers.Token.{Token}
 use Rattle.f8_asm.specs.Formulas.{formulas, formula_value}
 use Rattle.f8_asm.specs.Judging.{operand_value}
@@ -8,7 +8,7 @@ use Rattle.f8_asm.specs.Statements.{statement, operand_valued}
 use Rattle.f8_asm.specs.declared.formulas.Step.{Step}
 use Rattle.f8_asm.specs.declared.operands.Operand.{Operand}
 use Rattle.f8_asm.specs.declared.operands.Statement.{Statement}
-use Rattle.f8_asm.specs.declared.operands.Statement.TheVariants.{Nothing, Fixed, One, Test, Items}
+use Rattle.f8_asm.specs.declared.operands.Statement.TheVariants.{One}
 use Rattle.f8_asm.specs.declared.values.Outcome.{Outcome}
 use Rattle.f8_asm.specs.declared.values.Outcome.TheVariants as outcome
 use Rattle.f8_asm.specs.declared.words.Single.{Single}
@@ -16,7 +16,7 @@ use Rattle.f8_asm.specs.declared.words.Single.TheVariants as single
 use Rattle.f8_asm.proofs.Alike.{alike_both}
 use Rattle.f8_asm.proofs.ExpressionsAlike.{Actalike}
 use Rattle.f8_asm.proofs.FormulaValues.{statement_with_values}
-use Rattle.f8_asm.proofs.StatementsAlike.{StatementAlike, nothing_alike, fixed_alike, one_alike, test_alike, items_alike, statement_alike}
+use Rattle.f8_asm.proofs.StatementsAlike.{StatementAlike, one_alike, statement_alike}
 use Rattle.f8_link.specs.declared.values.Found.{Found}
 use Rattle.f8_link.specs.declared.values.Found.TheVariants as found
 use Rattle.f8_link.specs.declared.values.Named.{Named}

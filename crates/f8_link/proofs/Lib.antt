@@ -15,3 +15,6 @@ pub mod PlacedNames
 pub mod NoOrigin
 pub mod EquGoes
 pub mod LinePlaced
+pub mod LineTogether
+pub mod OriginLine
+pub mod ModulePlaced

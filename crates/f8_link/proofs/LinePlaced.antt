@@ -1,53 +1,32 @@
 -- The second pass over one line of a module, beside the second pass over the same line in the one source.
-use Rattle.std.proofs.Common.{◌≡◌, ℕ, zero, suc, ◌+◌, ◌≤◌, ℤ, pos, Bool, true, false, List, [], ◌∷◌, ◌++◌, length, map, Option, Some, None, is_some, Result, Ok, Err}
-use Rattle.std.proofs.Common.{refl, sym, ap, ◌∙◌, subst, arith, append_assoc}
-use Rattle.std.specs.Prelude.{if◌then◌else◌, option_map}
-use Rattle.std.proofs.lemmas.List.{length-map}
+use Rattle.std.proofs.Common.{◌≡◌, ℕ, ◌+◌, ◌≤◌, ℤ, Bool, true, false, List, [], ◌∷◌, ◌++◌, Option, Some, None, is_some, Result, Ok, Err}
+use Rattle.std.proofs.Common.{refl, sym, ap, subst, arith}
+use Rattle.std.specs.Prelude.{if◌then◌else◌}
 use Rattle.asm_text.specs.declared.answers.Token.{Token}
 use Rattle.f8_asm.specs.Answers.{◌>>=◌}
-use Rattle.f8_asm.specs.Formulas.{formulas, formula_value}
-use Rattle.f8_asm.specs.Grammar.{column_of}
+use Rattle.f8_asm.specs.Formulas.{formulas}
 use Rattle.f8_asm.specs.Image.{everywhere}
-use Rattle.f8_asm.specs.Judging.{operand_value}
-use Rattle.f8_asm.specs.Marks.{marks_with, is_free}
-use Rattle.f8_asm.specs.Names.{value_of, with_name}
 use Rattle.f8_asm.specs.ParsedLines.{parsed, line_of}
-use Rattle.f8_asm.specs.PassOne.{in_line}
-use Rattle.f8_asm.specs.PassTwo.{Layout as SourceLayout, with_label as source_label, with_placed as source_with, layout_filled, layout_after, is_inside, fits}
-use Rattle.f8_asm.specs.Statements.{statement, statement_size, statement_valued, operand_valued, label_of, behind_label, effect_of}
-use Rattle.f8_asm.specs.declared.faults.LineFault.{LineFault}
+use Rattle.f8_asm.specs.PassTwo.{is_inside}
+use Rattle.f8_asm.specs.Statements.{statement, statement_size, operand_valued, label_of, behind_label}
 use Rattle.f8_asm.specs.declared.formulas.Step.{Step}
 use Rattle.f8_asm.specs.declared.line.ParsedLine.{ParsedLine}
-use Rattle.f8_asm.specs.declared.operands.Effect.{Effect}
-use Rattle.f8_asm.specs.declared.operands.Effect.TheVariants.{Names, Moves, Fills}
 use Rattle.f8_asm.specs.declared.operands.Operand.{Operand}
 use Rattle.f8_asm.specs.declared.operands.Statement.{Statement}
-use Rattle.f8_asm.specs.declared.operands.Statement.TheVariants.{Nothing, Fixed, One, Test, Items}
-use Rattle.f8_asm.specs.declared.values.Outcome.{Outcome}
-use Rattle.f8_asm.specs.declared.values.Outcome.TheVariants as outcome
-use Rattle.f8_asm.specs.declared.words.Single.{Single}
+use Rattle.f8_asm.specs.declared.operands.Statement.TheVariants.{One}
 use Rattle.f8_asm.specs.declared.words.Single.TheVariants as single
 use Rattle.f8_asm.proofs.Alike.{read-ok}
-use Rattle.f8_asm.proofs.FormulaValues.{statement_with_values}
 use Rattle.f8_link.specs.Answers.{in_line_to}
 use Rattle.f8_link.specs.Evaluation.{formula_found, names_import}
-use Rattle.f8_link.specs.Linking.{named_value}
-use Rattle.f8_link.specs.OneSource.{SourceLine, PlacedSource, renamed_values, source_settled, source_placed}
 use Rattle.f8_link.specs.Pieces.{constant_of}
 use Rattle.f8_link.specs.SecondPass.{Layout, with_label, moved_by, with_placed, constant_at, filled, statement_settled, settle, place, line_size}
-use Rattle.f8_link.specs.declared.answers.ModFault.{ModFault}
 use Rattle.f8_link.specs.declared.faults.ModuleLineFault.{ModuleLineFault}
 use Rattle.f8_link.specs.declared.lines.ModuleLine.{ModuleLine}
 use Rattle.f8_link.specs.declared.lines.ModuleLine.TheVariants as line
 use Rattle.f8_link.specs.declared.lines.PlacedLine.{PlacedLine}
 use Rattle.f8_link.specs.declared.values.Named.{Named}
 use Rattle.f8_link.specs.declared.values.Named.TheVariants.{Constant, Offset}
-use Rattle.f8_link.specs.Directives.{stray}
-use Rattle.f8_link.proofs.EquGoes.{OwnNamesGo, EquGoes}
-use Rattle.f8_link.proofs.MarkRuns.{free_behind, marks_joined, inside_part, inside_end}
-use Rattle.f8_link.proofs.ModuleLines.{seen_after, NewLabel}
-use Rattle.f8_link.proofs.NoOrigin.{StandsStill, stands_still}
-use Rattle.f8_link.proofs.PlacedNames.{placed_names, KeepsApart, given, placed_append, label_names, FreshLabel, NamesStand, names_more, names_go, label_fresh}
+use Rattle.f8_link.proofs.MarkRuns.{inside_end}
 
 -- ---- what a line is made of
 
@@ -70,7 +49,7 @@ line_from number ts l h =
       statement_is = sym (ap (λ (k : ParsedLine). k.statement) is);
     })
 
-in_line-read : {A : Type 0} (number end : ℕ) (r : Result A ModuleLineFault) (x : A) → in_line_to number end r ≡ Ok x → r ≡ Ok x
+pub in_line-read : {A : Type 0} (number end : ℕ) (r : Result A ModuleLineFault) (x : A) → in_line_to number end r ≡ Ok x → r ≡ Ok x
 in_line-read number end (Ok y) x h = cc h
 in_line-read number end (Err fault) x h = cc h
 
@@ -80,7 +59,7 @@ unless_read : {A E : Type 0} (t : Bool) (e : E) (r : Result A E) (x : A) → (if
 unless_read true e r x h = cc h
 unless_read false e r x h = h
 
-when_read : {A E : Type 0} (t : Bool) (e : E) (y x : A) → (if t then Ok y else Err e) ≡ Ok x → (t ≡ true) × (y ≡ x)
+pub when_read : {A E : Type 0} (t : Bool) (e : E) (y x : A) → (if t then Ok y else Err e) ≡ Ok x → (t ≡ true) × (y ≡ x)
 when_read true e y x h = (refl, cc h)
 when_read false e y x h = cc h
 
@@ -90,7 +69,7 @@ pub record Named_constant (imports : List (List ℕ × ℕ)) (label : Option (Li
   pub is : constant_of (operand_valued (formula_found m.names [] m.here) o) ≡ Ok v
   pub after : with_label label (Constant v) m ≡ t
 
-equ_read : (imports : List (List ℕ × ℕ)) (label : Option (List ℕ)) (m t : Layout) (o : Operand (List Step))
+pub equ_read : (imports : List (List ℕ × ℕ)) (label : Option (List ℕ)) (m t : Layout) (o : Operand (List Step))
     → (constant_at imports m o >>= λ v. Ok (with_label label v m)) ≡ Ok t → Named_constant imports label m t o
 equ_read imports label m t o h =
     read-ok (Named_constant imports label m t o) (constant_at imports m o) _ t h (λ n at_n e.
@@ -100,7 +79,7 @@ equ_read imports label m t o h =
     let after : with_label label n m ≡ t = cc e in
     record { v = v; is = at_v; after = rw named after }))
 
-label_stays : (label : Option (List ℕ)) (v : Named) (m : Layout) → (with_label label v m).here ≡ m.here
+pub label_stays : (label : Option (List ℕ)) (v : Named) (m : Layout) → (with_label label v m).here ≡ m.here
 label_stays None v m = refl
 label_stays (Some x) v m = refl
 

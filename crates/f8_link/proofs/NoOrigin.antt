@@ -1,21 +1,20 @@
 -- A line without ORG, EXPORT or IMPORT makes no statement that moves.
-use Rattle.std.proofs.Common.{◌≡◌, ℕ, zero, suc, Bool, true, false, List, [], ◌∷◌, length, drop, map, Option, Some, None, is_some, Result, Ok, Err, refl, sym, ap, ◌∙◌, cond}
+use Rattle.std.proofs.Common.{◌≡◌, ℕ, zero, suc, Bool, true, false, List, [], ◌∷◌, length, drop, map, Option, Some, None, is_some, Result, Ok, Err, refl}
 use Rattle.std.specs.Prelude.{if◌then◌else◌, codes, option_map, IfSome, IfOk, not, ◌&&◌, ◌||◌}
 use Rattle.std.specs.List.{AllByRecursion}
 use Rattle.std.specs.Option.{option_or}
 use Rattle.asm_text.specs.declared.answers.Token.{Token}
 use Rattle.asm_text.specs.declared.answers.TokenKind.{TokenKind}
 use Rattle.asm_text.specs.declared.answers.TokenKind.TheVariants as kind
-use Rattle.f8_spec.specs.Instructions.{encoded, row_of, mnemonic_of}
+use Rattle.f8_spec.specs.Instructions.{encoded, row_of}
 use Rattle.f8_spec.specs.declared.instructions.Op.{Op}
 use Rattle.f8_spec.specs.declared.instructions.Row.{Row}
 use Rattle.f8_spec.specs.declared.instructions.Row.TheVariants as row
-use Rattle.f8_asm.specs.declared.faults.LineFault.{LineFault}
 use Rattle.f8_asm.specs.declared.fields.Field.{Field}
 use Rattle.f8_asm.specs.declared.fields.Field.TheVariants as field
 use Rattle.f8_asm.specs.declared.operands.Operand.{Operand}
 use Rattle.f8_asm.specs.declared.operands.Statement.{Statement}
-use Rattle.f8_asm.specs.declared.operands.Statement.TheVariants.{Nothing, Fixed, One, Test, Items}
+use Rattle.f8_asm.specs.declared.operands.Statement.TheVariants.{Fixed, One, Test, Items}
 use Rattle.f8_asm.specs.declared.registers.Register.{Register}
 use Rattle.f8_asm.specs.declared.words.Shape.{Shape}
 use Rattle.f8_asm.specs.declared.words.Shape.TheVariants as shape
@@ -27,11 +26,11 @@ use Rattle.f8_asm.specs.Fields.{op_with}
 use Rattle.f8_asm.specs.Grammar.{Actions}
 use Rattle.f8_asm.specs.Registers.{same_word, at_word, is_accumulator, pair_op}
 use Rattle.f8_asm.specs.Statements.{operand_at, comma, done, instruction_of, one, two, register_operand, register_number_at}
-use Rattle.f8_asm.specs.Statements.{register_at, accumulator, load_from, load, items, item_list, operands, behind_label}
+use Rattle.f8_asm.specs.Statements.{register_at, accumulator, load_from, load, items, operands, behind_label}
 use Rattle.f8_asm.specs.Statements.{wants_label, statement_of, statement_in, statement, label_of}
-use Rattle.f8_asm.specs.Words.{op_shape, plain_ops, field_words, directives, field_word, op_of, shape_of, shape_of_op}
+use Rattle.f8_asm.specs.Words.{op_shape, field_words, directives, field_word, op_of, shape_of, shape_of_op}
 use Rattle.f8_asm.proofs.WordTables.{all_at_word}
-use Rattle.f8_link.specs.Directives.{org_word, is_stray, stray_in, stray}
+use Rattle.f8_link.specs.Directives.{org_word, stray_in, stray}
 
 -- what doesn't move
 abbrev pub StandsStill : {A : Type 0} → Statement A → Type 0
