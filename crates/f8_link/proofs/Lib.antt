@@ -18,3 +18,4 @@ pub mod LinePlaced
 pub mod LineTogether
 pub mod OriginLine
 pub mod ModulePlaced
+pub mod PartsGo
