@@ -19,3 +19,5 @@ pub mod LineTogether
 pub mod OriginLine
 pub mod ModulePlaced
 pub mod PartsGo
+pub mod NameFacts
+pub mod FirstLines
