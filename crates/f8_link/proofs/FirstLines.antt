@@ -69,10 +69,10 @@ names_length (e ∷ es) = ap suc (names_length es)
 
 -- a name that isn't known
 module _ {seen : List (List ℕ)} {s : Reading} (so : Known seen s) (name : List ℕ) (new : value_of s.known name ≡ None) where
-  not_imported : value_of s.imports name ≡ None
+  pub not_imported : value_of s.imports name ≡ None
   not_imported = none_from (value_of s.imports name) (not_true (is_some (value_of s.imports name)) (λ is. some_none (value_of s.known name) (so.imported name is) new))
 
-  not_seen : has seen name ≡ false
+  pub not_seen : has seen name ≡ false
   not_seen = not_true (has seen name) (λ is. some_none (value_of s.known name) (so.label name is) new)
 
   known_before : (x : List ℕ) → is_some (value_of s.known x) ≡ true → is_some (value_of (s.known ++ (name, pos 0) ∷ []) x) ≡ true

@@ -21,3 +21,5 @@ pub mod ModulePlaced
 pub mod PartsGo
 pub mod NameFacts
 pub mod FirstLines
+pub mod LinesTold
+pub mod SourceRead
