@@ -23,3 +23,5 @@ pub mod NameFacts
 pub mod FirstLines
 pub mod LinesTold
 pub mod SourceRead
+pub mod NamesLaid
+pub mod SpelledApart
