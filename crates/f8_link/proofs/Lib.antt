@@ -25,3 +25,4 @@ pub mod LinesTold
 pub mod SourceRead
 pub mod NamesLaid
 pub mod SpelledApart
+pub mod ImportsGo
