@@ -26,3 +26,4 @@ pub mod SourceRead
 pub mod NamesLaid
 pub mod SpelledApart
 pub mod ImportsGo
+pub mod NamesGo

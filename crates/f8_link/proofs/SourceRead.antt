@@ -78,36 +78,36 @@ statement_goes rename names number ts l h =
     let goes = statement_with_values OutOfRange (renamed_values rename names 0) (is_some (label_of ts)) (behind_label ts) from.st from.at_st in
     rw goes refl
 
+-- names of the module that weren't seen have no value
+abbrev pub Unseen : (List ℕ → List ℕ) → (List ℕ → Bool) → List (List ℕ) → List (List ℕ × ℤ) → Type 0
+Unseen rename own seen names = (x : List ℕ) → own x ≡ true → has seen x ≡ false → value_of names (rename x) ≡ None
+
+abbrev pub Own : (List ℕ → Bool) → Option (List ℕ) → Type 0
+Own own None = Unit {0}
+Own own (Some x) = own x ≡ true
+
+-- each label is the module's own
+abbrev pub OwnLabels : (List ℕ → Bool) → List (List Token) → Type 0
+OwnLabels own [] = Unit {0}
+OwnLabels own (ts ∷ tss) = Own own (label_of ts) × OwnLabels own tss
+
 module _ (rename : List ℕ → List ℕ) (apart : (x y : List ℕ) → bytes_eq (rename x) (rename y) ≡ bytes_eq x y) (own : List ℕ → Bool) where
-  -- names of the module that weren't seen have no value
-  abbrev pub Unseen : List (List ℕ) → List (List ℕ × ℤ) → Type 0
-  Unseen seen names = (x : List ℕ) → own x ≡ true → has seen x ≡ false → value_of names (rename x) ≡ None
-
-  abbrev pub Own : Option (List ℕ) → Type 0
-  Own None = Unit {0}
-  Own (Some x) = own x ≡ true
-
-  -- each label is the module's own
-  abbrev pub OwnLabels : List (List Token) → Type 0
-  OwnLabels [] = Unit {0}
-  OwnLabels (ts ∷ tss) = Own (label_of ts) × OwnLabels tss
-
   -- what a label leaves
   record Labelled (seen : List (List ℕ)) (names : List (List ℕ × ℤ)) (ts : List Token) (label : Option (List ℕ)) : Type 0 where
     after : List (List ℕ × ℤ)
     is : label_read rename names ts label ≡ Ok after
     after_is : after ≡ names ++ no_values rename (label_list label)
-    unseen : Unseen (seen_after seen label) after
+    unseen : Unseen rename own (seen_after seen label) after
 
-  still : (seen : List (List ℕ)) (names : List (List ℕ × ℤ)) (x : List ℕ) → Unseen seen names → Unseen (x ∷ seen) (names ++ (rename x, pos 0) ∷ [])
+  still : (seen : List (List ℕ)) (names : List (List ℕ × ℤ)) (x : List ℕ) → Unseen rename own seen names → Unseen rename own (x ∷ seen) (names ++ (rename x, pos 0) ∷ [])
   still seen names x so y is_own h = by (bytes_eq y x) refl h
     where
       by : (t : Bool) → bytes_eq y x ≡ t → (t || has seen y) ≡ false → value_of (names ++ (rename x, pos 0) ∷ []) (rename y) ≡ None
       by true is h = not_both true refl h
       by false is h = value_behind names ((rename x, pos 0) ∷ []) (rename y) (so y is_own h) ∙ rw (apart y x, is) refl
 
-  labelled : (seen : List (List ℕ)) (names : List (List ℕ × ℤ)) (ts : List Token) (label : Option (List ℕ)) → Own label → NewLabel seen label
-      → Unseen seen names → Labelled seen names ts label
+  labelled : (seen : List (List ℕ)) (names : List (List ℕ × ℤ)) (ts : List Token) (label : Option (List ℕ)) → Own own label → NewLabel seen label
+      → Unseen rename own seen names → Labelled seen names ts label
   labelled seen names ts None is_own new so = record { after = names; is = refl; after_is = sym (append-nil names); unseen = so }
   labelled seen names ts (Some x) is_own new so =
       let none : value_of names (rename x) ≡ None = so x is_own new in
@@ -120,7 +120,7 @@ module _ (rename : List ℕ → List ℕ) (apart : (x y : List ℕ) → bytes_eq
   line_read seen names number ts l read label = rw (label.is, statement_goes rename names l.number ts l read) refl
 
   pub lines_read : {ls : List ModuleLine} {tss : List (List Token)} → LinesPair ls tss → (seen : List (List ℕ)) (names : List (List ℕ × ℤ))
-      (number : ℕ) → OwnLabels tss → LabelsNew seen tss → Unseen seen names
+      (number : ℕ) → OwnLabels own tss → LabelsNew seen tss → Unseen rename own seen names
       → steps source_read names (numbered number (spelled_lines rename tss)) ≡ Ok (names ++ no_values rename (labels_in tss))
   unfolding steps numbered
   lines_read no_line seen names number are_own new so = ap Ok (sym (append-nil names))
@@ -135,6 +135,32 @@ module _ (rename : List ℕ → List ℕ) (apart : (x y : List ℕ) → bytes_eq
           ∙ append_assoc names (no_values rename (label_list (label_of ts))) (no_values rename (labels_in tss))
           ∙ ap (λ q. names ++ q) (sym parts) in
       rw (line_read seen names number ts l read label) (goes ∙ ap Ok whole)
+
+label_own : (own : List ℕ → Bool) (label : Option (List ℕ)) (xs : List (List ℕ)) → ((x : List ℕ) → has (label_list label ++ xs) x ≡ true → own x ≡ true)
+    → Own own label
+label_own own None xs all = tt
+label_own own (Some x) xs all = all x (rw (name_itself x) refl)
+
+rest_own : (label : Option (List ℕ)) (xs : List (List ℕ)) (x : List ℕ) → has xs x ≡ true → has (label_list label ++ xs) x ≡ true
+rest_own None xs x h = h
+rest_own (Some y) xs x h = by (bytes_eq x y)
+  where
+    by : (t : Bool) → (t || has xs x) ≡ true
+    by true = refl
+    by false = h
+
+own_labels : (own : List ℕ → Bool) (tss : List (List Token)) → ((x : List ℕ) → has (labels_in tss) x ≡ true → own x ≡ true) → OwnLabels own tss
+own_labels own [] all = tt
+own_labels own (ts ∷ tss) all =
+    (label_own own (label_of ts) (labels_in tss) all, own_labels own tss (λ x h. all x (rest_own (label_of ts) (labels_in tss) x h)))
+
+-- the lines of a module, none of whose labels has a value yet
+pub module_read : (rename : List ℕ → List ℕ) → ((x y : List ℕ) → bytes_eq (rename x) (rename y) ≡ bytes_eq x y) → {ls : List ModuleLine}
+    {tss : List (List Token)} → LinesPair ls tss → LabelsNew [] tss → (names : List (List ℕ × ℤ)) (number : ℕ)
+    → ((x : List ℕ) → has (labels_in tss) x ≡ true → value_of names (rename x) ≡ None)
+    → steps source_read names (numbered number (spelled_lines rename tss)) ≡ Ok (names ++ no_values rename (labels_in tss))
+module_read rename apart {ls} {tss} pair new names number fresh =
+    lines_read rename apart (has (labels_in tss)) pair [] names number (own_labels (has (labels_in tss)) tss (λ x h. h)) new (λ x is_own out. fresh x is_own)
 
 -- ---- ORG
 
