@@ -27,3 +27,4 @@ pub mod NamesLaid
 pub mod SpelledApart
 pub mod ImportsGo
 pub mod NamesGo
+pub mod SourceReads
