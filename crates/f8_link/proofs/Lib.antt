@@ -28,3 +28,5 @@ pub mod SpelledApart
 pub mod ImportsGo
 pub mod NamesGo
 pub mod SourceReads
+pub mod LinkSteps
+pub mod EachPart

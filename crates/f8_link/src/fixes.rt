@@ -8,7 +8,7 @@ use crate::answers::LinkCause;
 use crate::objects::{Fixup, FixupKind};
 use crate::parts::Part;
 use crate::values::Base;
-use f8_asm::{Operator, Outcome, Prefix, octet, operator_value, prefix_value, small};
+use f8_asm::{Operator, Outcome, Prefix, octet, operator_value, small};
 use std::alloc::{AllocError, Global};
 use text_lines::ReadError;
 
@@ -52,17 +52,24 @@ fn base_value(first: u16, imports: &[i64], base: Option<Base>) -> i64
     }
 }
 
-/// The low or the high byte of a value.
-fn half(prefix: Prefix, value: i64) -> Option<Filling>
-    ensures { fixed_bytes result ≡ half_byte (prefix_value prefix value) }
+/// The low byte of a value that isn't negative.
+fn low_byte(value: i64) -> Option<Filling>
+    ensures { fixed_bytes result ≡ half_byte (prefix_value Prefix.LowByte value) }
 {
-    match prefix_value(prefix, value) {
-        Outcome::Value(byte) => match octet(255, byte) {
-            Some(byte) if 0 <= byte => Some(Filling::Byte(byte)),
-            _ => None,
-        },
-        _ => None,
+    if value < 0 {
+        return None;
     }
+    Some(Filling::Byte((value % 256) as u8))
+}
+
+/// The second byte from below of a value that isn't negative.
+fn high_byte(value: i64) -> Option<Filling>
+    ensures { fixed_bytes result ≡ half_byte (prefix_value Prefix.HighByte value) }
+{
+    if value < 0 {
+        return None;
+    }
+    Some(Filling::Byte((value / 256 % 256) as u8))
 }
 
 /// What is put of a value, if it fits its place, at an address.
@@ -73,8 +80,8 @@ fn fixed_value(kind: FixupKind, address: u64, value: i64) -> Option<Filling>
     match kind {
         FixupKind::Word => Some(Filling::Word(small(u16::MAX, value)?)),
         FixupKind::Byte => Some(Filling::Byte(octet(255, value)?)),
-        FixupKind::Low => half(Prefix::LowByte, value),
-        FixupKind::High => half(Prefix::HighByte, value),
+        FixupKind::Low => low_byte(value),
+        FixupKind::High => high_byte(value),
         FixupKind::Branch => Some(Filling::Byte(octet(127, value.checked_sub(address as i64)?)?)),
     }
 }
@@ -94,8 +101,8 @@ fn fixed(kind: FixupKind, address: u64, sum: Outcome) -> Option<Filling>
 fn put_byte(bytes: &mut [u8], offset: usize, byte: u8)
     ensures { bytes.new ≡ slice_set bytes.old offset byte }
 {
-    if let Some(slot) = bytes.get_mut(offset) {
-        *slot = byte;
+    if offset < bytes.len() {
+        bytes[offset] = byte;
     }
 }
 
