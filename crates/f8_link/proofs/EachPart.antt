@@ -3,7 +3,7 @@ use Rattle.std.proofs.Common.{◌≡◌, ℕ, ◌+◌, ◌<◌, ◌≤◌, List,
 use Rattle.std.proofs.lemmas.List.{drop_all}
 use Rattle.text_lines.specs.declared.read_error.ReadError.{ReadError}
 use Rattle.text_lines.specs.declared.read_error.ReadError.TheVariants as answer
-use Rattle.text_lines.specs.ReadErrors.{Says}
+use Rattle.text_lines.specs.ReadErrors.{Says, SaysSeen}
 use Rattle.f8_link.specs.declared.answers.LinkCause.{LinkCause}
 use Rattle.f8_link.specs.declared.answers.LinkFault.{LinkFault}
 use Rattle.f8_link.specs.declared.parts.Part.{Part}
@@ -20,13 +20,13 @@ module _ {S : Type 0} (step : ℕ → S → Part → Result S LinkCause) where
   pub each_more : (number : ℕ) (s t : S) (p : Part) (ps : List Part) → step number s p ≡ Ok t
       → each_part step (number + 1) t ps ≡ each_part step number s (p ∷ ps)
   unfolding each_part
-  each_more number s t p ps is = rw is refl
+  each_more number s t p ps is = rw (is, each_part) refl
 
   -- a module stops all
   pub each_fail : (number : ℕ) (s : S) (p : Part) (ps : List Part) (cause : LinkCause) → step number s p ≡ Err cause
       → each_part step number s (p ∷ ps) ≡ Err (record { «module» = number; cause = cause })
   unfolding each_part
-  each_fail number s p ps cause is = rw is refl
+  each_fail number s p ps cause is = rw (is, each_part) refl
 
   -- the modules taken and those that follow make the whole
   pub record EachOn (number : ℕ) (s : S) (rest : List Part) (whole : Result S LinkFault) : Type 0 where
@@ -44,6 +44,11 @@ module _ {S : Type 0} (step : ℕ → S → Part → Result S LinkCause) where
       stopped cause told = sym (rw (drop_next ps number p within is) at on.is) ∙ each_fail number s p (drop (number + 1) ps) cause told
 
       -- or memory is missing
+      pub stopped_seen : {A : Type 0} {seen : A → S} (stop : ReadError LinkCause) → Says {A = S} (Err stop) (step number s p)
+          → SaysSeen seen (Err (stop_in number stop)) whole
+      stopped_seen (answer.Fault cause) told = stopped cause told
+      stopped_seen answer.Memory told = tt
+
       pub stopped_by : (stop : ReadError LinkCause) → Says {A = S} (Err stop) (step number s p) → Says {A = S} (Err (stop_in number stop)) whole
       stopped_by (answer.Fault cause) told = stopped cause told
       stopped_by answer.Memory told = tt

@@ -1,8 +1,9 @@
 // What linking puts into the bytes of a module.
 ghost use Rattle.std.specs.Prelude.{◌≡◌, ◌≤◌, ◌<◌, ◌+◌, ◌^◌, slice_set};
-ghost use Rattle.text_lines.specs.ReadErrors.{StepsTo, SaysSeen};
+ghost use Rattle.std.specs.List.{list_all};
+ghost use Rattle.text_lines.specs.ReadErrors.{SaysSeen};
 ghost use Rattle.f8_asm.specs.Values.{prefix_value};
-ghost use Rattle.f8_link.specs.Linking.{base_value, half_byte, fixed_bytes, bytes_of_filling, fixed_value, fixed, put, written, fixup_put, caused, in_reach, all_in_reach, bytes_fixed};
+ghost use Rattle.f8_link.specs.Linking.{base_value, half_byte, fixed_bytes, bytes_of_filling, fixed_value, fixed, put, fixup_put, caused, in_reach, bytes_fixed};
 
 use crate::answers::LinkCause;
 use crate::objects::{Fixup, FixupKind};
@@ -122,8 +123,8 @@ fn put(bytes: &mut [u8], offset: u32, fixed: Filling)
 
 /// Puts one thing into the bytes of a module that begins at this address.
 #[tactic(auto, unfolding(crate::specs::Linking::fixup_put))]
-fn fix(first: u16, imports: &[i64], bytes: &mut [u8], fixup: &Fixup) -> Result<(), LinkCause>
-    ensures { caused result bytes.new ≡ fixup_put first imports.now bytes.old fixup.now }
+fn fix(first: u16, imports: &[i64], bytes: &mut Vec<u8>, fixup: &Fixup) -> Result<(), LinkCause>
+    ensures { caused result bytes.new.items ≡ fixup_put first imports.now bytes.old.items fixup.now }
 {
     let sum = operator_value(
         Operator::Plus,
@@ -133,7 +134,7 @@ fn fix(first: u16, imports: &[i64], bytes: &mut [u8], fixup: &Fixup) -> Result<(
     let address = u64::from(first) + u64::from(fixup.offset);
     match fixed(fixup.kind, address, sum) {
         Some(fixed) => {
-            put(bytes, fixup.offset, fixed);
+            put(bytes.as_mut_slice(), fixup.offset, fixed);
             Ok(())
         }
         None => Err(LinkCause::Reach),
@@ -147,17 +148,24 @@ fn in_reach(value: i64) -> bool
     LEAST <= value && value <= GREATEST
 }
 
+/// Whether no sum of one of these values does.
+fn are_in_reach(values: &[i64]) -> bool
+    ensures { result ≡ list_all in_reach values.now }
+{
+    values.iter().all(|value| in_reach(*value))
+}
+
 /// The bytes of a module as linking leaves them, with the values of its imports.
 pub fn bytes_fixed(alloc: Global, imports: &[i64], part: &Part) -> Result<Vec<u8>, LinkStop>
     ensures { SaysSeen (λ bytes. bytes.items) result (bytes_fixed imports.now part.now) }
 {
-    if !imports.iter().all(|value| in_reach(*value)) {
+    if !are_in_reach(imports) {
         return Err(LinkStop::Fault(LinkCause::Reach));
     }
     let mut bytes = Vec::new(alloc);
     bytes.extend_from_slice(part.object.bytes())?;
     for fixup in part.object.fixups() {
-        fix(part.room.first, imports, bytes.as_mut_slice(), fixup)?;
+        fix(part.room.first, imports, &mut bytes, fixup)?;
     }
     Ok(bytes)
 }
