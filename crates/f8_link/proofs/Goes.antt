@@ -1,11 +1,10 @@
 -- What an expression of a module comes to, beside its value in the one source: a value so far from a base is that of the base and so far.
 use Rattle.std.proofs.Common.{◌≡◌, ℕ, zero, suc, ℤ, pos, negsuc, ◌+◌, ◌≤◌, Bool, true, false, List, [], ◌∷◌, Option, Some, None, Result, Ok, Err}
-use Rattle.std.proofs.Common.{refl, sym, ap, ◌∙◌, arith}
+use Rattle.std.proofs.Common.{refl, ap, ◌∙◌, arith}
 use Rattle.std.specs.Prelude.{◌+ℤ◌, ◌-ℤ◌, int_le, ◌&&◌, if◌then◌else◌, slice_get}
 use Rattle.std.specs.List.{list_all}
 use Rattle.std.proofs.lemmas.Bool.Decides.{nat_tests}
 use Rattle.std.proofs.lemmas.Int.{ints}
-use Rattle.f8_asm.specs.Grammar.{Actions}
 use Rattle.f8_asm.specs.Names.{value_of}
 use Rattle.f8_asm.specs.Evaluation.{name_value}
 use Rattle.f8_asm.specs.Values.{within, operator_value, prefix_value}
@@ -29,7 +28,7 @@ use Rattle.f8_link.specs.declared.values.Named.{Named}
 use Rattle.f8_link.specs.declared.values.Named.TheVariants as named
 use Rattle.f8_link.specs.declared.values.Value.{Value}
 use Rattle.f8_link.specs.declared.values.Value.TheVariants.{Constant, Placed}
-use Rattle.f8_link.specs.Evaluation.{import_found, name_found, placed_values}
+use Rattle.f8_link.specs.Evaluation.{name_found, placed_values}
 use Rattle.f8_link.specs.Linking.{named_value, base_value, in_reach, all_in_reach, or_zero}
 use Rattle.f8_link.specs.OneSource.{renamed_values}
 use Rattle.f8_link.specs.Values.{same_base, near, used, constant_found, placed_moved, moved_placed, placed_joined, values_joined, both}

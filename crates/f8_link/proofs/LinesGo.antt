@@ -1,5 +1,5 @@
 -- A module's lines and the same lines in the one source: the bytes that linking leaves of the module are those of the one source's lines.
-use Rattle.std.proofs.Common.{◌≡◌, ℕ, ℤ, ◌+◌, ◌*◌, Bool, List, [], ◌∷◌, ◌++◌, length, map, Option, Some, None, Result, Ok, Err}
+use Rattle.std.proofs.Common.{◌≡◌, ℕ, ℤ, ◌+◌, ◌*◌, Bool, List, [], ◌∷◌, ◌++◌, length, Option, Some, None, Result, Ok, Err}
 use Rattle.std.proofs.Common.{refl, sym, ap, ◌∙◌, subst, arith, append_assoc, append-nil}
 use Rattle.std.proofs.lemmas.List.{length-map}
 use Rattle.std.specs.Prelude.{is_some, slice_set}
@@ -12,20 +12,16 @@ use Rattle.f8_asm.specs.ParsedLines.{line_of, parsed}
 use Rattle.f8_asm.specs.PassThree.{table_with}
 use Rattle.f8_asm.specs.Statements.{statement, statement_valued, statement_size, operand_valued, item_size, label_of, behind_label}
 use Rattle.f8_asm.specs.Steps.{steps}
-use Rattle.f8_asm.specs.declared.answers.AsmFault.{AsmFault}
 use Rattle.f8_asm.specs.declared.faults.LineFault.{LineFault}
 use Rattle.f8_asm.specs.declared.formulas.Step.{Step}
 use Rattle.f8_asm.specs.declared.line.ParsedLine.{ParsedLine}
-use Rattle.f8_asm.specs.declared.operands.Operand.{Operand}
 use Rattle.f8_asm.specs.declared.operands.Statement.{Statement}
 use Rattle.f8_asm.specs.declared.operands.Statement.TheVariants.{Nothing, Fixed, One, Test, Items}
 use Rattle.f8_asm.specs.declared.values.Outcome.{Outcome}
-use Rattle.f8_asm.proofs.Alike.{AlikeBy, Alike, read-ok}
+use Rattle.f8_asm.proofs.Alike.{AlikeBy, read-ok}
 use Rattle.f8_asm.proofs.FormulaValues.{statement_with_values}
 use Rattle.f8_asm.proofs.StatementsAlike.{StatementAlike, statement_alike}
-use Rattle.f8_link.specs.declared.answers.ModFault.{ModFault}
 use Rattle.f8_link.specs.declared.faults.ModuleLineFault.{ModuleLineFault}
-use Rattle.f8_link.specs.declared.lines.ModuleLine.{ModuleLine}
 use Rattle.f8_link.specs.declared.lines.ModuleLine.TheVariants as line
 use Rattle.f8_link.specs.declared.lines.PlacedLine.{PlacedLine}
 use Rattle.f8_link.specs.declared.values.Found.{Found}
@@ -34,13 +30,13 @@ use Rattle.f8_link.specs.declared.values.Named.{Named}
 use Rattle.f8_link.specs.Answers.{in_line_to}
 use Rattle.f8_link.specs.Evaluation.{placed_values, formula_found}
 use Rattle.f8_link.specs.Linking.{fixup_put}
-use Rattle.f8_link.specs.OneSource.{SourceLine, PlacedSource, renamed_values, source_bytes, source_emitted}
+use Rattle.f8_link.specs.OneSource.{PlacedSource, renamed_values, source_bytes, source_emitted}
 use Rattle.f8_link.specs.Pieces.{Piece, whole, joined, piece_of}
 use Rattle.f8_link.specs.SecondPass.{line_size}
 use Rattle.f8_link.specs.ThirdPass.{Code, no_code, with_piece, with_value, line_piece, exported, emit, emit_lines}
 use Rattle.f8_link.proofs.Goes.{Goes, NameGoes, Reach, expressions_go}
 use Rattle.f8_link.proofs.PieceLength.{piece_length}
-use Rattle.f8_link.proofs.Settles.{Settles, settles_same, settles_so, settles_sized, settles_whole, settles_joined}
+use Rattle.f8_link.proofs.Settles.{Settles, settles_so, settles_sized, settles_whole, settles_joined}
 use Rattle.f8_link.proofs.SettlesStatements.{statement_settles}
 
 -- each base is in reach, and each name of a module stands for what it stands for in the one source

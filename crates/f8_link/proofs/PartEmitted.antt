@@ -1,11 +1,9 @@
 -- A module's part of the table: the one source's third pass over its lines puts what linking puts.
-use Rattle.std.proofs.Common.{◌≡◌, ℕ, ℤ, ◌≤◌, List, [], ◌∷◌, Option, Result, Ok, refl, sym, ap, ◌∙◌}
-use Rattle.f8_asm.specs.Answers.{◌>>=◌}
+use Rattle.std.proofs.Common.{◌≡◌, ℕ, ℤ, ◌≤◌, List, Option, Ok, ap, ◌∙◌}
 use Rattle.f8_asm.specs.Names.{value_of}
 use Rattle.f8_asm.specs.PassThree.{table_with}
 use Rattle.f8_asm.specs.Steps.{steps}
 use Rattle.f8_asm.proofs.Alike.{read-ok}
-use Rattle.f8_link.specs.declared.answers.LinkCause.{LinkCause}
 use Rattle.f8_link.specs.declared.lines.PlacedLine.{PlacedLine}
 use Rattle.f8_link.specs.declared.parts.Part.{Part}
 use Rattle.f8_link.specs.declared.values.Named.{Named}

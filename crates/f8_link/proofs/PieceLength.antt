@@ -1,5 +1,5 @@
 -- A statement's piece has as many bytes as the statement takes.
-use Rattle.std.proofs.Common.{◌≡◌, ℕ, ℤ, ◌+◌, ◌*◌, List, [], ◌∷◌, ◌++◌, length, Result, Ok, Err, Some, None, refl, sym, ap, ◌∙◌, arith, length-append}
+use Rattle.std.proofs.Common.{◌≡◌, ℕ, ◌+◌, ◌*◌, List, [], ◌∷◌, length, Result, Ok, refl, sym, ap, ◌∙◌, arith, length-append}
 use Rattle.f8_spec.specs.Instructions.{encoded}
 use Rattle.f8_asm.specs.Answers.{◌>>=◌}
 use Rattle.f8_asm.specs.Bytes.{word_bytes}

@@ -8,7 +8,6 @@ use Rattle.f8_asm.specs.Values.{operator_value}
 use Rattle.f8_asm.specs.declared.values.Operator.TheVariants.{Plus}
 use Rattle.f8_link.specs.declared.answers.LinkCause.{LinkCause}
 use Rattle.f8_link.specs.declared.faults.ModuleLineFault.{ModuleLineFault}
-use Rattle.f8_link.specs.declared.objects.Fixup.{Fixup}
 use Rattle.f8_link.specs.declared.objects.FixupKind.{FixupKind}
 use Rattle.f8_link.specs.declared.values.Base.{Base}
 use Rattle.f8_link.specs.Linking.{base_value, fixed, put, written, fixup_put}

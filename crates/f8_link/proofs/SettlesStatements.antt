@@ -1,5 +1,5 @@
 -- A statement of a module and the same in the one source: its bytes are those that linking leaves.
-use Rattle.std.proofs.Common.{◌≡◌, ℕ, ℤ, ◌+◌, List, [], ◌∷◌, ◌++◌, length, Result, Ok, Err, refl, sym, ap, ◌∙◌, arith}
+use Rattle.std.proofs.Common.{◌≡◌, ℕ, ℤ, ◌+◌, List, [], ◌∷◌, ◌++◌, length, Result, Ok, Err, refl, ap, arith}
 use Rattle.f8_spec.specs.Instructions.{encoded}
 use Rattle.f8_spec.specs.declared.instructions.Op.{Op}
 use Rattle.f8_asm.specs.Answers.{◌>>=◌}
@@ -9,7 +9,7 @@ use Rattle.f8_asm.specs.declared.faults.LineFault.{LineFault}
 use Rattle.f8_asm.specs.declared.fields.Field.{Field}
 use Rattle.f8_asm.specs.declared.operands.Operand.{Operand}
 use Rattle.f8_asm.specs.declared.operands.Statement.{Statement}
-use Rattle.f8_asm.specs.declared.operands.Statement.TheVariants.{Nothing, Fixed, One, Test, Items}
+use Rattle.f8_asm.specs.declared.operands.Statement.TheVariants.{Nothing, Fixed, Test}
 use Rattle.f8_asm.specs.declared.values.Outcome.{Outcome}
 use Rattle.f8_asm.specs.declared.words.ItemSize.{ItemSize}
 use Rattle.f8_asm.specs.declared.words.ItemSize.TheVariants as item
