@@ -30,3 +30,6 @@ pub mod NamesGo
 pub mod SourceReads
 pub mod LinkSteps
 pub mod EachPart
+pub mod NoStrays
+pub mod PartsLines
+pub mod RoomsGo

@@ -1,5 +1,5 @@
 -- The names of a module and their values in the one source.
-use Rattle.std.proofs.Common.{◌≡◌, ℕ, ℤ, Bool, true, false, List, [], ◌∷◌, ◌++◌, Option, Some, None, refl, sym, ap, ◌∙◌, append-nil}
+use Rattle.std.proofs.Common.{◌≡◌, ℕ, ℤ, Bool, true, false, List, [], ◌∷◌, ◌++◌, map, Option, Some, None, refl, sym, ap, ◌∙◌, append-nil}
 use Rattle.std.proofs.lemmas.Slice.Eq.{bytes_eq-Decides}
 use Rattle.std.specs.Prelude.{if◌then◌else◌, bytes_eq, option_map, ◌||◌}
 use Rattle.asm_text.specs.declared.answers.Token.{Token}
@@ -12,8 +12,7 @@ use Rattle.f8_link.proofs.ModuleLines.{seen_after, NewLabel}
 
 -- the names of a module that begins at `first`, as the one source spells them, with their values there
 abbrev pub placed_names : (List ℕ → List ℕ) → ℕ → List (List ℕ × Named) → List (List ℕ × ℤ)
-placed_names rename first [] = []
-placed_names rename first (e ∷ es) = (rename e.0, named_value first e.1) ∷ placed_names rename first es
+placed_names rename first names = map (λ e. (rename e.0, named_value first e.1)) names
 
 -- a spelling keeps names apart
 pub record KeepsApart (rename : List ℕ → List ℕ) : Type 0 where
