@@ -8,8 +8,6 @@ mod directives;
 mod faults;
 mod first_pass;
 mod fixes;
-#[cfg(test)]
-mod link_tests;
 mod lines;
 mod linked;
 mod linker;

@@ -1,6 +1,9 @@
 // Modules linked: their pictures, or the first fault.
-use crate::{Base, Fixup, FixupKind, LinkAnswer, LinkCause, LinkFault, ModCause, Named, Object, Part, PartList, compile, link};
 use f8_asm::{AsmCause, Room};
+use f8_link::{
+    Base, Fixup, FixupKind, LinkAnswer, LinkCause, LinkFault, ModCause, Named, Object, Part,
+    PartList, compile, link,
+};
 use std::alloc::Global;
 use std::process::Abort;
 use std::test::Fail;
@@ -110,7 +113,13 @@ fn modules_alone(rt: HostRuntime) -> Result<(), Fail> {
 fn branches_to_imports(rt: HostRuntime) -> Result<(), Fail> {
     let one = (" IMPORT X\n BR X", 0, 0xFF);
     let other = " EXPORT X\nX: POP";
-    assert_both(&rt, rt.alloc(), one, (other, 128, 0xFF), "0:90 1:7F 80:1C X=128 ")?;
+    assert_both(
+        &rt,
+        rt.alloc(),
+        one,
+        (other, 128, 0xFF),
+        "0:90 1:7F 80:1C X=128 ",
+    )?;
     assert_both(&rt, rt.alloc(), one, (other, 129, 0xFF), "0 5")?;
     Ok(())
 }
@@ -128,7 +137,11 @@ fn values_of_imports(rt: HostRuntime) -> Result<(), Fail> {
         (" IMPORT X\n DB <(X-1)", zero, "0 5"),
         (" IMPORT X\n DB X-1", zero, "0:FF X=0 "),
         (" IMPORT X\n DW <X,X-3", zero, "0 5"),
-        (" IMPORT X\n DW <(X+258),>(X+258)", zero, "0:00 1:02 2:00 3:01 X=0 "),
+        (
+            " IMPORT X\n DW <(X+258),>(X+258)",
+            zero,
+            "0:00 1:02 2:00 3:01 X=0 ",
+        ),
     ] {
         assert_both(&rt, rt.alloc(), (text, 0, 0xFF), (export, 0, 0xFF), want)?;
     }
@@ -137,9 +150,15 @@ fn values_of_imports(rt: HostRuntime) -> Result<(), Fail> {
 
 #[test]
 fn each_cause_over_all_modules(rt: HostRuntime) -> Result<(), Fail> {
-    let got = answer(rt.alloc(), &[(" DB 1", 0, 0), (" DB 1", 0, 0), (" DB 1,2", 5, 5)])?;
+    let got = answer(
+        rt.alloc(),
+        &[(" DB 1", 0, 0), (" DB 1", 0, 0), (" DB 1,2", 5, 5)],
+    )?;
     assert_eq!(rt; got.as_str(), "2 3");
-    let got = answer(rt.alloc(), &[(" DB 1", 0, 0), (" DB 1", 0, 0), (" DB 1,2", 5, 6)])?;
+    let got = answer(
+        rt.alloc(),
+        &[(" DB 1", 0, 0), (" DB 1", 0, 0), (" DB 1,2", 5, 6)],
+    )?;
     assert_eq!(rt; got.as_str(), "1 4");
     Ok(())
 }
@@ -152,13 +171,19 @@ fn own_names_are_apart(rt: HostRuntime) -> Result<(), Fail> {
         (" EXPORT X\nX: DB 3\n DW X", 0x20, 0xFF),
     ];
     let got = answer(rt.alloc(), &modules)?;
-    assert_eq!(rt; got.as_str(), "0:01 1:00 2:00 10:02 11:00 12:10 20:03 21:00 22:20 X=32 ");
+    assert_eq!(rt;
+        got.as_str(),
+        "0:01 1:00 2:00 10:02 11:00 12:10 20:03 21:00 22:20 X=32 "
+    );
     Ok(())
 }
 
 #[test]
 fn an_object_in_parts(rt: HostRuntime) -> Result<(), Fail> {
-    let object = object_of(rt.alloc(), " EXPORT START\n IMPORT TICK\nSTART: PI TICK\n BR START")?;
+    let object = object_of(
+        rt.alloc(),
+        " EXPORT START\n IMPORT TICK\nSTART: PI TICK\n BR START",
+    )?;
     assert_eq!(rt; object.bytes(), [0x28, 0, 0, 0x90, 0xFC].as_slice());
     let word = Fixup {
         offset: 1,
