@@ -3,7 +3,7 @@ use Rattle.std.proofs.Common.{◌≡◌, ℕ, ◌+◌, ◌<◌, ◌≤◌, List,
 use Rattle.std.proofs.lemmas.List.{drop_all}
 use Rattle.text_lines.specs.declared.read_error.ReadError.{ReadError}
 use Rattle.text_lines.specs.declared.read_error.ReadError.TheVariants as answer
-use Rattle.text_lines.specs.ReadErrors.{Says, SaysSeen}
+use Rattle.text_lines.specs.ReadErrors.{Says}
 use Rattle.f8_link.specs.declared.answers.LinkCause.{LinkCause}
 use Rattle.f8_link.specs.declared.answers.LinkFault.{LinkFault}
 use Rattle.f8_link.specs.declared.parts.Part.{Part}
@@ -44,11 +44,6 @@ module _ {S : Type 0} (step : ℕ → S → Part → Result S LinkCause) where
       stopped cause told = sym (rw (drop_next ps number p within is) at on.is) ∙ each_fail number s p (drop (number + 1) ps) cause told
 
       -- or memory is missing
-      pub stopped_seen : {A : Type 0} {seen : A → S} (stop : ReadError LinkCause) → Says {A = S} (Err stop) (step number s p)
-          → SaysSeen seen (Err (stop_in number stop)) whole
-      stopped_seen (answer.Fault cause) told = stopped cause told
-      stopped_seen answer.Memory told = tt
-
       pub stopped_by : (stop : ReadError LinkCause) → Says {A = S} (Err stop) (step number s p) → Says {A = S} (Err (stop_in number stop)) whole
       stopped_by (answer.Fault cause) told = stopped cause told
       stopped_by answer.Memory told = tt

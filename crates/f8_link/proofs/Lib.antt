@@ -33,3 +33,4 @@ pub mod EachPart
 pub mod NoStrays
 pub mod PartsLines
 pub mod RoomsGo
+pub mod PartsInside

@@ -1,9 +1,11 @@
 // Modules in their rooms, linked. Each cause is tried over all of them before the next.
-ghost use Rattle.std.specs.Prelude.{◌≡◌, ◌≤◌, ◌<◌, List, ℕ, Ok, length, IfOk};
+ghost use Rattle.std.specs.Prelude.{◌≡◌, ◌≤◌, ◌<◌, true, List, ℕ, Ok, Err, length, slice_get, IfOk, if◌then◌else◌};
 ghost use Rattle.std.specs.List.{AllZip};
 ghost use Rattle.text_lines.specs.ReadErrors.{Says, SaysSeen, StepsTo};
 ghost use Rattle.f8_asm.specs.Image.{Ascends, everywhere, image_of};
-ghost use Rattle.f8_link.specs.Linking.{stop_in, exports_given, imports_given, all_exports, all_imports, all_inside, all_marked, all_written, named_value, linked_of};
+ghost use Rattle.f8_asm.specs.Marks.{marks_with, is_free};
+ghost use Rattle.f8_asm.specs.PassTwo.{is_inside};
+ghost use Rattle.f8_link.specs.Linking.{caused, stop_in, exports_given, imports_given, all_exports, all_imports, all_inside, all_marked, all_written, values_of, named_value, linked_of};
 ghost use Rattle.f8_link.specs.OneSource.{IsCompiled, IsOneSource, one_source, source_image, NoNameTwice, HasBytes, joined};
 
 use crate::answers::{LinkAnswer, LinkCause, LinkFault};
@@ -11,7 +13,7 @@ use crate::fixes::{LinkStop, bytes_fixed};
 use crate::linked::Linked;
 use crate::parts::{Part, PartList};
 use crate::values::Named;
-use f8_asm::{Symbols, Table, is_free, is_inside, mark, no_marks};
+use f8_asm::{Room, Symbols, Table, is_free, is_inside, mark, no_marks};
 use std::alloc::Global;
 use std::marker::Model;
 
@@ -146,6 +148,24 @@ fn all_inside(parts: &[Part]) -> Result<(), LinkAnswer>
     Ok(())
 }
 
+/// Marks so many addresses from the first of a room on, if none of them is marked. They lie in the room.
+fn mark_part(marks: &mut Vec<bool>, room: Room, size: usize) -> Result<(), LinkCause>
+    requires inside { is_inside room room.first size ≡ true }
+    requires addresses { length marks.old.items ≡ 65536 }
+    ensures marked { caused result marks.new.items
+        ≡ (if is_free marks.old.items room.first size
+            then Ok (marks_with marks.old.items room.first size)
+            else Err LinkCause.Overlap) }
+    ensures addresses { length marks.new.items ≡ 65536 }
+{
+    let first = usize::from(room.first);
+    if !is_free(marks.as_slice(), first, size) {
+        return Err(LinkCause::Overlap);
+    }
+    mark(marks.as_mut_slice(), first, size);
+    Ok(())
+}
+
 /// Whether each module's bytes lie where no earlier module's do. All lie in their rooms.
 fn all_marked(alloc: Global, parts: &[Part]) -> Result<Vec<bool>, LinkAnswer>
     requires few { length parts.now ≤ 64 }
@@ -154,14 +174,22 @@ fn all_marked(alloc: Global, parts: &[Part]) -> Result<Vec<bool>, LinkAnswer>
 {
     let mut marks = no_marks(alloc)?;
     for (number, part) in parts.iter().enumerate() {
-        let first = usize::from(part.room.first);
-        let size = part.object.bytes().len();
-        if !is_free(marks.as_slice(), first, size) {
-            return Err(stop_in(number, LinkStop::Fault(LinkCause::Overlap)));
+        match mark_part(&mut marks, part.room, part.object.bytes().len()) {
+            Ok(()) => {}
+            Err(cause) => return Err(stop_in(number, LinkStop::Fault(cause))),
         }
-        mark(marks.as_mut_slice(), first, size);
     }
     Ok(marks)
+}
+
+/// The values of the imports of the module with this number.
+fn values_at(values: &[ImportValues], number: usize) -> &[i64]
+    ensures { result.now ≡ values_of (slice_get values.now number) }
+{
+    match values.get(number) {
+        Some(values) => values.as_slice(),
+        None => &[],
+    }
 }
 
 /// The bytes of all modules at their addresses, with the values of their imports.
@@ -171,11 +199,7 @@ fn all_written(alloc: Global, values: &[ImportValues], parts: &[Part]) -> Result
 {
     let mut table = Table::new(alloc)?;
     for (number, part) in parts.iter().enumerate() {
-        let imports = match values.get(number) {
-            Some(values) => values.as_slice(),
-            None => &[],
-        };
-        match bytes_fixed(alloc, imports, part) {
+        match bytes_fixed(alloc, values_at(values, number), part) {
             Ok(bytes) => table.write(u32::from(part.room.first), bytes.as_slice()),
             Err(stop) => return Err(stop_in(number, stop)),
         }
