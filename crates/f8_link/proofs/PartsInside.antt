@@ -1,5 +1,5 @@
 -- Modules that lie in their rooms end by address 65,536.
-use Rattle.std.proofs.Common.{◌≡◌, ℕ, zero, suc, ◌+◌, ◌<◌, ◌≤◌, Bool, true, false, List, length, get_or, drop, Ok, Err, Result, refl, sym, ◌∙◌, arith, inl, inr}
+use Rattle.std.proofs.Common.{◌≡◌, ℕ, zero, suc, ◌+◌, ◌<◌, ◌≤◌, Bool, true, false, List, length, get_or, drop, Ok, Err, Result, refl, arith}
 use Rattle.std.specs.Prelude.{◌==◌, ◌&&◌, nat_le, if◌then◌else◌}
 use Rattle.std.proofs.lemmas.Bool.{and_parts, leb-true}
 use Rattle.std.proofs.lemmas.Bool.Decides.{nat_tests}
@@ -7,7 +7,6 @@ use Rattle.f8_asm.specs.declared.answers.Room.{Room}
 use Rattle.f8_asm.specs.PassTwo.{is_inside}
 use Rattle.f8_link.specs.declared.answers.LinkCause.{LinkCause}
 use Rattle.f8_link.specs.declared.answers.LinkCause.TheVariants.{Outside}
-use Rattle.f8_link.specs.declared.answers.LinkFault.{LinkFault}
 use Rattle.f8_link.specs.declared.parts.Part.{Part}
 use Rattle.f8_link.specs.Linking.{inside}
 use Rattle.f8_link.proofs.EachPart.{EachOn, one_more, stopped}
@@ -25,6 +24,7 @@ was_inside : (test : Bool) (u : Unit {0}) → (if test then Ok u else Err Outsid
 was_inside true u is = refl
 was_inside false u is = cc is
 
+-- what linking asks of a module is that its bytes lie in its room
 pub part_inside : (p : Part) → inside tt p ≡ Ok tt → is_inside p.room p.room.first (length p.object.bytes) ≡ true
 unfolding inside
 part_inside p is = was_inside (is_inside p.room p.room.first (length p.object.bytes)) tt is

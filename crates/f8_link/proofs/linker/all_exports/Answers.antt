@@ -1,4 +1,3 @@
-use Rattle.std.proofs.Common.{Ok, Err}
 use Rattle.f8_link.specs.Linking.{exports_given}
 use Rattle.f8_link.proofs.EachPart.{all_done, one_more, stopped_by}
 use Rattle.f8_link.proofs.LinkSteps.{says_stop}

@@ -1,4 +1,4 @@
-use Rattle.std.proofs.Common.{◌≡◌, ◌++◌, ◌∷◌, [], Ok, Err, rules}
+use Rattle.std.proofs.Common.{◌≡◌, ◌++◌, ◌∷◌, [], Ok, rules}
 use Rattle.f8_link.specs.Linking.{imports_given, imports_added}
 use Rattle.f8_link.proofs.EachPart.{all_done, one_more, stopped_by}
 use Rattle.f8_link.proofs.LinkSteps.{says_then}

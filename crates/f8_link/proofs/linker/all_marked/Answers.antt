@@ -1,5 +1,5 @@
 use Rattle.std.proofs.Common.{◌≡◌, Ok, Err, rules}
-use Rattle.f8_link.specs.Linking.{inside, marked}
+use Rattle.f8_link.specs.Linking.{marked}
 use Rattle.f8_link.proofs.EachPart.{all_done, one_more, stopped}
 use Rattle.f8_link.proofs.PartsInside.{next_inside, part_inside}
 use Rattle.f8_link.proofs.linker.all_marked.Goals as goal

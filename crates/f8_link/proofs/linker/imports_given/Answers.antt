@@ -1,4 +1,4 @@
-use Rattle.std.proofs.Common.{◌≡◌, Ok, Err, ◌∙◌, ap, rules}
+use Rattle.std.proofs.Common.{◌≡◌, Ok, Err, rules}
 use Rattle.f8_link.specs.declared.answers.LinkCause.TheVariants.{Missing}
 use Rattle.f8_link.specs.Linking.{import_given}
 use Rattle.f8_link.proofs.LinkSteps.{all_at, more_at, fail_at}

@@ -1,4 +1,4 @@
-use Rattle.std.proofs.Common.{◌≡◌, ◌+◌, ◌≤◌, length, ◌∙◌, arith, rules}
+use Rattle.std.proofs.Common.{◌≡◌, length, ◌∙◌, arith, rules}
 use Rattle.f8_link.proofs.LinkSteps.{put_back}
 use Rattle.f8_link.proofs.PartsInside.{end_inside}
 use Rattle.f8_link.proofs.linker.mark_part.Goals as goal
