@@ -34,3 +34,4 @@ pub mod NoStrays
 pub mod PartsLines
 pub mod RoomsGo
 pub mod PartsInside
+pub mod PlainReturns
