@@ -35,3 +35,4 @@ pub mod PartsLines
 pub mod RoomsGo
 pub mod PartsInside
 pub mod PlainReturns
+pub mod PlainPasses
