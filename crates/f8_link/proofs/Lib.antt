@@ -36,3 +36,5 @@ pub mod RoomsGo
 pub mod PartsInside
 pub mod PlainReturns
 pub mod PlainPasses
+pub mod PlainLines
+pub mod PlainText
