@@ -38,3 +38,4 @@ pub mod PlainReturns
 pub mod PlainPasses
 pub mod PlainLines
 pub mod PlainText
+pub mod PlainRooms
