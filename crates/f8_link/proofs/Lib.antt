@@ -39,3 +39,9 @@ pub mod PlainPasses
 pub mod PlainLines
 pub mod PlainText
 pub mod PlainRooms
+pub mod ModuleSize
+pub mod Spelt
+pub mod SpeltRead
+pub mod SpeltWritten
+pub mod SpeltImage
+pub mod OneSourceIs

@@ -132,7 +132,7 @@ pub data SourcesGive (others : List (List ℕ × ℤ)) : ℕ → List PlacedSour
   more_give : {at : ℕ} {q : PlacedSource} {bs cs : List ℕ} {qs : List PlacedSource} → q.address ≡ at → source_bytes others q ≡ Ok bs
       → SourcesGive others (at + length bs) qs cs → SourcesGive others at (q ∷ qs) (bs ++ cs)
 
-valued_size : {A B : Type 0} (value : A → B) (st : Statement A) → statement_size (statement_valued value st) ≡ statement_size st
+pub valued_size : {A B : Type 0} (value : A → B) (st : Statement A) → statement_size (statement_valued value st) ≡ statement_size st
 valued_size value Nothing = refl
 valued_size value (Fixed code) = refl
 valued_size value (One what o) = refl
@@ -143,7 +143,7 @@ in_line-ok : {A : Type 0} (number end : ℕ) (r : Result A ModuleLineFault) (x :
 in_line-ok number end (Ok y) x is = let same : y ≡ x = cc is in ap Ok same
 in_line-ok number end (Err fault) x is = cc is
 
-exported_is : (s t : Code) (number column : ℕ) (name : List ℕ) (v : Option Named) → exported s number column name v ≡ Ok t
+pub exported_is : (s t : Code) (number column : ℕ) (name : List ℕ) (v : Option Named) → exported s number column name v ≡ Ok t
     → (t.bytes ≡ s.bytes) × (t.fixups ≡ s.fixups)
 exported_is s t number column name (Some v) is =
     let same : with_value s name v ≡ t = cc is in

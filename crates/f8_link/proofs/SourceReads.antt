@@ -53,7 +53,7 @@ unfolding steps
 origin_first names line address ls = rw (origin_read (λ x. x) names line address) refl
 
 -- a table with the same names has none of others
-same_none : {A B : Type 0} (xs : List (List ℕ × A)) (ys : List (List ℕ × B)) (x : List ℕ) → names_of xs ≡ names_of ys → value_of ys x ≡ None
+pub same_none : {A B : Type 0} (xs : List (List ℕ × A)) (ys : List (List ℕ × B)) (x : List ℕ) → names_of xs ≡ names_of ys → value_of ys x ≡ None
     → value_of xs x ≡ None
 same_none xs ys x same none =
     none_from (value_of xs x) (sym (has-names_of xs x) ∙ ap (λ ns. has ns x) same ∙ has-names_of ys x ∙ ap is_some none)
@@ -63,7 +63,7 @@ names_changed : {A B : Type 0} (rename : List ℕ → List ℕ) (change : A → 
 names_changed rename change [] = refl
 names_changed rename change (e ∷ es) = ap (λ q. rename e.0 ∷ q) (names_changed rename change es)
 
-names_unvalued : (rename : List ℕ → List ℕ) (xs : List (List ℕ)) → names_of (no_values rename xs) ≡ map rename xs
+pub names_unvalued : (rename : List ℕ → List ℕ) (xs : List (List ℕ)) → names_of (no_values rename xs) ≡ map rename xs
 names_unvalued rename [] = refl
 names_unvalued rename (x ∷ xs) = ap (λ q. rename x ∷ q) (names_unvalued rename xs)
 
