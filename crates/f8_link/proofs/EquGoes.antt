@@ -68,7 +68,7 @@ equ_by first rename R constant goes = record {
       let p : Operand Found = operand_valued (formula_found names [] offset) o in
       let q : Operand Outcome = operand_valued (formula_value outcome.OutOfRange values) o in
       let both : StatementAlike R (One single.Equ p) (One single.Equ q) = alike_both (statement_alike (goes names offset others so) labelled ts)
-          (One single.Equ p) (One single.Equ q) at_module at_source in
+      (One single.Equ p) (One single.Equ q) at_module at_source in
       let together : R p.value q.value = one_values both in
       let known : p.value ≡ found.Value (Constant v) = constant_found p.column p.value v told in
       let there : q.value ≡ outcome.Value v = constant v q.value (rw known at together) in

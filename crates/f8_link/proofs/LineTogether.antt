@@ -118,7 +118,7 @@ module _ (site : Site) {seen : List (List ℕ)} {m : Layout} {s : SourceLayout P
   room_for size least =
       let inside : is_inside everywhere s.here size ≡ true = rw so.here (inside_part site.first site.total m.here size least site.inside) in
       let free : is_free s.filled s.here size ≡ true =
-          rw (so.filled, so.here) (free_behind site.marks site.first m.here size site.total least site.free) in
+      rw (so.filled, so.here) (free_behind site.marks site.first m.here size site.total least site.free) in
       rw (inside, free) refl
 
   fills_go : (at : Option ℕ) (size : ℕ) (t : Layout) → filled label at size m ≡ Ok t → t.here ≤ site.total
@@ -131,7 +131,7 @@ module _ (site : Site) {seen : List (List ℕ)} {m : Layout} {s : SourceLayout P
       let labelled = label_together site label (Offset m.here) (pos s.here) so stand new fresh (ap pos so.here) in
       let here : there.here ≡ site.first + m.here = labelled.here ∙ ap (λ n. site.first + n) stays in
       let marked : there.filled ≡ marks_with site.marks site.first m.here =
-          labelled.filled ∙ ap (λ n. marks_with site.marks site.first n) stays in
+      labelled.filled ∙ ap (λ n. marks_with site.marks site.first n) stays in
       let room = room_for size (omega (arith, grown, least)) in
       subst (λ (l : Layout). Goes site seen label l s (layout_after everywhere (option_map site.rename label) column s (Fills size))) both.1
       (record {
@@ -204,7 +204,7 @@ line_goes site seen imports l ts number m t s so stand is plain new fresh h leas
     let column : Option ℕ = column_of (behind_label ts) in
     let still = stands_still formulas labelled ts from.st plain from.read in
     let did = statement_goes site so stand (label_of ts) new fresh column imports l.column labelled (behind_label ts) v from.st still from.read settled
-        (rw here least) in
+    (rw here least) in
     let q : PlacedSource = record { address = s.here; line = record { rename = site.rename; number = number; tokens = ts } } in
     let valued = statement_with_values outcome.OutOfRange (renamed_values site.rename s.names s.here) labelled (behind_label ts) from.st from.read in
     subst (λ (k : Layout). LineGoes site seen ts number m k s) placed

@@ -77,7 +77,7 @@ read_together first values rename names imports others offset address labelled t
     let told = statement_with_values found.OutOfRange (placed_values names imports offset) labelled ts st read in
     let both = statement_alike goes labelled ts in
     let o = other_by (StatementAlike (Goes first values)) (statement (placed_values names imports offset) labelled ts)
-        (statement (renamed_values rename others address) labelled ts) both.is (statement_valued (formula_found names imports offset) st) told in
+    (statement (renamed_values rename others address) labelled ts) both.is (statement_valued (formula_found names imports offset) st) told in
     record { other = o.y; is = o.is; alike = o.so }
 
 -- ---- a line
@@ -104,7 +104,7 @@ module _ (first : ℕ) (values : List ℤ) (rename : List ℕ → List ℕ) (nam
       let has : l.statement ≡ st = sym (ap (λ (k : ParsedLine). k.statement) same) in
       let r = read_together first values rename names imports others offset address (is_some (label_of ts)) (behind_label ts) st go at at_st in
       let given : piece_of offset (statement_valued (formula_found names imports offset) st) ≡ Ok piece =
-          ap (λ (k : Statement (List Step)). piece_of offset (statement_valued (formula_found names imports offset) k)) (sym has) ∙ told in
+      ap (λ (k : Statement (List Step)). piece_of offset (statement_valued (formula_found names imports offset) k)) (sym has) ∙ told in
       settles_so first values offset piece (λ bs. bytes_of address r.other ≡ Ok bs) (λ bs. source_bytes others (source_at address number ts) ≡ Ok bs)
       (λ bs so. bytes_read address (statement (renamed_values rename others address) (is_some (label_of ts)) (behind_label ts)) r.other bs r.is so)
       (statement_settles first values offset address (statement_valued (formula_found names imports offset) st) r.other piece at r.alike given))

@@ -85,9 +85,9 @@ module _ {offset : ℕ} {size : ItemSize} {front : Piece} {whole_is : Result Pie
   unfolding list_piece
   piece_more {o} {os} on p is =
       let counted : length (front.bytes ++ p.bytes) ≡ length front.bytes + item_size size =
-          length-append front.bytes p.bytes ∙ ap (λ n. length front.bytes + n) (item_length (offset + length front.bytes) size o p is) in
+      length-append front.bytes p.bytes ∙ ap (λ n. length front.bytes + n) (item_length (offset + length front.bytes) size o p is) in
       let at_next : offset + length (front.bytes ++ p.bytes) ≡ offset + length front.bytes + length p.bytes =
-          omega (arith, length-append front.bytes p.bytes) in
+      omega (arith, length-append front.bytes p.bytes) in
       let left = room_after size (offset + length front.bytes) (length os) (length (o ∷ os)) 65536 on.room (omega arith) in
       record {
         is = rw at_next (after_more front p (list_piece (offset + length front.bytes + length p.bytes) size os)) ∙ rw (is, list_piece) at on.is;

@@ -49,8 +49,8 @@ module _ (names : List (List ℕ × Named)) (imports : List (List ℕ × ℕ)) w
       (λ p at_p e.
       let told = in_line-read l.number l.end (line_piece names imports offset l) p at_p in
       let size : length p.bytes ≡ statement_size l.statement =
-          piece_length offset (statement_valued (formula_found names imports offset) l.statement) p told
-          ∙ valued_size (formula_found names imports offset) l.statement in
+      piece_length offset (statement_valued (formula_found names imports offset) l.statement) p told
+      ∙ valued_size (formula_found names imports offset) l.statement in
       let is : with_piece s p ≡ t = cc e in
       ap (λ (c : Code). length c.bytes) (sym is) ∙ length-append s.bytes p.bytes ∙ ap (λ (n : ℕ). length s.bytes + n) size)
   line_length offset (line.Export number column name) s t h =

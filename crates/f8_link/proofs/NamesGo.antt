@@ -74,6 +74,7 @@ still_seen (ts ∷ tss) seen x h = still_seen tss (seen_after seen (label_of ts)
     or_one : (a : Bool) → (a || has seen x) ≡ true
     or_one true = refl
     or_one false = h
+
     by : (label : Option (List ℕ)) → has (seen_after seen label) x ≡ true
     by None = h
     by (Some y) = or_one (bytes_eq x y)
@@ -86,6 +87,7 @@ label_seen (ts ∷ tss) seen x h = by (label_of ts) (λ more h. label_seen tss m
         → (t || has (labels_in tss) x) ≡ true → has (seen_behind (y ∷ seen) tss) x ≡ true
     here y true is goes h = still_seen tss (y ∷ seen) x (rw is refl)
     here y false is goes h = goes (y ∷ seen) h
+
     by : (label : Option (List ℕ)) → ((more : List (List ℕ)) → has (labels_in tss) x ≡ true → has (seen_behind more tss) x ≡ true)
         → has (label_list label ++ labels_in tss) x ≡ true → has (seen_behind (seen_after seen label) tss) x ≡ true
     by None goes h = goes seen h
@@ -122,7 +124,7 @@ module _ (text : List ℕ) (object : Object) (c : Compiled text object) where
   compiled_apart : (x : List ℕ) → is_some (value_of c.laid.names x) ≡ true → has object.imports x ≡ false
   compiled_apart x h =
       let label : has (labels_in (map tokens_in (statement_lines text))) x ≡ true =
-          ap (λ ns. has ns x) (sym compiled_labels) ∙ has-names_of c.laid.names x ∙ h in
+      ap (λ ns. has ns x) (sym compiled_labels) ∙ has-names_of c.laid.names x ∙ h in
       let none = compiled_known.apart x (label_seen (map tokens_in (statement_lines text)) [] x label) in
       ap (λ ns. has ns x) compiled_imports ∙ has-names_of c.read.imports x ∙ ap is_some none
 
@@ -263,7 +265,7 @@ modules_from (t ∷ ts) (p ∷ ps) so number names before all exports (v ∷ vs)
     let more = before_more number names before c.laid.names p stand at in
     let both : (before ++ module_names number c.laid.names p) ++ behind ≡ all = append_assoc before (module_names number c.laid.names p) behind ∙ is in
     let shares : (x : List ℕ) → value_of (before ++ (module_names number c.laid.names p ++ behind)) (0 ∷ x) ≡ value_of exports x =
-        λ x. ap (λ q. value_of q (0 ∷ x)) is ∙ shared x in
+    λ x. ap (λ q. value_of q (0 ∷ x)) is ∙ shared x in
     one_module c
     (record {
       fresh = own_fresh number names before c.laid.names p stand at new.0;
@@ -284,7 +286,7 @@ pub all_go : (texts : List (List ℕ)) (ps : List Part) (so : AllZip IsCompiled 
 all_go texts ps so names values at_names at_values =
     let exported = all_exported ps names at_names in
     let shared : (x : List ℕ) → value_of (all_names 0 (laid_names texts ps so)) (0 ∷ x) ≡ value_of names x =
-        λ x. all_shared texts ps so 0 [] [] (before_none 0) x ∙ ap (λ q. value_of q x) (sym exported.is) in
+    λ x. all_shared texts ps so 0 [] [] (before_none 0) x ∙ ap (λ q. value_of q x) (sym exported.is) in
     record {
       modules = modules_from texts ps so 0 [] [] (all_names 0 (laid_names texts ps so)) names values (before_none 0) exported.apart
           (all_found names ps values at_values) refl shared;

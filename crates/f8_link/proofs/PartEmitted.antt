@@ -27,7 +27,7 @@ part_emitted p values rename names imports others ps qs code table after low nam
     (λ _. steps (fixup_put p.room.first values) p.object.bytes p.object.fixups) z at_z (λ u at_u fixed.
     let same : table_with table p.room.first z ≡ after = cc e in
     let own : steps (fixup_put p.room.first values) code.bytes code.fixups ≡ Ok z =
-        ap (λ (o : Object). steps (fixup_put p.room.first values) o.bytes o.fixups) object ∙ fixed in
+    ap (λ (o : Object). steps (fixup_put p.room.first values) o.bytes o.fixups) object ∙ fixed in
     module_emitted p.room.first values rename names imports others ps qs code z table
     (record { reach = reaches p.room.first values u low at_u; name = name }) sources stand emits own
     ∙ ap (λ (t : List (Option ℕ)). Ok t) same))

@@ -115,8 +115,8 @@ own_go rename first before behind names apart fresh = record {
   is = λ x v found.
       let ours = placed_names rename first names in
       let here : value_of (before ++ ours) (rename x) ≡ Some (named_value first v) =
-          value_behind before ours (rename x) (fresh x v found) ∙ value_placed rename first names x apart
-          ∙ ap (λ o. option_map (named_value first) o) found in
+      value_behind before ours (rename x) (fresh x v found) ∙ value_placed rename first names x apart
+      ∙ ap (λ o. option_map (named_value first) o) found in
       found_in_front (before ++ ours) behind (rename x) (named_value first v) here;
 }
 
@@ -159,7 +159,7 @@ parts_go (one_module {names} {marks} {p} {ps} is rest) number s names_are marks_
     let at : SourceLayout PlacedSource = source_with place (moved_to p.first s) in
     let first = origin_placed number p.first s is.low in
     let own = module_goes (site_of is) p.imports p.lines p.tokens (number + 1) p.laid at is.pairs is.new is.fresh is.plain refl names_are marks_are
-        is.laid_is (omega arith) in
+    is.laid_is (omega arith) in
     let others = parts_go rest (number + 1 + length p.tokens) own.u own.names own.filled in
     let ours : List SourceLine = lines_with p.rename (number + 1) p.tokens in
     let theirs : List SourceLine = parts_lines (number + 1 + length p.tokens) ps in

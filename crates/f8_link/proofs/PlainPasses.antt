@@ -121,6 +121,7 @@ read_alike (more_lines {line} {ts} {ls} {ms} read rest) names done over so_far n
     (λ after. subst (λ ns. Alike (SameReading ns) (steps read_line (reading after (done ++ line_at number ts ∷ [])) ls)
     (steps source_read after (numbered (number + 1) ms))) regrouped
     (read_alike rest after (done ++ line_at number ts ∷ []) (over ++ m ∷ []) (alike_push so_far same_line) (number + 1) count)))
+
 -- ---- the second pass
 
 abbrev layout : {P : Type 0} → ℕ → List (List ℕ × ℤ) → List Bool → List P → Layout P

@@ -34,7 +34,7 @@ rooms_from (p ∷ ps) number u v marks last within apart =
     read-ok (RoomsGo marks (p ∷ ps)) (at_module number (marked marks p)) _ last apart (λ now at_now apart.
     let lies = when_true (is_inside p.room p.room.first (size_of p)) u w _ (module_read number (inside u p) w at_w) in
     let free = when_true (is_free marks p.room.first (size_of p)) (marks_with marks p.room.first (size_of p)) now _
-        (module_read number (marked marks p) now at_now) in
+    (module_read number (marked marks p) now at_now) in
     let rest : RoomsGo now ps = rooms_from ps (number + 1) w v now last within apart in
     one_room lies.0 free.0 (rw free.1 rest)))
 

@@ -123,7 +123,7 @@ module _ (first : ℕ) (values : List ℤ) where
         let longer = length-append xs (code ∷ []) in
         let same : (xs ++ (code ∷ [])) ++ (p.bytes ++ ys) ≡ xs ++ (code ∷ (p.bytes ++ ys)) = append_assoc xs (code ∷ []) (p.bytes ++ ys) in
         let s = on.is (xs ++ (code ∷ [])) ys z (omega (arith, longer, at))
-            (ap (λ (r : List ℕ). steps (fixup_put first values) r p.fixups) same ∙ all) in
+        (ap (λ (r : List ℕ). steps (fixup_put first values) r p.fixups) same ∙ all) in
         record {
           bytes = code ∷ s.bytes;
           said = so s.bytes s.said;
@@ -144,7 +144,7 @@ module _ (first : ℕ) (values : List ℤ) where
       let longer = length-append xs f.bytes in
       let size = f.size_is in
       let g = other.is (xs ++ f.bytes) ys z (omega (arith, longer, size, at))
-          (ap (λ (r : List ℕ). steps (fixup_put first values) r q.fixups) (sym there) ∙ all) in
+      (ap (λ (r : List ℕ). steps (fixup_put first values) r q.fixups) (sym there) ∙ all) in
       let more = g.size_is in
       let sum = length-append f.bytes g.bytes in
       let whole = length-append p.bytes q.bytes in
@@ -160,7 +160,7 @@ module _ (first : ℕ) (values : List ℤ) where
   settles_joined offset p q Q R S so one other = record {
     is = λ xs ys z at all.
         let same : xs ++ ((p.bytes ++ q.bytes) ++ ys) ≡ xs ++ (p.bytes ++ (q.bytes ++ ys)) =
-            ap (λ (r : List ℕ). xs ++ r) (append_assoc p.bytes q.bytes ys) in
+        ap (λ (r : List ℕ). xs ++ r) (append_assoc p.bytes q.bytes ys) in
         joined_by offset p q Q R S so one other xs ys z at
         (steps (fixup_put first values) (xs ++ (p.bytes ++ (q.bytes ++ ys))) p.fixups) refl
         (sym (steps_split (fixup_put first values) (xs ++ (p.bytes ++ (q.bytes ++ ys))) p.fixups q.fixups)

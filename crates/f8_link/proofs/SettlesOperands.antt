@@ -112,7 +112,7 @@ module _ (first : ℕ) (values : List ℤ) where
       → fixed kind.Byte (first + offset) (within (at_base first values base +ℤ k)) ≡ Some bs → (item_bytes item.Byte p ≡ Ok bs) × (length bs ≡ 1)
   byte_put offset base k p bs so is =
       let m = mapped one_byte (octet 255 (at_base first values base +ℤ k)) bs
-          (fixed_real kind.Byte (first + offset) (at_base first values base +ℤ k) bs is) in
+      (fixed_real kind.Byte (first + offset) (at_base first values base +ℤ k) bs is) in
       (byte_read p (at_base first values base +ℤ k) m.0 so m.1 ∙ ap Ok (sym m.2), ap length m.2)
 
   half_put : (half : Half) (offset : ℕ) (base : Base) (k : ℤ) (p : Operand Outcome) (bs : List ℕ)
@@ -120,7 +120,7 @@ module _ (first : ℕ) (values : List ℤ) where
       → fixed (kind_of half) (first + offset) (within (at_base first values base +ℤ k)) ≡ Some bs → (item_bytes item.Byte p ≡ Ok bs) × (length bs ≡ 1)
   half_put half offset base k p bs so is =
       let h = half_fixed half (first + offset) (at_base first values base +ℤ k) bs
-          (fixed_real (kind_of half) (first + offset) (at_base first values base +ℤ k) bs is) in
+      (fixed_real (kind_of half) (first + offset) (at_base first values base +ℤ k) bs is) in
       (byte_read p (pos h.0) h.0 (so ∙ h.1) (octet_of h.0 h.3) ∙ ap Ok (sym h.2), ap length h.2)
 
   pub byte_settles : (offset column : ℕ) (x : Found) (p : Operand Outcome) (piece : Piece) → Goes first values x p.value → byte_in offset column x ≡ Ok piece
@@ -148,14 +148,14 @@ module _ (first : ℕ) (values : List ℤ) where
       → (item_bytes item.Word p ≡ Ok (0 ∷ bs)) × (length bs ≡ 1)
   half_put_in_word half offset base k p bs so is =
       let h = half_fixed half (first + offset) (at_base first values base +ℤ k) bs
-          (fixed_real (kind_of half) (first + offset) (at_base first values base +ℤ k) bs is) in
+      (fixed_real (kind_of half) (first + offset) (at_base first values base +ℤ k) bs is) in
       (word_read p (pos h.0) h.0 (so ∙ h.1) (small_of h.0 h.3) ∙ ap Ok (half_word h.0 h.3 ∙ ap (λ (r : List ℕ). 0 ∷ r) (sym h.2)), ap length h.2)
 
   word_put : (offset : ℕ) (base : Base) (k : ℤ) (p : Operand Outcome) (bs : List ℕ) → p.value ≡ outcome.Value (at_base first values base +ℤ k)
       → fixed kind.Word (first + offset) (within (at_base first values base +ℤ k)) ≡ Some bs → (item_bytes item.Word p ≡ Ok bs) × (length bs ≡ 2)
   word_put offset base k p bs so is =
       let m = mapped word_bytes (small 65535 (at_base first values base +ℤ k)) bs
-          (fixed_real kind.Word (first + offset) (at_base first values base +ℤ k) bs is) in
+      (fixed_real kind.Word (first + offset) (at_base first values base +ℤ k) bs is) in
       (word_read p (at_base first values base +ℤ k) m.0 so m.1 ∙ ap Ok (sym m.2), ap length m.2)
 
   pub word_settles : (offset column : ℕ) (x : Found) (p : Operand Outcome) (piece : Piece) → Goes first values x p.value → word_in offset column x ≡ Ok piece

@@ -129,11 +129,11 @@ module _ (rename : List ℕ → List ℕ) (apart : (x y : List ℕ) → bytes_eq
       let label = labelled seen names ts (label_of ts) are_own.0 new.0 so in
       let goes = lines_read rest (seen_after seen (label_of ts)) label.after (number + 1) are_own.1 new.1 label.unseen in
       let parts : no_values rename (labels_in (ts ∷ tss)) ≡ no_values rename (label_list (label_of ts)) ++ no_values rename (labels_in tss) =
-          map-append (λ x. (rename x, pos 0)) (label_list (label_of ts)) (labels_in tss) in
+      map-append (λ x. (rename x, pos 0)) (label_list (label_of ts)) (labels_in tss) in
       let whole : label.after ++ no_values rename (labels_in tss) ≡ names ++ no_values rename (labels_in (ts ∷ tss)) =
-          ap (λ q. q ++ no_values rename (labels_in tss)) label.after_is
-          ∙ append_assoc names (no_values rename (label_list (label_of ts))) (no_values rename (labels_in tss))
-          ∙ ap (λ q. names ++ q) (sym parts) in
+      ap (λ q. q ++ no_values rename (labels_in tss)) label.after_is
+      ∙ append_assoc names (no_values rename (label_list (label_of ts))) (no_values rename (labels_in tss))
+      ∙ ap (λ q. names ++ q) (sym parts) in
       rw (line_read seen names number ts l read label) (goes ∙ ap Ok whole)
 
 label_own : (own : List ℕ → Bool) (label : Option (List ℕ)) (xs : List (List ℕ)) → ((x : List ℕ) → has (label_list label ++ xs) x ≡ true → own x ≡ true)

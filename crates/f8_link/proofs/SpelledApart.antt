@@ -169,5 +169,5 @@ module _ (number : ℕ) (names : List (List ℕ × Named)) (p : Part) where
             ∙ ap (option_map (named_value p.room.first)) (same_if_shared x is)
         by false is =
             let out : value_of p.object.exports x ≡ None =
-                no_value p.object.exports x (or_left (has (names_of p.object.exports) x) (has p.object.imports x) (sym (has_shared x) ∙ is)) in
+            no_value p.object.exports x (or_left (has (names_of p.object.exports) x) (has p.object.imports x) (sym (has_shared x) ∙ is)) in
             nowhere (named_value p.room.first) rename names (0 ∷ x) (λ y. never_shared number (shared_names p) x y is) ∙ rw out refl

@@ -76,9 +76,10 @@ behind_label (Some y) xs x h = by (bytes_eq x y)
 labels_fresh : (rename : List ℕ → List ℕ) (before : List (List ℕ × ℤ)) (tss : List (List Token))
     → ((x : List ℕ) → has (labels_in tss) x ≡ true → value_of before (rename x) ≡ None) → LabelsFresh rename before tss
 labels_fresh rename before [] all = tt
-labels_fresh rename before (ts ∷ tss) all =
-    (label_is_fresh rename before (label_of ts) (labels_in tss) all,
-    labels_fresh rename before tss (λ x h. all x (behind_label (label_of ts) (labels_in tss) x h)))
+labels_fresh rename before (ts ∷ tss) all = (
+  label_is_fresh rename before (label_of ts) (labels_in tss) all,
+  labels_fresh rename before tss (λ x h. all x (behind_label (label_of ts) (labels_in tss) x h)),
+)
 
 -- a label of the module is one of its names
 pub label_named : (text : List ℕ) (p : Part) (c : Compiled text p.object) (x : List ℕ)

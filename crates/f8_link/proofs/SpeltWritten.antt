@@ -62,7 +62,7 @@ written_on {spell} {all} whole table after (one_spelt {number} {values} {rest} {
     let written : part_written values table p ≡ Ok now = ap (λ vs. part_written vs table p) (sym here_are) ∙ did in
     let first : p.room.first ≤ 65535 = (All-head IsLow p ps low).0 in
     let front = part_emitted p values (spell number p) c.laid.names c.read.imports all c.laid.placed ours c.code table now (omega (arith, first))
-        names.goes (places_stand places) (places_from places) c.at_code c.object_is written in
+    names.goes (places_stand places) (places_from places) c.at_code c.object_is written in
     let last = written_on whole now after others pair (values_behind number whole rest values from) (All-tail IsLow p ps low) h in
     sym (steps_more (source_emitted all) table table (origin_place line p.room.first here) (ours ++ theirs) (origin_emitted all table line p.room.first here))
     ∙ steps_on (source_emitted all) table now ours theirs front ∙ last)

@@ -154,8 +154,8 @@ fn mark_part(marks: &mut Vec<bool>, room: Room, size: usize) -> Result<(), LinkC
     requires addresses { length marks.old.items ≡ 65536 }
     ensures marked { caused result marks.new.items
         ≡ (if is_free marks.old.items room.first size
-            then Ok (marks_with marks.old.items room.first size)
-            else Err LinkCause.Overlap) }
+        then Ok (marks_with marks.old.items room.first size)
+        else Err LinkCause.Overlap) }
     ensures addresses { length marks.new.items ≡ 65536 }
 {
     let first = usize::from(room.first);

@@ -8,8 +8,8 @@ pub returns-in_err-fix : goal.returns-in_err-fix
 returns-in_err-fix c =
     let told = err_from_is_err_and c.from_residual-in_err-fix.result c.from_residual-in_err-fix.ensures.1 in
     let stops = fail_from (fixup_put c.args.part.now.room.first c.args.imports.now) c.args.part.now.object.fixups c.loop-fixup.fixup-index _
-      c.in_err-fix.field-0.0 c.loop-fixup.invariant (rw c.fixups-fixup-items.ensures at c.loop-fixup-test.true)
-      (sym (rw c.fixups-fixup-items.ensures at c.in_err-fix.ensures)) in
+    c.in_err-fix.field-0.0 c.loop-fixup.invariant (rw c.fixups-fixup-items.ensures at c.loop-fixup-test.true)
+    (sym (rw c.fixups-fixup-items.ensures at c.in_err-fix.ensures)) in
     let whole : bytes_fixed c.args.imports.now c.args.part.now ≡ Err c.in_err-fix.field-0.0 = search rules in
     rw (told.1, told.2) whole
 
@@ -22,5 +22,5 @@ loop-fixup-preserved c =
 pub returns : goal.returns
 returns c =
     let whole = all_at (fixup_put c.args.part.now.room.first c.args.imports.now) c.args.part.now.object.fixups c.loop-fixup.fixup-index
-      c.loop-fixup.invariant (rw c.fixups-fixup-items.ensures at c.loop-fixup-test.false) in
+    c.loop-fixup.invariant (rw c.fixups-fixup-items.ensures at c.loop-fixup-test.false) in
     search rules

@@ -25,7 +25,7 @@ pub returns-then-is_empty-clause-steps : goal.returns-then-is_empty-clause-steps
 returns-then-is_empty-clause-steps c =
     let none : c.in_ok-column.behind.now ≡ [] = nil_from_length c.in_ok-column.behind.now (grind (arith, nat_tests)) in
     let read : name_at c.loop-column.rest.now ≡ Ok (c.in_ok-column.column, c.in_ok-column.name.now, c.in_ok-column.behind.now) =
-        sym c.in_ok-column.ensures.value in
+    sym c.in_ok-column.ensures.value in
     sym c.loop-column.invariant.is
     ∙ names_last (name_taken c.args.directive c.args.number) c.loop-column.self c.in_ok-column.column c.in_ok-column.name.now c.loop-column.rest.now
     (rw none at read)
