@@ -8,7 +8,7 @@ use Rattle.f8_asm.specs.declared.answers.AsmFault.{AsmFault}
 use Rattle.f8_asm.proofs.Alike.{read-ok}
 use Rattle.f8_link.specs.declared.parts.Part.{Part}
 use Rattle.f8_link.specs.declared.values.Named.{Named}
-use Rattle.f8_link.specs.Linking.{named_value, all_exports, all_imports, all_inside, all_marked, all_written, linked_in, linked_of}
+use Rattle.f8_link.specs.Linking.{IsLow, named_value, all_exports, all_imports, all_inside, all_marked, all_written, linked_in, linked_of}
 use Rattle.f8_link.specs.OneSource.{shared_names, spelled, one_source, source_image, IsCompiled, IsOneSource}
 use Rattle.f8_link.proofs.Goes.{NameGoes}
 use Rattle.f8_link.proofs.NamesGo.{Compiled, NameIs, ModuleGoes, Modules, no_modules, one_module, all_go, laid_names}
@@ -17,7 +17,7 @@ use Rattle.f8_link.proofs.PartsLines.{PartsAre, no_parts, one_more, one_source_l
 use Rattle.f8_link.proofs.PlacedNames.{placed_names}
 use Rattle.f8_link.proofs.RoomsGo.{rooms_go}
 use Rattle.f8_link.proofs.SpelledApart.{spelled_apart, module_names, all_names}
-use Rattle.f8_link.proofs.Spelt.{placing, NamesIn, Spelt, none_spelt, one_spelt, IsLow}
+use Rattle.f8_link.proofs.Spelt.{placing, NamesIn, Spelt, none_spelt, one_spelt}
 use Rattle.f8_link.proofs.SpeltImage.{spelt_image}
 
 -- ---- linking step by step

@@ -9,7 +9,7 @@ use Rattle.f8_asm.specs.PassTwo.{is_inside}
 use Rattle.f8_asm.specs.Statements.{label_of}
 use Rattle.f8_link.specs.declared.parts.Part.{Part}
 use Rattle.f8_link.specs.declared.values.Named.{Named}
-use Rattle.f8_link.specs.Linking.{size_of}
+use Rattle.f8_link.specs.Linking.{size_of, IsLow}
 use Rattle.f8_link.specs.OneSource.{has, label_list, tokens_in, statement_lines}
 use Rattle.f8_link.proofs.EquGoes.{EquGoes, equ_by}
 use Rattle.f8_link.proofs.Goes.{Goes, NameGoes, constants_go}
@@ -87,10 +87,6 @@ pub label_named : (text : List ℕ) (p : Part) (c : Compiled text p.object) (x :
 label_named text p c x h = sym (has-names_of c.laid.names x) ∙ ap (λ ns. has ns x) (compiled_labels text p.object c) ∙ h
 
 -- ---- rooms
-
--- a room of addresses
-abbrev pub IsLow : Part → Type 0
-IsLow p = (p.room.first ≤ 65535) × (p.room.last ≤ 65535)
 
 equ_goes : (first : ℕ) (rename : List ℕ → List ℕ) → first ≤ 65536 → EquGoes first rename
 equ_goes first rename low =

@@ -5,11 +5,11 @@ use Rattle.f8_asm.specs.Image.{ascending}
 use Rattle.f8_asm.specs.Marks.{no_marks}
 use Rattle.f8_asm.specs.PassThree.{no_bytes}
 use Rattle.f8_link.specs.declared.parts.Part.{Part}
-use Rattle.f8_link.specs.Linking.{all_written}
+use Rattle.f8_link.specs.Linking.{IsLow, all_written}
 use Rattle.f8_link.specs.OneSource.{PlacedSource, source_image, source_image_in}
 use Rattle.f8_link.proofs.PartsGo.{Placing, PartsPair, parts_lines, all_parts_go}
 use Rattle.f8_link.proofs.RoomsGo.{RoomsGo}
-use Rattle.f8_link.proofs.Spelt.{Spelt, spelt_names, spelt_placed, IsLow}
+use Rattle.f8_link.proofs.Spelt.{Spelt, spelt_names, spelt_placed}
 use Rattle.f8_link.proofs.SpeltRead.{spelt_read}
 use Rattle.f8_link.proofs.SpeltWritten.{spelt_written}
 

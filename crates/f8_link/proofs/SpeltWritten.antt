@@ -8,7 +8,7 @@ use Rattle.f8_asm.proofs.Alike.{read-ok}
 use Rattle.f8_asm.proofs.Steps.{steps_more}
 use Rattle.f8_link.specs.declared.lines.PlacedLine.{PlacedLine}
 use Rattle.f8_link.specs.declared.parts.Part.{Part}
-use Rattle.f8_link.specs.Linking.{at_module, each_part, part_written, values_of}
+use Rattle.f8_link.specs.Linking.{IsLow, at_module, each_part, part_written, values_of}
 use Rattle.f8_link.specs.OneSource.{PlacedSource, source_emitted}
 use Rattle.f8_link.proofs.ImportsGo.{at_module-ok}
 use Rattle.f8_link.proofs.LinesGo.{SourcesStand, no_source, export_source, statement_source, StandFrom}
@@ -17,7 +17,7 @@ use Rattle.f8_link.proofs.OriginLine.{origin_place, origin_emitted}
 use Rattle.f8_link.proofs.PartEmitted.{part_emitted}
 use Rattle.f8_link.proofs.PartsGo.{Placing, PartsPair, no_part, one_part}
 use Rattle.f8_link.proofs.SourceRead.{steps_on}
-use Rattle.f8_link.proofs.Spelt.{Spelt, none_spelt, one_spelt, IsLow}
+use Rattle.f8_link.proofs.Spelt.{Spelt, none_spelt, one_spelt}
 
 -- lines where they stand, as the third pass wants them
 places_stand : {first : ℕ} {rename : List ℕ → List ℕ} {at : ℕ} {ps : List PlacedLine} {qs : List PlacedSource} → PlacesPair first rename at ps qs

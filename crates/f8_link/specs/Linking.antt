@@ -1,5 +1,5 @@
 -- Linking: the names that modules share, the room of each, and the bytes that linking puts.
-use Rattle.std.specs.Prelude.{ℕ, ℤ, pos, negsuc, ◌+◌, ◌+ℤ◌, ◌-ℤ◌, int_le, Bool, ◌&&◌, List, [], ◌∷◌, ◌++◌, length, slice_get, slice_set}
+use Rattle.std.specs.Prelude.{ℕ, ℤ, pos, negsuc, ◌≤◌, ◌+◌, ◌+ℤ◌, ◌-ℤ◌, int_le, Bool, ◌&&◌, List, [], ◌∷◌, ◌++◌, length, slice_get, slice_set}
 use Rattle.std.specs.Prelude.{Option, Some, None, is_some, option_map, Result, Ok, Err, if◌then◌else◌}
 use Rattle.std.specs.List.{list_all}
 use Rattle.f8_asm.specs.Answers.{◌>>=◌}
@@ -77,6 +77,10 @@ imports_added names all p = imports_given names p >>= λ values. Ok (all ++ valu
 
 abbrev pub size_of : Part → ℕ
 size_of p = length p.object.bytes
+
+-- a room's addresses are below 65,536, as their type tells
+abbrev pub IsLow : Part → Type 0
+IsLow p = (p.room.first ≤ 65535) × (p.room.last ≤ 65535)
 
 -- the module's bytes lie in its room
 unfoldable pub inside : Unit {0} → Part → Result (Unit {0}) LinkCause
