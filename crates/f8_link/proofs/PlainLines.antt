@@ -8,19 +8,17 @@ use Rattle.asm_text.specs.Tokens.{tokens_of}
 use Rattle.asm_text.specs.declared.answers.Token.{Token}
 use Rattle.asm_text.specs.declared.answers.TokenFault.{TokenFault}
 use Rattle.f8_asm.specs.Answers.{◌>>=◌}
-use Rattle.f8_asm.specs.PassOne as one
-use Rattle.f8_asm.specs.PassOne.{in_line, line_tokens}
+use Rattle.f8_asm.specs.PassOne.{line_tokens}
 use Rattle.f8_asm.specs.Steps.{steps}
-use Rattle.f8_asm.specs.declared.answers.AsmCause.TheVariants as cause
 use Rattle.f8_asm.specs.declared.answers.AsmFault.{AsmFault}
 use Rattle.f8_asm.proofs.Alike.{read-ok}
-use Rattle.f8_link.specs.declared.answers.ModFault.{ModFault}
 use Rattle.f8_link.specs.Answers.{told}
-use Rattle.f8_link.specs.FirstPass.{Reading, no_reading, read_line, read_lines, tokens_taken, counted}
+use Rattle.f8_link.specs.FirstPass.{Reading, no_reading, read_line, read_lines}
 use Rattle.f8_link.specs.Objects.{Object}
 use Rattle.f8_link.specs.OneSource.{tokens_in, tokens_read}
 use Rattle.f8_link.specs.SecondPass.{no_layout, place_lines}
 use Rattle.f8_link.specs.ThirdPass.{compiled, emit_lines, no_code, object_of}
+use Rattle.f8_link.proofs.PlainReturns.{read_if}
 use Rattle.text_lines.specs.Lines.{begins, with_first, lines}
 use Rattle.text_lines.proofs.LineLaws.{no_feed}
 
@@ -61,9 +59,6 @@ lines_no_feed (b ∷ bs) = by (b == 10) ((b == 13) && begins 10 bs) refl (lines_
 -- a line has tokens, whatever its number is
 pub record HasTokens (line : List ℕ) : Type 0 where
   pub read : (number : ℕ) → line_tokens number line ≡ Ok (tokens_in line)
-
-abbrev read_if : ℕ → Bool → Result (List Token) TokenFault → Result (List Token) AsmFault
-read_if number utf8 read = if utf8 then one.tokens_in number read else Err (record { line = number; column = 1; cause = cause.Utf8 })
 
 any_number : (m n : ℕ) (utf8 : Bool) (r : Result (List Token) TokenFault) (ts : List Token) → read_if m utf8 r ≡ Ok ts
     → read_if n utf8 r ≡ Ok (tokens_read (read_if 1 utf8 r))

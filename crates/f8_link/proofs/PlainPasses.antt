@@ -1,6 +1,6 @@
 -- The assembler's three passes over a text, and those of the one source over its lines where names are spelled as they stand.
-use Rattle.std.proofs.Common.{◌≡◌, ℕ, ℤ, pos, suc, ◌+◌, Bool, true, false, List, [], ◌∷◌, ◌++◌, length, Option, Some, None, Result, Ok, Err}
-use Rattle.std.proofs.Common.{refl, sym, ◌∙◌, ap, subst, arith, append_assoc, append-nil, length-append}
+use Rattle.std.proofs.Common.{◌≡◌, ℕ, ℤ, pos, ◌+◌, Bool, true, false, List, [], ◌∷◌, ◌++◌, length, Option, Some, None, Result, Ok, Err}
+use Rattle.std.proofs.Common.{refl, sym, ap, subst, arith, append_assoc, append-nil, length-append}
 use Rattle.std.specs.Prelude.{is_some, option_map, if◌then◌else◌}
 use Rattle.asm_text.specs.declared.answers.Token.{Token}
 use Rattle.f8_asm.specs.Answers.{◌>>=◌}
@@ -20,7 +20,7 @@ use Rattle.f8_asm.specs.declared.answers.AsmFault.{AsmFault}
 use Rattle.f8_asm.specs.declared.faults.LineFault.{LineFault}
 use Rattle.f8_asm.specs.declared.operands.Effect.{Effect}
 use Rattle.f8_asm.specs.declared.operands.Effect.TheVariants.{Names, Moves, Fills}
-use Rattle.f8_asm.proofs.Alike.{Alike, alike_ok, alike_err, alike_then, alike_same, AllAlike, none_alike, more_alike, alike_push, alike_length}
+use Rattle.f8_asm.proofs.Alike.{Alike, alike_ok, alike_err, alike_then, alike_same, AllAlike, none_alike, more_alike, alike_push}
 use Rattle.f8_asm.proofs.Steps.{steps_alike}
 use Rattle.f8_link.specs.OneSource.{SourceLine, PlacedSource, numbered, label_read, statement_read, source_read, source_settled, source_placed}
 use Rattle.f8_link.specs.OneSource.{source_emitted, source_image_in, source_image}
@@ -114,7 +114,8 @@ unfolding steps numbered
 read_alike no_lines names done over so_far number is = alike_ok (same_reading (subst (AllAlike SameLine done) (sym (append-nil over)) so_far))
 read_alike (more_lines {line} {ts} {ls} {ms} read rest) names done over so_far number is =
     let m : SourceLine = record { rename = λ x. x; number = number; tokens = ts } in
-    let regrouped : (over ++ m ∷ []) ++ numbered (number + 1) ms ≡ over ++ m ∷ numbered (number + 1) ms = append_assoc over (m ∷ []) (numbered (number + 1) ms) in
+    let regrouped : (over ++ m ∷ []) ++ numbered (number + 1) ms ≡ over ++ m ∷ numbered (number + 1) ms =
+    append_assoc over (m ∷ []) (numbered (number + 1) ms) in
     let count : length (done ++ line_at number ts ∷ []) + 1 ≡ number + 1 = omega (arith, length-append done (line_at number ts ∷ [])) in
     rw (one_read names done line ts read, is, one_source_read names number ts)
     (alike_read (in_line number ts (names_read names ts)) _ _ _

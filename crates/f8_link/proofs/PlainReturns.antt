@@ -1,7 +1,7 @@
 -- A CR at the end of a line that has tokens stands in a comment: without it the line has the same tokens.
-use Rattle.std.proofs.Common.{◌≡◌, ℕ, zero, suc, ◌+◌, ◌≤◌, Bool, true, false, List, [], ◌∷◌, ◌++◌, length, take, Result, Ok, Err, refl, sym, ◌∙◌, ap, subst, arith}
+use Rattle.std.proofs.Common.{◌≡◌, ℕ, zero, suc, ◌+◌, Bool, true, false, List, [], ◌∷◌, ◌++◌, length, take, Result, Ok, Err, refl, sym, ◌∙◌, ap, subst, arith}
 use Rattle.std.proofs.Common.{lit<}
-use Rattle.std.specs.Prelude.{◌==◌, ◌&&◌, nat_le, if◌then◌else◌}
+use Rattle.std.specs.Prelude.{◌==◌, nat_le, if◌then◌else◌}
 use Rattle.std.specs.List.{prefix_len}
 use Rattle.std.specs.Char.{is_digit}
 use Rattle.std.specs.Str.{is_utf8, IsUtf8, IsAscii}
@@ -22,7 +22,7 @@ use Rattle.asm_text.proofs.Scan.{turn, at_front, at_bad}
 use Rattle.f8_asm.specs.PassOne.{tokens_in, line_tokens}
 use Rattle.f8_asm.specs.declared.answers.AsmCause.TheVariants as cause
 use Rattle.f8_asm.specs.declared.answers.AsmFault.{AsmFault}
-use Rattle.text_lines.specs.Lines.{is_nil, without_return}
+use Rattle.text_lines.specs.Lines.{without_return}
 
 -- ---- what stands at the front
 
@@ -114,7 +114,7 @@ tokens_ok number (Ok us) ts h = ap Ok (cc h)
 tokens_ok number (Err fault) ts h = cc h
 
 -- tokens that are read only of bytes that are UTF-8
-abbrev read_if : ℕ → Bool → Result (List Token) TokenFault → Result (List Token) AsmFault
+abbrev pub read_if : ℕ → Bool → Result (List Token) TokenFault → Result (List Token) AsmFault
 read_if number utf8 read = if utf8 then tokens_in number read else Err (record { line = number; column = 1; cause = cause.Utf8 })
 
 line_return : (number : ℕ) (front : List ℕ) (ts : List Token) → line_tokens number (front ++ 13 ∷ []) ≡ Ok ts → line_tokens number front ≡ Ok ts

@@ -3,16 +3,14 @@ use Rattle.std.proofs.Common.{◌≡◌, ℕ, ◌+◌, ◌<◌, Bool, true, fals
 use Rattle.std.specs.List.{AllZip}
 use Rattle.std.specs.Prelude.{nat_le}
 use Rattle.std.proofs.lemmas.Bool.Decides.{nat_tests}
-use Rattle.f8_asm.specs.Answers.{◌>>=◌}
-use Rattle.f8_asm.specs.Image.{Picture, everywhere, image_of, ascending}
-use Rattle.f8_asm.specs.PassThree.{no_bytes}
+use Rattle.f8_asm.specs.Image.{Picture, everywhere, image_of}
 use Rattle.f8_asm.specs.PassTwo.{Layout, no_layout}
 use Rattle.f8_asm.specs.Steps.{steps}
 use Rattle.f8_asm.specs.declared.answers.AsmFault.{AsmFault}
 use Rattle.f8_asm.proofs.Alike.{read-ok}
 use Rattle.f8_asm.proofs.ListedBytes.{all_open}
 use Rattle.f8_link.specs.declared.parts.Part.{Part}
-use Rattle.f8_link.specs.OneSource.{SourceLine, PlacedSource, numbered, source_read, source_placed, source_emitted, source_image_in, source_image}
+use Rattle.f8_link.specs.OneSource.{SourceLine, PlacedSource, numbered, source_read, source_placed, source_image_in, source_image}
 use Rattle.f8_link.specs.OneSource.{origin_tokens, joined, IsCompiled, HasBytes}
 use Rattle.f8_link.proofs.PlainLines.{Each, each_none, each_more}
 use Rattle.f8_link.proofs.PlainPasses.{plain_line}

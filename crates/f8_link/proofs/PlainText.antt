@@ -1,10 +1,9 @@
 -- The joined text of modules, and its lines.
-use Rattle.std.proofs.Common.{◌≡◌, ℕ, ◌+◌, ◌/◌, ◌%◌, ◌<◌, true, List, [], ◌∷◌, ◌++◌, map, Ok, refl, sym, ◌∙◌, ap, subst, arith, append_assoc}
+use Rattle.std.proofs.Common.{◌≡◌, ℕ, ◌/◌, ◌%◌, ◌<◌, true, List, [], ◌∷◌, ◌++◌, map, Ok, refl, sym, ◌∙◌, ap, subst, arith, append_assoc}
 use Rattle.std.specs.List.{list_all, flat_map, AllZip}
 use Rattle.std.proofs.lemmas.Bool.Decides.{nat_tests}
 use Rattle.std.proofs.lemmas.Str.{IsUtf8-from_ascii}
 use Rattle.asm_text.specs.Tokens.{tokens_of}
-use Rattle.asm_text.specs.declared.answers.Token.{Token}
 use Rattle.asm_text.proofs.Spelled.{hex4_read}
 use Rattle.f8_spec.specs.Spelling.{hex_digit, hex4}
 use Rattle.f8_asm.specs.Image.{everywhere, image_of}
