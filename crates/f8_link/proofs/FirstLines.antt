@@ -1,36 +1,19 @@
 -- What a module's first pass tells of its lines, its labels and its imports.
-use Rattle.std.proofs.Common.{◌≡◌, ℕ, ◌+◌, ℤ, pos, Bool, true, false, not, ◌||◌, cond, List, [], ◌∷◌, ◌++◌, length, map, drop, Option, Some, None, is_some}
-use Rattle.std.proofs.Common.{Result, Ok, Err, refl, sym, ap, ◌∙◌, subst, append_assoc, append-nil, filter, suc}
+use Rattle.std.proofs.Common.{◌≡◌, ℕ, ℤ, pos, Bool, true, false, ◌||◌, List, [], ◌∷◌, ◌++◌, length, Option, Some, None, is_some}
+use Rattle.std.proofs.Common.{Result, Ok, Err, refl, sym, ap, ◌∙◌, subst, suc}
 use Rattle.std.specs.Prelude.{if◌then◌else◌, bytes_eq, slice_get}
-use Rattle.std.specs.Option.{option_or}
 use Rattle.std.specs.Str.{is_utf8}
 use Rattle.std.proofs.lemmas.List.{map-append}
 use Rattle.asm_text.specs.Tokens.{tokens_of}
 use Rattle.asm_text.specs.declared.answers.Token.{Token}
 use Rattle.asm_text.specs.declared.answers.TokenFault.{TokenFault}
-use Rattle.f8_asm.specs.Answers.{◌>>=◌}
-use Rattle.f8_asm.specs.Names.{value_of, with_name}
-use Rattle.f8_asm.specs.ParsedLines.{parsed, names_after}
-use Rattle.f8_asm.specs.PassOne.{in_line, line_tokens}
+use Rattle.f8_asm.specs.Names.{value_of}
+use Rattle.f8_asm.specs.PassOne.{line_tokens}
 use Rattle.f8_asm.specs.PassOne as plain
-use Rattle.f8_asm.specs.Statements.{comma, label_of}
-use Rattle.f8_asm.specs.Steps.{steps}
 use Rattle.f8_asm.specs.declared.answers.AsmFault.{AsmFault}
-use Rattle.f8_asm.specs.declared.faults.LineFault.{LineFault}
-use Rattle.f8_asm.specs.declared.line.ParsedLine.{ParsedLine}
-use Rattle.f8_asm.proofs.Alike.{read-ok}
-use Rattle.f8_asm.proofs.ImageRooms.{in_line-ok}
-use Rattle.f8_link.specs.declared.directives.Directive.{Directive}
-use Rattle.f8_link.specs.declared.directives.Directive.TheVariants.{Export, Import}
-use Rattle.f8_link.specs.declared.lines.ModuleLine.{ModuleLine}
-use Rattle.f8_link.specs.declared.lines.ModuleLine.TheVariants as line
-use Rattle.f8_link.specs.Directives.{directive_of, name_in, names_taken, stray, unless_stray}
-use Rattle.f8_link.specs.FirstPass.{Reading, no_reading, name_taken, statement_taken, line_taken, tokens_taken, counted, with_import}
-use Rattle.f8_link.specs.FirstPass.{read_line, read_lines}
-use Rattle.f8_link.specs.OneSource.{has, tokens_read, tokens_in, is_statement, statement_lines}
-use Rattle.text_lines.specs.Lines.{lines}
-use Rattle.f8_link.proofs.ModuleLines.{LinesPair, no_line, export_line, statement_line, seen_after, NewLabel, LabelsNew}
-use Rattle.f8_link.proofs.NameFacts.{names_of, same_name, name_itself, not_true, not_both, value_of-append, value_in_front, value_behind, given, none_from}
+use Rattle.f8_link.specs.FirstPass.{Reading, no_reading}
+use Rattle.f8_link.specs.OneSource.{has, tokens_read, tokens_in}
+use Rattle.f8_link.proofs.NameFacts.{names_of, same_name, not_true, not_both, value_in_front, value_behind, none_from}
 use Rattle.f8_link.proofs.NameFacts.{some_from, some_none, slice_get_front, slice_get_last}
 
 -- ---- the tokens of a line don't hang on its number

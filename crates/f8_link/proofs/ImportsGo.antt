@@ -1,16 +1,13 @@
 -- What modules export and import: each exported name is new, and each import has the value of its export.
-use Rattle.std.proofs.Common.{◌≡◌, ℕ, ◌+◌, ℤ, Bool, true, false, ◌||◌, List, [], ◌∷◌, ◌++◌, length, map, Option, Some, None, is_some, All, zero, suc}
+use Rattle.std.proofs.Common.{◌≡◌, ℕ, ◌+◌, ℤ, Bool, true, false, ◌||◌, List, [], ◌∷◌, ◌++◌, map, Option, Some, None, is_some, All, zero, suc}
 use Rattle.std.proofs.Common.{Result, Ok, Err, refl, sym, ap, ◌∙◌, subst, append_assoc, append-nil, bytes_eq, option_map}
 use Rattle.std.specs.Prelude.{if◌then◌else◌, slice_get}
 use Rattle.std.specs.Option.{option_or}
-use Rattle.std.proofs.lemmas.List.{map-append}
 use Rattle.std.proofs.lemmas.List.Elements.{All-nil, All-push}
-use Rattle.f8_asm.specs.Answers.{◌>>=◌}
-use Rattle.f8_asm.specs.Names.{value_of, with_name}
+use Rattle.f8_asm.specs.Names.{value_of}
 use Rattle.f8_asm.specs.Steps.{steps}
 use Rattle.f8_asm.proofs.Alike.{read-ok}
 use Rattle.f8_link.specs.declared.answers.LinkCause.{LinkCause}
-use Rattle.f8_link.specs.declared.answers.LinkFault.{LinkFault}
 use Rattle.f8_link.specs.declared.parts.Part.{Part}
 use Rattle.f8_link.specs.declared.values.Named.{Named}
 use Rattle.f8_link.specs.Linking.{at_module, each_part, named_value, export_given, exports_given, all_exports, import_found, import_given, imports_given}

@@ -45,3 +45,6 @@ pub mod SpeltRead
 pub mod SpeltWritten
 pub mod SpeltImage
 pub mod OneSourceIs
+pub mod CompiledParts
+pub mod Modules
+pub mod PlainNames

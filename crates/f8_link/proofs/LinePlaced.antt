@@ -21,8 +21,8 @@ use Rattle.f8_link.specs.Evaluation.{formula_found, names_import}
 use Rattle.f8_link.specs.Pieces.{constant_of}
 use Rattle.f8_link.specs.SecondPass.{Layout, with_label, moved_by, with_placed, constant_at, filled, statement_settled, settle, place, line_size}
 use Rattle.f8_link.specs.declared.faults.ModuleLineFault.{ModuleLineFault}
-use Rattle.f8_link.specs.declared.lines.ModuleLine.{ModuleLine}
-use Rattle.f8_link.specs.declared.lines.ModuleLine.TheVariants as line
+use Rattle.f8_link.specs.declared.lines.LineTask.{LineTask}
+use Rattle.f8_link.specs.declared.lines.LineTask.TheVariants as line
 use Rattle.f8_link.specs.declared.lines.PlacedLine.{PlacedLine}
 use Rattle.f8_link.specs.declared.values.Named.{Named}
 use Rattle.f8_link.specs.declared.values.Named.TheVariants.{Constant, Offset}
@@ -117,12 +117,12 @@ settled_grows imports label column m t (One single.Equ o) h = equ_grows (equ_rea
 settled_grows imports label column m t other h = filled_grows label column (statement_size other) m t h
 
 -- a line of a module is placed where the layout stands, which goes on behind its bytes
-pub record Places (l : ModuleLine) (m t : Layout) : Type 0 where
+pub record Places (l : LineTask) (m t : Layout) : Type 0 where
   pub here : t.here ≡ m.here + line_size l
   pub placed : t.placed ≡ m.placed ++ record { offset = m.here; line = l } ∷ []
   pub inside : m.here ≤ 65536 → t.here ≤ 65536
 
-pub line_places : (imports : List (List ℕ × ℕ)) (l : ModuleLine) (m t : Layout) → place imports m l ≡ Ok t → Places l m t
+pub line_places : (imports : List (List ℕ × ℕ)) (l : LineTask) (m t : Layout) → place imports m l ≡ Ok t → Places l m t
 unfolding place settle
 line_places imports (line.Statement l) m t h =
     read-ok (Places (line.Statement l) m t) (in_line_to l.number l.end (settle imports m l)) _ t h (λ u at_u e.

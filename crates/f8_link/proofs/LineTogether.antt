@@ -29,7 +29,7 @@ use Rattle.f8_link.specs.Answers.{in_line_to}
 use Rattle.f8_link.specs.Linking.{named_value}
 use Rattle.f8_link.specs.OneSource.{PlacedSource, renamed_values, source_placed}
 use Rattle.f8_link.specs.SecondPass.{Layout, with_label, moved_by, with_placed, filled, statement_settled, settle, place}
-use Rattle.f8_link.specs.declared.lines.ModuleLine.TheVariants as line
+use Rattle.f8_link.specs.declared.lines.LineTask.TheVariants as line
 use Rattle.f8_link.specs.declared.values.Named.{Named}
 use Rattle.f8_link.specs.declared.values.Named.TheVariants.{Constant, Offset}
 use Rattle.f8_link.specs.Directives.{stray}

@@ -22,7 +22,7 @@ use Rattle.f8_asm.proofs.Alike.{AlikeBy, read-ok}
 use Rattle.f8_asm.proofs.FormulaValues.{statement_with_values}
 use Rattle.f8_asm.proofs.StatementsAlike.{StatementAlike, statement_alike}
 use Rattle.f8_link.specs.declared.faults.ModuleLineFault.{ModuleLineFault}
-use Rattle.f8_link.specs.declared.lines.ModuleLine.TheVariants as line
+use Rattle.f8_link.specs.declared.lines.LineTask.TheVariants as line
 use Rattle.f8_link.specs.declared.lines.PlacedLine.{PlacedLine}
 use Rattle.f8_link.specs.declared.values.Found.{Found}
 use Rattle.f8_link.specs.declared.values.Found.TheVariants as found

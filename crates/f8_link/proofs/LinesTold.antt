@@ -1,9 +1,8 @@
 -- A module's first pass, line by line: its lines beside the tokens of its statements, its labels, and what it knows at the end.
-use Rattle.std.proofs.Common.{◌≡◌, ℕ, ◌+◌, ℤ, pos, Bool, true, false, not, cond, List, [], ◌∷◌, ◌++◌, map, drop, Option, Some, None, is_some}
+use Rattle.std.proofs.Common.{◌≡◌, ℕ, ◌+◌, ℤ, pos, Bool, true, false, cond, List, [], ◌∷◌, ◌++◌, map, drop, Option, Some, None, is_some}
 use Rattle.std.proofs.Common.{Result, Ok, Err, refl, sym, ap, ◌∙◌, subst, append_assoc, append-nil, filter}
 use Rattle.std.specs.Prelude.{if◌then◌else◌}
 use Rattle.asm_text.specs.declared.answers.Token.{Token}
-use Rattle.f8_asm.specs.Answers.{◌>>=◌}
 use Rattle.f8_asm.specs.Names.{value_of, with_name}
 use Rattle.f8_asm.specs.ParsedLines.{parsed, line_of, names_after}
 use Rattle.f8_asm.specs.PassOne.{in_line, line_tokens}
@@ -18,8 +17,8 @@ use Rattle.f8_asm.proofs.Alike.{read-ok}
 use Rattle.f8_asm.proofs.ImageRooms.{in_line-ok}
 use Rattle.f8_link.specs.declared.directives.Directive.{Directive}
 use Rattle.f8_link.specs.declared.directives.Directive.TheVariants.{Export, Import}
-use Rattle.f8_link.specs.declared.lines.ModuleLine.{ModuleLine}
-use Rattle.f8_link.specs.declared.lines.ModuleLine.TheVariants as line
+use Rattle.f8_link.specs.declared.lines.LineTask.{LineTask}
+use Rattle.f8_link.specs.declared.lines.LineTask.TheVariants as line
 use Rattle.f8_link.specs.Directives.{directive_of, name_in, names_taken, stray, unless_stray}
 use Rattle.f8_link.specs.FirstPass.{Reading, no_reading, name_taken, statement_taken, line_taken, tokens_taken, counted, with_export, with_import, with_statement}
 use Rattle.f8_link.specs.FirstPass.{read_line, read_lines}
@@ -64,21 +63,31 @@ pub new_behind : (seen : List (List ℕ)) (tss uss : List (List Token)) → Labe
 new_behind seen [] uss front rest = rest
 new_behind seen (ts ∷ tss) uss front rest = (front.0, new_behind (seen_after seen (label_of ts)) tss uss front.1 rest)
 
-pub pair_behind : {ls ks : List ModuleLine} {tss uss : List (List Token)} → LinesPair ls tss → LinesPair ks uss → LinesPair (ls ++ ks) (tss ++ uss)
+pub pair_behind : {ls ks : List LineTask} {tss uss : List (List Token)} → LinesPair ls tss → LinesPair ks uss → LinesPair (ls ++ ks) (tss ++ uss)
 pair_behind no_line rest = rest
 pair_behind (export_line front) rest = export_line (pair_behind front rest)
 pair_behind (statement_line is front) rest = statement_line is (pair_behind front rest)
 
+-- no line has a word that only directives may have
+abbrev pub NoStray : List (List Token) → Type 0
+NoStray [] = Unit {0}
+NoStray (ts ∷ tss) = (stray ts ≡ None) × NoStray tss
+
+plain_behind : (tss uss : List (List Token)) → NoStray tss → NoStray uss → NoStray (tss ++ uss)
+plain_behind [] uss front rest = rest
+plain_behind (ts ∷ tss) uss front rest = (front.0, plain_behind tss uss front.1 rest)
+
 -- what lines of these tokens did
 pub record Told (seen : List (List ℕ)) (s t : Reading) (tss : List (List Token)) : Type 0 where
-  pub lines : List ModuleLine
+  pub lines : List LineTask
   pub behind : t.lines ≡ s.lines ++ lines
   pub pair : LinesPair lines tss
   pub new : LabelsNew seen tss
+  pub plain : NoStray tss
   pub known : Known (seen_behind seen tss) t
 
 told_nothing : {seen : List (List ℕ)} {s : Reading} → Known seen s → Told seen s s []
-told_nothing {seen} {s} so = record { lines = []; behind = sym (append-nil s.lines); pair = no_line; new = tt; known = so }
+told_nothing {seen} {s} so = record { lines = []; behind = sym (append-nil s.lines); pair = no_line; new = tt; plain = tt; known = so }
 
 told_behind : {seen : List (List ℕ)} {s t u : Reading} {tss uss : List (List Token)} → Told seen s t tss → Told (seen_behind seen tss) t u uss
     → Told seen s u (tss ++ uss)
@@ -87,6 +96,7 @@ told_behind {seen} {s} {t} {u} {tss} {uss} front rest = record {
   behind = rest.behind ∙ ap (λ q. q ++ rest.lines) front.behind ∙ append_assoc s.lines front.lines rest.lines;
   pair = pair_behind front.pair rest.pair;
   new = new_behind seen tss uss front.new rest.new;
+  plain = plain_behind tss uss front.plain rest.plain;
   known = rw (seen_behind-append seen tss uss) rest.known;
 }
 
@@ -117,6 +127,7 @@ module _ {seen : List (List ℕ)} {s : Reading} where
         behind = ap (λ q. q ++ line.Export number column name ∷ []) so.behind ∙ append_assoc s.lines so.lines (line.Export number column name ∷ []);
         pair = pair_behind so.pair (export_line no_line);
         new = tt;
+        plain = tt;
         known = record { label = so.known.label; imported = so.known.imported; apart = so.known.apart; numbered = so.known.numbered };
       })
 
@@ -129,6 +140,7 @@ module _ {seen : List (List ℕ)} {s : Reading} where
         behind = so.behind;
         pair = so.pair;
         new = tt;
+        plain = tt;
         known = import_more so.known name both.0 (with_import name t) (given t.known name (pos 0) both.0)
             (given t.imports name _ (not_imported so.known name both.0));
       })
@@ -140,8 +152,8 @@ module _ {seen : List (List ℕ)} {s : Reading} where
 
 -- ---- a line of a statement
 
-strayed : {A : Type 0} (at : Option ℕ) (r : Result A LineFault) (x : A) → unless_stray at r ≡ Ok x → r ≡ Ok x
-strayed None (Ok y) x h = cc h
+strayed : {A : Type 0} (at : Option ℕ) (r : Result A LineFault) (x : A) → unless_stray at r ≡ Ok x → (at ≡ None) × (r ≡ Ok x)
+strayed None (Ok y) x h = (refl, h)
 strayed (Some column) (Ok y) x h = cc h
 strayed None (Err f) x h = cc h
 strayed (Some column) (Err f) x h = cc h
@@ -180,7 +192,8 @@ module _ {seen : List (List ℕ)} {s : Reading} (so : Known seen s) where
   statement_told number ts t h =
       read-ok (Told seen s t (ts ∷ [])) (names_after s.known ts (label_of ts)) _ t h (λ known at_known h.
       read-ok (Told seen s t (ts ∷ [])) (unless_stray (stray ts) (parsed number ts)) _ t h (λ l at_l h.
-      let read : parsed number ts ≡ Ok l = strayed (stray ts) (parsed number ts) l at_l in
+      let plain = strayed (stray ts) (parsed number ts) l at_l in
+      let read : parsed number ts ≡ Ok l = plain.1 in
       let own : parsed l.number ts ≡ Ok l = rw (parsed_number number ts l read) at read in
       let is : with_statement l known s ≡ t = cc h in
       let label = labelled ts (label_of ts) known at_known in
@@ -189,6 +202,7 @@ module _ {seen : List (List ℕ)} {s : Reading} (so : Known seen s) where
         behind = refl;
         pair = statement_line own no_line;
         new = (label.new, tt);
+        plain = (plain.0, tt);
         known = label.now (with_statement l known s) refl refl;
       })))
 
@@ -210,6 +224,7 @@ module _ {seen : List (List ℕ)} {s : Reading} (so : Known seen s) where
     behind = did.behind;
     pair = did.pair;
     new = did.new;
+    plain = did.plain;
     known = record { label = did.known.label; imported = did.known.imported; apart = did.known.apart; numbered = did.known.numbered };
   }
 

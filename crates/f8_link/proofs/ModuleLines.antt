@@ -4,16 +4,16 @@ use Rattle.asm_text.specs.declared.answers.Token.{Token}
 use Rattle.f8_asm.specs.ParsedLines.{parsed}
 use Rattle.f8_asm.specs.Statements.{label_of}
 use Rattle.f8_asm.specs.declared.line.ParsedLine.{ParsedLine}
-use Rattle.f8_link.specs.declared.lines.ModuleLine.{ModuleLine}
-use Rattle.f8_link.specs.declared.lines.ModuleLine.TheVariants as line
+use Rattle.f8_link.specs.declared.lines.LineTask.{LineTask}
+use Rattle.f8_link.specs.declared.lines.LineTask.TheVariants as line
 use Rattle.f8_link.specs.OneSource.{has}
 
 -- each statement is that of its line's tokens; a name that is exported has no line in the one source
-pub data LinesPair : List ModuleLine → List (List Token) → Type 0 where
+pub data LinesPair : List LineTask → List (List Token) → Type 0 where
   no_line : LinesPair [] []
-  export_line : {number column : ℕ} {name : List ℕ} {ls : List ModuleLine} {tss : List (List Token)} → LinesPair ls tss
+  export_line : {number column : ℕ} {name : List ℕ} {ls : List LineTask} {tss : List (List Token)} → LinesPair ls tss
       → LinesPair (line.Export number column name ∷ ls) tss
-  statement_line : {l : ParsedLine} {ts : List Token} {ls : List ModuleLine} {tss : List (List Token)} → parsed l.number ts ≡ Ok l → LinesPair ls tss
+  statement_line : {l : ParsedLine} {ts : List Token} {ls : List LineTask} {tss : List (List Token)} → parsed l.number ts ≡ Ok l → LinesPair ls tss
       → LinesPair (line.Statement l ∷ ls) (ts ∷ tss)
 
 -- the names behind a line with this label

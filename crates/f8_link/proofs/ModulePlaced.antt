@@ -14,8 +14,8 @@ use Rattle.f8_asm.proofs.Steps.{steps_more}
 use Rattle.f8_link.specs.Directives.{stray}
 use Rattle.f8_link.specs.OneSource.{SourceLine, PlacedSource, source_placed}
 use Rattle.f8_link.specs.SecondPass.{Layout, no_layout, with_placed, place, place_lines, line_size}
-use Rattle.f8_link.specs.declared.lines.ModuleLine.{ModuleLine}
-use Rattle.f8_link.specs.declared.lines.ModuleLine.TheVariants as line
+use Rattle.f8_link.specs.declared.lines.LineTask.{LineTask}
+use Rattle.f8_link.specs.declared.lines.LineTask.TheVariants as line
 use Rattle.f8_link.specs.declared.lines.PlacedLine.{PlacedLine}
 use Rattle.f8_link.specs.declared.values.Named.{Named}
 use Rattle.f8_link.proofs.LinePlaced.{Places, line_places}
@@ -51,7 +51,7 @@ pub record Grown (m t : Layout) : Type 0 where
   pub here : m.here ≤ t.here
   pub inside : m.here ≤ 65536 → t.here ≤ 65536
 
-pub lines_grow : (imports : List (List ℕ × ℕ)) (ls : List ModuleLine) (m t : Layout) → place_lines imports m ls ≡ Ok t → Grown m t
+pub lines_grow : (imports : List (List ℕ × ℕ)) (ls : List LineTask) (m t : Layout) → place_lines imports m ls ≡ Ok t → Grown m t
 unfolding steps
 lines_grow imports [] m t h =
     let same : m ≡ t = cc h in
@@ -65,7 +65,7 @@ lines_grow imports (l ∷ ls) m t h =
     record { here = omega (arith, here, on); inside = λ low. rest.inside (did.inside low) })
 
 -- a module has at most 65,536 bytes
-pub laid_short : (imports : List (List ℕ × ℕ)) (ls : List ModuleLine) (laid : Layout) → place_lines imports no_layout ls ≡ Ok laid → laid.here ≤ 65536
+pub laid_short : (imports : List (List ℕ × ℕ)) (ls : List LineTask) (laid : Layout) → place_lines imports no_layout ls ≡ Ok laid → laid.here ≤ 65536
 unfolding no_layout
 laid_short imports ls laid h = (lines_grow imports ls no_layout laid h).inside (omega arith)
 
@@ -125,7 +125,7 @@ module _ (site : Site) (imports : List (List ℕ × ℕ)) (laid : Layout) (least
         pair = statement_place read (subst (λ n. PlacesPair site.first site.rename n rest.ps rest.qs) placed.here rest.pair);
       }
 
-  lines_go : {ls : List ModuleLine} {tss : List (List Token)} → LinesPair ls tss → (seen : List (List ℕ)) (number : ℕ) (m : Layout)
+  lines_go : {ls : List LineTask} {tss : List (List Token)} → LinesPair ls tss → (seen : List (List ℕ)) (number : ℕ) (m : Layout)
       (s : SourceLayout PlacedSource) → LabelsNew seen tss → LabelsFresh site.rename site.before tss → NoStray tss → Together site m s
       → Stands site seen m → place_lines imports m ls ≡ Ok laid → LinesGo site number tss m laid s
   unfolding steps place
@@ -169,7 +169,7 @@ pub record ModuleGoes (site : Site) (number : ℕ) (tss : List (List Token)) (la
   pub source_are : u.placed ≡ s.placed ++ qs
   pub pair : PlacesPair site.first site.rename 0 laid.placed qs
 
-pub module_goes : (site : Site) (imports : List (List ℕ × ℕ)) (ls : List ModuleLine) (tss : List (List Token)) (number : ℕ) (laid : Layout)
+pub module_goes : (site : Site) (imports : List (List ℕ × ℕ)) (ls : List LineTask) (tss : List (List Token)) (number : ℕ) (laid : Layout)
     (s : SourceLayout PlacedSource) → LinesPair ls tss → LabelsNew [] tss → LabelsFresh site.rename site.before tss → NoStray tss
     → s.here ≡ site.first → s.names ≡ site.before → s.filled ≡ site.marks → place_lines imports no_layout ls ≡ Ok laid → laid.here ≤ site.total
     → ModuleGoes site number tss laid s

@@ -1,18 +1,17 @@
 -- A module's object has as many bytes as its second pass counted.
-use Rattle.std.proofs.Common.{◌≡◌, ℕ, ◌+◌, List, [], ◌∷◌, ◌++◌, length, Option, Some, None, Ok, refl, sym, ap, ◌∙◌, subst, arith, length-append}
+use Rattle.std.proofs.Common.{◌≡◌, ℕ, ◌+◌, List, [], ◌∷◌, ◌++◌, length, Ok, refl, sym, ap, ◌∙◌, subst, arith, length-append}
 use Rattle.f8_asm.specs.Names.{value_of}
 use Rattle.f8_asm.specs.Statements.{statement_size, statement_valued}
 use Rattle.f8_asm.specs.Steps.{steps}
 use Rattle.f8_asm.proofs.Alike.{read-ok}
-use Rattle.f8_link.specs.declared.lines.ModuleLine.{ModuleLine}
-use Rattle.f8_link.specs.declared.lines.ModuleLine.TheVariants as line
+use Rattle.f8_link.specs.declared.lines.LineTask.{LineTask}
+use Rattle.f8_link.specs.declared.lines.LineTask.TheVariants as line
 use Rattle.f8_link.specs.declared.lines.PlacedLine.{PlacedLine}
 use Rattle.f8_link.specs.declared.values.Named.{Named}
 use Rattle.f8_link.specs.Answers.{in_line_to}
 use Rattle.f8_link.specs.Evaluation.{formula_found}
-use Rattle.f8_link.specs.Pieces.{Piece}
 use Rattle.f8_link.specs.SecondPass.{Layout, no_layout, place, place_lines, line_size}
-use Rattle.f8_link.specs.ThirdPass.{Code, no_code, with_piece, line_piece, exported, line_emitted, emit, emit_lines, object_of}
+use Rattle.f8_link.specs.ThirdPass.{Code, no_code, with_piece, line_piece, line_emitted, emit, emit_lines, object_of}
 use Rattle.f8_link.specs.Objects.{Object}
 use Rattle.f8_link.proofs.LinePlaced.{line_places, in_line-read}
 use Rattle.f8_link.proofs.LinesGo.{valued_size, exported_is}
@@ -27,7 +26,7 @@ size_more : (ps : List PlacedLine) (p : PlacedLine) → lines_size (ps ++ p ∷ 
 size_more [] p = omega arith
 size_more (q ∷ ps) p = let rest = size_more ps p in omega (arith, rest)
 
-laid_size : (imports : List (List ℕ × ℕ)) (ls : List ModuleLine) (m t : Layout) → place_lines imports m ls ≡ Ok t → m.here ≡ lines_size m.placed
+laid_size : (imports : List (List ℕ × ℕ)) (ls : List LineTask) (m t : Layout) → place_lines imports m ls ≡ Ok t → m.here ≡ lines_size m.placed
     → t.here ≡ lines_size t.placed
 unfolding steps
 laid_size imports [] m t h so =
@@ -41,7 +40,7 @@ laid_size imports (l ∷ ls) m t h so =
     (did.here ∙ ap (λ (n : ℕ). n + line_size l) so ∙ sym (size_more m.placed p) ∙ ap lines_size (sym did.placed)))
 
 module _ (names : List (List ℕ × Named)) (imports : List (List ℕ × ℕ)) where
-  line_length : (offset : ℕ) (l : ModuleLine) (s t : Code) → line_emitted names imports offset s l ≡ Ok t
+  line_length : (offset : ℕ) (l : LineTask) (s t : Code) → line_emitted names imports offset s l ≡ Ok t
       → length t.bytes ≡ length s.bytes + line_size l
   unfolding line_piece
   line_length offset (line.Statement l) s t h =
@@ -68,7 +67,7 @@ module _ (names : List (List ℕ × Named)) (imports : List (List ℕ × ℕ)) w
       let rest = emitted_size ps u t h in
       omega (arith, one, rest))
 
-pub module_size : (imports : List (List ℕ × ℕ)) (ls : List ModuleLine) (laid : Layout) (code : Code) (object : Object)
+pub module_size : (imports : List (List ℕ × ℕ)) (ls : List LineTask) (laid : Layout) (code : Code) (object : Object)
     → place_lines imports no_layout ls ≡ Ok laid → emit_lines laid.names imports no_code laid.placed ≡ Ok code → object_of code imports ≡ object
     → laid.here ≡ length object.bytes
 unfolding no_layout no_code

@@ -1,33 +1,29 @@
 -- The names of a module: its second pass gives one to each label, and what it exports is among them.
-use Rattle.std.proofs.Common.{◌≡◌, ℕ, ◌+◌, Bool, true, false, ◌||◌, List, [], ◌∷◌, ◌++◌, map, Option, Some, None, is_some, Result, Ok, Err}
+use Rattle.std.proofs.Common.{◌≡◌, ℕ, Bool, true, false, ◌||◌, List, [], ◌∷◌, ◌++◌, Option, Some, None, Result, Ok, Err}
 use Rattle.std.proofs.Common.{refl, sym, ap, ◌∙◌, subst, append_assoc, append-nil, All, bytes_eq}
 use Rattle.std.specs.Prelude.{if◌then◌else◌}
 use Rattle.std.proofs.lemmas.List.{map-append}
 use Rattle.std.proofs.lemmas.List.Elements.{All-nil, All-push}
 use Rattle.asm_text.specs.declared.answers.Token.{Token}
-use Rattle.f8_asm.specs.Answers.{◌>>=◌}
 use Rattle.f8_asm.specs.Image.{everywhere}
 use Rattle.f8_asm.specs.Names.{value_of, with_name}
-use Rattle.f8_asm.specs.ParsedLines.{parsed}
 use Rattle.f8_asm.specs.PassTwo.{is_inside}
 use Rattle.f8_asm.specs.Statements.{label_of, statement_size}
 use Rattle.f8_asm.specs.Steps.{steps}
 use Rattle.f8_asm.specs.declared.formulas.Step.{Step}
-use Rattle.f8_asm.specs.declared.line.ParsedLine.{ParsedLine}
 use Rattle.f8_asm.specs.declared.operands.Statement.{Statement}
 use Rattle.f8_asm.specs.declared.operands.Statement.TheVariants.{Nothing, Fixed, One, Test, Items}
 use Rattle.f8_asm.specs.declared.words.Single.TheVariants as single
 use Rattle.f8_asm.proofs.Alike.{read-ok}
-use Rattle.f8_link.specs.declared.answers.ModFault.{ModFault}
 use Rattle.f8_link.specs.declared.faults.ModuleLineFault.{ModuleLineFault}
-use Rattle.f8_link.specs.declared.lines.ModuleLine.{ModuleLine}
-use Rattle.f8_link.specs.declared.lines.ModuleLine.TheVariants as line
+use Rattle.f8_link.specs.declared.lines.LineTask.{LineTask}
+use Rattle.f8_link.specs.declared.lines.LineTask.TheVariants as line
 use Rattle.f8_link.specs.declared.lines.PlacedLine.{PlacedLine}
 use Rattle.f8_link.specs.declared.values.Named.{Named}
-use Rattle.f8_link.specs.declared.values.Named.TheVariants.{Constant, Offset}
+use Rattle.f8_link.specs.declared.values.Named.TheVariants.{Offset}
 use Rattle.f8_link.specs.Answers.{in_line_to}
 use Rattle.f8_link.specs.OneSource.{has, label_list}
-use Rattle.f8_link.specs.SecondPass.{Layout, no_layout, with_label, moved_by, with_placed, constant_at, filled, statement_settled, settle, place, place_lines}
+use Rattle.f8_link.specs.SecondPass.{Layout, with_label, moved_by, with_placed, constant_at, filled, statement_settled, settle, place, place_lines}
 use Rattle.f8_link.specs.ThirdPass.{Code, no_code, with_piece, with_value, line_piece, exported, line_emitted, emit, emit_lines}
 use Rattle.f8_link.proofs.ModuleLines.{LinesPair, no_line, export_line, statement_line, seen_after, NewLabel, LabelsNew}
 use Rattle.f8_link.proofs.NameFacts.{names_of, value_behind, given, not_both}
@@ -96,7 +92,7 @@ module _ (imports : List (List ℕ × ℕ)) where
       is_unnamed y false is h = rw (given s.names x v (so x new)) (value_behind s.names ((x, v) ∷ []) y (so y h) ∙ rw is refl)
 
   -- the names are the labels in their order
-  pub laid_labels : {ls : List ModuleLine} {tss : List (List Token)} → LinesPair ls tss → (seen : List (List ℕ)) (s t : Layout) → LabelsNew seen tss
+  pub laid_labels : {ls : List LineTask} {tss : List (List Token)} → LinesPair ls tss → (seen : List (List ℕ)) (s t : Layout) → LabelsNew seen tss
       → Unnamed seen s.names → place_lines imports s ls ≡ Ok t → names_of t.names ≡ names_of s.names ++ labels_in tss
   unfolding steps place settle
   laid_labels no_line seen s t new so h =
@@ -138,7 +134,7 @@ module _ (names : List (List ℕ × Named)) (imports : List (List ℕ × ℕ)) w
   exports_stand (p ∷ ps) s t h so =
       read-ok (All (ExportStands names) t.exports) (emit names imports s p) _ t h (λ u at_u h. exports_stand ps u t h (by p.line u at_u))
     where
-      by : (l : ModuleLine) (u : Code) → line_emitted names imports p.offset s l ≡ Ok u → All (ExportStands names) u.exports
+      by : (l : LineTask) (u : Code) → line_emitted names imports p.offset s l ≡ Ok u → All (ExportStands names) u.exports
       by (line.Statement l) u at_u =
           read-ok (All (ExportStands names) u.exports) (in_line_to l.number l.end (line_piece names imports p.offset l)) _ u at_u (λ piece at_piece e.
           let is : with_piece s piece ≡ u = cc e in

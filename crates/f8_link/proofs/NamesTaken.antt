@@ -1,6 +1,6 @@
 -- Names with commas between them: where the loop over them goes on and ends.
 use Rattle.std.proofs.Common.{◌≡◌, ℕ, ◌<◌, Bool, true, false, List, [], ◌∷◌, length, Result, Ok, Err, refl, sym, ap, ◌∙◌, arith}
-use Rattle.std.specs.Prelude.{if◌then◌else◌, Some, None, ◌==◌}
+use Rattle.std.specs.Prelude.{if◌then◌else◌, Some, ◌==◌}
 use Rattle.asm_text.specs.declared.answers.Token.{Token}
 use Rattle.asm_text.specs.declared.answers.TokenKind.{TokenKind}
 use Rattle.asm_text.specs.declared.answers.TokenKind.TheVariants as kind

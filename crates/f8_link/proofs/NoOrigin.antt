@@ -14,7 +14,7 @@ use Rattle.f8_asm.specs.declared.fields.Field.{Field}
 use Rattle.f8_asm.specs.declared.fields.Field.TheVariants as field
 use Rattle.f8_asm.specs.declared.operands.Operand.{Operand}
 use Rattle.f8_asm.specs.declared.operands.Statement.{Statement}
-use Rattle.f8_asm.specs.declared.operands.Statement.TheVariants.{Fixed, One, Test, Items}
+use Rattle.f8_asm.specs.declared.operands.Statement.TheVariants.{Fixed, One, Test}
 use Rattle.f8_asm.specs.declared.registers.Register.{Register}
 use Rattle.f8_asm.specs.declared.words.Shape.{Shape}
 use Rattle.f8_asm.specs.declared.words.Shape.TheVariants as shape

@@ -13,7 +13,7 @@ use Rattle.f8_asm.proofs.Steps.{steps_end, steps_more}
 use Rattle.f8_link.specs.Linking.{named_value}
 use Rattle.f8_link.specs.OneSource.{SourceLine, PlacedSource, source_placed}
 use Rattle.f8_link.specs.SecondPass.{Layout, no_layout, place_lines}
-use Rattle.f8_link.specs.declared.lines.ModuleLine.{ModuleLine}
+use Rattle.f8_link.specs.declared.lines.LineTask.{LineTask}
 use Rattle.f8_link.specs.declared.values.Named.{Named}
 use Rattle.f8_link.proofs.EquGoes.{OwnNamesGo, EquGoes}
 use Rattle.f8_link.proofs.LineTogether.{Site}
@@ -30,7 +30,7 @@ pub record Placing : Type 0 where
   pub first : ℕ
   pub rename : List ℕ → List ℕ
   pub imports : List (List ℕ × ℕ)
-  pub lines : List ModuleLine
+  pub lines : List LineTask
   pub tokens : List (List Token)
   pub laid : Layout
 

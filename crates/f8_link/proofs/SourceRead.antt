@@ -1,32 +1,24 @@
 -- The one source's first pass: the labels of a module stand behind the names before it, and an ORG changes nothing.
 use Rattle.std.proofs.Common.{◌≡◌, ℕ, ◌+◌, ℤ, pos, Bool, true, false, ◌||◌, List, [], ◌∷◌, ◌++◌, length, map, Option, Some, None, is_some}
-use Rattle.std.proofs.Common.{Result, Ok, Err, refl, sym, ap, ◌∙◌, subst, append_assoc, append-nil, bytes_eq, arith, suc, add-zero}
-use Rattle.std.specs.Prelude.{if◌then◌else◌}
+use Rattle.std.proofs.Common.{Result, Ok, Err, refl, sym, ap, ◌∙◌, append_assoc, append-nil, bytes_eq, arith, add-zero}
 use Rattle.std.proofs.lemmas.List.{map-append}
 use Rattle.asm_text.specs.declared.answers.Token.{Token}
 use Rattle.f8_asm.specs.Answers.{◌>>=◌}
-use Rattle.f8_asm.specs.Grammar.{column_of}
 use Rattle.f8_asm.specs.Names.{value_of, with_name}
 use Rattle.f8_asm.specs.ParsedLines.{parsed}
-use Rattle.f8_asm.specs.PassOne.{in_line, end_of}
-use Rattle.f8_asm.specs.Statements.{statement, statement_valued, label_of, behind_label, effect_of, twice}
-use Rattle.f8_asm.specs.Formulas.{formulas, formula_value}
+use Rattle.f8_asm.specs.Statements.{statement, label_of, behind_label}
 use Rattle.f8_asm.specs.Steps.{steps}
-use Rattle.f8_asm.specs.declared.answers.AsmFault.{AsmFault}
-use Rattle.f8_asm.specs.declared.faults.LineFault.{LineFault}
 use Rattle.f8_asm.specs.declared.line.ParsedLine.{ParsedLine}
-use Rattle.f8_asm.specs.declared.operands.Statement.{Statement}
 use Rattle.f8_asm.specs.declared.operands.Statement.TheVariants.{One}
-use Rattle.f8_asm.specs.declared.values.Outcome.{Outcome}
 use Rattle.f8_asm.specs.declared.values.Outcome.TheVariants.{Value, OutOfRange}
 use Rattle.f8_asm.specs.declared.words.Single.TheVariants as single
 use Rattle.f8_asm.proofs.FormulaValues.{statement_with_values}
 use Rattle.f8_asm.proofs.ListedBytes.{all_open}
-use Rattle.f8_link.specs.declared.lines.ModuleLine.{ModuleLine}
+use Rattle.f8_link.specs.declared.lines.LineTask.{LineTask}
 use Rattle.f8_link.specs.OneSource.{SourceLine, renamed_values, statement_read, label_read, source_read, has, label_list, origin_tokens, numbered}
 use Rattle.f8_link.proofs.ModuleLines.{LinesPair, no_line, export_line, statement_line, seen_after, NewLabel, LabelsNew}
-use Rattle.f8_link.proofs.NameFacts.{value_behind, given, none_from, not_true, not_both, same_name, name_itself, apart_turned}
-use Rattle.f8_link.proofs.LinesTold.{ParsedFrom, parsed_from}
+use Rattle.f8_link.proofs.NameFacts.{value_behind, given, not_both, name_itself}
+use Rattle.f8_link.proofs.LinesTold.{parsed_from}
 
 -- ---- steps one behind the other
 
@@ -119,7 +111,7 @@ module _ (rename : List ℕ → List ℕ) (apart : (x y : List ℕ) → bytes_eq
   unfolding source_read
   line_read seen names number ts l read label = rw (label.is, statement_goes rename names l.number ts l read) refl
 
-  pub lines_read : {ls : List ModuleLine} {tss : List (List Token)} → LinesPair ls tss → (seen : List (List ℕ)) (names : List (List ℕ × ℤ))
+  pub lines_read : {ls : List LineTask} {tss : List (List Token)} → LinesPair ls tss → (seen : List (List ℕ)) (names : List (List ℕ × ℤ))
       (number : ℕ) → OwnLabels own tss → LabelsNew seen tss → Unseen rename own seen names
       → steps source_read names (numbered number (spelled_lines rename tss)) ≡ Ok (names ++ no_values rename (labels_in tss))
   unfolding steps numbered
@@ -141,7 +133,7 @@ label_own : (own : List ℕ → Bool) (label : Option (List ℕ)) (xs : List (Li
 label_own own None xs all = tt
 label_own own (Some x) xs all = all x (rw (name_itself x) refl)
 
-rest_own : (label : Option (List ℕ)) (xs : List (List ℕ)) (x : List ℕ) → has xs x ≡ true → has (label_list label ++ xs) x ≡ true
+pub rest_own : (label : Option (List ℕ)) (xs : List (List ℕ)) (x : List ℕ) → has xs x ≡ true → has (label_list label ++ xs) x ≡ true
 rest_own None xs x h = h
 rest_own (Some y) xs x h = by (bytes_eq x y)
   where
@@ -155,7 +147,7 @@ own_labels own (ts ∷ tss) all =
     (label_own own (label_of ts) (labels_in tss) all, own_labels own tss (λ x h. all x (rest_own (label_of ts) (labels_in tss) x h)))
 
 -- the lines of a module, none of whose labels has a value yet
-pub module_read : (rename : List ℕ → List ℕ) → ((x y : List ℕ) → bytes_eq (rename x) (rename y) ≡ bytes_eq x y) → {ls : List ModuleLine}
+pub module_read : (rename : List ℕ → List ℕ) → ((x y : List ℕ) → bytes_eq (rename x) (rename y) ≡ bytes_eq x y) → {ls : List LineTask}
     {tss : List (List Token)} → LinesPair ls tss → LabelsNew [] tss → (names : List (List ℕ × ℤ)) (number : ℕ)
     → ((x : List ℕ) → has (labels_in tss) x ≡ true → value_of names (rename x) ≡ None)
     → steps source_read names (numbered number (spelled_lines rename tss)) ≡ Ok (names ++ no_values rename (labels_in tss))

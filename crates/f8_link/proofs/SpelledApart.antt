@@ -1,5 +1,5 @@
 -- How the one source spells names: a module's names stay apart, and only shared names of two modules meet.
-use Rattle.std.proofs.Common.{◌≡◌, ℕ, ◌+◌, ◌≤◌, ℤ, Bool, true, false, ◌&&◌, ◌||◌, List, [], ◌∷◌, ◌++◌, map, Option, Some, None, is_some, All, suc}
+use Rattle.std.proofs.Common.{◌≡◌, ℕ, ◌+◌, ℤ, Bool, true, false, ◌&&◌, ◌||◌, List, [], ◌∷◌, ◌++◌, map, Option, Some, None, is_some, All, suc}
 use Rattle.std.proofs.Common.{refl, sym, ap, ◌∙◌, subst, bytes_eq, eq-eqb, ne_eqb, arith, option_map}
 use Rattle.std.specs.Prelude.{if◌then◌else◌}
 use Rattle.std.proofs.lemmas.List.Folds.{list_any-append}
@@ -9,7 +9,7 @@ use Rattle.f8_link.specs.declared.parts.Part.{Part}
 use Rattle.f8_link.specs.declared.values.Named.{Named}
 use Rattle.f8_link.specs.Linking.{named_value}
 use Rattle.f8_link.specs.OneSource.{has, shared_names, spelled}
-use Rattle.f8_link.proofs.NameFacts.{names_of, same_name, name_itself, not_true, not_both, has-names_of, none_from, some_none, no_value}
+use Rattle.f8_link.proofs.NameFacts.{names_of, same_name, not_true, not_both, has-names_of, no_value}
 use Rattle.f8_link.proofs.NameFacts.{renamed_value, nowhere}
 use Rattle.f8_link.proofs.NamesLaid.{ExportStands}
 
@@ -67,6 +67,17 @@ module _ (number : ℕ) (shared : List (List ℕ)) where
       by : (b : Bool) → bytes_eq (suc k ∷ x) (if b then 0 ∷ y else suc number ∷ y) ≡ false
       by true = fronts_apart (suc k) 0 x y (turned_apart k)
       by false = fronts_apart (suc k) (suc number) x y (λ h. other (omega (arith, h)))
+
+-- names of two modules meet only where both share one name
+pub spelled_meet : (n m : ℕ) (s t : List (List ℕ)) (x y : List ℕ) → (n ≡ m → ⊥) → bytes_eq (spelled n s x) (spelled m t y) ≡ true
+    → (has s x ≡ true) × (has t y ≡ true) × (x ≡ y)
+spelled_meet n m s t x y other = by (has s x) (has t y)
+  where
+    by : (a b : Bool) → bytes_eq (if a then 0 ∷ x else suc n ∷ x) (if b then 0 ∷ y else suc m ∷ y) ≡ true → (a ≡ true) × (b ≡ true) × (x ≡ y)
+    by true true h = (refl, refl, same_name x y (sym (same_front 0 x y) ∙ h))
+    by true false h = not_both (bytes_eq (0 ∷ x) (suc m ∷ y)) h (fronts_apart 0 (suc m) x y (zero_apart m))
+    by false true h = not_both (bytes_eq (suc n ∷ x) (0 ∷ y)) h (fronts_apart (suc n) 0 x y (turned_apart n))
+    by false false h = not_both (bytes_eq (suc n ∷ x) (suc m ∷ y)) h (fronts_apart (suc n) (suc m) x y (λ e. other (omega (arith, e))))
 
 -- ---- the names of a module in the one source
 

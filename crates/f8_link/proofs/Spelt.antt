@@ -1,6 +1,6 @@
 -- Modules linked, and how one source spells the names of each: what the one source's passes need of them.
-use Rattle.std.proofs.Common.{◌≡◌, ℕ, ◌+◌, ◌≤◌, ℤ, Bool, true, false, ◌||◌, List, [], ◌∷◌, ◌++◌, length, map, Option, Some, None, is_some, All, bytes_eq}
-use Rattle.std.proofs.Common.{refl, sym, ap, ◌∙◌, subst, arith, append_assoc, append-nil, add-zero}
+use Rattle.std.proofs.Common.{◌≡◌, ℕ, ◌+◌, ◌≤◌, ℤ, Bool, true, false, ◌||◌, List, [], ◌∷◌, ◌++◌, map, Option, Some, None, is_some, All, bytes_eq}
+use Rattle.std.proofs.Common.{refl, sym, ap, ◌∙◌, arith, append_assoc, append-nil}
 use Rattle.std.proofs.lemmas.List.Elements.{All-head, All-tail}
 use Rattle.asm_text.specs.declared.answers.Token.{Token}
 use Rattle.f8_asm.specs.Marks.{marks_with, is_free}
@@ -8,18 +8,17 @@ use Rattle.f8_asm.specs.Names.{value_of}
 use Rattle.f8_asm.specs.PassTwo.{is_inside}
 use Rattle.f8_asm.specs.Statements.{label_of}
 use Rattle.f8_link.specs.declared.parts.Part.{Part}
-use Rattle.f8_link.specs.declared.values.Named.{Named}
 use Rattle.f8_link.specs.Linking.{size_of, IsLow}
 use Rattle.f8_link.specs.OneSource.{has, label_list, tokens_in, statement_lines}
 use Rattle.f8_link.proofs.EquGoes.{EquGoes, equ_by}
 use Rattle.f8_link.proofs.Goes.{Goes, NameGoes, constants_go}
 use Rattle.f8_link.proofs.ModuleSize.{module_size}
-use Rattle.f8_link.proofs.NameFacts.{names_of, has-names_of, name_itself}
-use Rattle.f8_link.proofs.NamesGo.{Compiled, compiled_pair, compiled_new, compiled_labels}
+use Rattle.f8_link.proofs.NameFacts.{has-names_of, name_itself}
+use Rattle.f8_link.proofs.CompiledParts.{Compiled, compiled_pair, compiled_new, compiled_labels}
 use Rattle.f8_link.proofs.NoStrays.{first_pass_plain}
 use Rattle.f8_link.proofs.PartsGo.{Placing, PlacingIs, Placings, no_module, one_module, all_names}
-use Rattle.f8_link.proofs.PlacedNames.{placed_names, KeepsApart, FreshLabel, LabelsFresh}
-use Rattle.f8_link.proofs.RoomsGo.{RoomsGo, no_room, one_room, inside_everywhere}
+use Rattle.f8_link.proofs.PlacedNames.{placed_names, FreshLabel, LabelsFresh}
+use Rattle.f8_link.proofs.RoomsGo.{RoomsGo, one_room, inside_everywhere}
 use Rattle.f8_link.proofs.SourceRead.{labels_in}
 
 -- a module as the one source places it

@@ -1,12 +1,11 @@
 -- The image of modules linked, as lines of one source: it is what linking makes of them.
-use Rattle.std.proofs.Common.{◌≡◌, ℕ, ℤ, List, [], Option, Ok, All, refl, sym, ap, ◌∙◌, subst}
-use Rattle.f8_asm.specs.Answers.{◌>>=◌}
+use Rattle.std.proofs.Common.{◌≡◌, ℕ, ℤ, List, [], Option, Ok, All, refl, ◌∙◌, subst}
 use Rattle.f8_asm.specs.Image.{ascending}
 use Rattle.f8_asm.specs.Marks.{no_marks}
 use Rattle.f8_asm.specs.PassThree.{no_bytes}
 use Rattle.f8_link.specs.declared.parts.Part.{Part}
 use Rattle.f8_link.specs.Linking.{IsLow, all_written}
-use Rattle.f8_link.specs.OneSource.{PlacedSource, source_image, source_image_in}
+use Rattle.f8_link.specs.OneSource.{source_image, source_image_in}
 use Rattle.f8_link.proofs.PartsGo.{Placing, PartsPair, parts_lines, all_parts_go}
 use Rattle.f8_link.proofs.RoomsGo.{RoomsGo}
 use Rattle.f8_link.proofs.Spelt.{Spelt, spelt_names, spelt_placed}

@@ -1,9 +1,8 @@
 -- The one source's first pass reads all lines of all modules.
-use Rattle.std.proofs.Common.{◌≡◌, ℕ, ◌+◌, ℤ, pos, true, List, [], ◌∷◌, ◌++◌, length, map, Option, Some, None, is_some, Ok}
+use Rattle.std.proofs.Common.{◌≡◌, ℕ, ◌+◌, ℤ, List, [], ◌∷◌, ◌++◌, length, map, Ok}
 use Rattle.std.proofs.Common.{refl, sym, ap, ◌∙◌}
 use Rattle.std.proofs.lemmas.List.{map-append}
 use Rattle.asm_text.specs.declared.answers.Token.{Token}
-use Rattle.f8_asm.specs.Names.{value_of}
 use Rattle.f8_asm.specs.Steps.{steps}
 use Rattle.f8_asm.proofs.Steps.{steps_more}
 use Rattle.f8_link.specs.declared.parts.Part.{Part}
@@ -11,7 +10,7 @@ use Rattle.f8_link.specs.declared.values.Named.{Named}
 use Rattle.f8_link.specs.OneSource.{SourceLine, source_read, tokens_in, statement_lines, numbered}
 use Rattle.f8_link.proofs.ModulePlaced.{lines_with}
 use Rattle.f8_link.proofs.NameFacts.{names_of}
-use Rattle.f8_link.proofs.NamesGo.{Compiled, compiled_pair, compiled_new, compiled_labels}
+use Rattle.f8_link.proofs.CompiledParts.{Compiled, compiled_pair, compiled_new, compiled_labels}
 use Rattle.f8_link.proofs.OriginLine.{origin_source}
 use Rattle.f8_link.proofs.PartsGo.{Placing, parts_lines}
 use Rattle.f8_link.proofs.PlacedNames.{placed_names}

@@ -1,9 +1,8 @@
 -- The one source's third pass over all modules puts the bytes that linking puts.
-use Rattle.std.proofs.Common.{◌≡◌, ℕ, zero, suc, ◌+◌, ◌≤◌, ℤ, List, [], ◌∷◌, ◌++◌, length, map, Option, Some, None, Ok, All, refl, sym, ap, ◌∙◌, subst, arith}
+use Rattle.std.proofs.Common.{◌≡◌, ℕ, suc, ◌+◌, ◌≤◌, ℤ, List, ◌∷◌, ◌++◌, Option, Some, Ok, All, refl, sym, ap, ◌∙◌, subst, arith}
 use Rattle.std.proofs.lemmas.List.Elements.{All-head, All-tail}
 use Rattle.std.specs.Prelude.{slice_get}
 use Rattle.f8_asm.specs.Steps.{steps}
-use Rattle.f8_asm.specs.Statements.{statement_size}
 use Rattle.f8_asm.proofs.Alike.{read-ok}
 use Rattle.f8_asm.proofs.Steps.{steps_more}
 use Rattle.f8_link.specs.declared.lines.PlacedLine.{PlacedLine}

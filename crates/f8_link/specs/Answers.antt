@@ -1,8 +1,7 @@
 -- Faults of a module, of one of its lines, and of linking, and their numbers.
-use Rattle.std.specs.Prelude.{ℕ, Option, Some, Result, Ok, Err}
+use Rattle.std.specs.Prelude.{ℕ, Some, Result, Ok, Err}
 use Rattle.f8_asm.specs.Answers.{cause_number}
 use Rattle.f8_asm.specs.PassOne.{column_or}
-use Rattle.f8_asm.specs.declared.answers.AsmCause.{AsmCause}
 use Rattle.f8_asm.specs.declared.answers.AsmFault.{AsmFault}
 use Rattle.f8_asm.specs.declared.faults.LineFault.{LineFault}
 use Rattle.f8_link.specs.declared.answers.LinkCause.{LinkCause}

@@ -1,5 +1,5 @@
 -- What the names of a module stand for in its expressions.
-use Rattle.std.specs.Prelude.{ℕ, ℤ, pos, Bool, false, ◌||◌, List, [], ◌∷◌, Option, Some, None, is_some}
+use Rattle.std.specs.Prelude.{ℕ, pos, Bool, false, ◌||◌, List, [], ◌∷◌, Option, Some, None, is_some}
 use Rattle.f8_asm.specs.Formulas.{formula_value}
 use Rattle.f8_asm.specs.Grammar.{Actions}
 use Rattle.f8_asm.specs.Names.{value_of}

@@ -1,5 +1,5 @@
 -- The first pass over a module: its lines, each read once, the names that it gives, and those that it imports.
-use Rattle.std.specs.Prelude.{ℕ, ℤ, pos, ◌+◌, List, [], ◌∷◌, ◌++◌, length, drop, map, Option, Some, None, is_some, Result, Ok, Err, if◌then◌else◌}
+use Rattle.std.specs.Prelude.{ℕ, ℤ, pos, ◌+◌, List, [], ◌∷◌, ◌++◌, length, drop, Option, Some, None, is_some, Result, Ok, Err, if◌then◌else◌}
 use Rattle.asm_text.specs.declared.answers.Token.{Token}
 use Rattle.f8_asm.specs.Answers.{◌>>=◌}
 use Rattle.f8_asm.specs.Names.{value_of, with_name}
@@ -12,10 +12,9 @@ use Rattle.f8_asm.specs.declared.faults.LineFault.{LineFault}
 use Rattle.f8_asm.specs.declared.line.ParsedLine.{ParsedLine}
 use Rattle.f8_link.specs.declared.directives.Directive.{Directive}
 use Rattle.f8_link.specs.declared.directives.Directive.TheVariants.{Export, Import}
-use Rattle.f8_link.specs.declared.lines.ModuleLine.{ModuleLine}
-use Rattle.f8_link.specs.declared.lines.ModuleLine.TheVariants as line
+use Rattle.f8_link.specs.declared.lines.LineTask.{LineTask}
+use Rattle.f8_link.specs.declared.lines.LineTask.TheVariants as line
 use Rattle.f8_link.specs.Directives.{directive_of, names_taken, stray, unless_stray}
-use Rattle.text_lines.specs.Lines.{lines}
 
 -- What is known after some lines: how many they are; the labels and imports, for whose values 0 stands; the imports with their numbers;
 -- and what is left to do for each statement and each name that is exported.
@@ -23,7 +22,7 @@ pub record Reading : Type 0 where
   pub count : ℕ
   pub known : List (List ℕ × ℤ)
   pub imports : List (List ℕ × ℕ)
-  pub lines : List ModuleLine
+  pub lines : List LineTask
 
 unfoldable pub no_reading : Reading
 no_reading = record { count = 0; known = []; imports = []; lines = [] }

@@ -1,5 +1,5 @@
 -- Linking: the names that modules share, the room of each, and the bytes that linking puts.
-use Rattle.std.specs.Prelude.{ℕ, ℤ, pos, negsuc, ◌≤◌, ◌+◌, ◌+ℤ◌, ◌-ℤ◌, int_le, Bool, ◌&&◌, List, [], ◌∷◌, ◌++◌, length, slice_get, slice_set}
+use Rattle.std.specs.Prelude.{ℕ, ℤ, pos, negsuc, ◌≤◌, ◌+◌, ◌-ℤ◌, int_le, Bool, ◌&&◌, List, [], ◌∷◌, ◌++◌, length, slice_get, slice_set}
 use Rattle.std.specs.Prelude.{Option, Some, None, is_some, option_map, Result, Ok, Err, if◌then◌else◌}
 use Rattle.std.specs.List.{list_all}
 use Rattle.f8_asm.specs.Answers.{◌>>=◌}
@@ -29,7 +29,6 @@ use Rattle.f8_link.specs.declared.values.Base.{Base}
 use Rattle.f8_link.specs.declared.values.Base.TheVariants.{Module, Import}
 use Rattle.f8_link.specs.declared.values.Named.{Named}
 use Rattle.f8_link.specs.declared.values.Named.TheVariants as named
-use Rattle.f8_link.specs.Objects.{Object}
 use Rattle.text_lines.specs.declared.read_error.ReadError.{ReadError}
 use Rattle.text_lines.specs.declared.read_error.ReadError.TheVariants as stop
 

@@ -1,6 +1,6 @@
 -- The one source of some modules: all their lines, each module behind an ORG of the address where it begins, and read by the assembler's
 -- three passes. A name that a module exports or imports is one for all modules; any other is the module's own, however it is spelled.
-use Rattle.std.specs.Prelude.{◌≡◌, ℕ, zero, suc, ℤ, pos, ◌+◌, Bool, false, not, ◌&&◌, List, [], ◌∷◌, ◌++◌, length, map, flat_map, All, AllPairs, bytes_eq}
+use Rattle.std.specs.Prelude.{◌≡◌, ℕ, suc, ℤ, pos, ◌+◌, Bool, false, not, List, [], ◌∷◌, ◌++◌, map, flat_map, All, AllPairs, bytes_eq}
 use Rattle.std.specs.Prelude.{Option, Some, None, is_some, option_map, Result, Ok, Err, if◌then◌else◌}
 use Rattle.std.specs.List.{list_any, filter}
 use Rattle.asm_text.specs.declared.answers.Token.{Token}
@@ -10,7 +10,7 @@ use Rattle.f8_asm.specs.Answers.{◌>>=◌}
 use Rattle.f8_asm.specs.Bytes.{bytes_of}
 use Rattle.f8_asm.specs.Evaluation.{name_value}
 use Rattle.f8_asm.specs.Grammar.{Actions, column_of}
-use Rattle.f8_asm.specs.Image.{Picture, ascending, everywhere, image_of}
+use Rattle.f8_asm.specs.Image.{Picture, ascending, everywhere}
 use Rattle.f8_asm.specs.Names.{value_of, with_name}
 use Rattle.f8_asm.specs.PassOne.{in_line, line_tokens}
 use Rattle.f8_asm.specs.PassThree.{no_bytes, table_with}
@@ -22,7 +22,6 @@ use Rattle.f8_asm.specs.declared.answers.AsmFault.{AsmFault}
 use Rattle.f8_asm.specs.declared.faults.LineFault.{LineFault}
 use Rattle.f8_asm.specs.declared.values.Outcome.{Outcome}
 use Rattle.f8_asm.specs.declared.values.Outcome.TheVariants.{Value}
-use Rattle.f8_link.specs.declared.answers.ModFault.{ModFault}
 use Rattle.f8_link.specs.declared.parts.Part.{Part}
 use Rattle.f8_link.specs.Directives.{directive_of, org_word}
 use Rattle.f8_link.specs.ThirdPass.{compiled}

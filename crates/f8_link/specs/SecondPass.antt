@@ -16,8 +16,8 @@ use Rattle.f8_asm.specs.declared.words.Single.TheVariants as single
 use Rattle.f8_link.specs.declared.answers.ModCause.TheVariants.{Asm, Shape}
 use Rattle.f8_link.specs.declared.answers.ModFault.{ModFault}
 use Rattle.f8_link.specs.declared.faults.ModuleLineFault.{ModuleLineFault}
-use Rattle.f8_link.specs.declared.lines.ModuleLine.{ModuleLine}
-use Rattle.f8_link.specs.declared.lines.ModuleLine.TheVariants as line
+use Rattle.f8_link.specs.declared.lines.LineTask.{LineTask}
+use Rattle.f8_link.specs.declared.lines.LineTask.TheVariants as line
 use Rattle.f8_link.specs.declared.lines.PlacedLine.{PlacedLine}
 use Rattle.f8_link.specs.declared.values.Named.{Named}
 use Rattle.f8_link.specs.declared.values.Named.TheVariants.{Constant, Offset}
@@ -66,18 +66,18 @@ unfoldable pub settle : List (List ℕ × ℕ) → Layout → ParsedLine → Res
 settle imports s l = statement_settled imports l.label l.column s l.statement
 
 -- what a line does: one that exports a name waits for the third pass
-abbrev pub line_settled : List (List ℕ × ℕ) → Layout → ModuleLine → Result Layout ModFault
+abbrev pub line_settled : List (List ℕ × ℕ) → Layout → LineTask → Result Layout ModFault
 line_settled imports s (line.Statement l) = in_line_to l.number l.end (settle imports s l)
 line_settled imports s (line.Export number column name) = Ok s
 
-unfoldable pub place : List (List ℕ × ℕ) → Layout → ModuleLine → Result Layout ModFault
+unfoldable pub place : List (List ℕ × ℕ) → Layout → LineTask → Result Layout ModFault
 place imports s l = line_settled imports s l >>= λ t. Ok (with_placed (record { offset = s.here; line = l }) t)
 
-abbrev pub place_lines : List (List ℕ × ℕ) → Layout → List ModuleLine → Result Layout ModFault
+abbrev pub place_lines : List (List ℕ × ℕ) → Layout → List LineTask → Result Layout ModFault
 place_lines imports s ls = steps (place imports) s ls
 
 -- a line's bytes end by offset 65,536
-abbrev pub line_size : ModuleLine → ℕ
+abbrev pub line_size : LineTask → ℕ
 line_size (line.Statement l) = statement_size l.statement
 line_size (line.Export number column name) = 0
 

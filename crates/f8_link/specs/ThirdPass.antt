@@ -9,8 +9,8 @@ use Rattle.f8_asm.specs.declared.line.ParsedLine.{ParsedLine}
 use Rattle.f8_link.specs.declared.answers.ModCause.TheVariants.{Asm}
 use Rattle.f8_link.specs.declared.answers.ModFault.{ModFault}
 use Rattle.f8_link.specs.declared.faults.ModuleLineFault.{ModuleLineFault}
-use Rattle.f8_link.specs.declared.lines.ModuleLine.{ModuleLine}
-use Rattle.f8_link.specs.declared.lines.ModuleLine.TheVariants as line
+use Rattle.f8_link.specs.declared.lines.LineTask.{LineTask}
+use Rattle.f8_link.specs.declared.lines.LineTask.TheVariants as line
 use Rattle.f8_link.specs.declared.lines.PlacedLine.{PlacedLine}
 use Rattle.f8_link.specs.declared.objects.Fixup.{Fixup}
 use Rattle.f8_link.specs.declared.values.Named.{Named}
@@ -46,7 +46,7 @@ abbrev pub exported : Code → ℕ → ℕ → List ℕ → Option Named → Res
 exported s number column name (Some v) = Ok (with_value s name v)
 exported s number column name None = Err (record { line = number; column = column; cause = Asm cause.Undefined })
 
-abbrev pub line_emitted : List (List ℕ × Named) → List (List ℕ × ℕ) → ℕ → Code → ModuleLine → Result Code ModFault
+abbrev pub line_emitted : List (List ℕ × Named) → List (List ℕ × ℕ) → ℕ → Code → LineTask → Result Code ModFault
 line_emitted names imports offset s (line.Statement l) =
     in_line_to l.number l.end (line_piece names imports offset l) >>= λ p. Ok (with_piece s p)
 line_emitted names imports offset s (line.Export number column name) = exported s number column name (value_of names name)

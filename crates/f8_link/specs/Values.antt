@@ -1,5 +1,5 @@
 -- The values of a module's expressions: a constant, or so far from a base that linking gives a value.
-use Rattle.std.specs.Prelude.{ℕ, ℤ, pos, negsuc, ◌+ℤ◌, ◌-ℤ◌, int_le, Bool, true, false, ◌&&◌, ◌==◌, if◌then◌else◌}
+use Rattle.std.specs.Prelude.{ℤ, pos, negsuc, ◌+ℤ◌, ◌-ℤ◌, int_le, Bool, true, false, ◌&&◌, ◌==◌, if◌then◌else◌}
 use Rattle.f8_asm.specs.Values.{within, operator_value, prefix_value}
 use Rattle.f8_asm.specs.declared.values.Operator.{Operator}
 use Rattle.f8_asm.specs.declared.values.Operator.TheVariants as operator
@@ -11,7 +11,6 @@ use Rattle.f8_link.specs.declared.values.Base.{Base}
 use Rattle.f8_link.specs.declared.values.Base.TheVariants.{Module, Import}
 use Rattle.f8_link.specs.declared.values.Found.{Found}
 use Rattle.f8_link.specs.declared.values.Found.TheVariants as found
-use Rattle.f8_link.specs.declared.values.Half.{Half}
 use Rattle.f8_link.specs.declared.values.Half.TheVariants.{Low, High}
 use Rattle.f8_link.specs.declared.values.Named.{Named}
 use Rattle.f8_link.specs.declared.values.Named.TheVariants as named

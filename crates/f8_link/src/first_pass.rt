@@ -6,7 +6,7 @@ ghost use Rattle.f8_link.specs.Directives.{names_taken};
 ghost use Rattle.f8_link.specs.FirstPass.{no_reading, with_export, with_import, name_taken, statement_taken, tokens_taken, read_line, read_lines};
 
 use crate::directives::{Directive, directive_of, name_at, statement_line};
-use crate::lines::ModuleLine;
+use crate::lines::LineTask;
 use asm_text::{Name, Token};
 use f8_asm::{
     AsmAnswer, AsmCause, LineFault, LineStop, Symbols, comma, end_of, fault_by, line_tokens,
@@ -23,7 +23,7 @@ pub struct Reading {
     count: u32,
     known: Symbols<i64>,
     imports: Symbols<usize>,
-    lines: Vec<ModuleLine>,
+    lines: Vec<LineTask>,
 }
 
 impl Model for Reading {
@@ -60,7 +60,7 @@ impl Reading {
         ensures count { self.new.count ≡ self.old.count }
     {
         let name = Name::of(alloc, name.as_str().as_bytes())?;
-        self.lines.push(ModuleLine::Export(number, column, name))?;
+        self.lines.push(LineTask::Export(number, column, name))?;
         Ok(())
     }
 
@@ -135,7 +135,7 @@ impl Reading {
     {
         name_label(alloc, &mut self.known, tokens)?;
         let line = statement_line(alloc, number, tokens)?;
-        self.lines.push(ModuleLine::Statement(line))?;
+        self.lines.push(LineTask::Statement(line))?;
         Ok(())
     }
 
@@ -175,7 +175,7 @@ impl Reading {
     }
 
     /// The imports with their numbers, and the lines.
-    pub fn into_parts(self) -> (Symbols<usize>, Vec<ModuleLine>)
+    pub fn into_parts(self) -> (Symbols<usize>, Vec<LineTask>)
         ensures imports { result.0 ≡ self.imports }
         ensures lines { result.1.items ≡ self.lines }
     {

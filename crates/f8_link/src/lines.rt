@@ -4,7 +4,7 @@ use f8_asm::ParsedLine;
 
 /// What is left to do for a line after the first pass.
 #[derive(Drop)]
-pub enum ModuleLine {
+pub enum LineTask {
     /// A statement, which is all of the line.
     Statement(ParsedLine),
     /// One name of a line that exports: the line's number, the name's column, and the name.
@@ -15,5 +15,5 @@ pub enum ModuleLine {
 #[derive(Drop)]
 pub struct PlacedLine {
     pub offset: u32,
-    pub line: ModuleLine,
+    pub line: LineTask,
 }

@@ -134,14 +134,22 @@ fn all_imports(
     Ok(all)
 }
 
+/// Whether so many bytes from the first of a room on lie in it. All its addresses are below 65,536.
+fn is_inside_room(room: Room, size: usize) -> bool
+    ensures inside { result ≡ is_inside room room.first size }
+    ensures low { (room.first ≤ 65535) × (room.last ≤ 65535) }
+{
+    is_inside(room, u32::from(room.first), size)
+}
+
 /// Whether each module's bytes lie in its room.
 fn all_inside(parts: &[Part]) -> Result<(), LinkAnswer>
     requires { length parts.now ≤ 64 }
-    ensures { Says result (all_inside parts.now) }
+    ensures value { Says result (all_inside parts.now) }
+    ensures low { IfOk result (λ _. All IsLow parts.now) }
 {
     for (number, part) in parts.iter().enumerate() {
-        let first = u32::from(part.room.first);
-        if !is_inside(part.room, first, part.object.bytes().len()) {
+        if !is_inside_room(part.room, part.object.bytes().len()) {
             return Err(stop_in(number, LinkStop::Fault(LinkCause::Outside)));
         }
     }

@@ -6,7 +6,7 @@ ghost use Rattle.f8_link.specs.SecondPass.{no_layout, with_label, constant_at, f
 
 use crate::answers::{ModAnswer, ModCause};
 use crate::faults::{ModuleLineFault, ModuleLineStop, fault_at, fault_by};
-use crate::lines::{ModuleLine, PlacedLine};
+use crate::lines::{LineTask, PlacedLine};
 use crate::pieces::constant_of;
 use crate::scope::{Scope, names_import, operand_found};
 use crate::values::Named;
@@ -148,21 +148,21 @@ impl Layout {
         &mut self,
         alloc: Global,
         imports: &Symbols<usize>,
-        line: &ModuleLine,
+        line: &LineTask,
     ) -> Result<(), ModAnswer>
         ensures steps { StepsTo result self.new (line_settled imports.now self.old line.now) }
         ensures ends { self.old.here ≤ 65536
             → OnOk result (Ends (record { offset = self.old.here; line = line.now })) }
     {
         match line {
-            ModuleLine::Statement(line) => match self.settle(alloc, imports, line) {
+            LineTask::Statement(line) => match self.settle(alloc, imports, line) {
                 Ok(()) => Ok(()),
                 Err(ModuleLineStop::Fault(fault)) => {
                     Err(ModAnswer::Fault(fault_by(line.number, line.end, fault)))
                 }
                 Err(ModuleLineStop::Memory) => Err(ModAnswer::Memory),
             },
-            ModuleLine::Export(_, _, _) => Ok(()),
+            LineTask::Export(_, _, _) => Ok(()),
         }
     }
 
@@ -172,7 +172,7 @@ impl Layout {
         &mut self,
         alloc: Global,
         imports: &Symbols<usize>,
-        line: ModuleLine,
+        line: LineTask,
     ) -> Result<(), ModAnswer>
         ensures { StepsTo result self.new (place imports.now self.old line) }
     {
@@ -202,7 +202,7 @@ impl Layout {
 pub fn place_lines(
     alloc: Global,
     imports: &Symbols<usize>,
-    lines: Vec<ModuleLine>,
+    lines: Vec<LineTask>,
 ) -> Result<Layout, ModAnswer>
     ensures { Says result (place_lines imports.now no_layout lines.items) }
 {

@@ -8,7 +8,7 @@ ghost use Rattle.f8_link.specs.ThirdPass.{no_code, line_piece, exported, emit, e
 
 use crate::answers::{ModAnswer, ModCause, ModFault};
 use crate::faults::{ModuleLineStop, fault_by};
-use crate::lines::{ModuleLine, PlacedLine};
+use crate::lines::{LineTask, PlacedLine};
 use crate::objects::Object;
 use crate::pieces::{Piece, piece_of};
 use crate::scope::Scope;
@@ -86,7 +86,7 @@ impl Code {
         ensures { StepsTo result self.new (emit names.now imports.now self.old placed.now) }
     {
         match &placed.line {
-            ModuleLine::Statement(line) => {
+            LineTask::Statement(line) => {
                 let scope = Scope {
                     names,
                     imports,
@@ -103,7 +103,7 @@ impl Code {
                     Err(ModuleLineStop::Memory) => Err(ModAnswer::Memory),
                 }
             }
-            ModuleLine::Export(number, column, name) => {
+            LineTask::Export(number, column, name) => {
                 self.export(alloc, names, *number, *column, name)
             }
         }

@@ -13,7 +13,7 @@ low_more : (ps : List Part) (number : ℕ) (p : Part) → number < length ps →
     → All IsLow (take (number + 1) ps)
 low_more ps number p within is before low =
     let more : take (number + 1) ps ≡ take number ps ++ p ∷ [] =
-        ap (λ (n : ℕ). take n ps) (add-one number) ∙ take-suc ps number p within ∙ ap (λ (q : Part). take number ps ++ q ∷ []) (sym is) in
+    ap (λ (n : ℕ). take n ps) (add-one number) ∙ take-suc ps number p within ∙ ap (λ (q : Part). take number ps ++ q ∷ []) (sym is) in
     rw more (All-push IsLow (take number ps) p before low)
 
 pub returns-then-not-is_inside_room-clause-value : goal.returns-then-not-is_inside_room-clause-value
@@ -27,11 +27,12 @@ returns-then-not-is_inside_room-clause-value c =
 pub loop-number-preserved : goal.loop-number-preserved
 unfolding inside
 loop-number-preserved c =
-    let told : inside tt c.index-parts-number.result ≡ Ok tt = search rules in
-    (one_more (λ number. inside) c.args.parts.now c.loop-number.number c.loop-number.invariant.0 c.index-parts-number.result
-    c.loop-number-test.true c.index-parts-number.is tt told,
-    low_more c.args.parts.now c.loop-number.number c.index-parts-number.result c.loop-number-test.true c.index-parts-number.is
-    c.loop-number.invariant.1 c.is_inside_room.ensures.low)
+    let told : inside tt c.index-parts-number.result ≡ Ok tt = search rules in (
+      one_more (λ number. inside) c.args.parts.now c.loop-number.number c.loop-number.invariant.0 c.index-parts-number.result
+          c.loop-number-test.true c.index-parts-number.is tt told,
+      low_more c.args.parts.now c.loop-number.number c.index-parts-number.result c.loop-number-test.true c.index-parts-number.is
+          c.loop-number.invariant.1 c.is_inside_room.ensures.low,
+    )
 
 pub returns-clause-value : goal.returns-clause-value
 returns-clause-value c = all_done (λ number. inside) c.args.parts.now c.loop-number.number c.loop-number.invariant.0 c.loop-number-test.false

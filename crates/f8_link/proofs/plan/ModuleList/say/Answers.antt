@@ -1,5 +1,5 @@
 -- A printable name is UTF-8, so nothing in it is replaced.
-use Rattle.std.proofs.Common.{◌≡◌, Bool, false, length, map, ap, sym, arith, refl}
+use Rattle.std.proofs.Common.{◌≡◌, false, length, map, sym, arith, refl}
 use Rattle.std.specs.Prelude.{◌==◌}
 use Rattle.std.proofs.lemmas.Bool.Decides.{nat_tests}
 use Rattle.std.proofs.lemmas.List.{length-map}
