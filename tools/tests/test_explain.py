@@ -1,6 +1,5 @@
 from __future__ import annotations
 
-import os
 import re
 import sys
 import tempfile
@@ -11,6 +10,7 @@ from textwrap import dedent
 import tool
 from companion.explaining.files import Files
 from companion.explaining.lines import explain
+from explanations import explanation
 from tool import call, needs_program
 
 CHIP = 'format = 1\n\n[[chip]]\nkind = "3851"\nbase = 0x0000\nports = 4\n'
@@ -21,16 +21,7 @@ HAS_TOML = sys.version_info >= (3, 11)
 class Explain(unittest.TestCase):
     def explained(self, line: str, **files: str) -> str:
         """What is said of a line, where the files cart, script or file have these texts."""
-        here = os.getcwd()
-        with tempfile.TemporaryDirectory() as folder:
-            for name, text in files.items():
-                (Path(folder) / name).write_bytes(text.encode())
-            os.chdir(folder)
-            try:
-                told = explain(line, Files(names={name: name for name in files}))
-            finally:
-                os.chdir(here)
-        return ''.join(line + '\n' for line in told)
+        return explanation(line, **files)
 
     def assert_asm(self, text: str, column: int, cause: int, hint: str) -> None:
         told = self.explained(f'error asm file line 1 column {column} cause {cause}', file=text)
@@ -266,6 +257,8 @@ class Explain(unittest.TestCase):
         lines += [f'error script line 1 cause {n}' for n in range(1, 7)]
         lines += [f'error cert line 1 cause {n}' for n in range(1, 7)]
         lines += [f'error debug line 1 cause {n}' for n in range(1, 5)]
+        lines += [f'error {what} cause {n}' for what in ('plan line 1', 'link module 0') for n in range(1, 6)]
+        lines += [f'error module 0 line 1 column 1 cause {n}' for n in (1, 2, 3, 4, 5, 6, 7, 8, 11, 12)]
         for line in lines:
             self.assertRegex('\n'.join(explain(line, Files())), r'Cause \d+, \w+: .+ \(docs/\w+\.md\)', line)
         self.assertIn('not found', self.explained('error asm file line 1 column 1 cause 10'))

@@ -87,7 +87,8 @@ HINTS: list[tuple[set[int], str, Hint]] = [
 # Words of other assemblers in the place of a mnemonic.
 OTHER_WORDS = {
     'BYTE DC FCB DEFB DC.B TEXT ASCII': 'Bytes are given by DB.', 'WORD FDB DEFW': 'Words are given by DW.',
-    'INCLUDE INCBIN INCDIR': 'There is no INCLUDE: each text stands alone. A chip that needs a second text can be a second chip.',
+    'INCLUDE INCBIN INCDIR': 'There is no INCLUDE. A second text can be a second chip, or a module, which `link` puts together with others.',
+    'EXPORT IMPORT PUBLIC GLOBAL EXTERN XDEF XREF': 'Names are shared by modules alone, by EXPORT and IMPORT. `link` puts them together, as a plan says.',
     'PROCESSOR CPU SEG SUBROUTINE LIST PAGE TITLE END': 'There is nothing like it here: leave the line out.',
     'MAC MACRO ENDM REPEAT REPEND IF ELSE ENDIF EIF': 'There are no macros, repeats or conditions.',
     'RES RMB DEFS ALIGN RORG': 'Room is left by ORG, with the next address.',
@@ -123,7 +124,7 @@ def file_hint(files: Files, what: str, column: int, code: str) -> str:
 
 def lone_returns(files: Files) -> Iterator[str]:
     """A carriage return alone ends no line. In a comment it is taken, with all that was meant to be on the lines behind it."""
-    names = ['file'] if files.command == 'asm' else [f'source {n}' for n, table in enumerate(files.description.tables) if 'source' in table]
+    names = ['file'] if files.command == 'asm' else [f'module {module.number}' for module in files.modules] or [f'source {n}' for n, table in enumerate(files.description.tables) if 'source' in table]
     for name in names:
         if re.search(rb'\r(?!\n)', files.read(name) or b''):
             yield (f'Warning: {files.path(name)} has carriage returns alone. Lines end with LF: what follows such a return in a comment '

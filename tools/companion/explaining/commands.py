@@ -14,7 +14,7 @@ from companion.program import FLAGS
 def store(files: Files, what: str) -> list[str]:
     name = files.path(what)
     if not name:
-        return ['Name the files to learn more: tools/explain ./channel_f .., or --cart, --script, --commands, --cert and --file.']
+        return ['Name the files to learn more: tools/explain ./channel_f .., or --cart, --script, --commands, --cert, --file and --plan.']
     path = Path(name)
     if path.is_dir():
         return [f'{name} is a folder.']
@@ -22,6 +22,9 @@ def store(files: Files, what: str) -> list[str]:
         return [f'{name} in {Path.cwd()} is there, and {hindrance(path)}.']
     if what.startswith('source ') and (found := source_elsewhere(files, path)):
         return [f'There is no {name} in {Path.cwd()}, where the program was started. A name starts there and not at the description.', found]
+    if what.startswith('module ') and (beside := Path(files.path('plan')).parent / path.name).is_file() and beside != path:
+        return [f'There is no {name} in {Path.cwd()}, where the program was started. A name starts there and not at the plan.',
+                f'Beside the plan it is there: write `{os.path.relpath(beside)}`.']
     near = close(path.name, os.listdir(path.parent)) if path.parent.is_dir() and os.access(path.parent, os.R_OK) else ''
     return [f'{name} in {Path.cwd()} is not there.', *([f'Is {path.parent / near} meant?'] if near else [])]
 

@@ -12,12 +12,13 @@ from companion.calls import Reach
 from companion.description import Description
 from companion.names import Names
 from companion.page_tables import forms_of, mnemonics
+from companion.plans import Planned, planned
 from companion.program import Program
 
-COMMANDS = ('play', 'debug', 'check', 'verify', 'migrate', 'ref', 'asm', 'dis', 'gen')
-NAMES = ('cart', 'script', 'commands', 'cert', 'file')
+COMMANDS = ('play', 'debug', 'check', 'verify', 'migrate', 'ref', 'asm', 'link', 'dis', 'gen')
+NAMES = ('cart', 'script', 'commands', 'cert', 'file', 'plan')
 FILES_OF = {'play': ('cart', 'script'), 'debug': ('cart', 'commands'), 'ref': ('cart', 'script'), 'check': ('cart',), 'verify': ('cart', 'cert'),
-            'migrate': ('cart',)}
+            'migrate': ('cart',), 'link': ('plan',)}
 FEWEST_DIGITS = 16  # of a file of digits, which a short word like BC would be too
 MOST_OF = 0.7  # of the lines of a script or of commands have a word of theirs in front
 SHOWN = 140  # characters of a line, at most
@@ -30,6 +31,7 @@ class Sort(Enum):
     SCRIPT = 'This is a script: it is the second file after `play` and `ref`, behind the description.'
     COMMANDS = 'These are commands of the debugger: they are the second file after `debug`, behind the description.'
     CERTIFICATE = 'This is a certificate: it is the second file after `verify`, behind the description.'
+    PLAN = 'This is a plan of modules: it is the file after `link`.'
     ASSEMBLY = 'This is an assembly text. A description names it: `source = "{name}"` below a `[[chip]]` with `kind`, `base` and `ports`.'
     ASM_LINES = 'These are lines of `asm`, with addresses in front: tools/disassembly and tools/describe read them.'
     DIGITS = 'These are digits, for `dis`. In a description they stand in quotes: `rom = "{digits}"`.'
@@ -64,7 +66,7 @@ def sort_of(data: bytes) -> Sort:
     if any(re.match(r'\s*(\[\[\s*chip\s*\]\]|format\s*=)', line) for line in lines):
         return Sort.DESCRIPTION
     firsts = [line.split()[0] for line in lines if not line.lstrip().startswith('#')]
-    for sort, section in ((Sort.SCRIPT, 'Script'), (Sort.COMMANDS, 'Debugger')):
+    for sort, section in ((Sort.SCRIPT, 'Script'), (Sort.COMMANDS, 'Debugger'), (Sort.PLAN, 'Plan')):
         if share(firsts, {form.split()[0] for form in forms_of(section)}) > MOST_OF:
             return sort
     code = [line for line in lines if not line.lstrip().startswith((';', '*'))]
@@ -115,6 +117,11 @@ class Files:
         return Description.at_hand(self.path('cart'), program) if self.path('cart') else Description('')
 
     @cached_property
+    def modules(self) -> list[Planned]:
+        """The modules of the plan, as far as its lines are in order."""
+        return planned(self.read('plan') or b'')
+
+    @cached_property
     def labels(self) -> Names:
         return Names.of(self.cartridge, self.name_files)
 
@@ -123,7 +130,9 @@ class Files:
         return Reach.of(self.cartridge)
 
     def path(self, what: str) -> str:
-        """The name of the file that a refusal calls cart, script, commands, cert, file or source I."""
+        """The name of the file that a refusal calls cart, script, commands, cert, file, plan, source I or module I."""
+        if what.startswith('module '):
+            return next((module.file for module in self.modules if module.number == int(what[7:])), '')
         if what.startswith('source '):
             tables, number = self.description.tables, int(what[7:])
             return str(tables[number].get('source', '')) if number < len(tables) else ''
