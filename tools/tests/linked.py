@@ -1,8 +1,15 @@
-"""What `link` prints for a plan and its texts, worked out by other means than the program's; and the one source of modules as a text."""
+"""What `link` prints for a plan and its texts, worked out by other means than the program's; and the one source of modules as a text.
+
+    python3 linked.py link PLAN
+
+answers as the program does, so that a tool that calls it for `link` alone can be tried where the program isn't built.
+"""
 from __future__ import annotations
 
 import re
+import sys
 from dataclasses import dataclass
+from pathlib import Path
 from typing import Iterator, Mapping, Optional
 
 from modules import RESERVED, Fault, Fixup, Object, Placed, compiled, lines_of, tokens_of
@@ -191,3 +198,19 @@ def spelled(line: bytes, number: int, shared: set[str]) -> bytes:
         if token.word() and token.word() not in RESERVED and token.value not in shared:
             line = line[:token.column - 1] + own_name(token.value, number).encode() + line[token.end - 1:]
     return line
+
+
+class Folder(dict):
+    """The files below the folder in which this is started."""
+
+    def __contains__(self, name: object) -> bool:
+        return Path(str(name)).is_file()
+
+    def __missing__(self, name: str) -> bytes:
+        return Path(name).read_bytes()
+
+
+if __name__ == '__main__':
+    told, status = printed(sys.argv[2], Folder()) if sys.argv[1] == 'link' else (['error words'], 1)
+    print(*told, sep='\n', end='\n' * bool(told))
+    sys.exit(status)

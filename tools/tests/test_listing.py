@@ -13,6 +13,68 @@ from companion.words import Refused
 from tool import call, needs_program
 
 
+LINKER = f'{sys.executable} {tool.TOOLS}/tests/linked.py'  # in the program's place, where `link` is enough
+MODULES = {
+    'plan': 'module other 0400 07FF\nmodule text 0000 03FF\n',
+    'text': '; a comment\n EXPORT START\n IMPORT TICK,N\nSTART: PI TICK ; \u00e9\n LI N\n\n BR START\nEND: DB SIZE,<END,1,2,3,4,5\nSIZE: EQU END-START\n',
+    'other': ' EXPORT TICK,N\nN: EQU -7\nSTART:\n NOP\nTICK: POP\n'}
+LISTED = [
+    '    1                           ; a comment',
+    '    2                            EXPORT START',
+    '    3                            IMPORT TICK,N',
+    '    4  0000  28 04 01           START: PI TICK ; \u00e9',
+    '    5  0003  20 F9               LI N',
+    '    6',
+    '    7  0005  90 FA               BR START',
+    '    8  0007  07 07 01 02 03 04  END: DB SIZE,<END,1,2,3,4,5',
+    '       000D  05',
+    '    9        = 07               SIZE: EQU END-START',
+    '',
+    'N       -07      -7  line    3  used 5',
+    'START    00       0  line    4  used 7 9',
+    'END      07       7  line    8  used 9',
+    'SIZE     07       7  line    9  used 8',
+    'TICK    401    1025  line    3  used 4']
+
+
+class Module(unittest.TestCase):
+    """A module of a plan, as the tests' own linker tells it, and as the program does."""
+
+    def listed(self, files: dict[str, str], name: str, program: str = LINKER):
+        with tempfile.TemporaryDirectory() as folder:
+            for file, text in files.items():
+                (Path(folder) / file).write_bytes(text.encode())
+            return call('listing', '--plan', 'plan', '--program', program, name, cwd=Path(folder))
+
+    def test_a_module_as_it_is_linked(self):
+        self.assertEqual(self.listed(MODULES, 'text').text.splitlines(), LISTED)
+        self.assertEqual(self.listed({**MODULES, 'text': MODULES['text'].replace('\n', '\r\n')}, 'text').text.splitlines(), LISTED)
+
+    @needs_program
+    def test_a_module_as_the_program_links_it(self):
+        self.assertEqual(self.listed(MODULES, 'text', str(tool.PROGRAM)).text.splitlines(), LISTED)
+
+    def test_modules_that_do_not_go_together(self):
+        for name, text, told in (('other', ' ORG 5\n', 'error module 0 line 1 column 2 cause 11'), ('text', ' IMPORT X\n', 'error link module 1 cause 2'),
+                                 ('plan', 'module text 0 1\n', 'error plan line 1 cause 2')):
+            done = self.listed({**MODULES, name: text}, 'text')
+            self.assertEqual((done.text, done.returncode), (f'{told}\n', 2))
+
+    def test_a_text_that_is_no_module_of_the_plan(self):
+        done = self.listed(MODULES, 'texts')
+        self.assertEqual((done.text, done.returncode), ('', 1))
+        self.assertIn('the plan plan names no module texts', done.told)
+
+    def test_a_long_module(self):
+        done = self.listed({**MODULES, 'text': ' NOP\n' * 900 + ';' * 257_000}, 'text')
+        self.assertEqual((done.text, done.returncode), ('', 1))
+        self.assertRegex(done.told, r'^listing: a module of 261,500 bytes is too long for a listing: .* 262,144 are taken\n$')
+
+    def test_names_that_look_like_those_of_the_copy(self):
+        done = self.listed({'plan': 'module text 0000 00FF\nmodule other 0100 01FF\n', 'text': '_1: NOP\n__2: NOP\n', 'other': ' EXPORT _3\n_3: EQU 1\n'}, 'text')
+        self.assertEqual(done.text.splitlines()[:2], ['    1  0000  2B                 _1: NOP', '    2  0001  2B                 __2: NOP'])
+
+
 class Listing(unittest.TestCase):
     def listed(self, text: str | bytes, *words: str):
         with tempfile.TemporaryDirectory() as folder:
