@@ -10,7 +10,10 @@ use super::lines_out::put_lines;
 use super::status::Status;
 use loader::{Purpose, Refusal, Stop};
 use outside::Sink;
-use report::{Line, Reader};
+use report::{
+    Line, Reader, error_asm, error_cart, error_hex, error_link, error_long, error_module,
+    error_reader, error_store, error_toml,
+};
 
 /// The word of what a file is for.
 fn purpose_word(purpose: Purpose) -> &'static str
@@ -51,50 +54,27 @@ fn refusal_line(refusal: Refusal) -> Line
     ensures { result ≡ spelled_refusal refusal }
 {
     match refusal {
-        Refusal::Document => report::error_toml(),
-        Refusal::Cart(fault) => report::error_cart(
-            fault.chip,
-            fault.key.word(),
-            fault.cause.number(),
-        ),
-        Refusal::Assembly { source, fault } => report::error_asm(
+        Refusal::Document => error_toml(),
+        Refusal::Cart(fault) => error_cart(fault.chip, fault.key.word(), fault.cause.number()),
+        Refusal::Assembly { source, fault } => error_asm(
             source,
             fault.line,
             fault.column,
             fault.cause.number(),
         ),
-        Refusal::Script(fault) => report::error_reader(
-            Reader::Script,
-            fault.line,
-            fault.cause.number(),
-        ),
-        Refusal::Cert(fault) => report::error_reader(
-            Reader::Cert,
-            fault.line,
-            fault.cause.number(),
-        ),
-        Refusal::Commands(fault) => report::error_reader(
-            Reader::Debug,
-            fault.line,
-            fault.cause.number(),
-        ),
-        Refusal::Plan(fault) => report::error_reader(
-            Reader::Plan,
-            fault.line,
-            fault.cause.number(),
-        ),
-        Refusal::Module { number, fault } => report::error_module(
+        Refusal::Script(fault) => error_reader(Reader::Script, fault.line, fault.cause.number()),
+        Refusal::Cert(fault) => error_reader(Reader::Cert, fault.line, fault.cause.number()),
+        Refusal::Commands(fault) => error_reader(Reader::Debug, fault.line, fault.cause.number()),
+        Refusal::Plan(fault) => error_reader(Reader::Plan, fault.line, fault.cause.number()),
+        Refusal::Module { number, fault } => error_module(
             number,
             fault.line,
             fault.column,
             fault.cause.number(),
         ),
-        Refusal::Link(fault) => report::error_link(fault.module, fault.cause.number()),
-        Refusal::Digits => report::error_hex(),
-        Refusal::Long(purpose) => report::error_long(
-            purpose_word(purpose),
-            purpose_number(purpose),
-        ),
+        Refusal::Link(fault) => error_link(fault.module, fault.cause.number()),
+        Refusal::Digits => error_hex(),
+        Refusal::Long(purpose) => error_long(purpose_word(purpose), purpose_number(purpose)),
     }
 }
 
@@ -102,7 +82,7 @@ fn refusal_line(refusal: Refusal) -> Line
 fn missing_line(purpose: Purpose) -> Line
     ensures { result ≡ spelled_missing purpose }
 {
-    report::error_store(purpose_word(purpose), purpose_number(purpose))
+    error_store(purpose_word(purpose), purpose_number(purpose))
 }
 
 /// Tells why files stopped a command. Where memory was wanting, nothing is written.
