@@ -1,16 +1,18 @@
 -- The modules of a plan, one after another, and what they are linked to.
 use Rattle.std.proofs.Common.{◌≡◌, ℕ, zero, suc, ◌+◌, ◌-◌, ◌<◌, ◌≤◌, List, [], ◌∷◌, ◌++◌, length, Option, Some, None, Result, Ok, Err}
-use Rattle.std.proofs.Common.{refl, sym, ap, subst, arith}
+use Rattle.std.proofs.Common.{refl, sym, ap, subst, arith, map, get_or}
+use Rattle.std.proofs.lemmas.List.{length-map}
 use Rattle.std.specs.Prelude.{slice_get}
 use Rattle.outside.specs.StoreRules.{Input}
 use Rattle.f8_asm.specs.Image.{Picture}
 use Rattle.f8_link.specs.Linking.{linked_of}
 use Rattle.f8_link.specs.Objects.{Object}
-use Rattle.f8_link.specs.Plans.{PlanFault, PlannedModule}
+use Rattle.f8_link.specs.Plans.{PlannedModule, module_seen}
 use Rattle.f8_link.specs.ThirdPass.{compiled}
 use Rattle.f8_link.specs.declared.answers.LinkFault.{LinkFault}
 use Rattle.f8_link.specs.declared.answers.ModFault.{ModFault}
 use Rattle.f8_link.specs.declared.parts.Part.{Part}
+use Rattle.f8_link.specs.declared.plan.ModuleLine.{ModuleLine}
 use Rattle.loader.specs.declared.purposes.Purpose.TheVariants.{Plan, Module}
 use Rattle.loader.specs.declared.refusals.Refusal.{Refusal}
 use Rattle.loader.specs.declared.refusals.Refusal.TheVariants as refusal
@@ -226,3 +228,17 @@ module _ (a b : Input) (plan text : List ℕ) (modules : List PlannedModule) (fi
       with_modules c outcome
       (works_then b c c (parts_of modules) parts linked_behind outcome 64 (few_ordered few)
       (link_order parts (λ picture. picture) outcome says) second (said c parts outcome says))
+
+-- ---- a module of the plan, as the loop has it
+
+got : (ms : List ModuleLine) (i : ℕ) (m : ModuleLine) → i < length ms → m ≡ get_or ms i m → slice_get (map module_seen ms) i ≡ Some (module_seen m)
+got [] i m within is = absurd (omega (arith, within))
+got (x ∷ xs) zero m within is = ap (λ q. Some (module_seen q)) (sym is)
+got (x ∷ xs) (suc i) m within is = got xs i m (omega (arith, within)) is
+
+pub planned_at : (ms : List ModuleLine) (modules : List PlannedModule) (i : ℕ) (m : ModuleLine) → map module_seen ms ≡ modules → i < length ms
+    → m ≡ get_or ms i m → slice_get modules i ≡ Some (module_seen m)
+planned_at ms modules i m are within is = rw (← are) (got ms i m within is)
+
+pub as_many : (ms : List ModuleLine) (modules : List PlannedModule) → map module_seen ms ≡ modules → length modules ≡ length ms
+as_many ms modules are = rw (← are) (length-map ms module_seen)

@@ -60,6 +60,7 @@ fn load_modules<S: Store>(
 ) -> Result<PartList, Stop>
     ensures works { Works (S.input store.old) (S.input store.new) (parts_of modules.now) result }
     ensures few { IfOk result (λ parts. length parts ≤ 64) }
+    ensures planned { IfOk result (λ parts. length modules.now ≤ 64) }
 {
     let mut parts = PartList::new(alloc);
     for (number, line) in modules.as_slice().iter().enumerate() {

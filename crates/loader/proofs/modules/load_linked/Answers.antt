@@ -25,4 +25,4 @@ returns-in_err-parts g c =
 pub returns : goal.returns
 returns g c =
     linked_loaded _ _ c.args.plan.now _ _ c.in_ok-text.ensures.works (rw c.as_slice.ensures.value at c.in_ok-modules.ensures) _ _ _
-    c.in_ok-modules.modules.few c.in_ok-parts.ensures.works c.link_modules.ensures
+    c.in_ok-parts.ensures.planned c.in_ok-parts.ensures.works c.link_modules.ensures
