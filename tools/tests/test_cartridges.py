@@ -1,4 +1,7 @@
-"""The cartridges as they lie in cartridges/, on the built program: real files, sources that are fetched, a 3853 in its socket."""
+"""The cartridges as they lie in cartridges/, on the built program: real files, sources that are fetched, a 3853 in its socket.
+
+A cartridge is named by its folder, and where a folder has several descriptions, by its folder and its own name.
+"""
 from __future__ import annotations
 
 import functools
@@ -7,6 +10,8 @@ import tempfile
 import unittest
 from pathlib import Path
 
+import tool
+from linked import printed
 from tool import PROGRAM, TOP, needs_program
 
 # What is the same with chips and without.
@@ -44,11 +49,25 @@ RESTARTED = [
     'regs P=000E P1=0000 D0=2801 D1=0000 A=03 IS=50 W=07',
     's00 28 28 28 28 28 28 28 28 28 28 28 28 28 28 28 28',
     'total 40 instructions 546 phi']
+CITY = [
+    'frame 4 phi 119324 tone 0',
+    'frame 12 phi 357972 tone 0',
+    'stop done',
+    'regs P=0029 P1=0027 D0=0092 D1=0000 A=00 IS=00 W=07',
+    's00 85 2B 80 00 3F 7F 00 00 00 00 00 00 00 00 00 00',
+    'total 40322 instructions 357972 phi']
+TUNNEL = [
+    'frame 4 phi 119324 tone 0',
+    'frame 12 phi 357970 tone 0',
+    'stop done',
+    'regs P=002C P1=0016 D0=0000 D1=0000 A=00 IS=00 W=07',
+    's00 BF 1B 00 00 BF B7 00 1F 00 00 00 00 00 00 00 00',
+    'total 39714 instructions 357970 phi']
 
 # What a run has to end with, by the words in front of the cartridge's files. The lines are those of the cartridge's README. The totals were
 # counted by hand, by docs/MACHINE.md: 14 clocks of reset, and then, for instance in `parted`, DCI 24, XDC 8, DCI 24, LIS 4, LR 4, LM 10,
-# XDC 8, ST 10, XDC 8, DS 6 and BNZ 14 up to the LM that isn't served. Those of `heartbeat`, `candle` and `snail`, which are too long for
-# that, were computed by models of their programs and timers that were written apart, in Python.
+# XDC 8, ST 10, XDC 8, DS 6 and BNZ 14 up to the LM that isn't served. Those of `heartbeat`, `candle`, `snail` and `postcards`, which are
+# too long for that, were computed by models of their programs and timers that were written apart, in Python.
 RUNS = [
     (['play'], 'product', 0, PRODUCT),
     (['ref'], 'product', 0, PRODUCT),
@@ -97,6 +116,10 @@ RUNS = [
     (['ref'], 'candle', 0, CANDLE),
     (['play'], 'snail', 0, ['verdict whole', *SNAIL]),
     (['ref'], 'snail', 0, SNAIL),
+    (['play'], 'postcards/city', 0, ['verdict agreed', *CITY]),
+    (['ref'], 'postcards/city', 0, CITY),
+    (['play'], 'postcards/tunnel', 0, ['verdict whole', *TUNNEL]),
+    (['ref'], 'postcards/tunnel', 0, TUNNEL),
     (['play'], 'restarted', 0, ['verdict none', *RESTARTED]),
     (['ref'], 'restarted', 0, RESTARTED),
 ]
@@ -113,13 +136,58 @@ VERDICTS = {
     'product': (0, 'whole 30'), 'copied': (0, 'whole 30'), 'summed': (0, 'agreed 11'), 'two_roms': (0, 'agreed 27'), 'lighthouse': (0, 'agreed'),
     'signboard': (0, 'whole'),
     'parted': (7, 'refused 0009 ---- . 7'), 'heartbeat': (7, 'refused 0019 ---- . 10'), 'candle': (0, 'whole 180'),
-    'snail': (0, 'whole 104'),
+    'snail': (0, 'whole 104'), 'postcards/city': (0, 'agreed 79'), 'postcards/tunnel': (0, 'whole 58'),
     'restarted': (7, 'refused 000D ---- . 6')}
+
+
+# The rectangles of the city, by column, row, width, height and colour, and its stars by column and row.
+HOUSES = [(6, 30, 14, 30, 1), (22, 18, 12, 42, 1), (36, 38, 20, 22, 1), (60, 12, 10, 48, 1), (64, 6, 2, 6, 2), (72, 26, 18, 34, 1), (94, 34, 26, 26, 1),
+          (9, 34, 3, 3, 3), (14, 40, 3, 3, 3), (26, 24, 4, 4, 3), (40, 44, 5, 3, 3), (63, 20, 4, 2, 3), (63, 28, 4, 2, 3), (78, 32, 6, 4, 3),
+          (100, 40, 3, 4, 3), (110, 46, 3, 4, 3), (0, 60, 128, 4, 2)]
+STARS = [(4, 8), (17, 4), (46, 10), (50, 22), (84, 7), (99, 15), (118, 5), (122, 20)]
+
+
+def painted(rectangles: list[tuple[int, int, int, int, int]]) -> list[str]:
+    """The rows of a picture of rectangles, each over those before it."""
+    rows = [[0] * 128 for _ in range(64)]
+    for left, top, width, height, colour in rectangles:
+        for row in rows[top:top + height]:
+            row[left:left + width] = [colour] * width
+    return [marked(''.join(map(str, row))) for row in rows]
+
+
+def marked(digits: str) -> str:
+    """The pixels of a row as the READMEs have them."""
+    return digits.translate(str.maketrans('0123', ' .o#'))
+
+
+def picture(lines: list[str], number: int) -> list[str]:
+    """The rows of a shown frame."""
+    at = next(at for at, line in enumerate(lines) if line.startswith(f'frame {number} '))
+    return [marked(line[2:]) for line in lines[at + 1:at + 65]]
+
+
+def folder_of(name: str) -> str:
+    return name.split('/')[0]
+
+
+def readme(name: str) -> str:
+    return (TOP / 'cartridges' / folder_of(name) / 'README.md').read_text()
+
+
+def shown(name: str, before: str, behind: str = '') -> list[str]:
+    """The lines of a README between two texts, of which the second is else the next empty line."""
+    return [line.rstrip() for line in readme(name).partition(before)[2].partition(behind or '\n\n')[0].splitlines()]
+
+
+def indented(rows: list[str]) -> list[str]:
+    return [f'    {row}'.rstrip() for row in rows]
 
 
 def run(command: list[str], name: str) -> tuple[int, list[str]]:
     """The status of the program on a cartridge, and its lines. Long runs are made once for all tests."""
-    return ran(*command, f'cartridges/{name}/cart.toml', *([] if command == ['check'] else [f'cartridges/{name}/script.txt']))
+    folder = f'cartridges/{folder_of(name)}'
+    return ran(*command, f'{folder}/{name.partition("/")[2] or "cart"}.toml', *([] if command == ['check'] else [f'{folder}/script.txt']))
 
 
 @functools.cache
@@ -148,7 +216,7 @@ class Cartridges(unittest.TestCase):
                 ended, lines = run(['check'], name)
                 self.assertEqual((ended, len(lines)), (status, 1))
                 self.assertEqual(lines[0] if ' ' in line else lines[0].split()[0], line)
-                self.assertIn(line, (TOP / 'cartridges' / name / 'README.md').read_text())
+                self.assertIn(line, readme(name))
 
     def test_copy_with_both_data_counters_is_done_without_chips(self):
         ended, lines = run(['ref'], 'parted')
@@ -157,34 +225,24 @@ class Cartridges(unittest.TestCase):
 
     def test_readmes_have_the_lines(self):
         for command, name, _, expected in RUNS:
-            text = (TOP / 'cartridges' / name / 'README.md').read_text()
+            text = readme(name)
             for line in expected:
                 self.assertTrue(line in text or line.startswith(('total', 'bus')), line)
 
     def test_pictures_of_the_lighthouse_are_those_of_its_readme(self):
         _, lines = run(['play'], 'lighthouse')
-        text = (TOP / 'cartridges/lighthouse/README.md').read_text()
         for number in (20, 43):
-            shown = text.partition(f'\nFrame {number}:\n\n')[2].partition('\n\n')[0].splitlines()
-            at = next(at for at, line in enumerate(lines) if line.startswith(f'frame {number} '))
-            rows = [line[2:].translate(str.maketrans('0123', ' .o#')) for line in lines[at + 1:at + 65:2]]
-            self.assertEqual([f'    {row}'.rstrip() for row in rows], [line.rstrip() for line in shown])
+            self.assertEqual(indented(picture(lines, number)[::2]), shown('lighthouse', f'\nFrame {number}:\n\n'))
 
     def test_pictures_of_the_candle(self):
         _, lines = run(['play'], 'candle')
-        text = (TOP / 'cartridges/candle/README.md').read_text()
-        shown = text.partition('`#` for 3:\n\n')[2].partition('\n\nThe other')[0].splitlines()
-        starts = [at for at, line in enumerate(lines) if line.startswith('frame ')]
-        rows = [[line[52:80].translate(str.maketrans('0123', ' .o#')) for line in lines[at + 15:at + 55:2]] for at in starts]
-        self.assertEqual([f'    {"   ".join(row)}'.rstrip() for row in zip(*rows)], [line.rstrip() for line in shown])
+        parts = [[row[50:78] for row in picture(lines, number)[14:54:2]] for number in (5, 10, 14)]
+        self.assertEqual(indented(['   '.join(row) for row in zip(*parts)]), shown('candle', '`#` for 3:\n\n', '\n\nThe other'))
 
     def test_the_shell_of_the_snail(self):
         _, lines = run(['play'], 'snail')
-        text = (TOP / 'cartridges/snail/README.md').read_text()
-        shown = text.partition('`#` for 3:\n\n')[2].partition('\n\nThe other')[0].splitlines()
-        at = next(at for at, line in enumerate(lines) if line.startswith('frame 32 '))
-        rows = [line[2:].translate(str.maketrans('0123', ' .o#')) for line in lines[at + 1:at + 65]]
-        self.assertEqual([f'    {row[46:84]}'.rstrip() for row in rows[16:43]], [line.rstrip() for line in shown])
+        rows = picture(lines, 32)
+        self.assertEqual(indented([row[46:84] for row in rows[16:43]]), shown('snail', '`#` for 3:\n\n', '\n\nThe other'))
         self.assertEqual(set(''.join(rows[:16] + rows[43:])), {' '})
 
     def test_certificates(self):
@@ -243,12 +301,58 @@ class Cartridges(unittest.TestCase):
 
     def test_letters_of_the_signboard(self):
         _, lines = run(['play'], 'signboard')
-        text = (TOP / 'cartridges/signboard/README.md').read_text()
-        shown = text.partition("for the colour 2:\n\n")[2].partition('\n\nThe other')[0].splitlines()
-        at = next(at for at, line in enumerate(lines) if line.startswith('frame 5 '))
-        rows = [line[2:].translate(str.maketrans('02', ' #')) for line in lines[at + 1:at + 65]]
-        self.assertEqual([f'    {row}'.rstrip() for row in rows[20:43]], [line.rstrip() for line in shown])
+        rows = [row.replace('#', '?').replace('o', '#') for row in picture(lines, 5)]
+        self.assertEqual(indented(rows[20:43]), shown('signboard', 'for the colour 2:\n\n', '\n\nThe other'))
         self.assertEqual({mark for row in rows[:20] + rows[43:] for mark in row}, {' '})
+
+    def test_pictures_of_the_postcards(self):
+        """Those of the READMEs, and those that the rectangles and stars make."""
+        city = painted([*HOUSES, *((column, row, 1, 1, 3) for column, row in STARS)])
+        tunnel = painted([(32 + 8 * turn, 16 + 4 * turn, 64 - 16 * turn, 32 - 8 * turn, (1 + turn) % 4) for turn in range(4)])
+        for name, rows in (('city', city), ('tunnel', tunnel)):
+            _, lines = run(['play'], f'postcards/{name}')
+            self.assertEqual(picture(lines, 12), rows)
+            self.assertNotEqual(picture(lines, 4), rows)
+            writes = sum(line.startswith('out ') for line in lines)
+            self.assertIn(f'{writes:,} writes', ' '.join(readme('postcards').split()))
+
+    def test_postcards_as_the_program_links_them(self):
+        for name in ('city', 'tunnel'):
+            told = ran('link', f'cartridges/postcards/{name}.plan')
+            self.assertEqual(told, (0, linked(name)))
+
+
+@tool.needs_toml
+class Postcards(unittest.TestCase):
+    """What the tests' own linker makes of their modules."""
+
+    def test_descriptions_have_what_is_linked(self):
+        for name in ('city', 'tunnel'):
+            done = tool.call('describe', '-', stdin='\n'.join(linked(name)) + '\n')
+            self.assertEqual(done.text, (TOP / f'cartridges/postcards/{name}.toml').read_text())
+
+    def test_pictures_of_the_readme(self):
+        city = painted([*HOUSES, *((column, row, 1, 1, 3) for column, row in STARS)])
+        found = shown('postcards', '`o` for 2 and `#` for 3:\n\n')
+        self.assertEqual(found, indented(city[::2])[-len(found):])
+        self.assertEqual({row.strip() for row in city[:64 - 2 * len(found)]}, {''})
+
+    def test_what_is_said_of_other_modules(self):
+        source = {path.name: path.read_text() for path in (TOP / 'cartridges/postcards').iterdir()}
+        tunnel = source['tunnel.f8'].replace('IMPORT FILL', 'IMPORT LEFT,FILL').replace('LEFT:   EQU 0           ; what FILL takes\n', '')
+        for changed, line in (({'tunnel.plan': source['tunnel.plan'].replace('0040 007F', '0000 007F')}, 'error link module 1 cause 4'),
+                              ({'draw.f8': source['draw.f8'].replace('EXPORT FILL,', 'EXPORT ')}, 'error link module 0 cause 2'),
+                              ({'tunnel.f8': tunnel}, 'error module 0 line 16 column 12 cause 12')):
+            files = {f'cartridges/postcards/{name}': text.encode() for name, text in {**source, **changed}.items()}
+            self.assertEqual(printed('cartridges/postcards/tunnel.plan', files), ([line], 2))
+            self.assertIn(f'`{line}`', readme('postcards'))
+
+
+def linked(name: str) -> list[str]:
+    """The lines of a program of the postcards, by the tests' own linker."""
+    files = {f'cartridges/postcards/{path.name}': path.read_bytes() for path in (TOP / 'cartridges/postcards').iterdir()}
+    lines, _ = printed(f'cartridges/postcards/{name}.plan', files)
+    return lines
 
 
 if __name__ == '__main__':

@@ -8,6 +8,7 @@ from pathlib import Path
 
 import tool
 from companion.assembly import Assembler, Image, Line, Text
+from companion.plans import shares
 from companion.program import Program
 from companion.words import Refused
 from tool import call, needs_program
@@ -154,7 +155,9 @@ class Listing(unittest.TestCase):
     @needs_program
     def test_bytes_are_those_of_asm_in_every_cartridge(self):
         program = Program((str(tool.PROGRAM),))
-        for path in sorted((tool.TOP / 'cartridges').glob('*/*.f8')):
+        texts = [path for path in sorted((tool.TOP / 'cartridges').glob('*/*.f8')) if not any(map(shares, path.read_bytes().split(b'\n')))]
+        self.assertGreater(len(texts), 10)
+        for path in texts:
             placed = {line.address + n: byte for line in Text.read(path, program).lines for n, byte in enumerate(line.bytes)}
             self.assertEqual(placed, Image.of(program.done('asm', path)).bytes, path)
 
