@@ -307,6 +307,13 @@ class Script(unittest.TestCase):
         self.assertEqual(self.call('--unproved', 'asm', '--', '-x').stdout, f'try\nasm -- {self.top}/-x\n')
         self.assert_nothing_left()
 
+    def test_unproved_run_on_a_plan(self):
+        self.put('carts/game.plan', '# two\r\nmodule carts/a.f8 0000 00ff\r\nmodule gone.f8 0100 01FF\nmodule carts/a.f8 0200 02FF')
+        self.put('carts/a.f8', '')
+        done = self.call('--unproved', 'link', 'carts/game.plan')
+        self.assertEqual(done.stdout.splitlines(), ['try', '--data', f'carts/a.f8={self.top}/carts/a.f8', f'link {self.top}/carts/game.plan'])
+        self.assert_nothing_left()
+
     def test_unproved_run_without_an_answer(self):
         self.put('refuse', '')
         done = self.call('--unproved', 'gen', '1')
