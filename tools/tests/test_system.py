@@ -23,13 +23,14 @@ SCRIPT = 'steps 3\n'
 RUN = ('verdict whole\nstop done\nregs P=0001 P1=0000 D0=0000 D1=0000 A=01 IS=00 W=00\n'
        + ''.join(f's{row}0' + ' 00' * 16 + '\n' for row in range(4)) + 'total 3 instructions 36 phi\n').encode()
 GOOD = {'cart': CART, 'sourced': SOURCED, 'script': SCRIPT, 'source': ' LIS 1\nLOOP: NOP\n BR LOOP\n', 'cert': '', 'commands': 'step 1\n',
-        'digits': '712B'}
+        'digits': '712B', 'plan': 'module source 0000 00FF\n'}
 PLAY = ['play', 'cart', 'script']
 
 # The words with one name left open, what the line calls the file, and whether it is the first to be fetched.
 PLACES = [
     (['play', '{}', 'script'], 'cart'), (['check', '{}'], 'cart'), (['ref', 'cart', '{}'], 'script'), (['play', 'cart', '{}'], 'script'),
-    (['verify', 'cart', '{}'], 'cert'), (['debug', 'cart', '{}'], 'commands'), (['asm', '{}'], 'file'), (['dis', '{}'], 'file')]
+    (['verify', 'cart', '{}'], 'cert'), (['debug', 'cart', '{}'], 'commands'), (['asm', '{}'], 'file'), (['dis', '{}'], 'file'),
+    (['link', '{}'], 'plan')]
 
 # Reading at 0, which is no address of a process, fails for everybody.
 FAILS_TO_READ = '/proc/self/mem'
@@ -61,6 +62,8 @@ class Room(unittest.TestCase):
         if len(name) <= 64:
             Path(self.room, 'named').write_text(SOURCED.replace('"source"', f'"{name}"'))
             self.expect(['play', 'named', 'script'], status, told.format('source 0').encode())
+            Path(self.room, 'named').write_text(f'module {name} 0000 00FF\n')
+            self.expect(['link', 'named'], status, told.format('module 0').encode())
 
 
 class ByteByByte(starve.Watched):
@@ -212,7 +215,7 @@ class Outputs(Room):
 
     def test_an_output_that_is_full(self):
         with open('/dev/full', 'wb') as full:
-            for words in (PLAY, ['check', 'cart'], ['asm', 'source'], ['dis', 'digits'], ['play', 'missing', 'script'], ['frob']):
+            for words in (PLAY, ['check', 'cart'], ['asm', 'source'], ['link', 'plan'], ['dis', 'digits'], ['play', 'missing', 'script'], ['frob']):
                 self.assertEqual(self.run_program(words, stdout=full).returncode, 5, words)
 
     def test_an_output_that_becomes_full(self):
