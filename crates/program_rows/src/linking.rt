@@ -213,11 +213,11 @@ fn plans_and_modules_too_long(rt: HostRuntime) -> Result<(), Fail> {
     let plan = files_with_text(rt.alloc(), &[], "plan", &[("#", 65_537)])?;
     let (status, sink) = answered(rt.alloc(), 64, plan, &["link", "plan"], &mut rack)?;
     assert_eq!(rt; status, 2);
-    assert_eq!(rt; sink.bytes(), b"error long plan\n");
+    assert_eq!(rt; sink.bytes(), b"error long plan\n".as_slice());
     let plan = [("plan", "module a 0000 03FF\n")];
     let files = files_with_text(rt.alloc(), &plan, "a", &[(" ", 262_145)])?;
     let (status, sink) = answered(rt.alloc(), 64, files, &["link", "plan"], &mut rack)?;
     assert_eq!(rt; status, 2);
-    assert_eq!(rt; sink.bytes(), b"error long module 0\n");
+    assert_eq!(rt; sink.bytes(), b"error long module 0\n".as_slice());
     Ok(())
 }
