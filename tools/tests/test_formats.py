@@ -1,17 +1,15 @@
 """The two formats of a description: what each says, and what `migrate` makes of one."""
 from __future__ import annotations
 
-import tempfile
 import unittest
-from pathlib import Path
 
-from tool import PROGRAM, TOP, needs_program, needs_toml, tomllib
+from tool import TOP, needs_program, needs_toml, tomllib
 
 from companion.counters import Rack
 from companion.description import Description, Holding, filled
-from companion.program import Program
 from migration import migrated
 from random_cartridges import cartridge
+from rooms import Room
 
 PSU = '[[chip]]\nkind = "3851"\nbase = {}\nports = {}\nrom = "{}"\n'
 # By hand, from page keys: two runs that begin at one page, of which one is empty, a 3853 without pages, and a source with a quote in its name.
@@ -110,17 +108,7 @@ def toml_of(value: object) -> str:
 
 @needs_program
 @needs_toml
-class Migrate(unittest.TestCase):
-    def setUp(self):
-        room = tempfile.TemporaryDirectory()
-        self.addCleanup(room.cleanup)
-        self.room = Path(room.name)
-        self.program = Program((str(PROGRAM),)).within(self.room)
-
-    def put(self, name: str, text: str) -> str:
-        (self.room / name).write_text(text)
-        return name
-
+class Migrate(Room):
     def document(self, text: str) -> str:
         return self.program.done('migrate', self.put('old', text)).decode()
 

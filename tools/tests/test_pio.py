@@ -4,24 +4,22 @@ Ends of runs, verdicts and clocks were worked out by a model that was written ap
 """
 from __future__ import annotations
 
-import tempfile
 import unittest
-from pathlib import Path
 
 from test_debugger_prompt import prompt_of
 from test_rules import searched
-from tool import PROGRAM, call, needs_program, needs_toml
+from tool import call, needs_program, needs_toml
 
 from companion.bus import FETCH, Step
 from companion.counters import PC0, Rack
 from companion.description import Description, Kind
 from companion.names import Names
-from companion.program import Program
 from companion.run_page.document import power_on
 from companion.run_page.rack import Fault, Role, followed
 from companion.run_page.rack_drawing import rack_drawing
 from companion.verdict_words import told
 from random_cartridges import described
+from rooms import Room
 
 PSU = '[[chip]]\nkind = "3851"\nbase = 0\nports = {}\nrom = "{}"\n'
 SMI = '[[chip]]\nkind = "3853"\n'
@@ -45,20 +43,6 @@ bus 0F L 80 14
 bus 13 L 01 14
 bus 00 S FF 0
 '''
-
-
-class Room(unittest.TestCase):
-    """A folder for a description and a script."""
-
-    def setUp(self):
-        room = tempfile.TemporaryDirectory()
-        self.addCleanup(room.cleanup)
-        self.room = Path(room.name)
-        self.program = Program((str(PROGRAM),)).within(self.room)
-
-    def put(self, name: str, text: str) -> str:
-        (self.room / name).write_text(text)
-        return name
 
 
 @needs_toml

@@ -47,6 +47,16 @@ fn plans_have_modules(rt: HostRuntime) -> Result<(), Fail> {
             "module 0123456789012345678901234567890123456789012345678901234567890123 0000 0000",
             "0123456789012345678901234567890123456789012345678901234567890123 0 0;",
         ),
+    ] {
+        let got = answer(rt.alloc(), text)?;
+        assert_eq!(rt; got.as_str(), want, "{text}");
+    }
+    Ok(())
+}
+
+#[test]
+fn plans_at_fault(rt: HostRuntime) -> Result<(), Fail> {
+    for (text, want) in [
         ("", "1 5"),
         ("\n# none\n", "3 5"),
         ("module a 0000 03FF\n\nmodules b 0000 03FF\n", "3 1"),
