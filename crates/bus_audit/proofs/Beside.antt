@@ -13,7 +13,8 @@ use Rattle.console_spec.specs.Scripts.{Script, events_at}
 use Rattle.console_spec.specs.Services.{Fault}
 use Rattle.console_spec.specs.Telling.{fallen, with_events}
 use Rattle.console_spec.specs.declared.Event.{Event}
-use Rattle.bus_audit.specs.PlainSteps.{PlainStep, HaveBytes, plain, plain_course, plain_fault, behind}
+use Rattle.bus_audit.specs.PlainSteps.{HaveBytes, plain, plain_course, plain_fault, behind}
+use Rattle.bus_audit.specs.declared.step.TraceStep.{TraceStep}
 use Rattle.bus_audit.specs.FreeRuns.{Setup, own_events, own_fallen, own_behind, own_begun, BeginsFreely, GoesFreely, IsFreelyAt}
 use Rattle.bus_audit.specs.Choices.{key_choice, pulse_choice, choice_for, choice, with_choice}
 use Rattle.bus_audit.specs.DictatedRuns.{Onward, next_by, next_for, next_dictated, dictated_begun, start_dictated, IsDictatedAt}
@@ -31,7 +32,7 @@ plain_served course none =
     ap (λ (fault : Option (Fault × Bool)). map plain course.steps ++ plain_fault fault) none ∙ append-nil (map plain course.steps)
 
 -- a position with what is chosen, by that of which no input is read
-pub choice_as : (rest : List PlainStep) (keys : List ℕ) (pulses : List Mark) (x : Position) →
+pub choice_as : (rest : List TraceStep) (keys : List ℕ) (pulses : List Mark) (x : Position) →
     with_choice rest (with_free keys pulses x)
     ≡ with_free (keys_after (choice rest x) keys) (pulses_after x.chain x.flat.state.phi (choice rest x) pulses) x
 choice_as rest keys pulses x =
@@ -45,7 +46,7 @@ own_fallen_unpulsed script chain phi (Some frame) marks = own_unpulsed chain phi
 
 -- ---- the two runs, one beside the other
 
-pub record Beside (setup : Setup) (trace : List PlainStep) (n : ℕ) (y : Position) (rest : List PlainStep) : Type 0 where
+pub record Beside (setup : Setup) (trace : List TraceStep) (n : ℕ) (y : Position) (rest : List TraceStep) : Type 0 where
   pub keys : List ℕ
   pub pulses : List Mark
   pub shadow : Shadow y keys pulses
@@ -72,16 +73,16 @@ pub freely_begun : (setup : Setup) (events : List Event) →
 freely_begun setup events = ap (with_events events) (begun_is setup) ∙ events_with events (first_keys setup) [] (powered_at setup)
 
 -- with what a trace dictates
-pub dictated_begun_is : (setup : Setup) (trace rest : List PlainStep) → drop (length reset_steps) trace ≡ rest →
+pub dictated_begun_is : (setup : Setup) (trace rest : List TraceStep) → drop (length reset_steps) trace ≡ rest →
     dictated_begun setup trace ≡ with_free (keys_after (choice rest (powered_at setup)) (first_keys setup)) [] (powered_at setup)
 dictated_begun_is setup trace rest is =
     let p = powered_at setup in
-    ap (λ (later : List PlainStep). with_choice later (own_begun setup)) is
+    ap (λ (later : List TraceStep). with_choice later (own_begun setup)) is
     ∙ ap (with_choice rest) (begun_is setup)
     ∙ choice_as rest (first_keys setup) [] p
     ∙ ap (λ (marks : List Mark). with_free (keys_after (choice rest p) (first_keys setup)) marks p) (no_first_pulse 0 p rest [] refl)
 
-module _ (setup : Setup) (y : Position) (steps : List TracedStep) (begins : BeginsFreely setup y steps) (trace rest : List PlainStep)
+module _ (setup : Setup) (y : Position) (steps : List TracedStep) (begins : BeginsFreely setup y steps) (trace rest : List TraceStep)
     (is : map plain steps ++ rest ≡ trace) where
   begun_at : y ≡ with_free (keys_after begins.free (first_keys setup)) (pulses_after setup.chain 0 begins.free [])
       (position_after_reset (powered_at setup))
@@ -100,7 +101,7 @@ module _ (setup : Setup) (y : Position) (steps : List TracedStep) (begins : Begi
   trace_is =
       sym is
       ∙ ap (λ (ss : List TracedStep). map plain ss ++ rest) reset_told
-      ∙ ap (λ (told : List PlainStep). told ++ rest) (sym (plain_served (reset_course (powered_at setup)) no_fault))
+      ∙ ap (λ (told : List TraceStep). told ++ rest) (sym (plain_served (reset_course (powered_at setup)) no_fault))
 
   behind_reset : drop (length reset_steps) trace ≡ rest
   behind_reset =
@@ -118,7 +119,7 @@ module _ (setup : Setup) (y : Position) (steps : List TracedStep) (begins : Begi
       (dictated_begun_is setup trace rest behind_reset)
       ∙ ap (λ (fault : Option Fault). next_by fault (behind (plain_course (reset_course p)) trace)
       (λ later. with_free reset_keys [] (position_after_reset p)) trace) reset_served
-      ∙ ap (λ (found : Option (List PlainStep)). next_by None found (λ later. with_free reset_keys [] (position_after_reset p)) trace)
+      ∙ ap (λ (found : Option (List TraceStep)). next_by None found (λ later. with_free reset_keys [] (position_after_reset p)) trace)
       (ap (behind (plain_course (reset_course p))) trace_is ∙ behind-append (plain_course (reset_course p)) rest)
 
   -- the choice is the same behind reset
@@ -163,7 +164,7 @@ module _ (setup : Setup) (y : Position) (steps : List TracedStep) (begins : Begi
 -- ---- an instruction
 
 module _ (y : Position) (keys : List ℕ) (pulses : List Mark) (shadow : Shadow y keys pulses) (op : Op) (is : decoded (opcode_at y) ≡ Some op)
-    (trace more : List PlainStep) (small : HaveBytes trace) (told : trace ≡ plain_course (instruction_course op y) ++ more) where
+    (trace more : List TraceStep) (small : HaveBytes trace) (told : trace ≡ plain_course (instruction_course op y) ++ more) where
   abbrev pub now_keys : List ℕ
   now_keys = keys_after (key_choice op y trace ++ pulse_choice op y trace) keys
 
@@ -183,18 +184,18 @@ module _ (y : Position) (keys : List ℕ) (pulses : List Mark) (shadow : Shadow 
       (λ later. with_choice later (own_behind script (with_free now_keys now_pulses y) (position_after op (with_free now_keys now_pulses y)))) trace
   next_is script fault because =
       let z = with_free now_keys now_pulses y in
-      let onward : List PlainStep → Position = λ later. with_choice later (own_behind script z (position_after op z)) in
+      let onward : List TraceStep → Position = λ later. with_choice later (own_behind script z (position_after op z)) in
       ap (λ (x : Position). next_dictated script x trace) chosen_now
       ∙ ap (λ (o : Option Op). next_for o script z trace) is
       ∙ ap (λ (why : Option Fault). next_by why (behind (plain_course (instruction_course op z)) trace) onward trace)
       (fault_same y keys pulses shadow op trace more small told ∙ because)
-      ∙ ap (λ (found : Option (List PlainStep)). next_by fault found onward trace)
+      ∙ ap (λ (found : Option (List TraceStep)). next_by fault found onward trace)
       (ap (λ (course : Course). behind (plain_course course) trace) (steps_same y keys pulses shadow op trace more small told)
       ∙ ap (behind (plain_course (instruction_course op y))) told
       ∙ behind-append (plain_course (instruction_course op y)) more)
 
 module _ (setup : Setup) (y x : Position) (earlier steps : List TracedStep) (goes : GoesFreely setup.script y x earlier steps)
-    (keys : List ℕ) (pulses : List Mark) (shadow : Shadow y keys pulses) (before rest : List PlainStep) (small : HaveBytes before)
+    (keys : List ℕ) (pulses : List Mark) (shadow : Shadow y keys pulses) (before rest : List TraceStep) (small : HaveBytes before)
     (is : before ≡ map plain (instruction_course goes.op y).steps ++ rest) where
   abbrev next_at : Position
   next_at = position_after goes.op y
@@ -202,7 +203,7 @@ module _ (setup : Setup) (y x : Position) (earlier steps : List TracedStep) (goe
   told_next : before ≡ plain_course (instruction_course goes.op y) ++ rest
   told_next =
       let course = instruction_course goes.op y in
-      is ∙ ap (λ (told : List PlainStep). told ++ rest)
+      is ∙ ap (λ (told : List TraceStep). told ++ rest)
       (sym (plain_served course (none_in course.fault (instruction_faults goes.op y ∙ goes.served))))
 
   abbrev own_next : List Event
@@ -251,7 +252,7 @@ module _ (setup : Setup) (y x : Position) (earlier steps : List TracedStep) (goe
       low : (n : ℕ) (ks : List ℕ) → length ks ≡ 256 → n < 2 → n < length ks
       low n ks size within = omega arith
 
-  pub goes_beside : (trace : List PlainStep) (n : ℕ) → IsDictatedAt setup trace n (with_choice before (with_free keys pulses y)) before →
+  pub goes_beside : (trace : List TraceStep) (n : ℕ) → IsDictatedAt setup trace n (with_choice before (with_free keys pulses y)) before →
       Beside setup trace (suc n) x rest
   goes_beside trace n at = record {
     keys = keys_after own_next keys_next;
@@ -268,17 +269,17 @@ module _ (setup : Setup) (y x : Position) (earlier steps : List TracedStep) (goe
 
 -- ---- all instructions
 
-pub beside : (setup : Setup) (trace : List PlainStep) → HaveBytes trace → (n : ℕ) (y : Position) (steps : List TracedStep) (rest : List PlainStep) →
+pub beside : (setup : Setup) (trace : List TraceStep) → HaveBytes trace → (n : ℕ) (y : Position) (steps : List TracedStep) (rest : List TraceStep) →
     IsFreelyAt setup n y steps → map plain steps ++ rest ≡ trace → Beside setup trace n y rest
 beside setup trace small zero y steps rest at is = begins_beside setup y steps at trace rest is
 beside setup trace small (suc n) x steps rest at is =
     let y : Position = at.0 in
     let earlier : List TracedStep = at.1 in
     let goes : GoesFreely setup.script y x earlier steps = at.3 in
-    let told : List PlainStep = map plain (instruction_course goes.op y).steps in
+    let told : List TraceStep = map plain (instruction_course goes.op y).steps in
     let split : map plain earlier ++ (told ++ rest) ≡ trace =
     sym (append_assoc (map plain earlier) told rest)
-    ∙ ap (λ (all : List PlainStep). all ++ rest) (sym (map-append plain earlier (instruction_course goes.op y).steps))
+    ∙ ap (λ (all : List TraceStep). all ++ rest) (sym (map-append plain earlier (instruction_course goes.op y).steps))
     ∙ ap (λ (ss : List TracedStep). map plain ss ++ rest) (sym goes.told)
     ∙ is in
     let b : Beside setup trace n y (told ++ rest) = beside setup trace small n y earlier (told ++ rest) at.2 split in
@@ -286,7 +287,7 @@ beside setup trace small (suc n) x steps rest at is =
     (bytes_behind (map plain earlier) (told ++ rest) (subst HaveBytes (sym split) small)) refl trace n b.dictated
 
 -- and where they differ
-pub differs : (y : Position) (keys : List ℕ) (pulses : List Mark) (rest : List PlainStep) → Shadow y keys pulses → HaveBytes rest →
+pub differs : (y : Position) (keys : List ℕ) (pulses : List Mark) (rest : List TraceStep) → Shadow y keys pulses → HaveBytes rest →
     DiffersInInputs y (with_choice rest (with_free keys pulses y))
 differs y keys pulses rest shadow small =
     subst (DiffersInInputs y) (sym (choice_as rest keys pulses y)) (record {

@@ -18,7 +18,8 @@ use Rattle.console_spec.specs.Scripts.{Script}
 use Rattle.console_spec.specs.Services.{Fault, access_ruling}
 use Rattle.console_spec.specs.Telling.{with_events}
 use Rattle.console_spec.specs.declared.Event.{Event}
-use Rattle.bus_audit.specs.PlainSteps.{PlainStep, HaveBytes, plain, plain_course, behind}
+use Rattle.bus_audit.specs.PlainSteps.{HaveBytes, plain, plain_course, behind}
+use Rattle.bus_audit.specs.declared.step.TraceStep.{TraceStep}
 use Rattle.bus_audit.specs.FreeRuns.{Setup, AreFree, own_behind, own_begun, BeginsFreely, GoesFreely, IsFreelyAt, IsRecord, broken_off, reset_cut, cut}
 use Rattle.bus_audit.specs.Choices.{choice, with_choice}
 use Rattle.bus_audit.specs.DictatedRuns.{Next, Onward, Over, next_by, next_for, next_dictated, dictated_begun, start_dictated, IsDictatedAt}
@@ -61,19 +62,19 @@ tells_some op x =
 
 -- ---- where the run goes on
 
-record GoesOn (fault : Option Fault) (found : Option (List PlainStep)) (rest : List PlainStep) : Type 0 where
+record GoesOn (fault : Option Fault) (found : Option (List TraceStep)) (rest : List TraceStep) : Type 0 where
   served : fault ≡ None
   left : found ≡ Some rest
 
-goes_on : (fault : Option Fault) (found : Option (List PlainStep)) (onward : List PlainStep → Position) (trace : List PlainStep) (z : Position)
-    (rest : List PlainStep) → next_by fault found onward trace ≡ Onward z rest → GoesOn fault found rest
+goes_on : (fault : Option Fault) (found : Option (List TraceStep)) (onward : List TraceStep → Position) (trace : List TraceStep) (z : Position)
+    (rest : List TraceStep) → next_by fault found onward trace ≡ Onward z rest → GoesOn fault found rest
 goes_on None None onward trace z rest is = absurd (cc)
 goes_on (Some why) None onward trace z rest is = absurd (cc)
-goes_on None (Some later) onward trace z rest is = record { served = refl; left = let same : later ≡ rest = cc in ap (λ (l : List PlainStep). Some l) same }
+goes_on None (Some later) onward trace z rest is = record { served = refl; left = let same : later ≡ rest = cc in ap (λ (l : List TraceStep). Some l) same }
 goes_on (Some why) (Some later) onward trace z rest is = absurd (cc)
 
 -- an instruction leaves less of the trace, and reset no more
-next_shorter : (script : Script) (y z : Position) (trace rest : List PlainStep) → next_dictated script y trace ≡ Onward z rest →
+next_shorter : (script : Script) (y z : Position) (trace rest : List TraceStep) → next_dictated script y trace ≡ Onward z rest →
     length rest < length trace
 next_shorter script y z trace rest is = by (decoded (opcode_at y)) is
   where
@@ -83,27 +84,27 @@ next_shorter script y z trace rest is = by (decoded (opcode_at y)) is
         let told = plain_course (instruction_course op y) in
         let g = goes_on (instruction_fault op y) (behind told trace) (λ later. with_choice later (own_behind script y (position_after op y))) trace z rest e in
         let size : length trace ≡ length told + length rest =
-        ap (λ (l : List PlainStep). length l) (behind_is told trace rest g.left) ∙ length-append told rest in
+        ap (λ (l : List TraceStep). length l) (behind_is told trace rest g.left) ∙ length-append told rest in
         let some = tells_some op y in
         omega (arith, size, some)
 
-start_shorter : (setup : Setup) (trace : List PlainStep) (z : Position) (rest : List PlainStep) → start_dictated setup trace ≡ Onward z rest →
+start_shorter : (setup : Setup) (trace : List TraceStep) (z : Position) (rest : List TraceStep) → start_dictated setup trace ≡ Onward z rest →
     length rest ≤ length trace
 start_shorter setup trace z rest is =
     let x = dictated_begun setup trace in
     let told = plain_course (reset_course x) in
     let g = goes_on (reset_fault x) (behind told trace) (λ later. position_after_reset x) trace z rest is in
     let size : length trace ≡ length told + length rest =
-    ap (λ (l : List PlainStep). length l) (behind_is told trace rest g.left) ∙ length-append told rest in
+    ap (λ (l : List TraceStep). length l) (behind_is told trace rest g.left) ∙ length-append told rest in
     omega (arith, size)
 
 -- so the number of instructions at most is never met
-record Reaches (setup : Setup) (trace : List PlainStep) (n : ℕ) (z : Position) (rest : List PlainStep) : Type 0 where
+record Reaches (setup : Setup) (trace : List TraceStep) (n : ℕ) (z : Position) (rest : List TraceStep) : Type 0 where
   more : ℕ
   enough : length rest ≤ more
   is : dictated setup trace ≡ dictated_from setup.script n more z rest
 
-onward_more : (setup : Setup) (trace : List PlainStep) (n : ℕ) (y z : Position) (before rest : List PlainStep) (more : ℕ) →
+onward_more : (setup : Setup) (trace : List TraceStep) (n : ℕ) (y z : Position) (before rest : List TraceStep) (more : ℕ) →
     length before ≤ more → length rest < length before → dictated setup trace ≡ dictated_from setup.script n more y before →
     next_dictated setup.script y before ≡ Onward z rest → Reaches setup trace (suc n) z rest
 unfolding dictated_from
@@ -117,7 +118,7 @@ onward_more setup trace n y z before rest (suc more) enough shorter is next = re
       ∙ ap (λ (count : ℕ). dictated_from setup.script count more z rest) (add-one n);
 }
 
-reaches : (setup : Setup) (trace : List PlainStep) (n : ℕ) (z : Position) (rest : List PlainStep) → IsDictatedAt setup trace n z rest →
+reaches : (setup : Setup) (trace : List TraceStep) (n : ℕ) (z : Position) (rest : List TraceStep) → IsDictatedAt setup trace n z rest →
     Reaches setup trace n z rest
 reaches setup trace zero z rest at = record {
   more = length trace;
@@ -126,7 +127,7 @@ reaches setup trace zero z rest at = record {
 }
 reaches setup trace (suc n) z rest at =
     let y : Position = at.0 in
-    let before : List PlainStep = at.1 in
+    let before : List TraceStep = at.1 in
     let r : Reaches setup trace n y before = reaches setup trace n y before at.2 in
     onward_more setup trace n y z before rest r.more r.enough (next_shorter setup.script y z before rest at.3) r.is at.3
 
@@ -135,11 +136,11 @@ reaches setup trace (suc n) z rest at =
 abbrev whole_in : ℕ → DictatedEnd
 whole_in n = record { count = n; rest = [] }
 
-none_behind : (steps : List PlainStep) → 0 < length steps → behind steps [] ≡ None
+none_behind : (steps : List TraceStep) → 0 < length steps → behind steps [] ≡ None
 none_behind [] some = absurd (omega arith)
 none_behind (s ∷ steps) some = refl
 
-over_by : (n : ℕ) (fault : Option Fault) (onward : List PlainStep → Position) (k : Position → List PlainStep → DictatedEnd) →
+over_by : (n : ℕ) (fault : Option Fault) (onward : List TraceStep → Position) (k : Position → List TraceStep → DictatedEnd) →
     end_by n (next_by fault None onward []) k ≡ whole_in n
 over_by n None onward k = refl
 over_by n (Some fault) onward k = refl
@@ -152,15 +153,15 @@ nothing_left script n (suc more) z = by (decoded (opcode_at z))
     by : (o : Option Op) → end_by n (next_for o script z []) (λ q later. dictated_from script (n + 1) more q later) ≡ whole_in n
     by None = refl
     by (Some op) =
-        let onward : List PlainStep → Position = λ later. with_choice later (own_behind script z (position_after op z)) in
-        let k : Position → List PlainStep → DictatedEnd = λ q later. dictated_from script (n + 1) more q later in
-        ap (λ (found : Option (List PlainStep)). end_by n (next_by (instruction_fault op z) found onward []) k)
+        let onward : List TraceStep → Position = λ later. with_choice later (own_behind script z (position_after op z)) in
+        let k : Position → List TraceStep → DictatedEnd = λ q later. dictated_from script (n + 1) more q later in
+        ap (λ (found : Option (List TraceStep)). end_by n (next_by (instruction_fault op z) found onward []) k)
         (none_behind (plain_course (instruction_course op z)) (tells_some op z))
         ∙ over_by n (instruction_fault op z) onward k
 
 -- ---- a record leaves nothing
 
-over_now : (script : Script) (n more : ℕ) (z : Position) (trace : List PlainStep) → 0 < length trace → length trace ≤ more →
+over_now : (script : Script) (n more : ℕ) (z : Position) (trace : List TraceStep) → 0 < length trace → length trace ≤ more →
     next_dictated script z trace ≡ Over [] → dictated_from script n more z trace ≡ whole_in n
 unfolding dictated_from
 over_now script n zero z trace some enough is = absurd (omega arith)
@@ -172,7 +173,7 @@ reset_over : (setup : Setup) (free : List Event) (fault : Fault) → reset_fault
 reset_over setup free fault cuts =
     let p = powered_at setup in
     let told = plain_course (reset_course (with_events free (own_begun setup))) in
-    let k : Position → List PlainStep → DictatedEnd = λ q later. dictated_from setup.script 0 (length told) q later in
+    let k : Position → List TraceStep → DictatedEnd = λ q later. dictated_from setup.script 0 (length told) q later in
     let x = dictated_begun setup told in
     let as_powered = freely_begun setup (choice (drop (length reset_steps) told) (own_begun setup)) in
     let told_is : told ≡ plain_course (reset_course p) ++ [] =
@@ -182,10 +183,10 @@ reset_over setup free fault cuts =
     as_powered
     ∙ ap (λ (why : Option Fault). end_by 0 (next_by why (behind (plain_course (reset_course p)) told) (λ later. position_after_reset x) told) k)
     cut_at
-    ∙ ap (λ (found : Option (List PlainStep)). end_by 0 (next_by (Some fault) found (λ later. position_after_reset x) told) k)
+    ∙ ap (λ (found : Option (List TraceStep)). end_by 0 (next_by (Some fault) found (λ later. position_after_reset x) told) k)
     (ap (behind (plain_course (reset_course p))) told_is ∙ behind-append (plain_course (reset_course p)) [])
 
-pub complete : (setup : Setup) {n : ℕ} {trace : List PlainStep} → IsRecord setup n trace → HaveBytes trace → dictated setup trace ≡ whole_in n
+pub complete : (setup : Setup) {n : ℕ} {trace : List TraceStep} → IsRecord setup n trace → HaveBytes trace → dictated setup trace ≡ whole_in n
 complete setup (broken_off n x steps at) small =
     let trace = map plain steps in
     let b : Beside setup trace n x [] = beside setup trace small n x steps [] at (append-nil trace) in
@@ -205,32 +206,32 @@ complete setup (cut n x steps op fault at is cuts) small =
 
 -- ---- and nothing else does
 
-abbrev at_end : ℕ → List PlainStep → DictatedEnd
+abbrev at_end : ℕ → List TraceStep → DictatedEnd
 at_end n rest = record { count = n; rest = rest }
 
-module _ (setup : Setup) (m : ℕ) (trace : List PlainStep) where
+module _ (setup : Setup) (m : ℕ) (trace : List TraceStep) where
   -- a run that is broken off here
-  off_here : (n : ℕ) (z : Position) (steps : List TracedStep) (rest : List PlainStep) → IsFreelyAt setup n z steps →
+  off_here : (n : ℕ) (z : Position) (steps : List TracedStep) (rest : List TraceStep) → IsFreelyAt setup n z steps →
       map plain steps ++ rest ≡ trace → at_end n rest ≡ whole_in m → IsRecord setup m trace
   off_here n z steps rest at is ends =
       let none : rest ≡ [] = ap (λ (e : DictatedEnd). e.rest) ends in
       subst (λ (count : ℕ). IsRecord setup count trace) (ap (λ (e : DictatedEnd). e.count) ends)
-      (subst (IsRecord setup n) (sym (append-nil (map plain steps)) ∙ ap (λ (l : List PlainStep). map plain steps ++ l) (sym none) ∙ is)
+      (subst (IsRecord setup n) (sym (append-nil (map plain steps)) ∙ ap (λ (l : List TraceStep). map plain steps ++ l) (sym none) ∙ is)
       (broken_off n z steps at))
 
   -- an instruction that is not done is the last
-  cut_here : (n : ℕ) (z : Position) (steps : List TracedStep) (rest later : List PlainStep) (op : Op) (fault : Fault) →
+  cut_here : (n : ℕ) (z : Position) (steps : List TracedStep) (rest later : List TraceStep) (op : Op) (fault : Fault) →
       IsFreelyAt setup n z steps → map plain steps ++ rest ≡ trace → decoded (opcode_at z) ≡ Some op → instruction_fault op z ≡ Some fault →
       rest ≡ plain_course (instruction_course op z) ++ later → at_end n later ≡ whole_in m → IsRecord setup m trace
   cut_here n z steps rest later op fault at is opcode cuts told ends =
       let course = plain_course (instruction_course op z) in
       let none : later ≡ [] = ap (λ (e : DictatedEnd). e.rest) ends in
-      let whole : rest ≡ course = told ∙ ap (λ (l : List PlainStep). course ++ l) none ∙ append-nil course in
+      let whole : rest ≡ course = told ∙ ap (λ (l : List TraceStep). course ++ l) none ∙ append-nil course in
       subst (λ (count : ℕ). IsRecord setup count trace) (ap (λ (e : DictatedEnd). e.count) ends)
-      (subst (IsRecord setup n) (ap (λ (l : List PlainStep). map plain steps ++ l) (sym whole) ∙ is) (cut n z steps op fault at opcode cuts))
+      (subst (IsRecord setup n) (ap (λ (l : List TraceStep). map plain steps ++ l) (sym whole) ∙ is) (cut n z steps op fault at opcode cuts))
 
   -- one that is done leads on
-  module _ (n : ℕ) (z : Position) (steps : List TracedStep) (rest later : List PlainStep) (op : Op) (at : IsFreelyAt setup n z steps)
+  module _ (n : ℕ) (z : Position) (steps : List TracedStep) (rest later : List TraceStep) (op : Op) (at : IsFreelyAt setup n z steps)
       (is : map plain steps ++ rest ≡ trace) (opcode : decoded (opcode_at z) ≡ Some op) (served : instruction_fault op z ≡ None)
       (told : rest ≡ plain_course (instruction_course op z) ++ later) (small : HaveBytes rest) where
     small_later : HaveBytes later
@@ -256,20 +257,20 @@ module _ (setup : Setup) (m : ℕ) (trace : List PlainStep) where
     onward_told : map plain onward_steps ++ later ≡ trace
     onward_told =
         let course = instruction_course op z in
-        ap (λ (l : List PlainStep). l ++ later) (map-append plain steps course.steps)
+        ap (λ (l : List TraceStep). l ++ later) (map-append plain steps course.steps)
         ∙ append_assoc (map plain steps) (map plain course.steps) later
-        ∙ ap (λ (l : List PlainStep). map plain steps ++ (l ++ later))
+        ∙ ap (λ (l : List TraceStep). map plain steps ++ (l ++ later))
         (sym (plain_served course (none_in course.fault (instruction_faults op z ∙ served))))
-        ∙ ap (λ (l : List PlainStep). map plain steps ++ l) (sym told)
+        ∙ ap (λ (l : List TraceStep). map plain steps ++ l) (sym told)
         ∙ is
 
   -- what is left to show where an instruction is done
   abbrev Onwards : ℕ → ℕ → Type 0
-  Onwards more n = (x : Position) (told : List TracedStep) (later : List PlainStep) →
+  Onwards more n = (x : Position) (told : List TracedStep) (later : List TraceStep) →
       (IsFreelyAt setup (suc n) x told) × (map plain told ++ later ≡ trace) → HaveBytes later →
       dictated_from setup.script (suc n) more x later ≡ whole_in m → IsRecord setup m trace
 
-  sound_from : (more n : ℕ) (z : Position) (steps : List TracedStep) (rest : List PlainStep) → IsFreelyAt setup n z steps →
+  sound_from : (more n : ℕ) (z : Position) (steps : List TracedStep) (rest : List TraceStep) → IsFreelyAt setup n z steps →
       map plain steps ++ rest ≡ trace → HaveBytes rest → dictated_from setup.script n more z rest ≡ whole_in m → IsRecord setup m trace
   unfolding dictated_from
   sound_from zero n z steps rest at is small ends = off_here n z steps rest at is ends
@@ -277,7 +278,7 @@ module _ (setup : Setup) (m : ℕ) (trace : List PlainStep) where
       by (decoded (opcode_at z)) refl ends
       (λ x told later onward_is onward_small e. sound_from more (suc n) x told later onward_is.0 onward_is.1 onward_small e)
     where
-      by_op : (op : Op) → decoded (opcode_at z) ≡ Some op → (fault : Option Fault) (found : Option (List PlainStep)) →
+      by_op : (op : Op) → decoded (opcode_at z) ≡ Some op → (fault : Option Fault) (found : Option (List TraceStep)) →
           instruction_fault op z ≡ fault → behind (plain_course (instruction_course op z)) rest ≡ found →
           end_by n (next_by fault found (λ later. with_choice later (own_behind setup.script z (position_after op z))) rest)
           (λ q later. dictated_from setup.script (n + 1) more q later) ≡ whole_in m → Onwards more n → IsRecord setup m trace
@@ -302,38 +303,38 @@ module _ (setup : Setup) (m : ℕ) (trace : List PlainStep) where
       by (Some op) opcode e onwards =
           by_op op opcode (instruction_fault op z) (behind (plain_course (instruction_course op z)) rest) refl refl e onwards
 
-bytes_drop : (n : ℕ) (trace : List PlainStep) → HaveBytes trace → HaveBytes (drop n trace)
+bytes_drop : (n : ℕ) (trace : List TraceStep) → HaveBytes trace → HaveBytes (drop n trace)
 bytes_drop zero trace small = small
 bytes_drop (suc n) [] small = small
 bytes_drop (suc n) (s ∷ trace) small = bytes_drop n trace small.1
 
 -- what is chosen before reset
-abbrev first_choice : Setup → List PlainStep → List Event
+abbrev first_choice : Setup → List TraceStep → List Event
 first_choice setup trace = choice (drop (length reset_steps) trace) (own_begun setup)
 
-first_free : (setup : Setup) (trace : List PlainStep) → HaveBytes trace → AreFree (first_choice setup trace)
+first_free : (setup : Setup) (trace : List TraceStep) → HaveBytes trace → AreFree (first_choice setup trace)
 first_free setup trace small =
     choice_free (own_begun setup) (drop (length reset_steps) trace) (bytes_drop (length reset_steps) trace small)
 
-some_left : (n m : ℕ) (s : PlainStep) (later : List PlainStep) → at_end n (s ∷ later) ≡ whole_in m → ⊥
+some_left : (n m : ℕ) (s : TraceStep) (later : List TraceStep) → at_end n (s ∷ later) ≡ whole_in m → ⊥
 some_left n m s later ends = let none : (s ∷ later) ≡ [] = ap (λ (e : DictatedEnd). e.rest) ends in cc
 
-sound_by : (setup : Setup) (m : ℕ) (s : PlainStep) (later : List PlainStep) → HaveBytes (s ∷ later) → (fault : Option Fault)
-    (found : Option (List PlainStep)) → reset_fault (dictated_begun setup (s ∷ later)) ≡ fault →
+sound_by : (setup : Setup) (m : ℕ) (s : TraceStep) (later : List TraceStep) → HaveBytes (s ∷ later) → (fault : Option Fault)
+    (found : Option (List TraceStep)) → reset_fault (dictated_begun setup (s ∷ later)) ≡ fault →
     behind (plain_course (reset_course (dictated_begun setup (s ∷ later)))) (s ∷ later) ≡ found →
     end_by 0 (next_by fault found (λ rest. position_after_reset (dictated_begun setup (s ∷ later))) (s ∷ later))
     (λ q rest. dictated_from setup.script 0 (length (s ∷ later)) q rest) ≡ whole_in m → IsRecord setup m (s ∷ later)
 sound_by setup m s later small None None why left ends = absurd (some_left 0 m s later ends)
 sound_by setup m s later small (Some fault) None why left ends = absurd (some_left 0 m s later ends)
 sound_by setup m s later small (Some fault) (Some rest) why left ends =
-    let trace : List PlainStep = s ∷ later in
+    let trace : List TraceStep = s ∷ later in
     let told = plain_course (reset_course (dictated_begun setup trace)) in
     let none : rest ≡ [] = ap (λ (e : DictatedEnd). e.rest) ends in
     subst (λ (count : ℕ). IsRecord setup count trace) (ap (λ (e : DictatedEnd). e.count) ends)
-    (subst (IsRecord setup zero) (sym (behind_is told trace rest left ∙ ap (λ (l : List PlainStep). told ++ l) none ∙ append-nil told))
+    (subst (IsRecord setup zero) (sym (behind_is told trace rest left ∙ ap (λ (l : List TraceStep). told ++ l) none ∙ append-nil told))
     (reset_cut (first_choice setup trace) fault (first_free setup trace small) why))
 sound_by setup m s later small None (Some rest) why left ends =
-    let trace : List PlainStep = s ∷ later in
+    let trace : List TraceStep = s ∷ later in
     let x = dictated_begun setup trace in
     let course = reset_course x in
     let told = behind_is (plain_course course) trace rest left in
@@ -346,12 +347,12 @@ sound_by setup m s later small None (Some rest) why left ends =
       told = refl;
     } in
     sound_from setup m trace (length trace) 0 (position_after_reset x) course.steps rest begins
-    (ap (λ (l : List PlainStep). l ++ rest) (sym (plain_served course served)) ∙ sym told)
+    (ap (λ (l : List TraceStep). l ++ rest) (sym (plain_served course served)) ∙ sym told)
     (bytes_behind (plain_course course) rest (subst HaveBytes told small)) ends
 
-pub sound : (setup : Setup) (m : ℕ) (s : PlainStep) (later : List PlainStep) → HaveBytes (s ∷ later) →
+pub sound : (setup : Setup) (m : ℕ) (s : TraceStep) (later : List TraceStep) → HaveBytes (s ∷ later) →
     dictated setup (s ∷ later) ≡ whole_in m → IsRecord setup m (s ∷ later)
 sound setup m s later small ends =
-    let trace : List PlainStep = s ∷ later in
+    let trace : List TraceStep = s ∷ later in
     let x = dictated_begun setup trace in
     sound_by setup m s later small (reset_fault x) (behind (plain_course (reset_course x)) trace) refl refl ends

@@ -16,7 +16,8 @@ use Rattle.console_spec.specs.Writes.{latch_of, readers}
 use Rattle.console_spec.specs.declared.Event.{Event}
 use Rattle.console_spec.specs.declared.Event.TheVariants.{Keys}
 use Rattle.console_spec.specs.declared.PortWrite.{PortWrite}
-use Rattle.bus_audit.specs.PlainSteps.{PlainStep, HaveBytes}
+use Rattle.bus_audit.specs.PlainSteps.{HaveBytes}
+use Rattle.bus_audit.specs.declared.step.TraceStep.{TraceStep}
 use Rattle.bus_audit.specs.FreeRuns.{AreFree}
 use Rattle.bus_audit.specs.Choices.{data_port_read, unless_own, second_byte, key_by, key_choice, takes_pulse, place_in_chain, pulse_to}
 use Rattle.bus_audit.specs.Choices.{interrupting_socket, from_last_fetch, pulse_by, pulse_choice, choice_for, choice}
@@ -63,7 +64,7 @@ pulse_free writes seats chain (Some socket) = by (takes_pulse (slice_get seats s
     by true (Some place) = (tt, tt)
     by false place = tt
 
-pub op_free : (op : Op) (x : Position) (trace : List PlainStep) → HaveBytes trace →
+pub op_free : (op : Op) (x : Position) (trace : List TraceStep) → HaveBytes trace →
     AreFree (key_choice op x trace ++ pulse_choice op x trace)
 op_free op x trace small =
     let operand = byte_at x.flat.memory (places_on x.flat.state.flow.p 1) in
@@ -72,7 +73,7 @@ op_free op x trace small =
     (λ b e. second_small trace b e small))
     (pulse_free x.flat.state.writes (seats_of x.copies) x.chain (interrupting_socket (from_last_fetch op x trace)))
 
-pub choice_free : (x : Position) (trace : List PlainStep) → HaveBytes trace → AreFree (choice trace x)
+pub choice_free : (x : Position) (trace : List TraceStep) → HaveBytes trace → AreFree (choice trace x)
 choice_free x trace small = by (decoded (opcode_at x))
   where
     by : (op : Option Op) → AreFree (choice_for op x trace)
@@ -81,7 +82,7 @@ choice_free x trace small = by (decoded (opcode_at x))
 
 -- ---- what they hang on
 
-pub choice-with_free : (keys : List ℕ) (pulses : List Mark) (x : Position) (trace : List PlainStep) →
+pub choice-with_free : (keys : List ℕ) (pulses : List Mark) (x : Position) (trace : List TraceStep) →
     choice trace (with_free keys pulses x) ≡ choice trace x
 choice-with_free keys pulses x trace = by (decoded (opcode_at x))
   where
@@ -89,7 +90,7 @@ choice-with_free keys pulses x trace = by (decoded (opcode_at x))
     by None = refl
     by (Some op) = refl
 
-pub choice-after_reset : (x : Position) (trace : List PlainStep) → choice trace (position_after_reset x) ≡ choice trace x
+pub choice-after_reset : (x : Position) (trace : List TraceStep) → choice trace (position_after_reset x) ≡ choice trace x
 choice-after_reset x trace = by (decoded (opcode_at x))
   where
     by : (op : Option Op) → choice_for op (position_after_reset x) trace ≡ choice_for op x trace
@@ -108,7 +109,7 @@ takes_none : (o : Option Seat) → takes_pulse o [] ≡ false
 takes_none None = refl
 takes_none (Some seat) = takes_none_by seat.wired seat.ports
 
-pub no_first_pulse : (phi : ℕ) (x : Position) (trace : List PlainStep) (marks : List Mark) → x.flat.state.writes ≡ [] →
+pub no_first_pulse : (phi : ℕ) (x : Position) (trace : List TraceStep) (marks : List Mark) → x.flat.state.writes ≡ [] →
     pulses_after x.chain phi (choice trace x) marks ≡ marks
 no_first_pulse phi x trace marks none = by (decoded (opcode_at x))
   where

@@ -2,7 +2,8 @@
 use Rattle.std.proofs.Common.{◌≡◌, ℕ, List, ◌++◌, map, sym, subst}
 use Rattle.console_spec.specs.BusTrace.{TracedStep}
 use Rattle.console_spec.specs.Run.{Position}
-use Rattle.bus_audit.specs.PlainSteps.{PlainStep, HaveBytes, plain}
+use Rattle.bus_audit.specs.PlainSteps.{HaveBytes, plain}
+use Rattle.bus_audit.specs.declared.step.TraceStep.{TraceStep}
 use Rattle.bus_audit.specs.FreeRuns.{Setup, IsFreelyAt}
 use Rattle.bus_audit.specs.Choices.{with_choice}
 use Rattle.bus_audit.specs.DictatedRuns.{IsDictatedAt}
@@ -12,7 +13,7 @@ use Rattle.bus_audit.proofs.Beside.{Beside, beside, differs}
 use Rattle.bus_audit.proofs.Agreement.{agrees}
 use Rattle.bus_audit.proofs.Exact.{sound, complete}
 
-determines : (setup : Setup) (n : ℕ) (y : Position) (steps : List TracedStep) (trace rest : List PlainStep) → HaveBytes trace →
+determines : (setup : Setup) (n : ℕ) (y : Position) (steps : List TracedStep) (trace rest : List TraceStep) → HaveBytes trace →
     IsFreelyAt setup n y steps → map plain steps ++ rest ≡ trace →
     (z : Position) × IsDictatedAt setup trace n z rest × DiffersInInputs y z
 determines setup n y steps trace rest small at is =

@@ -16,7 +16,8 @@ use Rattle.console_spec.specs.Writes.{latch_of, readers, port_value, chip_port_b
 use Rattle.console_spec.specs.declared.Event.{Event}
 use Rattle.console_spec.specs.declared.Event.TheVariants.{Keys}
 use Rattle.console_spec.specs.declared.PortWrite.{PortWrite}
-use Rattle.bus_audit.specs.PlainSteps.{PlainStep, HaveBytes, plain_course}
+use Rattle.bus_audit.specs.PlainSteps.{HaveBytes, plain_course}
+use Rattle.bus_audit.specs.declared.step.TraceStep.{TraceStep}
 use Rattle.bus_audit.specs.Choices.{second_byte, key_to, key_by, key_choice, place_in_chain, pulse_to, takes_pulse, pulse_by}
 use Rattle.bus_audit.specs.Determinacy.{with_free}
 use Rattle.bus_audit.proofs.FreeInputs.{keys_after, pulses_after}
@@ -111,10 +112,10 @@ reads_by writes seats keys others port told false is alike tells =
 -- ---- the instructions that read a port
 
 -- with the key byte that is dictated alone
-abbrev keyed_by : Op → Position → List PlainStep → List ℕ → List ℕ
+abbrev keyed_by : Op → Position → List TraceStep → List ℕ → List ℕ
 keyed_by op y trace keys = keys_after (key_choice op y trace) keys
 
-module _ (y : Position) (trace more : List PlainStep) (keys : List ℕ) (pulses : List Mark) (small : HaveBytes trace)
+module _ (y : Position) (trace more : List TraceStep) (keys : List ℕ) (pulses : List Mark) (small : HaveBytes trace)
     (size : length keys ≡ 256) (alike : OwnAlike keys y.flat.state.keys) where
   in_reads : (before_at In y).fault ≡ None → trace ≡ plain_course (instruction_course In y) ++ more →
       port_at In (with_free (keyed_by In y trace keys) pulses y) ≡ port_at In y

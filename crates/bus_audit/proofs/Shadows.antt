@@ -9,7 +9,8 @@ use Rattle.console_spec.specs.InterruptRequests.{Mark, last_write_time, last_mar
 use Rattle.console_spec.specs.Processor.{State, history_of, result_of, write_at, written_port, with_write}
 use Rattle.console_spec.specs.Run.{Position, seats_of, gets_at, instruction_course, instruction_fault, position_after}
 use Rattle.console_spec.specs.declared.PortWrite.{PortWrite}
-use Rattle.bus_audit.specs.PlainSteps.{PlainStep, HaveBytes, plain_course}
+use Rattle.bus_audit.specs.PlainSteps.{HaveBytes, plain_course}
+use Rattle.bus_audit.specs.declared.step.TraceStep.{TraceStep}
 use Rattle.bus_audit.specs.Choices.{interrupting_socket, from_last_fetch, key_choice, pulse_choice}
 use Rattle.bus_audit.specs.Determinacy.{with_free}
 use Rattle.bus_audit.proofs.FreeInputs.{keys_after, pulses_after, keys_after-append, pulses_after-append, length-keys_after, free_leaves}
@@ -73,7 +74,7 @@ late_by (Some t) s op taken phi is = omega arith
 
 -- ---- the next instruction
 
-module _ (y : Position) (keys : List ℕ) (pulses : List Mark) (shadow : Shadow y keys pulses) (op : Op) (trace more : List PlainStep)
+module _ (y : Position) (keys : List ℕ) (pulses : List Mark) (shadow : Shadow y keys pulses) (op : Op) (trace more : List TraceStep)
     (small : HaveBytes trace) (is : trace ≡ plain_course (instruction_course op y) ++ more) where
   -- with what the trace dictates
   abbrev pub chosen_keys : List ℕ

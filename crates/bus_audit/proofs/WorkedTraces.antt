@@ -11,29 +11,30 @@ use Rattle.console_spec.proofs.Played.{running, steps_alone}
 use Rattle.console_spec.proofs.WorkedInterrupts.{wired_psu}
 use Rattle.console_spec.proofs.WorkedRacks.{psu}
 use Rattle.console_spec.proofs.WorkedRuns.{rom}
-use Rattle.bus_audit.specs.PlainSteps.{PlainStep, Byte, Faulted}
+use Rattle.bus_audit.specs.declared.step.TraceStep.{TraceStep}
+use Rattle.bus_audit.specs.declared.step.TraceWhat.TheVariants.{Byte, Fault as Faulted}
 use Rattle.bus_audit.specs.FreeRuns.{Setup}
 use Rattle.bus_audit.specs.DictatedRuns.{DictatedEnd, dictated, dictated_from}
 
 -- ---- traces
 
-abbrev short : ℕ → ℕ → Who → PlainStep
+abbrev short : ℕ → ℕ → Who → TraceStep
 short romc byte who = record { romc = romc; long = false; what = Byte byte who }
 
-abbrev long : ℕ → ℕ → Who → PlainStep
+abbrev long : ℕ → ℕ → Who → TraceStep
 long romc byte who = record { romc = romc; long = true; what = Byte byte who }
 
-abbrev fault_at : ℕ → Bool → PlainStep
+abbrev fault_at : ℕ → Bool → TraceStep
 fault_at romc is_long = record { romc = romc; long = is_long; what = Faulted }
 
 -- reset, with the first opcode
-abbrev reset_told : ℕ → List PlainStep
+abbrev reset_told : ℕ → List TraceStep
 reset_told opcode = short 0x1C 0 Nobody ∷ long 0x08 0 Cpu ∷ short 0x00 opcode (Socket 0) ∷ []
 
-abbrev fetched_alone : ℕ → List PlainStep
+abbrev fetched_alone : ℕ → List TraceStep
 fetched_alone opcode = short 0x00 opcode (Socket 0) ∷ []
 
-abbrev left : ℕ → List PlainStep → DictatedEnd
+abbrev left : ℕ → List TraceStep → DictatedEnd
 left count rest = record { count = count; rest = rest }
 
 -- chips that are all described, in the order of their sockets, and a script
@@ -48,10 +49,10 @@ of_chips chips = with_script chips (steps_alone 0 1)
 abbrev branching : Setup
 branching = of_chips (rom (0x71 ∷ 0x2B ∷ 0x90 ∷ 0xFE ∷ []))
 
-abbrev branch_told : ℕ → List PlainStep
+abbrev branch_told : ℕ → List TraceStep
 branch_told displacement = short 0x1C 0 Nobody ∷ long 0x01 displacement (Socket 0) ∷ short 0x00 0x2B (Socket 0) ∷ []
 
-abbrev before_branch : List PlainStep
+abbrev before_branch : List TraceStep
 before_branch = reset_told 0x71 ++ fetched_alone 0x2B ++ fetched_alone 0x90
 
 all_told : dictated branching (before_branch ++ branch_told 0xFE) ≡ left 3 []
@@ -91,7 +92,7 @@ reset_broken_off = refl
 -- ---- ends
 
 -- without a chip reset is not served, and its fault counts once
-no_chip_told : List PlainStep
+no_chip_told : List TraceStep
 no_chip_told = short 0x1C 0 Nobody ∷ long 0x08 0 Cpu ∷ fault_at 0x00 false ∷ []
 
 no_chip : dictated (of_chips []) no_chip_told ≡ left 0 []
@@ -116,11 +117,11 @@ behind_reserved = refl
 abbrev keyed : Setup
 keyed = of_chips (rom (0x20 ∷ 0x0F ∷ 0xB4 ∷ 0xA4 ∷ 0x26 ∷ 0x02 ∷ []))
 
-abbrev before_key : List PlainStep
+abbrev before_key : List TraceStep
 before_key =
     reset_told 0x20 ++ long 0x03 0x0F (Socket 0) ∷ short 0x00 0xB4 (Socket 0) ∷ long 0x1C 0x04 Cpu ∷ long 0x1A 0x0F Cpu ∷ fetched_alone 0xA4
 
-abbrev from_key : ℕ → List PlainStep
+abbrev from_key : ℕ → List TraceStep
 from_key byte =
     long 0x1C 0x04 Cpu ∷ long 0x1B byte (Socket 0) ∷ short 0x00 0x26 (Socket 0) ∷ long 0x03 0x02 (Socket 0) ∷ fault_at 0x1B true ∷ []
 
@@ -150,10 +151,10 @@ own_ports = rom (0xA0 ∷ 0xB4 ∷ 0x90 ∷ 0xFE ∷ [])
 abbrev own_key : Script
 own_key = record { power = 0; end = Steps 3; events = record { frame = 0; event = Keys 0 5 } ∷ []; shows = [] }
 
-abbrev own_begins : List PlainStep
+abbrev own_begins : List TraceStep
 own_begins = reset_told 0xA0 ++ short 0x1C 0 Nobody ∷ fetched_alone 0xB4
 
-abbrev own_goes_on : List PlainStep
+abbrev own_goes_on : List TraceStep
 own_goes_on =
     long 0x1C 0x04 Cpu ∷ long 0x1A 0x05 Cpu ∷ short 0x00 0x90 (Socket 0) ∷ short 0x1C 0 Nobody ∷ long 0x01 0xFE (Socket 0)
     ∷ fetched_alone 0xB4
@@ -174,7 +175,7 @@ abbrev timer_cart : List ChipView
 timer_cart = wired_psu 0 4 0x180
     (0x73 ∷ 0xB6 ∷ 0x20 ∷ 0x7F ∷ 0xB7 ∷ replicate 7 0x2B ++ 0x1B ∷ 0x2B ∷ []) ∷ []
 
-abbrev timer_told : List PlainStep
+abbrev timer_told : List TraceStep
 timer_told =
     reset_told 0x73 ++ fetched_alone 0xB6 ++ long 0x1C 0x06 Cpu ∷ long 0x1A 0x03 Cpu ∷ short 0x00 0x20 (Socket 0) ∷ long 0x03 0x7F (Socket 0)
     ∷ short 0x00 0xB7 (Socket 0) ∷ long 0x1C 0x07 Cpu ∷ long 0x1A 0x7F Cpu ∷ replicate 7 (short 0x00 0x2B (Socket 0)) ++ fetched_alone 0x1B
@@ -190,12 +191,12 @@ abbrev pulsed_chips : Bool → List ChipView
 pulsed_chips wired =
     record (wired_psu 0 4 0x100 (0x71 ∷ 0xB6 ∷ 0xBA ∷ 0x1B ∷ 0x90 ∷ 0xFF ∷ [])) { wired = wired } ∷ wired_psu 0x400 8 0x200 [] ∷ []
 
-abbrev before_pulse : List PlainStep
+abbrev before_pulse : List TraceStep
 before_pulse =
     reset_told 0x71 ++ fetched_alone 0xB6 ++ long 0x1C 0x06 Cpu ∷ long 0x1A 0x01 Cpu ∷ short 0x00 0xBA (Socket 0) ∷ long 0x1C 0x0A Cpu
     ∷ long 0x1A 0x01 Cpu ∷ short 0x00 0x1B (Socket 0) ∷ short 0x1C 0 Nobody ∷ fetched_alone 0x90
 
-abbrev from_pulse : ℕ → ℕ → List PlainStep
+abbrev from_pulse : ℕ → ℕ → List TraceStep
 from_pulse socket vector_high =
     short 0x1C 0 Nobody ∷ long 0x01 0xFF (Socket 0) ∷ long 0x10 0 Nobody ∷ short 0x1C 0 Nobody ∷ long 0x0F 0x80 (Socket socket)
     ∷ long 0x13 vector_high (Socket socket) ∷ fetched_alone 0xFF
@@ -251,7 +252,7 @@ abbrev once_pulsed : List ChipView
 once_pulsed = wired_psu 0 4 0x100
     (0x71 ∷ 0xB6 ∷ 0x1B ∷ 0x90 ∷ 0xFF ∷ replicate 379 0xFF ++ 0x1B ∷ 0x2B ∷ 0x2B ∷ []) ∷ []
 
-abbrev once_told : List PlainStep
+abbrev once_told : List TraceStep
 once_told =
     reset_told 0x71 ++ fetched_alone 0xB6 ++ long 0x1C 0x06 Cpu ∷ long 0x1A 0x01 Cpu ∷ short 0x00 0x1B (Socket 0) ∷ short 0x1C 0 Nobody
     ∷ short 0x00 0x90 (Socket 0) ∷ short 0x1C 0 Nobody ∷ long 0x01 0xFF (Socket 0) ∷ long 0x10 0 Nobody ∷ short 0x1C 0 Nobody

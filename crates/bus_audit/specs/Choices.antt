@@ -19,7 +19,9 @@ use Rattle.console_spec.specs.declared.Event.{Event}
 use Rattle.console_spec.specs.declared.Event.TheVariants.{Keys, Pulse}
 use Rattle.console_spec.specs.declared.PortWrite.{PortWrite}
 use Rattle.console_spec.specs.declared.Who.TheVariants.{Cpu, Socket, Nobody}
-use Rattle.bus_audit.specs.PlainSteps.{What, Byte, Faulted, PlainStep}
+use Rattle.bus_audit.specs.declared.step.TraceStep.{TraceStep}
+use Rattle.bus_audit.specs.declared.step.TraceWhat.{TraceWhat}
+use Rattle.bus_audit.specs.declared.step.TraceWhat.TheVariants.{Byte, Fault as Faulted}
 
 -- ---- the key byte
 
@@ -32,16 +34,16 @@ data_port_read In operand = unless_own operand
 data_port_read (Ins n) operand = unless_own n
 data_port_read op operand = None
 
-abbrev pub told_byte : What → Option ℕ
+abbrev pub told_byte : TraceWhat → Option ℕ
 told_byte (Byte byte who) = Some byte
 told_byte Faulted = None
 
-abbrev pub first_byte : List PlainStep → Option ℕ
+abbrev pub first_byte : List TraceStep → Option ℕ
 first_byte [] = None
 first_byte (s ∷ later) = told_byte s.what
 
 -- a port is read in the second step of an instruction
-abbrev pub second_byte : List PlainStep → Option ℕ
+abbrev pub second_byte : List TraceStep → Option ℕ
 second_byte [] = None
 second_byte (s ∷ later) = first_byte later
 
@@ -56,7 +58,7 @@ key_by writes seats None byte = []
 key_by writes seats (Some port) None = []
 key_by writes seats (Some port) (Some byte) = key_to writes seats port byte
 
-abbrev pub key_choice : Op → Position → List PlainStep → List Event
+abbrev pub key_choice : Op → Position → List TraceStep → List Event
 key_choice op x trace =
     key_by x.flat.state.writes (seats_of x.copies) (data_port_read op (byte_at x.flat.memory (places_on x.flat.state.flow.p 1)))
     (second_byte trace)
@@ -64,26 +66,26 @@ key_choice op x trace =
 -- ---- the pulse
 
 -- the socket of the chip that drives the low half of the vector, where the steps of an interrupt stand first
-abbrev pub driving_socket : What → Option ℕ
+abbrev pub driving_socket : TraceWhat → Option ℕ
 driving_socket (Byte byte Cpu) = None
 driving_socket (Byte byte (Socket socket)) = Some socket
 driving_socket (Byte byte Nobody) = None
 driving_socket Faulted = None
 
-abbrev pub vector_low_driver : List PlainStep → Option ℕ
+abbrev pub vector_low_driver : List TraceStep → Option ℕ
 vector_low_driver [] = None
 vector_low_driver (s ∷ later) = if s.romc == 0x0F then driving_socket s.what else None
 
-abbrev pub driver_past_idle : List PlainStep → Option ℕ
+abbrev pub driver_past_idle : List TraceStep → Option ℕ
 driver_past_idle [] = None
 driver_past_idle (s ∷ later) = if s.romc == 0x1C then vector_low_driver later else None
 
-abbrev pub interrupting_socket : List PlainStep → Option ℕ
+abbrev pub interrupting_socket : List TraceStep → Option ℕ
 interrupting_socket [] = None
 interrupting_socket (s ∷ later) = if s.romc == 0x10 then driver_past_idle later else None
 
 -- the steps of a trace from the place of the instruction's last fetch on
-abbrev pub from_last_fetch : Op → Position → List PlainStep → List PlainStep
+abbrev pub from_last_fetch : Op → Position → List TraceStep → List TraceStep
 from_last_fetch op x trace = drop (length (steps_before_fetch (row_of op) (is_taken op x.flat.state.registers))) trace
 
 -- a chip that can interrupt, and whose control lets pulses in
@@ -105,19 +107,19 @@ pulse_by writes seats chain None = []
 pulse_by writes seats chain (Some socket) =
     if takes_pulse (slice_get seats socket) writes then pulse_to (place_in_chain socket chain) else []
 
-abbrev pub pulse_choice : Op → Position → List PlainStep → List Event
+abbrev pub pulse_choice : Op → Position → List TraceStep → List Event
 pulse_choice op x trace =
     pulse_by x.flat.state.writes (seats_of x.copies) x.chain (interrupting_socket (from_last_fetch op x trace))
 
 -- ---- both
 
-abbrev pub choice_for : Option Op → Position → List PlainStep → List Event
+abbrev pub choice_for : Option Op → Position → List TraceStep → List Event
 choice_for None x trace = []
 choice_for (Some op) x trace = key_choice op x trace ++ pulse_choice op x trace
 
 -- What the steps that stand next in a trace dictate for the instruction at a position.
-abbrev pub choice : List PlainStep → Position → List Event
+abbrev pub choice : List TraceStep → Position → List Event
 choice trace x = choice_for (decoded (opcode_at x)) x trace
 
-abbrev pub with_choice : List PlainStep → Position → Position
+abbrev pub with_choice : List TraceStep → Position → Position
 with_choice trace x = with_events (choice trace x) x

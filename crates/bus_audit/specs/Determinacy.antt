@@ -8,7 +8,8 @@ use Rattle.console_spec.specs.InterruptRequests.{Mark, has_request, last_load, l
 use Rattle.console_spec.specs.Processor.{history_of}
 use Rattle.console_spec.specs.Run.{Position}
 use Rattle.console_spec.specs.Writes.{latch_of}
-use Rattle.bus_audit.specs.PlainSteps.{PlainStep, HaveBytes, plain}
+use Rattle.bus_audit.specs.PlainSteps.{HaveBytes, plain}
+use Rattle.bus_audit.specs.declared.step.TraceStep.{TraceStep}
 use Rattle.bus_audit.specs.FreeRuns.{Setup, IsFreelyAt, IsRecord}
 use Rattle.bus_audit.specs.DictatedRuns.{IsDictatedAt, dictated}
 
@@ -45,11 +46,11 @@ pub record AgreesBesideInputs (y z : Position) : Type 0 where
 pub record DeterminacyLaw : Type 0 where
   -- Where the record of a free run up to the end of reset or of an instruction is what stands first in the trace, the dictated run has done
   -- as many instructions with the same steps, and is there but for inputs.
-  pub determined : (setup : Setup) (n : ℕ) (y : Position) (steps : List TracedStep) (trace rest : List PlainStep) → HaveBytes trace →
+  pub determined : (setup : Setup) (n : ℕ) (y : Position) (steps : List TracedStep) (trace rest : List TraceStep) → HaveBytes trace →
       IsFreelyAt setup n y steps → map plain steps ++ rest ≡ trace →
       (z : Position) × IsDictatedAt setup trace n z rest × DiffersInInputs y z
   pub agrees : (y z : Position) → DiffersInInputs y z → AgreesBesideInputs y z
   -- The dictated run does so many instructions and leaves nothing of a trace that has a step, where that is the whole record of some free run
   -- with so many, and nowhere else.
-  pub exact : (setup : Setup) (n : ℕ) (s : PlainStep) (later : List PlainStep) → HaveBytes (s ∷ later) →
+  pub exact : (setup : Setup) (n : ℕ) (s : TraceStep) (later : List TraceStep) → HaveBytes (s ∷ later) →
       (dictated setup (s ∷ later) ≡ record { count = n; rest = [] }) ↔ IsRecord setup n (s ∷ later)

@@ -15,7 +15,8 @@ use Rattle.console_spec.specs.Services.{Fault}
 use Rattle.console_spec.specs.Telling.{fallen, with_events}
 use Rattle.console_spec.specs.declared.Event.{Event}
 use Rattle.console_spec.specs.declared.Event.TheVariants.{Keys, Pulse}
-use Rattle.bus_audit.specs.PlainSteps.{PlainStep, plain, plain_course}
+use Rattle.bus_audit.specs.PlainSteps.{plain, plain_course}
+use Rattle.bus_audit.specs.declared.step.TraceStep.{TraceStep}
 
 -- what a run is given besides free inputs: the chips of the rack, fitted; the sockets of those described, in the order of the description;
 -- what is said of how these are powered on; and the script
@@ -86,7 +87,7 @@ IsFreelyAt setup (suc n) x steps =
 
 -- The whole record of a free run with so many instructions that are done: of one that is broken off behind reset or an instruction, or of one
 -- that a fault stops, whose step is the last. One that stops at a reserved opcode has the record of one that is broken off there.
-pub data IsRecord (setup : Setup) : ℕ → List PlainStep → Type 0 where
+pub data IsRecord (setup : Setup) : ℕ → List TraceStep → Type 0 where
   broken_off : (n : ℕ) (x : Position) (steps : List TracedStep) → IsFreelyAt setup n x steps → IsRecord setup n (map plain steps)
   reset_cut : (free : List Event) (fault : Fault) → AreFree free → reset_fault (with_events free (own_begun setup)) ≡ Some fault →
       IsRecord setup zero (plain_course (reset_course (with_events free (own_begun setup))))

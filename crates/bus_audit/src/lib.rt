@@ -3,5 +3,7 @@
 #![tactic(auto)]
 
 mod law;
+mod step;
 
 pub use law::determinacy_law;
+pub use step::{TraceStep, TraceWhat};
