@@ -3,3 +3,4 @@ pub mod FreeRuns
 pub mod Choices
 pub mod DictatedRuns
 pub mod Determinacy
+pub mod Answers

@@ -2,8 +2,12 @@
 //! Here stand the definitions of that, and their law; a reader of traces and the audit itself aren't here yet.
 #![tactic(auto)]
 
+mod audit;
 mod law;
 mod step;
+mod trace;
 
+pub use audit::AuditAnswer;
 pub use law::determinacy_law;
 pub use step::{TraceStep, TraceWhat};
+pub use trace::{ToldLine, TraceList};
