@@ -12,3 +12,5 @@ mod Agreement
 mod Exact
 pub mod Laws
 mod WorkedTraces
+pub mod TraceReads
+pub mod TraceSizes

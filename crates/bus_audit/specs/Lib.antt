@@ -4,3 +4,5 @@ pub mod Choices
 pub mod DictatedRuns
 pub mod Determinacy
 pub mod Answers
+pub mod TraceText
+pub mod TraceFaults

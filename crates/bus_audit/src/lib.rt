@@ -4,10 +4,13 @@
 
 mod audit;
 mod law;
+mod read;
+mod spelled;
 mod step;
 mod trace;
 
 pub use audit::AuditAnswer;
 pub use law::determinacy_law;
+pub use read::{TraceAnswer, TraceFault, read_trace};
 pub use step::{TraceStep, TraceWhat};
 pub use trace::{ToldLine, TraceList};

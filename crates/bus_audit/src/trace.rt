@@ -1,7 +1,9 @@
 // The steps of a trace, each with its line.
-ghost use Rattle.std.specs.Prelude.{◌≡◌, ◌≤◌, ◌∷◌, [], length, map};
+ghost use Rattle.std.specs.Prelude.{◌≡◌, ◌≤◌, ◌∷◌, [], length, map, OnOk, OnErr};
+ghost use Rattle.bus_audit.specs.TraceText.{no_line, with_none, with_step};
 
 use super::step::TraceStep;
+use std::alloc::{AllocError, Global};
 use std::marker::Model;
 
 /// A line of a trace that tells of a bus step. Lines are counted from 1, those that tell of none too.
@@ -27,6 +29,40 @@ impl Model for TraceList {
 }
 
 impl TraceList {
+    /// No line has been read. This takes no memory.
+    pub(crate) fn new(alloc: Global) -> TraceList
+        ensures { result ≡ no_line }
+    {
+        TraceList {
+            told: Vec::new(alloc),
+            after: 1,
+        }
+    }
+
+    /// One line more, which tells of no step.
+    pub(crate) fn skip_line(&mut self)
+        requires room { self.old.after ≤ 16777216 }
+        ensures { self.new ≡ with_none self.old }
+    {
+        self.after += 1;
+    }
+
+    /// One line more, which tells of a step.
+    ///
+    /// # Errors
+    ///
+    /// Memory is missing.
+    pub(crate) fn push(&mut self, step: TraceStep) -> Result<(), AllocError>
+        requires room { self.old.after ≤ 16777216 }
+        ensures ok { OnOk result (self.new ≡ with_step self.old step) }
+        ensures err { OnErr result (self.new ≡ self.old) }
+    {
+        let line = self.after;
+        self.told.push(ToldLine { line, step })?;
+        self.after += 1;
+        Ok(())
+    }
+
     /// The lines that tell of steps, in the order of the text.
     pub fn told(&self) -> &[ToldLine]
         ensures { result.now ≡ self.now.told }
