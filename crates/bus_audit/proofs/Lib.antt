@@ -14,3 +14,4 @@ pub mod Laws
 mod WorkedTraces
 pub mod TraceReads
 pub mod TraceSizes
+mod WorkedTraceText

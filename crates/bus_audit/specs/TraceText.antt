@@ -1,6 +1,7 @@
 -- The text of a printed trace: which of its lines tell of bus steps, and of which. A line that begins with `bus ` has one of the forms
 -- `bus RR S BB WHO` and `bus RR S -- fault`, and every other line tells of nothing. Single blanks part words.
-use Rattle.std.specs.Prelude.{ℕ, ◌+◌, ◌-◌, ◌*◌, Bool, true, false, ◌&&◌, nat_eq, nat_le, nat_lt, if◌then◌else◌, List, [], ◌∷◌, ◌++◌, length, take, drop}
+use Rattle.std.specs.Prelude.{ℕ, ◌+◌, ◌-◌, ◌*◌, Bool, true, false, ◌&&◌, ◌==◌, nat_le, nat_lt, if◌then◌else◌}
+use Rattle.std.specs.Prelude.{List, [], ◌∷◌, ◌++◌, length, take, drop}
 use Rattle.std.specs.Prelude.{codes, bytes_eq, Option, Some, None, option_map, Result, Ok, Err}
 use Rattle.text_lines.specs.Steps.{◌>>=◌}
 use Rattle.console_spec.specs.declared.Who.{Who}
@@ -50,7 +51,7 @@ is_long word =
 -- a socket from 0 to 9 has one digit, and one from 10 to 15 a 1 (49) and a digit up to 5 (53)
 abbrev pub socket_of : List ℕ → Option ℕ
 socket_of (c ∷ []) = if nat_le 48 c && nat_le c 57 then Some (c - 48) else None
-socket_of (ten ∷ c ∷ []) = if nat_eq ten 49 && nat_le 48 c && nat_le c 53 then Some (10 + (c - 48)) else None
+socket_of (ten ∷ c ∷ []) = if (ten == 49) && nat_le 48 c && nat_le c 53 then Some (10 + (c - 48)) else None
 socket_of word = None
 
 -- who drove a byte: the processor, nobody, or the chip in a socket
@@ -85,7 +86,7 @@ step_of ws = None
 abbrev pub behind_bus : List ℕ → Option (List ℕ)
 behind_bus line = if bytes_eq (take 4 line) (codes "bus ") then Some (drop 4 line) else None
 
--- a line that begins so tells of the step that it spells, or of none, and then it is at fault; of another line nothing is read
+-- what is read in a line: where it begins so the step that it spells, or that it spells none and so is at fault; nothing in another line
 abbrev pub read_in : List ℕ → Option (Option TraceStep)
 read_in line = option_map (λ text. step_of (words text)) (behind_bus line)
 

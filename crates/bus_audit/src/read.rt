@@ -20,7 +20,8 @@ pub struct TraceFault {
     pub line: u32,
 }
 
-/// Why a text is no trace: its first fault, or that memory is missing, at a line that tells of a step and before which no line is at fault.
+/// Why a text is no trace: its first fault, or that memory is missing, at a line that tells of a step, before which no
+/// line is at fault.
 pub type TraceAnswer = ReadError<TraceFault>;
 
 /// Reads one line more. Memory is wanting only where it tells of a step.
@@ -42,11 +43,11 @@ fn read_line(trace: &mut TraceList, line: &[u8]) -> Result<(), TraceAnswer>
     Ok(())
 }
 
-/// The trace of a text: the steps that its lines tell of, each with its line, and the line behind the last. Lines that begin with the four bytes
-/// `bus ` are read, and all others are skipped, whatever their bytes. A line that is read has the form `bus RR S BB WHO` or `bus RR S -- fault`:
-/// two hexadecimal digits of a code below 20, `S` for a short step or `L` for a long one, two digits of the byte, and `cpu`, `-` for nobody or the
-/// number of a socket from 0 to 15. Digits are capitals, single blanks part words, and nothing stands before or behind (this project's own). The
-/// only memory taken is for the steps.
+/// The trace of a text: the steps that its lines tell of, each with its line, and the line behind the last. Lines that begin with the
+/// four bytes `bus ` are read, and all others are skipped, whatever their bytes. A line that is read has the form `bus RR S BB WHO` or
+/// `bus RR S -- fault`: two hexadecimal digits of a code below 20, `S` for a short step or `L` for a long one, two digits of the byte,
+/// and `cpu`, `-` for nobody or the number of a socket from 0 to 15. Digits are capitals, single blanks part words, and nothing stands
+/// before or behind (this project's own). Memory is taken for the steps alone.
 ///
 /// # Errors
 ///
