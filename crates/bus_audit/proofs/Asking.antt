@@ -169,35 +169,70 @@ asks_again false timer pin expired first second e comes = absurd (cc)
 
 -- ---- the pulses of two histories
 
+-- the pulses are the spent ones, and one of a chip at most
+abbrev pub IsMarkedBy : Option ℕ → ℕ → List Mark → List Mark → Type 0
+IsMarkedBy o phi spent pulses = (pulses ≡ spent) ⊎ ((s : ℕ) × (o ≡ Some s) × (pulses ≡ with_mark s phi spent))
+
+-- where a pulse comes at a chip's place, if it comes
+pub placed_marked : (chain : List ℕ) (phi : ℕ) (spent : List Mark) (s : ℕ) (takes : Bool) →
+    IsMarkedBy (Some s) phi spent (pulses_after chain phi (if takes then pulse_to (place_in_chain s chain) else []) spent)
+placed_marked chain phi spent s takes = by takes (place_in_chain s chain) refl
+  where
+    by : (takes : Bool) (place : Option ℕ) → place_in_chain s chain ≡ place →
+        IsMarkedBy (Some s) phi spent (pulses_after chain phi (if takes then pulse_to place else []) spent)
+    by true None e = inl refl
+    by true (Some place) e = inr (s, refl, ap (λ (o : Option ℕ). marked o phi spent) (placed_there s chain place e))
+    by false place e = inl refl
+
+pub pulse_placed : (chain : List ℕ) (phi : ℕ) (spent : List Mark) (s : ℕ) → HasPlace s chain →
+    pulses_after chain phi (pulse_to (place_in_chain s chain)) spent ≡ with_mark s phi spent
+pulse_placed chain phi spent s has =
+    ap (λ (o : Option ℕ). pulses_after chain phi (pulse_to o) spent) has.is ∙ ap (λ (o : Option ℕ). marked o phi spent) has.there
+
+-- Which pulses come by the chip that is told: one of that chip at most, and it comes where the chip takes it.
+pub record Pulsing (seats : List Seat) (writes : List PortWrite) (chain : List ℕ) (phi : ℕ) (spent : List Mark) : Type 0 where
+  pub pulses : Option ℕ → List Mark
+  pub shape : (o : Option ℕ) → IsMarkedBy o phi spent (pulses o)
+  pub comes : (s : ℕ) (seat : Seat) → slice_get seats s ≡ Some seat → takes_pulse (Some seat) writes ≡ true → HasPlace s chain →
+      pulses (Some s) ≡ with_mark s phi spent
+
+-- those that a trace dictates
+module _ (seats : List Seat) (writes : List PortWrite) (chain : List ℕ) (phi : ℕ) (spent : List Mark) where
+  pub dictated_shape : (o : Option ℕ) → IsMarkedBy o phi spent (pulses_after chain phi (pulse_by writes seats chain o) spent)
+  dictated_shape None = inl refl
+  dictated_shape (Some s) = placed_marked chain phi spent s (takes_pulse (slice_get seats s) writes)
+
+  pub dictated_comes : (s : ℕ) (seat : Seat) → slice_get seats s ≡ Some seat → takes_pulse (Some seat) writes ≡ true → HasPlace s chain →
+      pulses_after chain phi (pulse_by writes seats chain (Some s)) spent ≡ with_mark s phi spent
+  dictated_comes s seat there takes has =
+      ap (λ (o : Option Seat). pulses_after chain phi (if takes_pulse o writes then pulse_to (place_in_chain s chain) else []) spent) there
+      ∙ ap (λ (b : Bool). pulses_after chain phi (if b then pulse_to (place_in_chain s chain) else []) spent) takes
+      ∙ pulse_placed chain phi spent s has
+
+  abbrev pub dictated_pulsing : Pulsing seats writes chain phi spent
+  dictated_pulsing = record {
+    pulses = λ o. pulses_after chain phi (pulse_by writes seats chain o) spent;
+    shape = dictated_shape;
+    comes = dictated_comes;
+  }
+
 -- The second history has other pulses: those that are spent, and one for the chip that is told at most, now.
 module _ (seats : List Seat) (writes : List PortWrite) (acknowledged before spent : List Mark) (chain : List ℕ) (phi time : ℕ) (told : Option ℕ)
+    (pulsing : Pulsing seats writes chain phi spent)
     (are_spent : AreSpent acknowledged spent) (written : (port : ℕ) → last_write_time port writes < phi)
     (marks_past : (chip : ℕ) → last_mark_time chip acknowledged < phi) (order : phi ≤ time) where
   abbrev pub first_history : History
   first_history = record { writes = writes; acknowledged = acknowledged; pulses = before }
 
   abbrev pub pulses_now : List Mark
-  pulses_now = pulses_after chain phi (pulse_by writes seats chain told) spent
+  pulses_now = pulsing.pulses told
 
   abbrev pub second_history : History
   second_history = record { writes = writes; acknowledged = acknowledged; pulses = pulses_now }
 
-  -- the pulses are the spent ones, and one of the chip that is told at most
-  pub pulse_shape : (o : Option ℕ) → (pulses_after chain phi (pulse_by writes seats chain o) spent ≡ spent)
-      ⊎ ((s : ℕ) × (o ≡ Some s) × (pulses_after chain phi (pulse_by writes seats chain o) spent ≡ with_mark s phi spent))
-  pulse_shape None = inl refl
-  pulse_shape (Some s) = by (takes_pulse (slice_get seats s) writes) (place_in_chain s chain) refl
-    where
-      by : (takes : Bool) (place : Option ℕ) → place_in_chain s chain ≡ place →
-          (pulses_after chain phi (if takes then pulse_to place else []) spent ≡ spent)
-          ⊎ ((t : ℕ) × (Some s ≡ Some t) × (pulses_after chain phi (if takes then pulse_to place else []) spent ≡ with_mark t phi spent))
-      by true None e = inl refl
-      by true (Some place) e = inr (s, refl, ap (λ (o : Option ℕ). marked o phi spent) (placed_there s chain place e))
-      by false place e = inl refl
-
   -- a mark among them that still counts is that of the chip that is told
   mark_now : (since socket : ℕ) → last_mark_time socket acknowledged ≤ since → has_mark socket since time pulses_now ≡ true → told ≡ Some socket
-  mark_now since socket early is = elim (pulse_shape told) [
+  mark_now since socket early is = elim (pulsing.shape told) [
     | inl same ↦
         let has : has_mark socket since time spent ≡ true =
         ap (λ (ms : List Mark). has_mark socket since time ms) (sym same) ∙ is in
@@ -242,12 +277,7 @@ module _ (seats : List Seat) (writes : List PortWrite) (acknowledged before spen
   -- the pulse comes where the chip takes it
   pulse_comes : (s : ℕ) (seat : Seat) → told ≡ Some s → slice_get seats s ≡ Some seat → takes_pulse (Some seat) writes ≡ true →
       HasPlace s chain → pulses_now ≡ with_mark s phi spent
-  pulse_comes s seat is there takes has =
-      ap (λ (o : Option ℕ). pulses_after chain phi (pulse_by writes seats chain o) spent) is
-      ∙ ap (λ (o : Option Seat). pulses_after chain phi (if takes_pulse o writes then pulse_to (place_in_chain s chain) else []) spent) there
-      ∙ ap (λ (b : Bool). pulses_after chain phi (if b then pulse_to (place_in_chain s chain) else []) spent) takes
-      ∙ ap (λ (o : Option ℕ). pulses_after chain phi (pulse_to o) spent) has.is
-      ∙ ap (λ (o : Option ℕ). marked o phi spent) has.there
+  pulse_comes s seat is there takes has = ap pulsing.pulses is ∙ pulsing.comes s seat there takes has
 
   still : first_asking seats first_history time chain ≡ told → (s : ℕ) → told ≡ Some s → is_asking_at seats first_history time s ≡ true →
       is_asking_at seats second_history time s ≡ true
@@ -304,7 +334,7 @@ module _ (seats : List Seat) (writes : List PortWrite) (acknowledged before spen
 
   -- all pulses are spent where the interrupt that is told is acknowledged
   pub spent_now : (ending : ℕ) → ((s : ℕ) → told ≡ Some s → phi + 4 ≤ ending) → AreSpent (with_acknowledged told ending acknowledged) pulses_now
-  spent_now ending late = elim (pulse_shape told) [
+  spent_now ending late = elim (pulsing.shape told) [
     | inl same ↦ subst (AreSpent (with_acknowledged told ending acknowledged)) (sym same) (spent_kept told ending late)
     | inr p ↦
         subst (λ (o : Option ℕ). AreSpent (with_acknowledged o ending acknowledged) pulses_now) (sym p.1)

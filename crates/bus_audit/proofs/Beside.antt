@@ -39,7 +39,7 @@ choice_as rest keys pulses x =
     ap (λ (events : List Event). with_events events (with_free keys pulses x)) (choice-with_free keys pulses x rest)
     ∙ events_with (choice rest x) keys pulses x
 
-own_fallen_unpulsed : (script : Script) (chain : List ℕ) (phi : ℕ) (frame : Option ℕ) (marks : List Mark) →
+pub own_fallen_unpulsed : (script : Script) (chain : List ℕ) (phi : ℕ) (frame : Option ℕ) (marks : List Mark) →
     pulses_after chain phi (own_fallen script frame) marks ≡ marks
 own_fallen_unpulsed script chain phi None marks = refl
 own_fallen_unpulsed script chain phi (Some frame) marks = own_unpulsed chain phi (events_at frame script.events) marks
@@ -103,7 +103,7 @@ module _ (setup : Setup) (y : Position) (steps : List TracedStep) (begins : Begi
       ∙ ap (λ (ss : List TracedStep). map plain ss ++ rest) reset_told
       ∙ ap (λ (told : List TraceStep). told ++ rest) (sym (plain_served (reset_course (powered_at setup)) no_fault))
 
-  behind_reset : drop (length reset_steps) trace ≡ rest
+  pub behind_reset : drop (length reset_steps) trace ≡ rest
   behind_reset =
       ap (drop (length reset_steps)) (sym is)
       ∙ drop_at (map plain steps) rest (length reset_steps)

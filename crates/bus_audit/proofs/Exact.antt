@@ -55,7 +55,7 @@ steps_some i c copies [] row None accesses = course_some i c copies (last_fetch 
 steps_some i c copies [] row (Some socket) accesses = course_some i c copies (long_step 0x10 NoByte) (drop 1 interrupt_steps) accesses
 steps_some i c copies (s ∷ steps) row chosen accesses = course_some i c copies s (steps ++ ending_steps row chosen) accesses
 
-tells_some : (op : Op) (x : Position) → 0 < length (plain_course (instruction_course op x))
+pub tells_some : (op : Op) (x : Position) → 0 < length (plain_course (instruction_course op x))
 tells_some op x =
     let i = gets_all_at op x in
     steps_some i x.flat.state.flow x.copies (steps_before_fetch (row_of op) i.taken) (row_of op) i.chosen (accesses_of op i)
@@ -99,10 +99,10 @@ start_shorter setup trace z rest is =
     omega (arith, size)
 
 -- so the number of instructions at most is never met
-record Reaches (setup : Setup) (trace : List TraceStep) (n : ℕ) (z : Position) (rest : List TraceStep) : Type 0 where
-  more : ℕ
-  enough : length rest ≤ more
-  is : dictated setup trace ≡ dictated_from setup.script n more z rest
+pub record Reaches (setup : Setup) (trace : List TraceStep) (n : ℕ) (z : Position) (rest : List TraceStep) : Type 0 where
+  pub more : ℕ
+  pub enough : length rest ≤ more
+  pub is : dictated setup trace ≡ dictated_from setup.script n more z rest
 
 onward_more : (setup : Setup) (trace : List TraceStep) (n : ℕ) (y z : Position) (before rest : List TraceStep) (more : ℕ) →
     length before ≤ more → length rest < length before → dictated setup trace ≡ dictated_from setup.script n more y before →
@@ -118,7 +118,7 @@ onward_more setup trace n y z before rest (suc more) enough shorter is next = re
       ∙ ap (λ (count : ℕ). dictated_from setup.script count more z rest) (add-one n);
 }
 
-reaches : (setup : Setup) (trace : List TraceStep) (n : ℕ) (z : Position) (rest : List TraceStep) → IsDictatedAt setup trace n z rest →
+pub reaches : (setup : Setup) (trace : List TraceStep) (n : ℕ) (z : Position) (rest : List TraceStep) → IsDictatedAt setup trace n z rest →
     Reaches setup trace n z rest
 reaches setup trace zero z rest at = record {
   more = length trace;
@@ -133,19 +133,22 @@ reaches setup trace (suc n) z rest at =
 
 -- ---- where nothing is left
 
-abbrev whole_in : ℕ → DictatedEnd
-whole_in n = record { count = n; rest = [] }
+abbrev pub at_end : ℕ → List TraceStep → DictatedEnd
+at_end n rest = record { count = n; rest = rest }
+
+abbrev pub whole_in : ℕ → DictatedEnd
+whole_in n = at_end n []
 
 none_behind : (steps : List TraceStep) → 0 < length steps → behind steps [] ≡ None
 none_behind [] some = absurd (omega arith)
 none_behind (s ∷ steps) some = refl
 
-over_by : (n : ℕ) (fault : Option Fault) (onward : List TraceStep → Position) (k : Position → List TraceStep → DictatedEnd) →
-    end_by n (next_by fault None onward []) k ≡ whole_in n
-over_by n None onward k = refl
-over_by n (Some fault) onward k = refl
+pub over_by : (n : ℕ) (fault : Option Fault) (onward : List TraceStep → Position) (trace : List TraceStep)
+    (k : Position → List TraceStep → DictatedEnd) → end_by n (next_by fault None onward trace) k ≡ at_end n trace
+over_by n None onward trace k = refl
+over_by n (Some fault) onward trace k = refl
 
-nothing_left : (script : Script) (n more : ℕ) (z : Position) → dictated_from script n more z [] ≡ whole_in n
+pub nothing_left : (script : Script) (n more : ℕ) (z : Position) → dictated_from script n more z [] ≡ whole_in n
 unfolding dictated_from
 nothing_left script n zero z = refl
 nothing_left script n (suc more) z = by (decoded (opcode_at z))
@@ -157,15 +160,15 @@ nothing_left script n (suc more) z = by (decoded (opcode_at z))
         let k : Position → List TraceStep → DictatedEnd = λ q later. dictated_from script (n + 1) more q later in
         ap (λ (found : Option (List TraceStep)). end_by n (next_by (instruction_fault op z) found onward []) k)
         (none_behind (plain_course (instruction_course op z)) (tells_some op z))
-        ∙ over_by n (instruction_fault op z) onward k
+        ∙ over_by n (instruction_fault op z) onward [] k
 
 -- ---- a record leaves nothing
 
-over_now : (script : Script) (n more : ℕ) (z : Position) (trace : List TraceStep) → 0 < length trace → length trace ≤ more →
-    next_dictated script z trace ≡ Over [] → dictated_from script n more z trace ≡ whole_in n
+pub over_now : (script : Script) (n more : ℕ) (z : Position) (trace left : List TraceStep) → 0 < length trace → length trace ≤ more →
+    next_dictated script z trace ≡ Over left → dictated_from script n more z trace ≡ at_end n left
 unfolding dictated_from
-over_now script n zero z trace some enough is = absurd (omega arith)
-over_now script n (suc more) z trace some enough is =
+over_now script n zero z trace left some enough is = absurd (omega arith)
+over_now script n (suc more) z trace left some enough is =
     ap (λ (nx : Next). end_by n nx (λ q later. dictated_from script (n + 1) more q later)) is
 
 reset_over : (setup : Setup) (free : List Event) (fault : Fault) → reset_fault (with_events free (own_begun setup)) ≡ Some fault →
@@ -202,12 +205,9 @@ complete setup (cut n x steps op fault at is cuts) small =
     let r : Reaches setup trace n z told = reaches setup trace n z told b.dictated in
     let next : next_dictated setup.script z told ≡ Over [] =
     next_is x b.keys b.pulses b.shadow op is told [] (bytes_behind (map plain steps) told small) (sym (append-nil told)) setup.script (Some fault) cuts in
-    r.is ∙ over_now setup.script n r.more z told (tells_some op x) r.enough next
+    r.is ∙ over_now setup.script n r.more z told [] (tells_some op x) r.enough next
 
 -- ---- and nothing else does
-
-abbrev at_end : ℕ → List TraceStep → DictatedEnd
-at_end n rest = record { count = n; rest = rest }
 
 module _ (setup : Setup) (m : ℕ) (trace : List TraceStep) where
   -- a run that is broken off here
@@ -303,7 +303,7 @@ module _ (setup : Setup) (m : ℕ) (trace : List TraceStep) where
       by (Some op) opcode e onwards =
           by_op op opcode (instruction_fault op z) (behind (plain_course (instruction_course op z)) rest) refl refl e onwards
 
-bytes_drop : (n : ℕ) (trace : List TraceStep) → HaveBytes trace → HaveBytes (drop n trace)
+pub bytes_drop : (n : ℕ) (trace : List TraceStep) → HaveBytes trace → HaveBytes (drop n trace)
 bytes_drop zero trace small = small
 bytes_drop (suc n) [] small = small
 bytes_drop (suc n) (s ∷ trace) small = bytes_drop n trace small.1

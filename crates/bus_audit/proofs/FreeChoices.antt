@@ -28,7 +28,7 @@ use Rattle.bus_audit.proofs.ToldSteps.{second_small}
 
 -- ---- free inputs
 
-free-append : (events later : List Event) → AreFree events → AreFree later → AreFree (events ++ later)
+pub free-append : (events later : List Event) → AreFree events → AreFree later → AreFree (events ++ later)
 free-append [] later first second = second
 free-append (e ∷ events) later first second = (first.0, free-append events later first.1 second)
 

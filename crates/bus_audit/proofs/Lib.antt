@@ -8,8 +8,10 @@ mod FreeChoices
 mod Shadows
 mod Behind
 mod Beside
+mod ReadInputs
 mod Agreement
 mod Exact
+mod Audited
 pub mod Laws
 mod WorkedTraces
 pub mod TraceReads

@@ -29,7 +29,7 @@ use Rattle.bus_audit.proofs.ToldSteps.{in_tells, ins_tells, first_small}
 or_has : (a b : ℕ) → bit_and (bit_or a b) a ≡ a
 or_has a b = ap (λ (n : ℕ). bit_and n a) (or_comm a b) ∙ and_or_self a b
 
-or_twice : (a b : ℕ) → bit_or a (bit_or a b) ≡ bit_or a b
+pub or_twice : (a b : ℕ) → bit_or a (bit_or a b) ≡ bit_or a b
 or_twice a b =
     let sum : bit_or a (bit_or a b) + bit_and a (bit_or a b) ≡ a + bit_or a b = or_add_and a (bit_or a b) in
     let both : bit_and a (bit_or a b) ≡ a = and_comm a (bit_or a b) ∙ or_has a b in
@@ -63,7 +63,7 @@ value_again writes seats keys others port one within =
     ∙ or_twice latch (slice_index others port)
 
 -- what a port reads as by how many chips have it
-abbrev read_as : Bool → ℕ → ℕ
+abbrev pub read_as : Bool → ℕ → ℕ
 read_as one value = if one then value else 255
 
 pub reads_again : (writes : List PortWrite) (seats : List Seat) (keys others : List ℕ) (port : ℕ) → port < length keys →
@@ -89,11 +89,11 @@ reads_again writes seats keys others port within = elim (cases_eq (readers port 
 abbrev pub OwnAlike : List ℕ → List ℕ → Type 0
 OwnAlike keys others = (n : ℕ) → n < 2 → slice_index keys n ≡ slice_index others n
 
-value_alike : (writes : List PortWrite) (keys others : List ℕ) (port : ℕ) → slice_index keys port ≡ slice_index others port →
+pub value_alike : (writes : List PortWrite) (keys others : List ℕ) (port : ℕ) → slice_index keys port ≡ slice_index others port →
     port_value port keys writes ≡ port_value port others writes
 value_alike writes keys others port same = ap (bit_or (latch_of port writes)) same
 
-chip_alike : (writes : List PortWrite) (seats : List Seat) (keys others : List ℕ) (port : ℕ) →
+pub chip_alike : (writes : List PortWrite) (seats : List Seat) (keys others : List ℕ) (port : ℕ) →
     slice_index keys port ≡ slice_index others port → chip_port_byte port seats keys writes ≡ chip_port_byte port seats others writes
 chip_alike writes seats keys others port same = ap (read_as (readers port seats == 1)) (value_alike writes keys others port same)
 
@@ -126,7 +126,7 @@ module _ (y : Position) (trace more : List TraceStep) (keys : List ℕ) (pulses 
       reads_by y.flat.state.writes (seats_of y.copies) keys y.flat.state.keys port (second_byte trace) (nat_lt port 2) refl alike
       (λ other. (omega (arith, within, size), tells.1))
 
-  abbrev ins_reads_as : Bool → ℕ → ℕ → ℕ
+  abbrev pub ins_reads_as : Bool → ℕ → ℕ → ℕ
   ins_reads_as own value byte = if own then value else byte
 
   ins_by : (n : ℕ) (own : Bool) → nat_lt n 2 ≡ own → (before_at (Ins n) y).fault ≡ None →

@@ -18,7 +18,7 @@ use Rattle.bus_audit.proofs.Courses.{served_before}
 use Rattle.bus_audit.proofs.SameSteps.{before_at, own_at, port_at, chosen_with, IsWanted, same_gets, same_after, same_steps, same_fault}
 use Rattle.bus_audit.proofs.ToldSteps.{vector_told}
 use Rattle.bus_audit.proofs.PortReads.{OwnAlike, port_reads, pulse_leaves_keys, key_leaves_pulses}
-use Rattle.bus_audit.proofs.Asking.{AreSpent, chosen_again, spent_now}
+use Rattle.bus_audit.proofs.Asking.{dictated_pulsing, AreSpent, chosen_again, spent_now}
 use Rattle.bus_audit.proofs.FreeChoices.{op_free}
 use Rattle.bus_audit.specs.Choices.{data_port_read, second_byte}
 use Rattle.console_spec.specs.AddressSpace.{byte_at}
@@ -68,7 +68,7 @@ steady_after op y steady =
       acknowledged = marks_steady i.chosen ending phi y.flat.state.acknowledged later steady.acknowledged;
     }
 
-late_by : (o : Option ℕ) (s : ℕ) (op : Op) (taken : Bool) (phi : ℕ) → o ≡ Some s → phi + 4 ≤ phi + clocks_by o op taken
+pub late_by : (o : Option ℕ) (s : ℕ) (op : Op) (taken : Bool) (phi : ℕ) → o ≡ Some s → phi + 4 ≤ phi + clocks_by o op taken
 late_by None s op taken phi is = absurd (cc)
 late_by (Some t) s op taken phi is = omega arith
 
@@ -98,7 +98,7 @@ module _ (y : Position) (keys : List ℕ) (pulses : List Mark) (shadow : Shadow 
       (key_leaves_pulses y.chain y.flat.state.phi y.flat.state.writes (seats_of y.copies)
       (data_port_read op (byte_at y.flat.memory (places_on y.flat.state.flow.p 1))) (second_byte trace) pulses)
 
-  chosen_same : (before_at op y).fault ≡ None →
+  pub chosen_same : (before_at op y).fault ≡ None →
       chosen_with op y (history_of (with_free chosen_keys chosen_pulses y).flat.state) (own_at op y)
       ≡ chosen_with op y (history_of y.flat.state) (own_at op y)
   chosen_same served =
@@ -106,7 +106,8 @@ module _ (y : Position) (keys : List ℕ) (pulses : List Mark) (shadow : Shadow 
       let time = s.phi + clocks_before_fetch op (own_at op y).taken in
       let order : s.phi ≤ time = omega arith in
       let is_told : told ≡ chosen_with op y (history_of s) (own_at op y) = vector_told op y trace more served is in
-      let again = chosen_again (seats_of y.copies) s.writes s.acknowledged s.pulses pulses y.chain s.phi time told shadow.spent
+      let again = chosen_again (seats_of y.copies) s.writes s.acknowledged s.pulses pulses y.chain s.phi time told
+      (dictated_pulsing (seats_of y.copies) s.writes y.chain s.phi pulses) shadow.spent
       shadow.steady.writes shadow.steady.acknowledged order op (result_of op (own_at op y) s.registers).status.icb (sym is_told) in
       ap (λ (ms : List Mark). chosen_with op y (record { writes = s.writes; acknowledged = s.acknowledged; pulses = ms }) (own_at op y)) pulses_are
       ∙ again
@@ -138,7 +139,8 @@ module _ (y : Position) (keys : List ℕ) (pulses : List Mark) (shadow : Shadow 
       let time = s.phi + clocks_before_fetch op (own_at op y).taken in
       let order : s.phi ≤ time = omega arith in
       let is_told : told ≡ i.chosen = vector_told op y trace more (served_before op y served) is in
-      let now = spent_now (seats_of y.copies) s.writes s.acknowledged s.pulses pulses y.chain s.phi time told shadow.spent
+      let now = spent_now (seats_of y.copies) s.writes s.acknowledged s.pulses pulses y.chain s.phi time told
+      (dictated_pulsing (seats_of y.copies) s.writes y.chain s.phi pulses) shadow.spent
       shadow.steady.writes shadow.steady.acknowledged order ending
       (λ socket e. late_by i.chosen socket op i.taken s.phi (sym is_told ∙ e)) in
       subst (λ (o : Option ℕ). AreSpent (with_acknowledged o ending s.acknowledged) chosen_pulses) is_told

@@ -23,6 +23,7 @@ use Rattle.bus_audit.specs.declared.step.TraceStep.{TraceStep}
 use Rattle.bus_audit.specs.declared.step.TraceWhat.{TraceWhat}
 use Rattle.bus_audit.specs.declared.step.TraceWhat.TheVariants.{Byte, Fault as Faulted}
 use Rattle.bus_audit.specs.Choices.{driving_socket, interrupting_socket, from_last_fetch, told_byte, first_byte, second_byte}
+use Rattle.bus_audit.specs.ReadInputs.{second_code}
 use Rattle.bus_audit.proofs.Courses.{joined_by, course_before, course_tells, before_pairs, in_parts}
 use Rattle.bus_audit.proofs.SameSteps.{before_at, behind_at, port_at, port_in_course, short_in_course}
 
@@ -91,9 +92,9 @@ vector_told op y trace more served is =
 
 -- ---- the port
 
--- the number and the byte of the port
+-- the number and the byte of the port, which the second step reads
 abbrev TellsPort : ℕ → ℕ → List TraceStep → Type 0
-TellsPort port byte trace = (first_byte trace ≡ Some port) × (second_byte trace ≡ Some byte)
+TellsPort port byte trace = (first_byte trace ≡ Some port) × (second_byte trace ≡ Some byte) × (second_code trace ≡ Some 0x1B)
 
 abbrev number_of : Row → Inputs → Option ℕ
 number_of PortIn i = Some i.operand
@@ -102,7 +103,7 @@ number_of row i = None
 
 port_in_told : (i : Inputs) (v w : Ruling) (more : List TraceStep) (port : ℕ) → Some i.operand ≡ Some port →
     (port_in_course i v w).fault ≡ None → TellsPort port i.port_byte (map plain (port_in_course i v w).steps ++ more)
-port_in_told i (Served a) (Served b) more port is served = (is, refl)
+port_in_told i (Served a) (Served b) more port is served = (is, refl, refl)
 port_in_told i (Served a) (Conflict parties) more port is served = absurd (cc)
 port_in_told i (Served a) (Undriven at) more port is served = absurd (cc)
 port_in_told i (Served a) (Astray socket at reference) more port is served = absurd (cc)
@@ -112,7 +113,7 @@ port_in_told i (Astray socket at reference) w more port is served = absurd (cc)
 
 short_in_told : (i : Inputs) (w : Ruling) (more : List TraceStep) (port : ℕ) → Some i.port ≡ Some port →
     (short_in_course i w).fault ≡ None → TellsPort port i.port_byte (map plain (short_in_course i w).steps ++ more)
-short_in_told i (Served b) more port is served = (is, refl)
+short_in_told i (Served b) more port is served = (is, refl, refl)
 short_in_told i (Conflict parties) more port is served = absurd (cc)
 short_in_told i (Undriven at) more port is served = absurd (cc)
 short_in_told i (Astray socket at reference) more port is served = absurd (cc)
@@ -133,7 +134,11 @@ op_tells : (op : Op) (y : Position) (trace more : List TraceStep) (port : ℕ) �
 op_tells op y trace more port number served is =
     let parts = told_in_parts op y trace more served is in
     let tells = row_tells (row_of op) (gets_all_at op y) y.flat.state.flow y.copies (plain_course (behind_at op y) ++ more) port number served in
-    (ap first_byte parts ∙ tells.0, ap second_byte parts ∙ tells.1 ∙ ap (λ (byte : ℕ). Some byte) (port_byte_is op y))
+    (
+      ap first_byte parts ∙ tells.0,
+      ap second_byte parts ∙ tells.1 ∙ ap (λ (byte : ℕ). Some byte) (port_byte_is op y),
+      ap second_code parts ∙ tells.2,
+    )
 
 operand_is : (y : Position) → number_of PortIn (gets_all_at In y) ≡ Some (byte_at y.flat.memory (places_on y.flat.state.flow.p 1))
 unfolding own_inputs

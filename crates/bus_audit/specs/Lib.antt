@@ -6,3 +6,4 @@ pub mod Determinacy
 pub mod Answers
 pub mod TraceText
 pub mod TraceFaults
+pub mod ReadInputs
