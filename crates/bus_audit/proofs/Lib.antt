@@ -12,6 +12,8 @@ mod ReadInputs
 mod Agreement
 mod Exact
 mod Audited
+pub mod Standing
+pub mod ToldInputs
 pub mod Laws
 mod WorkedTraces
 pub mod TraceReads

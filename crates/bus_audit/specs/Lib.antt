@@ -7,3 +7,5 @@ pub mod Answers
 pub mod TraceText
 pub mod TraceFaults
 pub mod ReadInputs
+pub mod Turns
+pub mod Inputs

@@ -3,9 +3,11 @@
 #![tactic(auto)]
 
 mod audit;
+mod inputs;
 mod law;
 mod read;
 mod spelled;
+mod matching;
 mod step;
 mod trace;
 
