@@ -14,6 +14,8 @@ mod Exact
 mod Audited
 pub mod Standing
 pub mod ToldInputs
+pub mod ComingLaws
+pub mod OutcomeLaws
 pub mod Laws
 mod WorkedTraces
 pub mod TraceReads

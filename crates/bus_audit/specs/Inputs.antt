@@ -1,7 +1,8 @@
 -- What becomes of a machine and its rack by inputs that come, one after another.
-use Rattle.std.specs.Prelude.{◌≡◌, List, [], ◌∷◌, Option, Some, None}
+use Rattle.std.specs.Prelude.{◌≡◌, ℕ, ◌==◌, if◌then◌else◌, List, [], ◌∷◌, Option, Some, None}
 use Rattle.f8_spec.specs.ChipState.{ChipState}
 use Rattle.console_spec.specs.Run.{Position}
+use Rattle.console_spec.specs.Scripts.{frames_by}
 use Rattle.console_spec.specs.Telling.{with_events}
 use Rattle.console_spec.specs.declared.Event.{Event}
 use Rattle.f8_machine.specs.MachineState.{MachineState}
@@ -19,3 +20,7 @@ pub record Comes (old new : MachineState) (olds news : List ChipState) (events :
   pub phi : new.phi ≡ old.phi
   pub index : new.index ≡ old.index
   pub mode : new.mode ≡ old.mode
+
+-- the frame that falls between two counts of clocks, if one does
+abbrev pub frame_between : ℕ → ℕ → Option ℕ
+frame_between before after = if frames_by after == frames_by before then None else Some (frames_by after)

@@ -1,22 +1,22 @@
 // The inputs that come to the machine: those that are read off the trace, and the script's key bytes of ports 0 and 1.
 ghost use Rattle.std.specs.Prelude.{◌≡◌, ◌≤◌, ◌∷◌, [], filter, length, map};
-ghost use Rattle.console_spec.specs.Run.{Position};
 ghost use Rattle.console_spec.specs.Scripts.{events_at};
-ghost use Rattle.console_spec.specs.Telling.{with_event, with_events};
 ghost use Rattle.f8_machine.specs.Fitting.{Fits};
-ghost use Rattle.f8_machine.specs.Refinement.{IsPowered, Represents};
+ghost use Rattle.pad_script.specs.Reading.{seen};
 ghost use Rattle.bus_audit.specs.Answers.{steps_of};
 ghost use Rattle.bus_audit.specs.Choices.{interrupting_socket, place_in_chain};
-ghost use Rattle.bus_audit.specs.FreeRuns.{is_own_key};
-ghost use Rattle.bus_audit.specs.Inputs.{Comes, events_in};
+ghost use Rattle.bus_audit.specs.FreeRuns.{is_own_key, own_fallen};
+ghost use Rattle.bus_audit.specs.Inputs.{Comes, events_in, frame_between};
 ghost use Rattle.bus_audit.specs.ReadInputs.{from_end, read_inputs, read_key, read_pulse};
 
 use super::step::TraceWhat;
 use super::trace::ToldLine;
 use chip_face::{Chip, MOST_CHIPS};
+use console_board::FRAME_CLOCKS;
 use console_spec::{At, Event, Who};
 use f8_machine::{Chain, Machine, Rack};
 use f8_ops::OWN_PORTS;
+use pad_script::Script;
 use romc_table::Romc;
 
 // ---- what is read
@@ -124,5 +124,63 @@ fn come(machine: &mut Machine, rack: &mut Rack, event: Option<Event>)
         Some(Event::Keys { port, byte }) => machine.keys(rack, port, byte),
         Some(Event::Pulse { chip }) => machine.pulse(rack, chip),
         None => {}
+    }
+}
+
+/// The key byte comes that is read of the steps which stand next. So it may before reset, where no pulse is taken.
+pub(crate) fn come_first(machine: &mut Machine, rack: &mut Rack, rest: &[ToldLine])
+    requires few { length rack.old.items ≤ MOST_CHIPS }
+    requires fits { Fits machine.old (map state rack.old.items) }
+    ensures comes { Comes machine.old machine.new
+        (map state rack.old.items) (map state rack.new.items) (read_key (steps_of rest.now)) }
+    ensures fits { Fits machine.new (map state rack.new.items) }
+    ensures chips { length rack.new.items ≡ length rack.old.items }
+{
+    come(machine, rack, told_key(rest));
+}
+
+/// What is read of the steps that stand next comes: a key byte and a pulse.
+pub(crate) fn come_read(machine: &mut Machine, rack: &mut Rack, rest: &[ToldLine])
+    requires few { length rack.old.items ≤ MOST_CHIPS }
+    requires fits { Fits machine.old (map state rack.old.items) }
+    ensures comes { Comes machine.old machine.new
+        (map state rack.old.items) (map state rack.new.items)
+        (read_inputs machine.old.chain (steps_of rest.now)) }
+    ensures fits { Fits machine.new (map state rack.new.items) }
+    ensures chips { length rack.new.items ≡ length rack.old.items }
+{
+    come(machine, rack, told_key(rest));
+    let pulse = told_pulse(machine.chain(), rest);
+    come(machine, rack, pulse);
+}
+
+/// The script's key bytes of ports 0 and 1 come that are due at a frame.
+pub(crate) fn come_own(machine: &mut Machine, rack: &mut Rack, events: &[At], frame: u64)
+    requires few { length rack.old.items ≤ MOST_CHIPS }
+    requires fits { Fits machine.old (map state rack.old.items) }
+    ensures comes { Comes machine.old machine.new
+        (map state rack.old.items) (map state rack.new.items)
+        (filter is_own_key (events_at frame events.now)) }
+    ensures fits { Fits machine.new (map state rack.new.items) }
+    ensures chips { length rack.new.items ≡ length rack.old.items }
+{
+    for at in events {
+        come(machine, rack, own_key(*at, frame));
+    }
+}
+
+/// Behind an instruction come those of the frame that falls at its end. `before` is the count of clocks before it, in Φ.
+pub(crate) fn come_behind(machine: &mut Machine, rack: &mut Rack, script: &Script, before: u64)
+    requires few { length rack.old.items ≤ MOST_CHIPS }
+    requires fits { Fits machine.old (map state rack.old.items) }
+    ensures comes { Comes machine.old machine.new
+        (map state rack.old.items) (map state rack.new.items)
+        (own_fallen (seen script.now) (frame_between before machine.old.phi)) }
+    ensures fits { Fits machine.new (map state rack.new.items) }
+    ensures chips { length rack.new.items ≡ length rack.old.items }
+{
+    let frame = machine.phi() / FRAME_CLOCKS;
+    if frame != before / FRAME_CLOCKS {
+        come_own(machine, rack, script.events.as_slice(), frame);
     }
 }

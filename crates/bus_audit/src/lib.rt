@@ -10,6 +10,7 @@ mod spelled;
 mod matching;
 mod step;
 mod trace;
+mod turn;
 
 pub use audit::AuditAnswer;
 pub use law::determinacy_law;

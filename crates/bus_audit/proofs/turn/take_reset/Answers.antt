@@ -1,0 +1,12 @@
+-- The outcome is that of the position's reset.
+use Rattle.std.proofs.Common.{map}
+use Rattle.bus_audit.specs.Answers.{steps_of}
+use Rattle.bus_audit.proofs.OutcomeLaws.{begins_are}
+use Rattle.bus_audit.proofs.turn.take_reset.Goals as goal
+
+pub returns-clause-turns : goal.returns-clause-turns
+returns-clause-turns g c = λ x r.
+    let news = map (λ b. (goal.Chip-dyn g (b.vtable, b.value)).state b.value) c.reset-outcome.new.rack.items in
+    rw c.judge.ensures
+    (begins_are x c.args.machine.now c.reset-outcome.new.self news (steps_of c.args.rest.now) c.reset-outcome.result
+    (c.reset-outcome.ensures.refines x r))
