@@ -16,6 +16,7 @@ pub mod Standing
 pub mod ToldInputs
 pub mod ComingLaws
 pub mod OutcomeLaws
+pub mod AuditLaws
 pub mod Laws
 mod WorkedTraces
 pub mod TraceReads

@@ -1,12 +1,14 @@
 -- Some served steps, one after another, beside those of a trace.
 use Rattle.std.proofs.Common.{◌≡◌, ℕ, suc, ◌+◌, ◌<◌, ◌≤◌, Bool, true, false, List, [], ◌∷◌, ◌++◌, length, map, drop, get_or, Option, Some, None}
-use Rattle.std.proofs.Common.{refl, ◌∙◌, ap, sym, arith, add-one, drop-cons}
+use Rattle.std.proofs.Common.{refl, ◌∙◌, ap, sym, arith, length-append}
 use Rattle.std.proofs.lemmas.List.{length-map, drop-map}
 use Rattle.std.specs.Prelude.{if◌then◌else◌, ◌&&◌, is_some}
 use Rattle.f8_machine.specs.HeardSteps.{step_of}
+use Rattle.data_bus.specs.declared.fault.BusFault.{BusFault}
+use Rattle.f8_machine.specs.Faults.{fault_of}
 use Rattle.f8_machine.specs.declared.heard.Heard.{Heard}
 use Rattle.bus_audit.specs.Answers.{steps_of}
-use Rattle.bus_audit.specs.PlainSteps.{plain, same_step, behind}
+use Rattle.bus_audit.specs.PlainSteps.{plain, plain_fault, same_step, behind}
 use Rattle.bus_audit.specs.Turns.{heard_told, stand_next}
 use Rattle.bus_audit.specs.declared.step.TraceStep.{TraceStep}
 use Rattle.bus_audit.specs.declared.trace.ToldLine.{ToldLine}
@@ -64,7 +66,7 @@ first_not (s ∷ steps) later (t ∷ trace) is = by (same_step s t) is (first_no
     by true here rest = rest here
     by false here rest = refl
 
-drop_steps : (n : ℕ) (rest : List ToldLine) → drop n (steps_of rest) ≡ steps_of (drop n rest)
+pub drop_steps : (n : ℕ) (rest : List ToldLine) → drop n (steps_of rest) ≡ steps_of (drop n rest)
 drop_steps n rest = drop-map (λ (l : ToldLine). l.step) n rest
 
 module _ (served : List Heard) (rest : List ToldLine) where
@@ -85,3 +87,13 @@ module _ (served : List Heard) (rest : List ToldLine) where
   pub served_not : (later : List TraceStep) → stand_next (heard_told served) (steps_of rest) ≡ false →
       stand_next (heard_told served ++ later) (steps_of rest) ≡ false
   served_not later is = first_not (heard_told served) later (steps_of rest) is
+
+-- and with one behind them that is not served
+pub cut_within : (served : List Heard) (fault : BusFault) (long : Bool) (rest : List ToldLine) →
+    stand_next (heard_told served ++ plain_fault (Some (fault_of fault, long))) (steps_of rest) ≡ true → length served + 1 ≤ length rest
+cut_within served fault long rest is =
+    let heard = length-map served (λ (h : Heard). plain (step_of h)) in
+    let told = length-map rest (λ (l : ToldLine). l.step) in
+    let all = length-append (heard_told served) (plain_fault (Some (fault_of fault, long))) in
+    let within = next_within (heard_told served ++ plain_fault (Some (fault_of fault, long))) (steps_of rest) is in
+    omega (arith, heard, told, all, within)

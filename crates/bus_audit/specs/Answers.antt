@@ -6,8 +6,8 @@ use Rattle.f8_spec.specs.declared.chips.PowerOn.{PowerOn}
 use Rattle.console_spec.specs.Scripts.{Script}
 use Rattle.bus_audit.specs.FreeRuns.{Setup}
 use Rattle.bus_audit.specs.DictatedRuns.{DictatedEnd}
-use Rattle.bus_audit.specs.declared.audit.AuditAnswer.{AuditAnswer}
-use Rattle.bus_audit.specs.declared.audit.AuditAnswer.TheVariants.{Accept, Reject}
+use Rattle.bus_audit.specs.declared.answers.AuditAnswer.{AuditAnswer}
+use Rattle.bus_audit.specs.declared.answers.AuditAnswer.TheVariants.{Accept, Reject}
 use Rattle.bus_audit.specs.declared.step.TraceStep.{TraceStep}
 use Rattle.bus_audit.specs.declared.trace.ToldLine.{ToldLine}
 

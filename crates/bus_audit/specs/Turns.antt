@@ -38,6 +38,11 @@ judged (FaultOutcome fault long steps) true = Over (length steps + 1)
 judged (FaultOutcome fault long steps) false = Over 0
 judged (Reserved at code) stand = Over 0
 
+-- how many steps of the trace count
+abbrev pub told_by : Turn → ℕ
+told_by (Onward told) = told
+told_by (Over told) = told
+
 -- ---- an instruction
 
 -- It is done, its steps are what stands next, so many of them, and this holds of the position behind it.

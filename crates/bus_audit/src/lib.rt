@@ -2,17 +2,19 @@
 //! Here stand the definitions of that, and their law; a reader of traces and the audit itself aren't here yet.
 #![tactic(auto)]
 
-mod audit;
+mod answers;
+mod auditing;
 mod inputs;
 mod law;
+mod matching;
 mod read;
 mod spelled;
-mod matching;
 mod step;
 mod trace;
 mod turn;
 
-pub use audit::AuditAnswer;
+pub use answers::AuditAnswer;
+pub use auditing::audit;
 pub use law::determinacy_law;
 pub use read::{TraceAnswer, TraceFault, read_trace};
 pub use step::{TraceStep, TraceWhat};

@@ -1,11 +1,11 @@
 // Whether the bus steps of an outcome are what stands next in a trace.
-ghost use Rattle.std.specs.Prelude.{◌≡◌, ◌++◌, Some};
+ghost use Rattle.std.specs.Prelude.{◌≡◌, ◌≤◌, ◌++◌, Some, length};
 ghost use Rattle.console_spec.specs.Telling.{code_of as told_code};
 ghost use Rattle.f8_machine.specs.Faults.{fault_of};
 ghost use Rattle.f8_machine.specs.HeardSteps.{step_of};
 ghost use Rattle.bus_audit.specs.Answers.{steps_of};
 ghost use Rattle.bus_audit.specs.PlainSteps.{plain, plain_fault, same_step};
-ghost use Rattle.bus_audit.specs.Turns.{heard_told, judged, outcome_told, stand_next as are_next};
+ghost use Rattle.bus_audit.specs.Turns.{heard_told, judged, outcome_told, stand_next as are_next, told_by};
 
 use super::step::{TraceStep, TraceWhat};
 use super::trace::ToldLine;
@@ -91,8 +91,9 @@ fn cut_is_next(served: &[Heard], fault: &BusFault, long: bool, rest: &[ToldLine]
 
 /// What becomes of reset or of an instruction, by its outcome.
 pub(crate) fn judge(outcome: &Outcome, rest: &[ToldLine]) -> Turn
-    ensures { result
+    ensures turn { result
         ≡ judged outcome.now (are_next (outcome_told outcome.now) (steps_of rest.now)) }
+    ensures within { told_by result ≤ length rest.now }
 {
     match outcome {
         Outcome::Done { steps, .. } => {

@@ -1,8 +1,10 @@
 // The steps of a trace, each with its line.
-ghost use Rattle.std.specs.Prelude.{◌≡◌, ◌≤◌, ◌∷◌, [], length, map, OnOk, OnErr};
+ghost use Rattle.std.specs.Prelude.{◌≡◌, ◌≤◌, ◌==◌, length, slice_get, OnOk, OnErr};
+ghost use Rattle.bus_audit.specs.Answers.{steps_of};
+ghost use Rattle.bus_audit.specs.PlainSteps.{HasByte, HaveBytes};
 ghost use Rattle.bus_audit.specs.TraceText.{no_line, with_none, with_step};
 
-use super::step::TraceStep;
+use super::step::{TraceStep, TraceWhat};
 use std::alloc::{AllocError, Global};
 use std::marker::Model;
 
@@ -21,11 +23,14 @@ pub struct TraceList {
 }
 
 impl Model for TraceList {
-    ghost use Rattle.bus_audit.specs.Answers.{Trace};
+    ghost use Rattle.bus_audit.specs.Answers.{Trace, steps_of};
+    ghost use Rattle.bus_audit.specs.PlainSteps.{HaveBytes};
 
     ghost Value = { Trace };
 
     ghost view = { λ t. record { told = t.told.items; after = t.after } };
+
+    ghost invariant = { λ t. HaveBytes (steps_of t.told.items) };
 }
 
 impl TraceList {
@@ -57,6 +62,7 @@ impl TraceList {
         ensures ok { OnOk result (self.new ≡ with_step self.old step) }
         ensures err { OnErr result (self.new ≡ self.old) }
     {
+        byte_law(step.what);
         let line = self.after;
         self.told.push(ToldLine { line, step })?;
         self.after += 1;
@@ -65,9 +71,24 @@ impl TraceList {
 
     /// The lines that tell of steps, in the order of the text.
     pub fn told(&self) -> &[ToldLine]
-        ensures { result.now ≡ self.now.told }
+        ensures value { result.now ≡ self.now.told }
+        ensures bytes { HaveBytes (steps_of self.now.told) }
     {
         self.told.as_slice()
+    }
+
+    /// The line of the step that has so many before it, and `None` behind the last.
+    pub fn get(&self, at: usize) -> Option<ToldLine>
+        ensures { result ≡ slice_get self.now.told at }
+    {
+        self.told.get(at).copied()
+    }
+
+    /// There is no step.
+    pub fn is_empty(&self) -> bool
+        ensures { result ≡ (length self.now.told == 0) }
+    {
+        self.told.is_empty()
     }
 
     /// The line behind the last one of the text.
@@ -77,3 +98,8 @@ impl TraceList {
         self.after
     }
 }
+
+/// The byte of a step is one. This call does nothing; its contract is the law.
+fn byte_law(what: TraceWhat)
+    ensures { HasByte what }
+{}

@@ -6,7 +6,7 @@ ghost use Rattle.f8_machine.specs.MachineState.{IsReset};
 ghost use Rattle.f8_machine.specs.Refinement.{IsPowered, Represents};
 ghost use Rattle.f8_machine.specs.declared.outcome.Mode.TheVariants as Mode;
 ghost use Rattle.bus_audit.specs.Answers.{steps_of};
-ghost use Rattle.bus_audit.specs.Turns.{Turns, TurnsFirst};
+ghost use Rattle.bus_audit.specs.Turns.{Turns, TurnsFirst, told_by};
 
 use super::matching::{Turn, judge};
 use super::trace::ToldLine;
@@ -22,6 +22,7 @@ pub(crate) fn take_reset(machine: &mut Machine, rack: &mut Rack, rest: &[ToldLin
     ensures turns { (x : Position) → IsPowered machine.old (map state rack.old.items) x
         → TurnsFirst result (Represents machine.new (map state rack.new.items)) x
         (steps_of rest.now) }
+    ensures within { told_by result ≤ length rest.now }
     ensures mode { IsReset machine.new.mode }
     ensures clocks { machine.new.phi ≤ machine.old.phi + RESET_PHI }
     ensures chain { machine.new.chain ≡ machine.old.chain }
@@ -40,6 +41,7 @@ pub(crate) fn take_turn(machine: &mut Machine, rack: &mut Rack, rest: &[ToldLine
     requires phi { machine.old.phi < 2 ^ 62 }
     ensures turns { (x : Position) → Represents machine.old (map state rack.old.items) x
         → Turns result (Represents machine.new (map state rack.new.items)) x (steps_of rest.now) }
+    ensures within { told_by result ≤ length rest.now }
     ensures mode { IsReset machine.new.mode }
     ensures clocks { machine.new.phi ≤ machine.old.phi + MOST_INTERRUPTED_PHI }
     ensures chain { machine.new.chain ≡ machine.old.chain }

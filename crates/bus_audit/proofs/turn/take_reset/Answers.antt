@@ -7,6 +7,6 @@ use Rattle.bus_audit.proofs.turn.take_reset.Goals as goal
 pub returns-clause-turns : goal.returns-clause-turns
 returns-clause-turns g c = λ x r.
     let news = map (λ b. (goal.Chip-dyn g (b.vtable, b.value)).state b.value) c.reset-outcome.new.rack.items in
-    rw c.judge.ensures
+    rw c.judge.ensures.turn
     (begins_are x c.args.machine.now c.reset-outcome.new.self news (steps_of c.args.rest.now) c.reset-outcome.result
     (c.reset-outcome.ensures.refines x r))

@@ -9,6 +9,6 @@ use Rattle.bus_audit.proofs.turn.take_turn.Goals as goal
 pub returns-clause-turns : goal.returns-clause-turns
 returns-clause-turns g c = λ x r.
     let news = map (λ b. (goal.Chip-dyn g (b.vtable, b.value)).state b.value) c.instr-outcome.new.rack.items in
-    rw c.judge.ensures
+    rw c.judge.ensures.turn
     (turns_are x c.args.machine.now c.instr-outcome.new.self news (steps_of c.args.rest.now) c.instr-outcome.result
     (c.instr-outcome.ensures.advances.refines x r))
