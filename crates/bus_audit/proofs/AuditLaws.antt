@@ -10,7 +10,7 @@ use Rattle.f8_spec.specs.declared.instructions.Op.{Op}
 use Rattle.console_spec.specs.BusTrace.{TracedStep, Course}
 use Rattle.console_spec.specs.Run.{Position, opcode_at, instruction_course, instruction_fault, position_after}
 use Rattle.console_spec.specs.Run.{position_after_reset, reset_course, reset_fault}
-use Rattle.console_spec.specs.Scripts.{frames_by}
+use Rattle.console_spec.specs.Scripts.{Script}
 use Rattle.console_spec.specs.Telling.{fallen, with_events}
 use Rattle.console_spec.specs.declared.Event.{Event}
 use Rattle.f8_machine.specs.MachineState.{MachineState}
@@ -22,7 +22,7 @@ use Rattle.bus_audit.specs.DictatedRuns.{DictatedEnd, dictated}
 use Rattle.bus_audit.specs.Determinacy.{DeterminacyLaw}
 use Rattle.bus_audit.specs.Inputs.{Comes, frame_between}
 use Rattle.bus_audit.specs.ReadInputs.{read_key, read_inputs}
-use Rattle.bus_audit.specs.Turns.{GoesOnward, IsOver, Turns, BeginsOnward, IsOverFirst, TurnsFirst}
+use Rattle.bus_audit.specs.Turns.{GoesOnward, IsOver, BeginsOnward, IsOverFirst, read_begun}
 use Rattle.bus_audit.specs.declared.answers.AuditAnswer.{AuditAnswer}
 use Rattle.bus_audit.specs.declared.answers.AuditAnswer.TheVariants.{Accept, Reject}
 use Rattle.bus_audit.specs.declared.step.TraceStep.{TraceStep}
@@ -32,7 +32,7 @@ use Rattle.bus_audit.proofs.Exact.{at_end, tells_some}
 use Rattle.bus_audit.proofs.Standing.{drop_steps}
 use Rattle.bus_audit.proofs.ToldInputs.{part_from}
 use Rattle.bus_audit.proofs.Audited.{Reads, apart_here, cut_here, reads_on, reserved_here, all_told}
-use Rattle.bus_audit.proofs.Audited.{read_begun, apart_first, cut_first, reads_first}
+use Rattle.bus_audit.proofs.Audited.{apart_first, cut_first, reads_first}
 
 -- ---- the parts of a list
 
@@ -45,7 +45,7 @@ zero_plus m = omega arith
 plus_zero : (n : ℕ) → n ≡ n + 0
 plus_zero n = omega arith
 
-drop_more : {X : Type 0} → (n m : ℕ) (xs : List X) → drop m (drop n xs) ≡ drop (n + m) xs
+pub drop_more : {X : Type 0} → (n m : ℕ) (xs : List X) → drop m (drop n xs) ≡ drop (n + m) xs
 drop_more zero m xs = ap (λ (k : ℕ). drop k xs) (zero_plus m)
 drop_more (suc n) m [] = drop_all m [] (omega arith) ∙ sym (drop_all (suc n + m) [] (omega arith))
 drop_more (suc n) m (x ∷ xs) = drop_more n m xs ∙ ap (λ (k : ℕ). drop k (x ∷ xs)) (sym (suc_plus n m))
@@ -73,14 +73,14 @@ pub record Follows (setup : Setup) (trace : List TraceStep) (instructions count 
 module _ (setup : Setup) (trace : List TraceStep) (small : HaveBytes trace) where
   -- reset
   pub follows_first : (count : ℕ) (m : MachineState) (states : List ChipState) →
-      BeginsOnward (Represents m states) (read_begun setup trace small) trace count → Follows setup trace 0 count m states
+      BeginsOnward (Represents m states) (read_begun setup trace) trace count → Follows setup trace 0 count m states
   follows_first count m states begins = record {
-    position = position_after_reset (read_begun setup trace small);
+    position = position_after_reset (read_begun setup trace);
     reads = reads_first setup trace small begins.served (drop count trace) begins.next;
     represents = begins.at;
   }
 
-  pub over_first : (count : ℕ) → IsOverFirst (read_begun setup trace small) trace count → dictated setup trace ≡ at_end 0 (drop count trace)
+  pub over_first : (count : ℕ) → IsOverFirst (read_begun setup trace) trace count → dictated setup trace ≡ at_end 0 (drop count trace)
   over_first count (IsOverFirst.apart none) = apart_first setup trace small none
   over_first count (IsOverFirst.cut fault told cuts next) = cut_first setup trace small fault (drop told trace) cuts next
 
@@ -110,34 +110,46 @@ module _ (setup : Setup) (trace : List TraceStep) (small : HaveBytes trace) wher
         ∙ ap (at_end n) (drop_more count counts trace)
 
     -- the run goes on, with the inputs that come behind the instruction
-    pub follows_on : (told before : ℕ) (m1 m2 m3 : MachineState) (s1 s2 s3 : List ChipState) →
-        GoesOnward (Represents m1 s1) here rest told → before ≡ m.phi →
-        Comes m1 m2 s1 s2 (own_fallen setup.script (frame_between before m1.phi)) →
-        Comes m2 m3 s2 s3 (read_inputs m2.chain (drop (count + told) trace)) → Follows setup trace (n + 1) (count + told) m3 s3
-    follows_on told before m1 m2 m3 s1 s2 s3 goes clocks own read =
-        let after = position_after goes.op here in
+    pub follows_on : (told : ℕ) (next : MachineState) (news : List ChipState) →
+        GoesOnward (λ y. Represents next news (with_events (read_inputs here.chain (drop told rest)) (own_behind setup.script here y))) here rest told →
+        Follows setup trace (n + 1) (count + told) next news
+    follows_on told next news goes =
+        let after = own_behind setup.script here (position_after goes.op here) in
         let later : drop told rest ≡ drop (count + told) trace = drop_more count told trace in
-        let frame : frame_between before m1.phi ≡ fallen here.flat.state after.flat.state =
-        ap (λ (phi : ℕ). frame_between phi m1.phi) (clocks ∙ follows.represents.stands.phi)
-        ∙ ap (frame_between here.flat.state.phi) goes.at.stands.phi in
-        let chain : m2.chain ≡ here.chain = own.chain ∙ goes.at.stands.chain in
-        let behind_own : Represents m2 s2 (own_behind setup.script here after) =
-        subst (λ (f : Option ℕ). Represents m2 s2 (with_events (own_fallen setup.script f) after)) frame (own.running after goes.at) in
-        let next : Reads setup trace (suc n) (with_events (read_inputs here.chain (drop told rest)) (own_behind setup.script here after)) (drop told rest) =
+        let reads : Reads setup trace (suc n) (with_events (read_inputs here.chain (drop told rest)) after) (drop told rest) =
         reads_on setup trace small n here rest follows.reads goes.op goes.is goes.served (drop told rest) goes.next in
         record {
-          position = with_events (read_inputs here.chain (drop (count + told) trace)) (own_behind setup.script here after);
+          position = with_events (read_inputs here.chain (drop told rest)) after;
           reads =
-              subst (λ (k : ℕ). Reads setup trace k
-              (with_events (read_inputs here.chain (drop (count + told) trace)) (own_behind setup.script here after)) (drop (count + told) trace))
+              subst (λ (k : ℕ). Reads setup trace k (with_events (read_inputs here.chain (drop told rest)) after) (drop (count + told) trace))
               (sym (add-one n))
-              (subst (λ (l : List TraceStep). Reads setup trace (suc n) (with_events (read_inputs here.chain l) (own_behind setup.script here after)) l)
-              later next);
-          represents =
-              subst (λ (sockets : List ℕ). Represents m3 s3
-              (with_events (read_inputs sockets (drop (count + told) trace)) (own_behind setup.script here after))) chain
-              (read.running (own_behind setup.script here after) behind_own);
+              (subst (λ (l : List TraceStep). Reads setup trace (suc n) (with_events (read_inputs here.chain (drop told rest)) after) l) later reads);
+          represents = goes.at;
         }
+
+-- ---- an instruction, with the inputs behind it
+
+pub goes_reading : (script : Script) (x : Position) (rest : List TraceStep) (told : ℕ) (m1 m2 m3 : MachineState) (mids owns news : List ChipState)
+    (before : ℕ) (part : List TraceStep) → part ≡ drop told rest → before ≡ x.flat.state.phi → GoesOnward (Represents m1 mids) x rest told →
+    Comes m1 m2 mids owns (own_fallen script (frame_between before m1.phi)) → Comes m2 m3 owns news (read_inputs m2.chain part) →
+    GoesOnward (λ y. Represents m3 news (with_events (read_inputs x.chain (drop told rest)) (own_behind script x y))) x rest told
+goes_reading script x rest told m1 m2 m3 mids owns news before part is clocks goes own read =
+    let after = position_after goes.op x in
+    let frame : frame_between before m1.phi ≡ fallen x.flat.state after.flat.state =
+    ap (λ (phi : ℕ). frame_between phi m1.phi) clocks ∙ ap (frame_between x.flat.state.phi) goes.at.stands.phi in
+    let inputs : read_inputs m2.chain part ≡ read_inputs x.chain (drop told rest) =
+    ap (λ (sockets : List ℕ). read_inputs sockets part) (own.chain ∙ goes.at.stands.chain) ∙ ap (read_inputs x.chain) is in
+    let behind_own : Represents m2 owns (own_behind script x after) =
+    subst (λ (f : Option ℕ). Represents m2 owns (with_events (own_fallen script f) after)) frame (own.running after goes.at) in
+    record {
+      op = goes.op;
+      is = goes.is;
+      served = goes.served;
+      next = goes.next;
+      some = goes.some;
+      at = subst (λ (events : List Event). Represents m3 news (with_events events (own_behind script x after))) inputs
+          (read.running (own_behind script x after) behind_own);
+    }
 
 -- ---- the answer
 

@@ -23,6 +23,7 @@ use Rattle.bus_audit.specs.DictatedRuns.{Next, Onward, Over, next_by, next_for, 
 use Rattle.bus_audit.specs.DictatedRuns.{DictatedEnd, end_by, dictated_from, dictated}
 use Rattle.bus_audit.specs.Determinacy.{with_free}
 use Rattle.bus_audit.specs.ReadInputs.{read_key, read_pulse, read_inputs}
+use Rattle.bus_audit.specs.Turns.{read_begun}
 use Rattle.bus_audit.proofs.FreeInputs.{keys_after, pulses_after, events_with, events_on, length-keys_after, free_leaves}
 use Rattle.bus_audit.proofs.Courses.{none_in, instruction_faults, reset_faults, served_before}
 use Rattle.bus_audit.proofs.SameSteps.{before_at, own_at, chosen_with}
@@ -268,22 +269,22 @@ module _ (setup : Setup) (trace : List TraceStep) (small : HaveBytes trace) (n :
 -- ---- reset
 
 module _ (setup : Setup) (trace : List TraceStep) (small : HaveBytes trace) where
-  abbrev pub read_begun : Position
-  read_begun = with_events (read_key (drop (length reset_steps) trace)) (own_begun setup)
+  abbrev begun : Position
+  begun = read_begun setup trace
 
   abbrev first_read : List Event
   first_read = read_key (drop (length reset_steps) trace)
 
-  read_begun_is : read_begun ≡ with_free (keys_after first_read (first_keys setup)) [] (powered_at setup)
+  read_begun_is : begun ≡ with_free (keys_after first_read (first_keys setup)) [] (powered_at setup)
   read_begun_is =
       freely_begun setup first_read
       ∙ ap (λ (marks : List Mark). with_free (keys_after first_read (first_keys setup)) marks (powered_at setup))
       (read_key_unpulsed setup.chain 0 (drop (length reset_steps) trace) [])
 
-  course_first : reset_course (dictated_begun setup trace) ≡ reset_course read_begun
+  course_first : reset_course (dictated_begun setup trace) ≡ reset_course begun
   course_first = ap reset_course (dictated_begun_is setup trace (drop (length reset_steps) trace) refl) ∙ sym (ap reset_course read_begun_is)
 
-  fault_first : reset_fault (dictated_begun setup trace) ≡ reset_fault read_begun
+  fault_first : reset_fault (dictated_begun setup trace) ≡ reset_fault begun
   fault_first = ap reset_fault (dictated_begun_is setup trace (drop (length reset_steps) trace) refl) ∙ sym (ap reset_fault read_begun_is)
 
   abbrev later_end : Position → List TraceStep → DictatedEnd
@@ -292,24 +293,24 @@ module _ (setup : Setup) (trace : List TraceStep) (small : HaveBytes trace) wher
   abbrev after_first : List TraceStep → Position
   after_first rest = position_after_reset (dictated_begun setup trace)
 
-  found_first : (found : Option (List TraceStep)) → behind (plain_course (reset_course read_begun)) trace ≡ found →
+  found_first : (found : Option (List TraceStep)) → behind (plain_course (reset_course begun)) trace ≡ found →
       dictated setup trace ≡ end_by 0 (next_by (reset_fault (dictated_begun setup trace)) found after_first trace) later_end
   found_first found is =
       ap (λ (o : Option (List TraceStep)). end_by 0 (next_by (reset_fault (dictated_begun setup trace)) o after_first trace) later_end)
       (ap (λ (course : Course). behind (plain_course course) trace) course_first ∙ is)
 
-  pub apart_first : behind (plain_course (reset_course read_begun)) trace ≡ None → dictated setup trace ≡ at_end 0 trace
+  pub apart_first : behind (plain_course (reset_course begun)) trace ≡ None → dictated setup trace ≡ at_end 0 trace
   apart_first none = found_first None none ∙ over_by 0 (reset_fault (dictated_begun setup trace)) after_first trace later_end
 
-  pub cut_first : (fault : Fault) (later : List TraceStep) → reset_fault read_begun ≡ Some fault →
-      behind (plain_course (reset_course read_begun)) trace ≡ Some later → dictated setup trace ≡ at_end 0 later
+  pub cut_first : (fault : Fault) (later : List TraceStep) → reset_fault begun ≡ Some fault →
+      behind (plain_course (reset_course begun)) trace ≡ Some later → dictated setup trace ≡ at_end 0 later
   cut_first fault later cuts stands =
       found_first (Some later) stands
       ∙ ap (λ (why : Option Fault). end_by 0 (next_by why (Some later) after_first trace) later_end) (fault_first ∙ cuts)
 
-  module _ (served : reset_fault read_begun ≡ None) (later : List TraceStep)
-      (stands : behind (plain_course (reset_course read_begun)) trace ≡ Some later) where
-    begins_reading : BeginsFreely setup (position_after_reset read_begun) (reset_course read_begun).steps
+  module _ (served : reset_fault begun ≡ None) (later : List TraceStep)
+      (stands : behind (plain_course (reset_course begun)) trace ≡ Some later) where
+    begins_reading : BeginsFreely setup (position_after_reset begun) (reset_course begun).steps
     begins_reading = record {
       free = first_read;
       are_free = read_key_free (drop (length reset_steps) trace) (bytes_drop (length reset_steps) trace small);
@@ -318,18 +319,18 @@ module _ (setup : Setup) (trace : List TraceStep) (small : HaveBytes trace) wher
       told = refl;
     }
 
-    steps_first : map plain (reset_course read_begun).steps ++ later ≡ trace
+    steps_first : map plain (reset_course begun).steps ++ later ≡ trace
     steps_first =
-        let course = reset_course read_begun in
-        ap (λ (l : List TraceStep). l ++ later) (sym (plain_served course (none_in course.fault (reset_faults read_begun ∙ served))))
+        let course = reset_course begun in
+        ap (λ (l : List TraceStep). l ++ later) (sym (plain_served course (none_in course.fault (reset_faults begun ∙ served))))
         ∙ sym (behind_is (plain_course course) trace later stands)
 
     rest_first : drop (length reset_steps) trace ≡ later
-    rest_first = behind_reset setup (position_after_reset read_begun) (reset_course read_begun).steps begins_reading trace later steps_first
+    rest_first = behind_reset setup (position_after_reset begun) (reset_course begun).steps begins_reading trace later steps_first
 
-    pub reads_first : Reads setup trace 0 (position_after_reset read_begun) later
+    pub reads_first : Reads setup trace 0 (position_after_reset begun) later
     reads_first = record {
-      steps = (reset_course read_begun).steps;
+      steps = (reset_course begun).steps;
       at = begins_reading;
       is = steps_first;
       keys = first_keys setup;

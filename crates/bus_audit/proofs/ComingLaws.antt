@@ -1,37 +1,29 @@
 -- Inputs that come one after another.
 use Rattle.std.proofs.Common.{◌≡◌, ℕ, ◌+◌, ◌<◌, Bool, true, false, List, [], ◌∷◌, ◌++◌, length, take, get_or, filter, refl, ◌∙◌, ap, sym, subst}
-use Rattle.std.proofs.lemmas.List.{take_more}
-use Rattle.std.specs.Prelude.{◌==◌, if◌then◌else◌}
+use Rattle.std.specs.Prelude.{if◌then◌else◌, slice_get}
 use Rattle.f8_spec.specs.ChipState.{ChipState}
 use Rattle.console_spec.specs.Run.{Position}
 use Rattle.console_spec.specs.Scripts.{events_at}
 use Rattle.console_spec.specs.Telling.{with_event, with_events}
 use Rattle.console_spec.specs.declared.At.{At}
 use Rattle.console_spec.specs.declared.Event.{Event}
+use Rattle.console_spec.specs.declared.Event.TheVariants.{Keys, Pulse}
+use Rattle.f8_machine.specs.Keying.{RackKeyed, is_own, keyed_machine}
 use Rattle.f8_machine.specs.MachineState.{MachineState}
 use Rattle.f8_machine.specs.Refinement.{IsPowered, Represents}
+use Rattle.f8_machine.specs.RequestsHeld.{RackPulsed}
+use Rattle.rack_run.specs.Lives.{Come}
+use Rattle.rack_run.proofs.EventLaws.{with-append, come_then, events_more}
+use Rattle.rack_run.proofs.MachineAsking.{keyed_index}
 use Rattle.bus_audit.specs.FreeRuns.{is_own_key}
 use Rattle.bus_audit.specs.Inputs.{Comes}
-
-with-append : (es fs : List Event) (x : Position) → with_events (es ++ fs) x ≡ with_events fs (with_events es x)
-with-append [] fs x = refl
-with-append (e ∷ es) fs x = with-append es fs (with_event e x)
-
-pub comes_none : (m : MachineState) (states : List ChipState) → Comes m m states states []
-comes_none m states = record {
-  powered = λ x was. was;
-  running = λ x was. was;
-  chain = refl;
-  phi = refl;
-  index = refl;
-  mode = refl;
-}
 
 pub comes_then : (old mid new : MachineState) (olds mids news : List ChipState) (es fs : List Event) → Comes old mid olds mids es →
     Comes mid new mids news fs → Comes old new olds news (es ++ fs)
 comes_then old mid new olds mids news es fs first next = record {
   powered = λ x was. subst (IsPowered new news) (sym (with-append es fs x)) (next.powered (with_events es x) (first.powered x was));
   running = λ x was. subst (Represents new news) (sym (with-append es fs x)) (next.running (with_events es x) (first.running x was));
+  came = come_then old.chain es fs olds mids news first.came (subst (λ (chain : List ℕ). Come chain fs mids news) first.chain next.came);
   chain = next.chain ∙ first.chain;
   phi = next.phi ∙ first.phi;
   index = next.index ∙ first.index;
@@ -53,18 +45,8 @@ filter-append (e ∷ es) fs =
     ap (λ (l : List Event). if is_own_key e then e ∷ l else l) (filter-append es fs)
     ∙ filter_if (is_own_key e) e (filter is_own_key es) (filter is_own_key fs)
 
-at_if : (here : Bool) (e : Event) (es fs : List Event) → (if here then e ∷ (es ++ fs) else es ++ fs) ≡ (if here then e ∷ es else es) ++ fs
-at_if here e es fs = filter_if here e es fs
-
-events-append : (frame : ℕ) (xs ys : List At) → events_at frame (xs ++ ys) ≡ events_at frame xs ++ events_at frame ys
-events-append frame [] ys = refl
-events-append frame (a ∷ xs) ys =
-    ap (λ (es : List Event). if a.frame == frame then a.event ∷ es else es) (events-append frame xs ys)
-    ∙ at_if (a.frame == frame) a.event (events_at frame xs) (events_at frame ys)
-
 pub own_more : (frame : ℕ) (all : List At) (i : ℕ) (d : At) → i < length all →
     own_at frame (take (i + 1) all) ≡ own_at frame (take i all) ++ own_at frame (get_or all i d ∷ [])
 own_more frame all i d within =
-    ap (own_at frame) (take_more all i d within)
-    ∙ ap (filter is_own_key) (events-append frame (take i all) (get_or all i d ∷ []))
+    ap (filter is_own_key) (events_more frame all i d within)
     ∙ filter-append (events_at frame (take i all)) (events_at frame (get_or all i d ∷ []))

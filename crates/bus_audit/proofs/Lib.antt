@@ -16,7 +16,9 @@ pub mod Standing
 pub mod ToldInputs
 pub mod ComingLaws
 pub mod OutcomeLaws
+pub mod HeardLaws
 pub mod AuditLaws
+pub mod LivedLaws
 pub mod Laws
 mod WorkedTraces
 pub mod TraceReads

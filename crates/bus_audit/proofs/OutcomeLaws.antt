@@ -37,7 +37,7 @@ none_of : (o : Option (List TraceStep)) → is_some o ≡ false → o ≡ None
 none_of None is = refl
 none_of (Some rest) is = absurd (cc)
 
-found_behind : (steps trace : List TraceStep) (n : ℕ) → length steps ≡ n → stand_next steps trace ≡ true → behind steps trace ≡ Some (drop n trace)
+pub found_behind : (steps trace : List TraceStep) (n : ℕ) → length steps ≡ n → stand_next steps trace ≡ true → behind steps trace ≡ Some (drop n trace)
 found_behind steps trace n long is =
     let found = some_of (behind steps trace) is in
     found.1
@@ -50,7 +50,7 @@ map_told : (steps : List TracedStep) → heard_told (map heard_of steps) ≡ map
 map_told [] = refl
 map_told (s ∷ steps) = ap (λ (told : List TraceStep). plain s ∷ told) (map_told steps)
 
-length_told : (steps : List Heard) → length (heard_told steps) ≡ length steps
+pub length_told : (steps : List Heard) → length (heard_told steps) ≡ length steps
 length_told [] = refl
 length_told (h ∷ steps) = length-map (h ∷ steps) (λ (k : Heard). plain (step_of k))
 

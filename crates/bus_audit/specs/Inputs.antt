@@ -7,15 +7,17 @@ use Rattle.console_spec.specs.Telling.{with_events}
 use Rattle.console_spec.specs.declared.Event.{Event}
 use Rattle.f8_machine.specs.MachineState.{MachineState}
 use Rattle.f8_machine.specs.Refinement.{IsPowered, Represents}
+use Rattle.rack_run.specs.Lives.{Come}
 
 abbrev pub events_in : Option Event → List Event
 events_in None = []
 events_in (Some event) = event ∷ []
 
--- They come before reset and after it, and leave the chain, the clocks, the index and what the machine may do.
+-- They come to the chips, before reset and after it, and leave the chain, the clocks, the index and what the machine may do.
 pub record Comes (old new : MachineState) (olds news : List ChipState) (events : List Event) : Type 0 where
   pub powered : (x : Position) → IsPowered old olds x → IsPowered new news (with_events events x)
   pub running : (x : Position) → Represents old olds x → Represents new news (with_events events x)
+  pub came : Come old.chain events olds news
   pub chain : new.chain ≡ old.chain
   pub phi : new.phi ≡ old.phi
   pub index : new.index ≡ old.index

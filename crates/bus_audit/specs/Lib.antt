@@ -9,3 +9,4 @@ pub mod TraceFaults
 pub mod ReadInputs
 pub mod Turns
 pub mod Inputs
+pub mod Audits

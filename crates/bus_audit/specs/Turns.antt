@@ -1,17 +1,22 @@
 -- What becomes of reset and of an instruction by the steps that stand next in a trace. This project's own.
 use Rattle.std.specs.Prelude.{◌≡◌, ℕ, ◌+◌, ◌<◌, Bool, true, false, List, [], ◌∷◌, ◌++◌, length, map, drop, Option, Some, None, is_some}
 use Rattle.f8_spec.specs.Instructions.{decoded}
+use Rattle.f8_spec.specs.MicroSteps.{reset_steps}
 use Rattle.f8_spec.specs.declared.instructions.Op.{Op}
 use Rattle.console_spec.specs.BusTrace.{Course}
 use Rattle.console_spec.specs.Run.{Position, opcode_at, instruction_course, instruction_fault, position_after}
 use Rattle.console_spec.specs.Run.{position_after_reset, reset_course, reset_fault}
+use Rattle.console_spec.specs.Scripts.{Script}
 use Rattle.console_spec.specs.Services.{Fault}
+use Rattle.console_spec.specs.Telling.{with_events}
 use Rattle.f8_machine.specs.Faults.{fault_of}
 use Rattle.f8_machine.specs.HeardSteps.{step_of}
 use Rattle.f8_machine.specs.declared.heard.Heard.{Heard}
 use Rattle.f8_machine.specs.declared.outcome.Outcome.{Outcome}
 use Rattle.f8_machine.specs.declared.outcome.Outcome.TheVariants.{Done, Fault as FaultOutcome, Reserved}
+use Rattle.bus_audit.specs.FreeRuns.{Setup, own_begun, own_behind}
 use Rattle.bus_audit.specs.PlainSteps.{plain, plain_course, plain_fault, behind}
+use Rattle.bus_audit.specs.ReadInputs.{read_inputs, read_key}
 use Rattle.bus_audit.specs.declared.step.TraceStep.{TraceStep}
 use Rattle.bus_audit.specs.declared.matching.Turn.{Turn}
 use Rattle.bus_audit.specs.declared.matching.Turn.TheVariants.{Onward, Over}
@@ -65,7 +70,17 @@ abbrev pub Turns : Turn → (Position → Type 0) → Position → List TraceSte
 Turns (Onward told) After x trace = GoesOnward After x trace told
 Turns (Over told) After x trace = IsOver x trace told
 
+-- with the inputs that come behind it: the key bytes of ports 0 and 1, and what is read off the rest of the trace
+abbrev pub TurnsReading : Turn → Script → (Position → Type 0) → Position → List TraceStep → Type 0
+TurnsReading (Onward told) script After x trace =
+    GoesOnward (λ y. After (with_events (read_inputs x.chain (drop told trace)) (own_behind script x y))) x trace told
+TurnsReading (Over told) script After x trace = IsOver x trace told
+
 -- ---- reset
+
+-- the position before it, with the key byte that is read
+abbrev pub read_begun : Setup → List TraceStep → Position
+read_begun setup trace = with_events (read_key (drop (length reset_steps) trace)) (own_begun setup)
 
 pub record BeginsOnward (After : Position → Type 0) (x : Position) (trace : List TraceStep) (told : ℕ) : Type 0 where
   pub served : reset_fault x ≡ None

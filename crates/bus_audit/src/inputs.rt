@@ -118,6 +118,7 @@ fn come(machine: &mut Machine, rack: &mut Rack, event: Option<Event>)
     ensures comes { Comes machine.old machine.new
         (map state rack.old.items) (map state rack.new.items) (events_in event) }
     ensures fits { Fits machine.new (map state rack.new.items) }
+    ensures asked { map queries rack.new.items ≡ map queries rack.old.items }
     ensures chips { length rack.new.items ≡ length rack.old.items }
 {
     match event {
@@ -134,6 +135,7 @@ pub(crate) fn come_first(machine: &mut Machine, rack: &mut Rack, rest: &[ToldLin
     ensures comes { Comes machine.old machine.new
         (map state rack.old.items) (map state rack.new.items) (read_key (steps_of rest.now)) }
     ensures fits { Fits machine.new (map state rack.new.items) }
+    ensures asked { map queries rack.new.items ≡ map queries rack.old.items }
     ensures chips { length rack.new.items ≡ length rack.old.items }
 {
     come(machine, rack, told_key(rest));
@@ -147,6 +149,7 @@ pub(crate) fn come_read(machine: &mut Machine, rack: &mut Rack, rest: &[ToldLine
         (map state rack.old.items) (map state rack.new.items)
         (read_inputs machine.old.chain (steps_of rest.now)) }
     ensures fits { Fits machine.new (map state rack.new.items) }
+    ensures asked { map queries rack.new.items ≡ map queries rack.old.items }
     ensures chips { length rack.new.items ≡ length rack.old.items }
 {
     come(machine, rack, told_key(rest));
@@ -162,6 +165,7 @@ pub(crate) fn come_own(machine: &mut Machine, rack: &mut Rack, events: &[At], fr
         (map state rack.old.items) (map state rack.new.items)
         (filter is_own_key (events_at frame events.now)) }
     ensures fits { Fits machine.new (map state rack.new.items) }
+    ensures asked { map queries rack.new.items ≡ map queries rack.old.items }
     ensures chips { length rack.new.items ≡ length rack.old.items }
 {
     for at in events {
@@ -177,6 +181,7 @@ pub(crate) fn come_behind(machine: &mut Machine, rack: &mut Rack, script: &Scrip
         (map state rack.old.items) (map state rack.new.items)
         (own_fallen (seen script.now) (frame_between before machine.old.phi)) }
     ensures fits { Fits machine.new (map state rack.new.items) }
+    ensures asked { map queries rack.new.items ≡ map queries rack.old.items }
     ensures chips { length rack.new.items ≡ length rack.old.items }
 {
     let frame = machine.phi() / FRAME_CLOCKS;

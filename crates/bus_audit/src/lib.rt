@@ -8,6 +8,7 @@ mod inputs;
 mod law;
 mod matching;
 mod read;
+mod run;
 mod spelled;
 mod step;
 mod trace;

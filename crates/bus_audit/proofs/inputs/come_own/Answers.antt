@@ -17,5 +17,6 @@ loop-at-preserved g c =
           (comes_then c.args.machine.now c.loop-at.machine c.come.new.machine olds mids nows _ _ c.loop-at.invariant.comes
           (subst (λ (es : List Event). Comes c.loop-at.machine c.come.new.machine mids nows es) c.own_key.ensures c.come.ensures.comes));
       fits = c.come.ensures.fits;
+      asked = c.come.ensures.asked ∙ c.loop-at.invariant.asked;
       chips = c.come.ensures.chips ∙ c.loop-at.invariant.chips;
     }

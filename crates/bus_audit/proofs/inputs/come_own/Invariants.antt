@@ -12,5 +12,7 @@ invariant-loop-at g l =
     record {
       comes : Comes l.fn.machine l.machine olds nows (own_at l.frame (take l.at-index l.events));
       fits : Fits l.machine nows;
+      asked : map (λ b. (goal.Chip-dyn g (b.vtable, b.value)).queries b.value) l.rack.items
+          ≡ map (λ b. (goal.Chip-dyn g (b.vtable, b.value)).queries b.value) l.fn.rack.items;
       chips : length l.rack.items ≡ length l.fn.rack.items;
     }

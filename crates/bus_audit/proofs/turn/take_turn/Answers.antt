@@ -1,8 +1,8 @@
 -- The outcome is that of the position's next instruction.
-use Rattle.std.proofs.Common.{map, sym, subst}
-use Rattle.f8_machine.specs.Refinement.{Represents}
+use Rattle.std.proofs.Common.{length, map}
+use Rattle.std.specs.Prelude.{sum_by}
 use Rattle.bus_audit.specs.Answers.{steps_of}
-use Rattle.bus_audit.specs.Turns.{Turns}
+use Rattle.bus_audit.proofs.HeardLaws.{hears_are}
 use Rattle.bus_audit.proofs.OutcomeLaws.{turns_are}
 use Rattle.bus_audit.proofs.turn.take_turn.Goals as goal
 
@@ -12,3 +12,13 @@ returns-clause-turns g c = λ x r.
     rw c.judge.ensures.turn
     (turns_are x c.args.machine.now c.instr-outcome.new.self news (steps_of c.args.rest.now) c.instr-outcome.result
     (c.instr-outcome.ensures.advances.refines x r))
+
+pub returns-clause-hears : goal.returns-clause-hears
+returns-clause-hears g c =
+    let olds = map (λ b. (goal.Chip-dyn g (b.vtable, b.value)).state b.value) c.args.rack.now.items in
+    let news = map (λ b. (goal.Chip-dyn g (b.vtable, b.value)).state b.value) c.instr-outcome.new.rack.items in
+    rw c.judge.ensures.turn
+    (hears_are (length c.args.rack.now.items) c.args.machine.now c.instr-outcome.new.self olds news
+    (sum_by (λ b. (goal.Chip-dyn g (b.vtable, b.value)).queries b.value) c.args.rack.now.items)
+    (sum_by (λ b. (goal.Chip-dyn g (b.vtable, b.value)).queries b.value) c.instr-outcome.new.rack.items)
+    (steps_of c.args.rest.now) c.instr-outcome.result c.instr-outcome.ensures.follows c.instr-outcome.ensures.asked)

@@ -1,0 +1,87 @@
+-- What becomes of the chips of a rack in an audit, and how many questions have been put to them. All of it is this project's own.
+use Rattle.std.specs.Prelude.{◌≡◌, ℕ, ◌+◌, ◌≤◌, List, ◌++◌, length, map, flat_map, drop}
+use Rattle.f8_spec.specs.ChipState.{ChipState}
+use Rattle.f8_spec.specs.declared.chips.PowerOn.{PowerOn}
+use Rattle.console_spec.specs.BusTrace.{TracedStep}
+use Rattle.console_spec.specs.Telling.{Moment}
+use Rattle.data_bus.specs.declared.index.Index.{Index}
+use Rattle.f8_machine.specs.Questions.{allowances}
+use Rattle.f8_machine.specs.Rounds.{RackPowers, RackRuns, heard_of}
+use Rattle.rack_run.specs.Asking.{AsksOn, AsksWithin, heard_codes, run_allowed, served_codes}
+use Rattle.rack_run.specs.Lives.{Lives}
+use Rattle.bus_audit.specs.PlainSteps.{plain}
+use Rattle.bus_audit.specs.declared.matching.Turn.{Turn}
+use Rattle.bus_audit.specs.declared.matching.Turn.TheVariants.{Onward, Over}
+use Rattle.bus_audit.specs.declared.step.TraceStep.{TraceStep}
+
+-- ---- reset or an instruction
+
+abbrev pub AsksBy : Turn → (chips : ℕ) (old new : Index) (before after : ℕ) → List TracedStep → Type 0
+AsksBy (Onward told) chips old new before after steps =
+    AsksOn (λ codes. allowances chips old codes) (λ codes. allowances chips new codes) before after (served_codes steps)
+AsksBy (Over told) chips old new before after steps =
+    (unserved : List ℕ) × (length unserved ≤ 1)
+    × AsksWithin (λ codes. allowances chips old codes) before after (served_codes steps ++ unserved)
+
+abbrev pub BeginsBy : Turn → (steps trace : List TraceStep) → Type 0
+BeginsBy (Onward told) steps trace = steps ++ drop told trace ≡ trace
+BeginsBy (Over told) steps trace = Unit {0}
+
+-- The chips hear some steps, which stand first in the trace where the run goes on; and they are asked no more than is allowed for these, and for
+-- one that is not served.
+pub record Hears (turn : Turn) (chips : ℕ) (old new : Index) (olds news : List ChipState) (before after : ℕ) (trace : List TraceStep) : Type 0 where
+  pub steps : List TracedStep
+  pub ran : RackRuns (map heard_of steps) olds news
+  pub begins : BeginsBy turn (map plain steps) trace
+  pub asks : AsksBy turn chips old new before after steps
+
+-- ---- a whole audit
+
+-- What it begins with: the power byte, the sockets of the chips described and what is said of their power-on, the trace, the chips of the rack,
+-- fitted, and how many questions have been put to them.
+pub record Beginning : Type 0 where
+  pub power : ℕ
+  pub chain : List ℕ
+  pub powers : List PowerOn
+  pub trace : List TraceStep
+  pub fitted : List ChipState
+  pub asked : ℕ
+
+abbrev pub beginning : ℕ → List ℕ → List PowerOn → List TraceStep → List ChipState → ℕ → Beginning
+beginning power chain powers trace fitted asked =
+    record { power = power; chain = chain; powers = powers; trace = trace; fitted = fitted; asked = asked }
+
+abbrev pub heard_steps : List Moment → List TracedStep
+heard_steps moments = flat_map (λ m. m.heard) moments
+
+-- The chips are powered as the script and the description say. They live through moments whose bus steps stand first in the trace, and through one
+-- more at most, whose steps need not. They were put no more than 512 questions each, and the allowances of all these steps and of one that was
+-- tried and not served.
+pub record Audits (first : Beginning) (news : List ChipState) (asked : ℕ) : Type 0 where
+  pub powered : List ChipState
+  pub power_on : RackPowers first.power first.chain first.powers first.fitted powered
+  pub moments : List Moment
+  pub rest : List TraceStep
+  pub told : map plain (heard_steps moments) ++ rest ≡ first.trace
+  pub tried : List Moment
+  pub one : length tried ≤ 1
+  pub lived : Lives first.chain (moments ++ tried) powered news
+  pub unserved : List ℕ
+  pub most : length unserved ≤ 1
+  pub asks : AsksWithin (run_allowed first.fitted) first.asked asked (heard_codes (moments ++ tried) ++ unserved)
+
+-- ---- on the way
+
+-- So many steps of the trace are told. What else may be asked goes by the machine's index.
+pub record LivesSoFar (first : Beginning) (count chips : ℕ) (index : Index) (nows : List ChipState) (asked : ℕ) : Type 0 where
+  pub powered : List ChipState
+  pub power_on : RackPowers first.power first.chain first.powers first.fitted powered
+  pub moments : List Moment
+  pub lived : Lives first.chain moments powered nows
+  pub told : map plain (heard_steps moments) ++ drop count first.trace ≡ first.trace
+  pub asks : AsksOn (run_allowed first.fitted) (λ codes. allowances chips index codes) first.asked asked (heard_codes moments)
+
+-- the run goes on behind so many steps more, or it is over
+abbrev pub LivesBy : Turn → (first : Beginning) (count chips : ℕ) (index : Index) (nows : List ChipState) (asked : ℕ) → Type 0
+LivesBy (Onward told) first count chips index nows asked = LivesSoFar first (count + told) chips index nows asked
+LivesBy (Over told) first count chips index nows asked = Audits first nows asked
