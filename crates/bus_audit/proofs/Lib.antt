@@ -24,3 +24,4 @@ mod WorkedTraces
 pub mod TraceReads
 pub mod TraceSizes
 mod WorkedTraceText
+pub mod PrintedSteps

@@ -71,15 +71,15 @@ who_size (c ∷ cs) who is = omega arith
 -- ---- a step
 
 -- what the words say of a step that they spell
-record Spelled (ws : List (List ℕ)) (s : TraceStep) : Type 0 where
-  code : List ℕ
-  long : List ℕ
-  byte : List ℕ
-  who : List ℕ
-  parts : ws ≡ code ∷ long ∷ byte ∷ who ∷ []
-  has_code : code_of code ≡ Some s.romc
-  has_length : is_long long ≡ Some s.long
-  has_what : what_of byte who ≡ Some s.what
+pub record Spelled (ws : List (List ℕ)) (s : TraceStep) : Type 0 where
+  pub code : List ℕ
+  pub long : List ℕ
+  pub byte : List ℕ
+  pub who : List ℕ
+  pub parts : ws ≡ code ∷ long ∷ byte ∷ who ∷ []
+  pub has_code : code_of code ≡ Some s.romc
+  pub has_length : is_long long ≡ Some s.long
+  pub has_what : what_of byte who ≡ Some s.what
 
 spelled_by : (code long byte who : List ℕ) (romc : Option ℕ) (is_long_step : Option Bool) (what : Option TraceWhat) (s : TraceStep) →
     code_of code ≡ romc → is_long long ≡ is_long_step → what_of byte who ≡ what → step_with romc is_long_step what ≡ Some s →
@@ -100,7 +100,7 @@ spelled_by code long byte who None length what s first second third is = absurd 
 spelled_by code long byte who (Some romc) None what s first second third is = absurd cc
 spelled_by code long byte who (Some romc) (Some length) None s first second third is = absurd cc
 
-spelled : (ws : List (List ℕ)) (s : TraceStep) → step_of ws ≡ Some s → Spelled ws s
+pub spelled : (ws : List (List ℕ)) (s : TraceStep) → step_of ws ≡ Some s → Spelled ws s
 unfolding step_of
 spelled [] s is = absurd cc
 spelled (code ∷ []) s is = absurd cc
@@ -188,7 +188,7 @@ lines_size [] = omega arith
 lines_size (b ∷ bs) =
     let more = lines_by (b == 10) ((b == 13) && begins 10 bs) b (lines bs) (length bs) (lines_size bs) in omega (arith, more)
 
-read_by : (bus : Bool) (text : List ℕ) (s : TraceStep) →
+pub read_by : (bus : Bool) (text : List ℕ) (s : TraceStep) →
     option_map (λ text. step_of (words text)) (cond bus (Some text) None) ≡ Some (Some s) → step_of (words text) ≡ Some s
 read_by true text s is = same_Some (step_of (words text)) (Some s) is
 read_by false text s is = absurd cc

@@ -10,3 +10,4 @@ pub mod ReadInputs
 pub mod Turns
 pub mod Inputs
 pub mod Audits
+pub mod PrintedTraces
