@@ -25,3 +25,5 @@ pub mod TraceReads
 pub mod TraceSizes
 mod WorkedTraceText
 pub mod PrintedSteps
+pub mod PrintedText
+pub mod PrintedRuns

@@ -1,8 +1,8 @@
 -- A line that is printed of a step is read as that step, and no other line is.
-use Rattle.std.proofs.Common.{◌≡◌, ℕ, zero, suc, ◌+◌, ◌-◌, ◌*◌, ◌/◌, ◌%◌, ◌<◌, ◌≤◌, Bool, true, false, List, [], ◌∷◌, ◌++◌, take, drop}
+use Rattle.std.proofs.Common.{◌≡◌, ℕ, ◌+◌, ◌-◌, ◌*◌, ◌/◌, ◌%◌, ◌<◌, ◌≤◌, Bool, true, false, List, [], ◌∷◌, ◌++◌, take, drop}
 use Rattle.std.proofs.Common.{Option, Some, None, refl, sym, ap, subst, ◌∙◌, arith, take-append-drop, cond}
 use Rattle.std.specs.Prelude.{codes, bytes_eq, decimal, option_map, nat_lt, ◌==◌, ◌&&◌, ◌↔◌}
-use Rattle.std.specs.Fmt.{digits}
+use Rattle.std.proofs.lemmas.Fmt.{decimal_digit, decimal_step}
 use Rattle.std.specs.List.{list_all}
 use Rattle.std.proofs.lemmas.Bool.Decides.{nat_tests}
 use Rattle.std.proofs.lemmas.List.{append_cancel_right}
@@ -22,7 +22,7 @@ use Rattle.bus_audit.specs.declared.step.TraceWhat.TheVariants.{Byte, Fault}
 use Rattle.bus_audit.specs.PlainSteps.{plain}
 use Rattle.bus_audit.specs.TraceText.{below_32, byte_of, code_of, digit_of, is_long, read_in, served, socket_of, step_of}
 use Rattle.bus_audit.specs.TraceText.{two_digits, what_of, who_of}
-use Rattle.bus_audit.specs.PrintedTraces.{FitsStep, FitsWhat, FitsWho, PrintedLaw, printed, printed_by}
+use Rattle.bus_audit.specs.PrintedTraces.{FitsStep, FitsWhat, FitsWho, printed, printed_by}
 use Rattle.bus_audit.proofs.TraceSizes.{spelled, read_by}
 
 -- ---- digits and bytes
@@ -102,32 +102,11 @@ length_is word long is = length_by word (bytes_eq word (codes "L")) (bytes_eq wo
 
 -- ---- drivers
 
-one_digit : (n : ℕ) → n < 10 → decimal n ≡ (48 + n) ∷ []
-unfolding digits
-one_digit zero small = refl
-one_digit (suc zero) small = refl
-one_digit (suc (suc zero)) small = refl
-one_digit (suc (suc (suc zero))) small = refl
-one_digit (suc (suc (suc (suc zero)))) small = refl
-one_digit (suc (suc (suc (suc (suc zero))))) small = refl
-one_digit (suc (suc (suc (suc (suc (suc zero)))))) small = refl
-one_digit (suc (suc (suc (suc (suc (suc (suc zero))))))) small = refl
-one_digit (suc (suc (suc (suc (suc (suc (suc (suc zero)))))))) small = refl
-one_digit (suc (suc (suc (suc (suc (suc (suc (suc (suc zero))))))))) small = refl
-one_digit (suc (suc (suc (suc (suc (suc (suc (suc (suc (suc n)))))))))) small = absurd (omega arith)
-
 from_ten : (n : ℕ) → n < 6 → decimal (10 + n) ≡ 49 ∷ (48 + n) ∷ []
-unfolding digits
-from_ten zero small = refl
-from_ten (suc zero) small = refl
-from_ten (suc (suc zero)) small = refl
-from_ten (suc (suc (suc zero))) small = refl
-from_ten (suc (suc (suc (suc zero)))) small = refl
-from_ten (suc (suc (suc (suc (suc zero))))) small = refl
-from_ten (suc (suc (suc (suc (suc (suc n)))))) small = absurd (omega arith)
-
-socket_no_cpu : (d : ℕ) → bytes_eq (d ∷ []) (codes "cpu") ≡ false
-socket_no_cpu d = grind (arith, nat_tests)
+from_ten n small =
+    let ten : (10 + n) / 10 ≡ 1 = omega arith in
+    let one : (10 + n) % 10 ≡ n = omega arith in
+    rw (decimal_step (10 + n) (omega arith) (omega arith), ten, one, decimal_digit 1 (omega arith)) refl
 
 low_again : (n : ℕ) → n < 10 → who_of ((48 + n) ∷ []) ≡ Some (Socket n)
 unfolding who_of
@@ -140,7 +119,7 @@ high_again n small = grind (arith, nat_tests)
 socket_by : (socket : ℕ) (low : Bool) → nat_lt socket 10 ≡ low → socket < 16 → who_of (decimal socket) ≡ Some (Socket socket)
 socket_by socket true is small =
     let below : socket < 10 = grind (arith, nat_tests) in
-    rw (one_digit socket below) (low_again socket below)
+    rw (decimal_digit socket below) (low_again socket below)
 socket_by socket false is small =
     let above : 10 ≤ socket = grind (arith, nat_tests) in
     let parts : socket ≡ 10 + (socket - 10) = omega arith in
@@ -161,7 +140,7 @@ socket_is [] socket is = absurd cc
 socket_is (c ∷ []) socket is =
     let low : socket < 10 = grind (arith, nat_tests) in
     let same : c ≡ 48 + socket = grind (arith, nat_tests) in
-    (ap (λ d. d ∷ []) same ∙ sym (one_digit socket low), omega (arith, low))
+    (ap (λ d. d ∷ []) same ∙ sym (decimal_digit socket low), omega (arith, low))
 socket_is (ten ∷ c ∷ []) socket is =
     let low : c - 48 < 6 = grind (arith, nat_tests) in
     let same : socket ≡ 10 + (c - 48) = grind (arith, nat_tests) in
@@ -190,11 +169,11 @@ driver_is word who is =
 
 -- ---- what became of a step
 
-byte_text : TraceWhat → List ℕ
+unfoldable pub byte_text : TraceWhat → List ℕ
 byte_text (Byte byte who) = hex2 byte
 byte_text Fault = codes "--"
 
-driver_text : TraceWhat → List ℕ
+unfoldable pub driver_text : TraceWhat → List ℕ
 driver_text (Byte byte who) = who_text who
 driver_text Fault = codes "fault"
 
@@ -274,10 +253,10 @@ joined_words (b ∷ bs) = joined_by (b == 32) b bs refl (joined_words bs)
 -- ---- a line
 
 -- what stands behind `bus ` in a line that is printed, but for the LF
-text_by : ℕ → Bool → TraceWhat → List ℕ
+unfoldable pub text_by : ℕ → Bool → TraceWhat → List ℕ
 text_by romc long what = hex2 romc ++ 32 ∷ (length_text long ++ 32 ∷ (byte_text what ++ 32 ∷ driver_text what))
 
-pub front : TraceStep → List ℕ
+unfoldable pub front : TraceStep → List ℕ
 front s = codes "bus " ++ text_by s.romc s.long s.what
 
 printed_by_front : (romc : ℕ) (long : Bool) (what : TraceWhat) →
@@ -308,7 +287,7 @@ high_no_blank n = grind (arith, nat_tests)
 socket_no_blank_by : (socket : ℕ) (low : Bool) → nat_lt socket 10 ≡ low → socket < 16 → list_all no_blank (decimal socket) ≡ true
 socket_no_blank_by socket true is small =
     let below : socket < 10 = grind (arith, nat_tests) in
-    rw (one_digit socket below) (low_no_blank socket)
+    rw (decimal_digit socket below) (low_no_blank socket)
 socket_no_blank_by socket false is small =
     let above : 10 ≤ socket = grind (arith, nat_tests) in
     let parts : socket ≡ 10 + (socket - 10) = omega arith in
@@ -385,7 +364,7 @@ line_is line s is =
 
 -- ---- the law
 
-exact : (line : List ℕ) (s : TraceStep) → (read_in line ≡ Some (Some s)) ↔ (FitsStep s × (line ++ codes "\n" ≡ printed s))
+pub exact : (line : List ℕ) (s : TraceStep) → (read_in line ≡ Some (Some s)) ↔ (FitsStep s × (line ++ codes "\n" ≡ printed s))
 exact line s = (
   λ is. let found = line_is line s is in (found.1, ap (λ t. t ++ codes "\n") found.0 ∙ printed_front s),
   λ given.
@@ -393,9 +372,6 @@ exact line s = (
       ap read_in same ∙ front_read s given.0,
 )
 
-traced : (s : TracedStep) → bus_line s ≡ printed (plain s)
+pub traced : (s : TracedStep) → bus_line s ≡ printed (plain s)
 unfolding bus_line
 traced s = refl
-
-pub printed_law : PrintedLaw
-printed_law = record { exact = exact; traced = traced }

@@ -1,14 +1,19 @@
 -- Reading is the other way round of printing: the law of what is read of a text, by the lines that a run prints.
-use Rattle.std.specs.Prelude.{◌≡◌, ◌↔◌, ℕ, ◌<◌, Bool, List, ◌++◌, codes, Some, None}
+use Rattle.std.specs.Prelude.{◌≡◌, ◌↔◌, ℕ, ◌<◌, Bool, List, [], ◌∷◌, ◌++◌, codes, flat_map, Some, None, Result, Ok, Err}
+use Rattle.std.specs.List.{AllByRecursion}
 use Rattle.console_spec.specs.BusTrace.{TracedStep}
-use Rattle.console_spec.specs.RunText.{bus_line, bus_fault_line}
+use Rattle.console_spec.specs.RunText.{bus_line, bus_fault_line, telling_lines, text_of}
+use Rattle.console_spec.specs.Telling.{Told, Traced, TracedFault, Wrote, Shown, Telling, told_in}
+use Rattle.console_spec.specs.declared.VerdictWord.{VerdictWord}
 use Rattle.console_spec.specs.declared.Who.{Who}
 use Rattle.console_spec.specs.declared.Who.TheVariants.{Cpu, Socket, Nobody}
 use Rattle.bus_audit.specs.declared.step.TraceStep.{TraceStep}
 use Rattle.bus_audit.specs.declared.step.TraceWhat.{TraceWhat}
 use Rattle.bus_audit.specs.declared.step.TraceWhat.TheVariants.{Byte, Fault}
+use Rattle.bus_audit.specs.declared.read.TraceFault.{TraceFault}
+use Rattle.bus_audit.specs.Answers.{Trace, steps_of}
 use Rattle.bus_audit.specs.PlainSteps.{plain}
-use Rattle.bus_audit.specs.TraceText.{read_in}
+use Rattle.bus_audit.specs.TraceText.{read_in, trace_of}
 
 -- ---- steps that can be
 
@@ -37,6 +42,23 @@ printed_by romc long Fault = bus_fault_line romc long
 abbrev pub printed : TraceStep → List ℕ
 printed s = printed_by s.romc s.long s.what
 
+-- ---- a printed run
+
+-- the steps that are told as a run goes
+abbrev pub steps_in : Told → List TraceStep
+steps_in (Traced s) = plain s ∷ []
+steps_in (TracedFault romc long) = record { romc = romc; long = long; what = Fault } ∷ []
+steps_in (Wrote write) = []
+steps_in (Shown frame phi writes) = []
+
+abbrev pub told_steps : Telling → List TraceStep
+told_steps t = flat_map steps_in (told_in t.moments)
+
+-- a text is a trace of these steps
+abbrev pub IsTraceOf : List TraceStep → Result Trace TraceFault → Type 0
+IsTraceOf steps (Ok trace) = steps_of trace.told ≡ steps
+IsTraceOf steps (Err fault) = ⊥
+
 -- ---- the law
 
 pub record PrintedLaw : Type 0 where
@@ -44,3 +66,6 @@ pub record PrintedLaw : Type 0 where
   pub exact : (line : List ℕ) (s : TraceStep) → (read_in line ≡ Some (Some s)) ↔ (FitsStep s × (line ++ codes "\n" ≡ printed s))
   -- the line of a step that a run tells, whichever chip took its byte
   pub traced : (s : TracedStep) → bus_line s ≡ printed (plain s)
+  -- the whole text of a run is a trace, of all steps that it tells
+  pub whole : (verdict : VerdictWord) (t : Telling) → AllByRecursion FitsStep (told_steps t) →
+      IsTraceOf (told_steps t) (trace_of (text_of (telling_lines verdict t)))
