@@ -108,7 +108,8 @@ row_tells y writes =
 
 shown_tells : (frame phi : ℕ) (writes : List PortWrite) → Tells (frame_lines frame phi writes) []
 shown_tells frame phi writes =
-    lines_joined (frame_tells frame phi (tone_of writes)) (map_lines (λ y. picture_row y writes) (λ y. row_tells y writes) (range_with_len 0 64))
+    lines_joined (frame_tells frame phi (tone_of writes))
+    (map_lines (λ y. picture_row y writes) (λ y. row_tells y writes) (range_with_len 0 64))
 
 -- ---- the lines at the end
 

@@ -8,7 +8,7 @@ use Rattle.text_lines.specs.Lines.{lines}
 use Rattle.text_lines.specs.Steps.{◌>>=◌}
 use Rattle.text_lines.specs.declared.read_error.ReadError.{ReadError}
 use Rattle.text_lines.specs.declared.read_error.ReadError.TheVariants as answer
-use Rattle.text_lines.specs.ReadErrors.{OnMemory, SaysSeen, StepsTo}
+use Rattle.text_lines.specs.ReadErrors.{OnMemory, Says, StepsTo}
 use Rattle.line_words.proofs.FirstFault.{same_value, same_cause}
 use Rattle.bus_audit.specs.declared.read.TraceFault.{TraceFault}
 use Rattle.bus_audit.specs.declared.step.TraceStep.{TraceStep}
@@ -146,7 +146,7 @@ module _ (text rest : List ℕ) (trace : Trace) (reads : Reads text rest trace) 
 
   -- a line stops the call
   pub stop_says : (behind l : List ℕ) (next : Trace) (e : ReadError TraceFault) → lines rest ≡ l ∷ lines behind →
-      StepsTo (Err e) next (with_read trace (read_in l)) → SaysSeen {A = Trace} (λ t. t) (Err e) (trace_of text)
+      StepsTo (Err e) next (with_read trace (read_in l)) → Says {A = Trace} (Err e) (trace_of text)
   stop_says behind l next (answer.Fault fault) split step = reads_fault behind l fault split step
   stop_says behind l next answer.Memory split step = tt
 

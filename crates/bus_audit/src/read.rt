@@ -1,6 +1,6 @@
 // The trace of a text, line by line.
 ghost use Rattle.std.specs.Prelude.{◌≤◌, IfOk, length};
-ghost use Rattle.text_lines.specs.ReadErrors.{OnMemory, SaysSeen, StepsTo};
+ghost use Rattle.text_lines.specs.ReadErrors.{OnMemory, Says, StepsTo};
 ghost use Rattle.text_lines.specs.Lines.{lines};
 ghost use Rattle.bus_audit.specs.Answers.{steps_of};
 ghost use Rattle.bus_audit.specs.PlainSteps.{HaveBytes};
@@ -54,7 +54,7 @@ fn read_line(trace: &mut TraceList, line: &[u8]) -> Result<(), TraceAnswer>
 /// The first line that begins so and isn't of this form, or `Memory`: memory is missing.
 pub fn read_trace(alloc: Global, text: &[u8]) -> Result<TraceList, TraceAnswer>
     requires { length text.now ≤ 16777216 }
-    ensures says { SaysSeen (λ trace. trace) result (trace_of text.now) }
+    ensures says { Says result (trace_of text.now) }
     ensures fault { TellsFault result (lines text.now) }
     ensures few { IfOk result (λ trace. length trace.told ≤ 2000000) }
     ensures bytes { IfOk result (λ trace. HaveBytes (steps_of trace.told)) }
