@@ -1,27 +1,24 @@
 -- The loop of the audit: the machine follows the trace with the inputs that are read off it, up to where the dictated run is over.
-use Rattle.std.proofs.Common.{◌≡◌, ◌↔◌, ℕ, zero, suc, ◌+◌, ◌-◌, ◌<◌, ◌≤◌, Bool, true, false, List, [], ◌∷◌, ◌++◌, length, map, take, drop, Option, Some, None}
+use Rattle.std.proofs.Common.{◌≡◌, ◌↔◌, ℕ, zero, suc, ◌+◌, ◌-◌, ◌<◌, ◌≤◌, List, [], ◌∷◌, length, map, take, drop, Option, Some, None}
 use Rattle.std.proofs.Common.{refl, ◌∙◌, ap, sym, subst, arith, length-append, length-drop, add-one}
-use Rattle.std.proofs.lemmas.List.{length-map, drop_all, drop-map}
-use Rattle.std.specs.Prelude.{slice_get, if◌then◌else◌, ◌==◌}
-use Rattle.f8_spec.specs.ChipState.{ChipState, ChipView}
-use Rattle.f8_spec.specs.Instructions.{decoded}
-use Rattle.f8_spec.specs.MicroSteps.{reset_steps}
-use Rattle.f8_spec.specs.declared.instructions.Op.{Op}
-use Rattle.console_spec.specs.BusTrace.{TracedStep, Course}
-use Rattle.console_spec.specs.Run.{Position, opcode_at, instruction_course, instruction_fault, position_after}
-use Rattle.console_spec.specs.Run.{position_after_reset, reset_course, reset_fault}
+use Rattle.std.proofs.lemmas.List.{length-map, drop_all}
+use Rattle.std.specs.Prelude.{slice_get}
+use Rattle.f8_spec.specs.ChipState.{ChipState}
+use Rattle.console_spec.specs.BusTrace.{TracedStep}
+use Rattle.console_spec.specs.Run.{Position, instruction_course, position_after}
+use Rattle.console_spec.specs.Run.{position_after_reset, reset_course}
 use Rattle.console_spec.specs.Scripts.{Script}
 use Rattle.console_spec.specs.Telling.{fallen, with_events}
 use Rattle.console_spec.specs.declared.Event.{Event}
 use Rattle.f8_machine.specs.MachineState.{MachineState}
 use Rattle.f8_machine.specs.Refinement.{Represents}
 use Rattle.bus_audit.specs.Answers.{Trace, steps_of, line_at, answer_by, answer_in}
-use Rattle.bus_audit.specs.PlainSteps.{HaveBytes, plain, plain_course, behind}
+use Rattle.bus_audit.specs.PlainSteps.{HaveBytes, plain, plain_course}
 use Rattle.bus_audit.specs.FreeRuns.{Setup, own_fallen, own_behind, own_begun, BeginsFreely, GoesFreely, IsFreelyAt, IsRecord, broken_off, reset_cut, cut}
 use Rattle.bus_audit.specs.DictatedRuns.{DictatedEnd, dictated}
 use Rattle.bus_audit.specs.Determinacy.{DeterminacyLaw}
 use Rattle.bus_audit.specs.Inputs.{Comes, frame_between}
-use Rattle.bus_audit.specs.ReadInputs.{read_key, read_inputs}
+use Rattle.bus_audit.specs.ReadInputs.{read_inputs}
 use Rattle.bus_audit.specs.Turns.{GoesOnward, IsOver, BeginsOnward, IsOverFirst, read_begun}
 use Rattle.bus_audit.specs.declared.answers.AuditAnswer.{AuditAnswer}
 use Rattle.bus_audit.specs.declared.answers.AuditAnswer.TheVariants.{Accept, Reject}

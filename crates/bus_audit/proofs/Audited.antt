@@ -1,7 +1,7 @@
 -- A run with the inputs that are read off the trace is a free run as long as its steps are what stands next, and it leaves the trace where the
 -- dictated run does.
-use Rattle.std.proofs.Common.{◌≡◌, ℕ, zero, suc, ◌+◌, ◌<◌, ◌≤◌, ◌⊎◌, Bool, true, false, List, [], ◌∷◌, ◌++◌, length, map, drop, Option, Some, None}
-use Rattle.std.proofs.Common.{refl, ◌∙◌, ap, sym, subst, inl, inr, arith, append_assoc}
+use Rattle.std.proofs.Common.{◌≡◌, ℕ, suc, ◌<◌, ◌⊎◌, List, [], ◌++◌, length, map, drop, Option, Some, None}
+use Rattle.std.proofs.Common.{refl, ◌∙◌, ap, sym, subst, inl, inr, append_assoc}
 use Rattle.std.proofs.lemmas.List.{map-append}
 use Rattle.std.specs.Prelude.{slice_index}
 use Rattle.f8_spec.specs.Instructions.{decoded}
@@ -17,9 +17,9 @@ use Rattle.console_spec.specs.Telling.{fallen, with_events}
 use Rattle.console_spec.specs.declared.Event.{Event}
 use Rattle.bus_audit.specs.PlainSteps.{HaveBytes, plain, plain_course, behind}
 use Rattle.bus_audit.specs.declared.step.TraceStep.{TraceStep}
-use Rattle.bus_audit.specs.FreeRuns.{Setup, AreFree, own_events, own_fallen, own_behind, own_begun, BeginsFreely, GoesFreely, IsFreelyAt}
-use Rattle.bus_audit.specs.Choices.{key_choice, pulse_choice, choice_for, choice, with_choice}
-use Rattle.bus_audit.specs.DictatedRuns.{Next, Onward, Over, next_by, next_for, next_dictated, dictated_begun, start_dictated}
+use Rattle.bus_audit.specs.FreeRuns.{Setup, own_events, own_fallen, own_behind, BeginsFreely, IsFreelyAt}
+use Rattle.bus_audit.specs.Choices.{choice_for, choice, with_choice}
+use Rattle.bus_audit.specs.DictatedRuns.{Over, next_by, next_for, next_dictated, dictated_begun}
 use Rattle.bus_audit.specs.DictatedRuns.{DictatedEnd, end_by, dictated_from, dictated}
 use Rattle.bus_audit.specs.Determinacy.{with_free}
 use Rattle.bus_audit.specs.ReadInputs.{read_key, read_pulse, read_inputs}
@@ -27,16 +27,15 @@ use Rattle.bus_audit.specs.Turns.{read_begun}
 use Rattle.bus_audit.proofs.FreeInputs.{keys_after, pulses_after, events_with, events_on, length-keys_after, free_leaves}
 use Rattle.bus_audit.proofs.Courses.{none_in, instruction_faults, reset_faults, served_before}
 use Rattle.bus_audit.proofs.SameSteps.{before_at, own_at, chosen_with}
-use Rattle.bus_audit.proofs.PortReads.{OwnAlike}
 use Rattle.bus_audit.proofs.Asking.{AreSpent}
 use Rattle.bus_audit.proofs.Shadows.{Shadow, chosen_same, chosen_pulses}
-use Rattle.bus_audit.proofs.Behind.{behind_is, behind-append, bytes_behind}
+use Rattle.bus_audit.proofs.Behind.{behind_is, bytes_behind}
 use Rattle.bus_audit.proofs.FreeChoices.{choice_free, no_first_pulse}
 use Rattle.bus_audit.proofs.Beside.{Beside, beside, plain_served, choice_as, own_fallen_unpulsed, powered_at, first_keys}
 use Rattle.bus_audit.proofs.Beside.{freely_begun, dictated_begun_is, behind_reset, next_is}
 use Rattle.bus_audit.proofs.Exact.{Reaches, reaches, at_end, nothing_left, over_by, over_now, bytes_drop}
 use Rattle.bus_audit.proofs.ReadInputs.{read_key_free, read_free, read_key_unpulsed, read_keys, read_pulses, read_steps}
-use Rattle.bus_audit.proofs.ReadInputs.{pulse_serves, read_spent, marks_read}
+use Rattle.bus_audit.proofs.ReadInputs.{pulse_serves, read_spent}
 
 -- ---- a run that reads its inputs
 
@@ -235,15 +234,20 @@ module _ (setup : Setup) (trace : List TraceStep) (small : HaveBytes trace) (n :
       pub reads_on : Reads setup trace (suc n) (with_events (read_inputs y.chain later) (own_behind setup.script y (position_after op y))) later
       reads_on = subst (λ (x : Position). Reads setup trace (suc n) x later) (sym reading_on_is) (record {
         steps = reads.steps ++ (instruction_course op y).steps;
-        at = (y, reads.steps, reads.at, record {
-          op = op;
-          is = opcode;
-          served = served;
-          free = read_next;
-          are_free = read_free y.chain later small_later;
-          at = sym reading_on_is;
-          told = refl;
-        });
+        at = (
+          y,
+          reads.steps,
+          reads.at,
+          record {
+            op = op;
+            is = opcode;
+            served = served;
+            free = read_next;
+            are_free = read_free y.chain later small_later;
+            at = sym reading_on_is;
+            told = refl;
+          },
+        );
         is = steps_on;
         keys = own_keys;
         size = length-keys_after own_next y.flat.state.keys ∙ dictates.shadow.free_size;

@@ -1,20 +1,15 @@
 -- Inputs that come one after another.
 use Rattle.std.proofs.Common.{◌≡◌, ℕ, ◌+◌, ◌<◌, Bool, true, false, List, [], ◌∷◌, ◌++◌, length, take, get_or, filter, refl, ◌∙◌, ap, sym, subst}
-use Rattle.std.specs.Prelude.{if◌then◌else◌, slice_get}
+use Rattle.std.specs.Prelude.{if◌then◌else◌}
 use Rattle.f8_spec.specs.ChipState.{ChipState}
-use Rattle.console_spec.specs.Run.{Position}
 use Rattle.console_spec.specs.Scripts.{events_at}
-use Rattle.console_spec.specs.Telling.{with_event, with_events}
+use Rattle.console_spec.specs.Telling.{with_events}
 use Rattle.console_spec.specs.declared.At.{At}
 use Rattle.console_spec.specs.declared.Event.{Event}
-use Rattle.console_spec.specs.declared.Event.TheVariants.{Keys, Pulse}
-use Rattle.f8_machine.specs.Keying.{RackKeyed, is_own, keyed_machine}
 use Rattle.f8_machine.specs.MachineState.{MachineState}
 use Rattle.f8_machine.specs.Refinement.{IsPowered, Represents}
-use Rattle.f8_machine.specs.RequestsHeld.{RackPulsed}
 use Rattle.rack_run.specs.Lives.{Come}
 use Rattle.rack_run.proofs.EventLaws.{with-append, come_then, events_more}
-use Rattle.rack_run.proofs.MachineAsking.{keyed_index}
 use Rattle.bus_audit.specs.FreeRuns.{is_own_key}
 use Rattle.bus_audit.specs.Inputs.{Comes}
 

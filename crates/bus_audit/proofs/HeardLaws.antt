@@ -1,15 +1,13 @@
 -- What the chips hear in reset and in an instruction, and what they are asked.
 use Rattle.std.proofs.Common.{◌≡◌, ℕ, ◌+◌, ◌≤◌, Bool, true, false, List, [], ◌∷◌, ◌++◌, length, map, drop, refl, ◌∙◌, ap, sym, subst, arith}
-use Rattle.std.proofs.Common.{append-nil, Some}
+use Rattle.std.proofs.Common.{append-nil}
 use Rattle.f8_spec.specs.ChipState.{ChipState}
 use Rattle.console_spec.specs.BusTrace.{TracedStep}
-use Rattle.data_bus.specs.declared.fault.BusFault.{BusFault}
 use Rattle.data_bus.specs.declared.index.Index.{Index}
 use Rattle.f8_machine.specs.Advancing.{Follows}
-use Rattle.f8_machine.specs.Faults.{fault_of}
-use Rattle.f8_machine.specs.Fitting.{tried, tried_in}
+use Rattle.f8_machine.specs.Fitting.{tried}
 use Rattle.f8_machine.specs.HeardSteps.{step_of}
-use Rattle.f8_machine.specs.MachineState.{MachineState, steps_in}
+use Rattle.f8_machine.specs.MachineState.{MachineState}
 use Rattle.f8_machine.specs.Questions.{allowances, code_of, codes_of, followed_all}
 use Rattle.f8_machine.specs.Rounds.{RackRuns, heard_of}
 use Rattle.f8_machine.specs.declared.heard.Heard.{Heard}
@@ -17,8 +15,8 @@ use Rattle.f8_machine.specs.declared.outcome.Outcome.{Outcome}
 use Rattle.f8_machine.specs.declared.outcome.Outcome.TheVariants.{Done, Fault, Reserved}
 use Rattle.rack_run.specs.Asking.{AsksOn, AsksWithin, served_codes}
 use Rattle.rack_run.proofs.MachineAsking.{allowances-append, tried_most}
-use Rattle.bus_audit.specs.Audits.{AsksBy, BeginsBy, Hears}
-use Rattle.bus_audit.specs.PlainSteps.{plain, plain_fault, behind}
+use Rattle.bus_audit.specs.Audits.{Hears}
+use Rattle.bus_audit.specs.PlainSteps.{plain}
 use Rattle.bus_audit.specs.Turns.{heard_told, outcome_told, stand_next, judged}
 use Rattle.bus_audit.specs.declared.step.TraceStep.{TraceStep}
 use Rattle.bus_audit.proofs.Behind.{behind_is}
@@ -107,15 +105,21 @@ module _ (chips : ℕ) (old new : MachineState) (olds news : List ChipState) (be
         steps = traced_all steps;
         ran = ran_again steps follows.ran;
         begins = tt;
-        asks = (code_of fault ∷ [], omega arith,
-          asks_within steps (code_of fault ∷ []) (tried_most chips before after old.index (Fault fault long steps) old.mode few));
+        asks = (
+          code_of fault ∷ [],
+          omega arith,
+          asks_within steps (code_of fault ∷ []) (tried_most chips before after old.index (Fault fault long steps) old.mode few),
+        );
       }
       by false = record {
         steps = traced_all steps;
         ran = ran_again steps follows.ran;
         begins = tt;
-        asks = (code_of fault ∷ [], omega arith,
-          asks_within steps (code_of fault ∷ []) (tried_most chips before after old.index (Fault fault long steps) old.mode few));
+        asks = (
+          code_of fault ∷ [],
+          omega arith,
+          asks_within steps (code_of fault ∷ []) (tried_most chips before after old.index (Fault fault long steps) old.mode few),
+        );
       }
   hears_are (Reserved at code) follows few = by (stand_next [] trace)
     where

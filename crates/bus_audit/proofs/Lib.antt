@@ -8,22 +8,22 @@ mod FreeChoices
 mod Shadows
 mod Behind
 mod Beside
-mod ReadInputs
 mod Agreement
 mod Exact
-mod Audited
-pub mod Standing
-pub mod ToldInputs
-pub mod ComingLaws
-pub mod OutcomeLaws
-pub mod HeardLaws
-pub mod AuditLaws
-pub mod LivedLaws
 pub mod Laws
 mod WorkedTraces
-pub mod TraceReads
-pub mod TraceSizes
+mod TraceReads
+mod TraceSizes
 mod WorkedTraceText
 pub mod PrintedSteps
 pub mod PrintedText
 pub mod PrintedRuns
+mod ReadInputs
+mod Audited
+mod Standing
+mod ToldInputs
+mod ComingLaws
+mod OutcomeLaws
+mod HeardLaws
+mod AuditLaws
+mod LivedLaws

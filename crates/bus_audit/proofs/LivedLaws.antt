@@ -14,10 +14,10 @@ use Rattle.data_bus.specs.declared.index.Index.{Index}
 use Rattle.data_bus.specs.declared.marks.Marks.{Marks}
 use Rattle.f8_machine.specs.MachineState.{MachineState}
 use Rattle.f8_machine.specs.Questions.{allowances, allowed}
-use Rattle.f8_machine.specs.Rounds.{RackPowers, RackRuns, heard_of}
+use Rattle.f8_machine.specs.Rounds.{RackPowers}
 use Rattle.f8_machine.proofs.RackLaws.{rack_runs_none}
 use Rattle.rack_run.specs.Asking.{AsksOn, AsksWithin, heard_codes, run_allowed, served_codes}
-use Rattle.rack_run.specs.Lives.{Come, LivesMoment, Lives}
+use Rattle.rack_run.specs.Lives.{Come, Lives}
 use Rattle.rack_run.proofs.AskingLaws.{heard_codes-more}
 use Rattle.rack_run.proofs.LifeLaws.{lives_then}
 use Rattle.bus_audit.specs.Audits.{Hears, Beginning, Audits, LivesSoFar, LivesBy, heard_steps}
@@ -75,11 +75,15 @@ module _ (first : Beginning) (powered owns nows : List ChipState) (chips now : �
         powered = powered;
         power_on = power_on;
         moments = moment_with [] (own ++ key) ∷ [];
-        lived = (nows, record {
-          between = powered;
-          heard = rack_runs_none 0 powered;
-          came = subst (λ (sockets : List ℕ). Come sockets (own ++ key) powered nows) chain both.came;
-        }, refl);
+        lived = (
+          nows,
+          record {
+            between = powered;
+            heard = rack_runs_none 0 powered;
+            came = subst (λ (sockets : List ℕ). Come sockets (own ++ key) powered nows) chain both.came;
+          },
+          refl,
+        );
         told = refl;
         asks = record {
           whatever = λ later.

@@ -1,5 +1,5 @@
 -- What a machine answers, beside the steps that stand next in a trace.
-use Rattle.std.proofs.Common.{◌≡◌, ℕ, ◌+◌, ◌<◌, Bool, true, false, List, [], ◌∷◌, ◌++◌, length, map, drop, Option, Some, None, refl, ◌∙◌, ap, sym, subst}
+use Rattle.std.proofs.Common.{◌≡◌, ℕ, ◌+◌, Bool, true, false, List, [], ◌∷◌, ◌++◌, length, map, drop, Option, Some, None, refl, ◌∙◌, ap, sym, subst}
 use Rattle.std.proofs.Common.{arith, append-nil, drop_at, length-append}
 use Rattle.std.proofs.lemmas.List.{length-map}
 use Rattle.std.specs.Prelude.{is_some}
@@ -7,7 +7,7 @@ use Rattle.f8_spec.specs.ChipState.{ChipState}
 use Rattle.f8_spec.specs.Instructions.{decoded}
 use Rattle.f8_spec.specs.declared.instructions.Op.{Op}
 use Rattle.console_spec.specs.BusTrace.{TracedStep, Course}
-use Rattle.console_spec.specs.Run.{Position, Turn, Goes, Stops, Unserved, Reserved, Stop, goes_unless, next, decided, course_as, turn_course}
+use Rattle.console_spec.specs.Run.{Position, Turn, Goes, Stops, Unserved, Reserved, goes_unless, next, decided, course_as, turn_course}
 use Rattle.console_spec.specs.Run.{opcode_at, instruction_course, instruction_fault, position_after}
 use Rattle.console_spec.specs.Run.{position_after_reset, reset_course, reset_fault}
 use Rattle.console_spec.specs.Services.{Fault}
@@ -21,8 +21,8 @@ use Rattle.f8_machine.specs.declared.heard.Heard.{Heard}
 use Rattle.f8_machine.specs.declared.outcome.Outcome.{Outcome}
 use Rattle.f8_machine.specs.declared.outcome.Outcome.TheVariants.{Done, Fault as FaultOutcome, Reserved as ReservedOutcome}
 use Rattle.bus_audit.specs.PlainSteps.{plain, plain_course, plain_fault, behind}
-use Rattle.bus_audit.specs.Turns.{heard_told, outcome_told, stand_next, judged, GoesOnward, IsOver, reserved, apart, cut, Turns}
-use Rattle.bus_audit.specs.Turns.{BeginsOnward, IsOverFirst, TurnsFirst}
+use Rattle.bus_audit.specs.Turns.{heard_told, outcome_told, stand_next, judged, reserved, apart, cut, Turns}
+use Rattle.bus_audit.specs.Turns.{IsOverFirst, TurnsFirst}
 use Rattle.bus_audit.specs.declared.step.TraceStep.{TraceStep}
 use Rattle.bus_audit.proofs.Behind.{behind_is}
 use Rattle.bus_audit.proofs.Exact.{tells_some}

@@ -1,9 +1,9 @@
 -- The inputs that are read off a trace serve as well as those that it dictates: where the steps that stand next are those of an instruction
 -- with some inputs, they are its steps with those read too.
-use Rattle.std.proofs.Common.{◌≡◌, ℕ, ◌+◌, ◌<◌, ◌≤◌, ◌==◌, ◌||◌, Bool, true, false, List, [], ◌∷◌, ◌++◌, length, map, Option, Some, None}
+use Rattle.std.proofs.Common.{◌≡◌, ℕ, ◌+◌, ◌<◌, ◌≤◌, ◌==◌, Bool, true, false, List, [], ◌∷◌, ◌++◌, length, map, Option, Some, None}
 use Rattle.std.proofs.Common.{refl, ◌∙◌, ap, sym, subst, inl, inr, arith, eq-eqb, get_or-set_same}
 use Rattle.std.proofs.lemmas.Bool.{cases_eq, ne_eqb, ltb-true, ltb-false}
-use Rattle.std.specs.Prelude.{nat_lt, if◌then◌else◌, bit_or, slice_get, slice_index, slice_set}
+use Rattle.std.specs.Prelude.{nat_lt, if◌then◌else◌, bit_or, slice_index, slice_set}
 use Rattle.std.specs.List.{AllByRecursion}
 use Rattle.f8_spec.specs.BusArbitration.{Seat, Ruling, Served, Conflict, Undriven, Astray, rule_of}
 use Rattle.f8_spec.specs.Instructions.{row_of, clocks_before_fetch}
@@ -24,24 +24,23 @@ use Rattle.console_spec.specs.CounterCopies.{Copy}
 use Rattle.console_spec.specs.FlatStep.{clocks_by, with_acknowledged}
 use Rattle.console_spec.specs.InterruptRequests.{Mark}
 use Rattle.console_spec.specs.Processor.{Flow, Inputs, history_of, result_of}
-use Rattle.console_spec.specs.Run.{Position, seats_of, gets_at, gets_all_at, instruction_course, instruction_fault, position_after}
+use Rattle.console_spec.specs.Run.{Position, seats_of, gets_at, gets_all_at, instruction_course, position_after}
 use Rattle.console_spec.specs.Services.{access_ruling}
 use Rattle.console_spec.specs.Writes.{latch_of, readers, port_value, chip_port_byte}
 use Rattle.console_spec.specs.declared.Event.{Event}
-use Rattle.console_spec.specs.declared.Event.TheVariants.{Keys, Pulse}
+use Rattle.console_spec.specs.declared.Event.TheVariants.{Keys}
 use Rattle.console_spec.specs.declared.PortWrite.{PortWrite}
 use Rattle.bus_audit.specs.PlainSteps.{HaveBytes, plain, plain_course}
 use Rattle.bus_audit.specs.declared.step.TraceStep.{TraceStep}
 use Rattle.bus_audit.specs.FreeRuns.{AreFree}
-use Rattle.bus_audit.specs.Choices.{first_byte, second_byte, interrupting_socket, from_last_fetch, place_in_chain, pulse_to, takes_pulse}
+use Rattle.bus_audit.specs.Choices.{first_byte, second_byte, interrupting_socket, from_last_fetch, place_in_chain, pulse_to}
 use Rattle.bus_audit.specs.Determinacy.{with_free}
 use Rattle.bus_audit.specs.ReadInputs.{second_code, reads_port, key_of, read_key, begins_end, from_end, pulse_of, read_pulse, read_inputs}
 use Rattle.bus_audit.proofs.FreeInputs.{keys_after, pulses_after, keys_after-append, pulses_after-append, free_leaves}
-use Rattle.bus_audit.proofs.Courses.{course_before, course_behind}
-use Rattle.bus_audit.proofs.SameSteps.{before_at, behind_at, own_at, port_at, chosen_with, IsWanted, same_steps}
+use Rattle.bus_audit.proofs.SameSteps.{before_at, behind_at, own_at, port_at, chosen_with, same_steps}
 use Rattle.bus_audit.proofs.ToldSteps.{first_small, second_small, told_in_parts, told_from_fetch, vector_told, in_tells, ins_tells}
 use Rattle.bus_audit.proofs.PortReads.{OwnAlike, or_twice, read_as, value_alike, chip_alike, ins_reads_as}
-use Rattle.bus_audit.proofs.Asking.{HasPlace, IsMarkedBy, Pulsing, AreSpent, placed_marked, pulse_placed, chosen_again, spent_now}
+use Rattle.bus_audit.proofs.Asking.{IsMarkedBy, Pulsing, AreSpent, placed_marked, pulse_placed, chosen_again, spent_now}
 use Rattle.bus_audit.proofs.Shadows.{Shadow, late_by}
 use Rattle.bus_audit.proofs.FreeChoices.{free-append}
 

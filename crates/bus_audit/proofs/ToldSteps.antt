@@ -133,8 +133,7 @@ op_tells : (op : Op) (y : Position) (trace more : List TraceStep) (port : ℕ) �
     (before_at op y).fault ≡ None → trace ≡ plain_course (instruction_course op y) ++ more → TellsPort port (port_at op y) trace
 op_tells op y trace more port number served is =
     let parts = told_in_parts op y trace more served is in
-    let tells = row_tells (row_of op) (gets_all_at op y) y.flat.state.flow y.copies (plain_course (behind_at op y) ++ more) port number served in
-    (
+    let tells = row_tells (row_of op) (gets_all_at op y) y.flat.state.flow y.copies (plain_course (behind_at op y) ++ more) port number served in (
       ap first_byte parts ∙ tells.0,
       ap second_byte parts ∙ tells.1 ∙ ap (λ (byte : ℕ). Some byte) (port_byte_is op y),
       ap second_code parts ∙ tells.2,

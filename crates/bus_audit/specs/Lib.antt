@@ -6,8 +6,8 @@ pub mod Determinacy
 pub mod Answers
 pub mod TraceText
 pub mod TraceFaults
-pub mod ReadInputs
-pub mod Turns
-pub mod Inputs
-pub mod Audits
 pub mod PrintedTraces
+pub mod ReadInputs
+pub mod Inputs
+pub mod Turns
+pub mod Audits

@@ -1,9 +1,8 @@
 -- What becomes of reset and of an instruction by the steps that stand next in a trace. This project's own.
-use Rattle.std.specs.Prelude.{◌≡◌, ℕ, ◌+◌, ◌<◌, Bool, true, false, List, [], ◌∷◌, ◌++◌, length, map, drop, Option, Some, None, is_some}
+use Rattle.std.specs.Prelude.{◌≡◌, ℕ, ◌+◌, ◌<◌, Bool, true, false, List, [], ◌++◌, length, map, drop, Some, None, is_some}
 use Rattle.f8_spec.specs.Instructions.{decoded}
 use Rattle.f8_spec.specs.MicroSteps.{reset_steps}
 use Rattle.f8_spec.specs.declared.instructions.Op.{Op}
-use Rattle.console_spec.specs.BusTrace.{Course}
 use Rattle.console_spec.specs.Run.{Position, opcode_at, instruction_course, instruction_fault, position_after}
 use Rattle.console_spec.specs.Run.{position_after_reset, reset_course, reset_fault}
 use Rattle.console_spec.specs.Scripts.{Script}

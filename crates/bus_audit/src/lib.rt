@@ -1,5 +1,4 @@
 //! The audit of a trace: whether the bus steps of a printed trace, also one from elsewhere, can come from a cartridge.
-//! Here stand the definitions of that, and their law; a reader of traces and the audit itself aren't here yet.
 #![tactic(auto)]
 
 mod answers;

@@ -1,5 +1,5 @@
 -- The machine follows the trace with the inputs that are read off it, and the dictated run is over where it is.
-use Rattle.std.proofs.Common.{◌≡◌, ℕ, ◌+◌, List, length, map, drop, refl, ap, sym, subst, ◌∙◌, arith}
+use Rattle.std.proofs.Common.{◌≡◌, ℕ, ◌+◌, List, length, map, drop, ap, sym, subst, ◌∙◌, arith}
 use Rattle.std.specs.Prelude.{sum_by}
 use Rattle.std.proofs.lemmas.List.{length-map}
 use Rattle.console_spec.specs.Telling.{with_events}

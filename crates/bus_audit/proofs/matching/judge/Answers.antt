@@ -1,5 +1,5 @@
 -- The steps that count are the trace's.
-use Rattle.std.proofs.Common.{◌≡◌, ◌≤◌, ◌+◌, length, ap, sym, ◌∙◌, arith}
+use Rattle.std.proofs.Common.{◌≤◌, ◌+◌, length, ap, sym, ◌∙◌, arith}
 use Rattle.bus_audit.proofs.Standing.{served_within, cut_within}
 use Rattle.bus_audit.proofs.matching.judge.Goals as goal
 

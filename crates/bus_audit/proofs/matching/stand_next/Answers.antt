@@ -1,5 +1,5 @@
 -- More steps than are left don't stand next, and else one after another decides.
-use Rattle.std.proofs.Common.{◌≡◌, sym, ◌∙◌}
+use Rattle.std.proofs.Common.{sym}
 use Rattle.bus_audit.proofs.Standing.{short_stand}
 use Rattle.bus_audit.proofs.matching.stand_next.Goals as goal
 

@@ -1,12 +1,11 @@
 -- The instruction's steps are the trace's next, and the inputs come behind it.
-use Rattle.std.proofs.Common.{length, map, refl, sym, ◌∙◌}
+use Rattle.std.proofs.Common.{length, map, refl, ◌∙◌}
 use Rattle.std.specs.Prelude.{sum_by}
 use Rattle.pad_script.specs.Reading.{seen}
 use Rattle.rack_run.proofs.AskingLaws.{none_asked}
 use Rattle.bus_audit.specs.Answers.{steps_of}
 use Rattle.bus_audit.specs.FreeRuns.{own_fallen}
 use Rattle.bus_audit.specs.Inputs.{frame_between}
-use Rattle.bus_audit.specs.ReadInputs.{read_inputs}
 use Rattle.bus_audit.proofs.AuditLaws.{rest_told, goes_reading}
 use Rattle.bus_audit.proofs.LivedLaws.{lives_read, lives_turn}
 use Rattle.bus_audit.proofs.run.go_on.Goals as goal
