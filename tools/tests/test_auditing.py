@@ -1,0 +1,275 @@
+"""`audit` on traces: by hand, and those of the cartridges as `play --trace` prints them, whole and changed, against an auditor that was written apart."""
+from __future__ import annotations
+
+import re
+import subprocess
+import tempfile
+import unittest
+from pathlib import Path
+from random import Random
+
+from tool import PROGRAM, TOP, needs_program, needs_toml
+
+from audited import answer, steps
+from companion.auditing.traces import MOST_BYTES, line_of
+from companion.description import Description
+from companion.program import Program
+from companion.script import Script
+
+PSU = 'format = 1\n[[chip]]\nkind = "3851"\nbase = {base}\nports = {ports}\nvector = {vector}\ninterrupt = {interrupt}\nrom = "{rom}"\n'
+
+
+def psu(rom: str, base: int = 0, ports: int = 4, vector: int = 0, interrupt: bool = False) -> str:
+    return PSU.format(rom=rom, base=base, ports=ports, vector=vector, interrupt=str(interrupt).lower())
+
+
+def chips(*texts: str) -> str:
+    """Descriptions of a chip each as one of all."""
+    return texts[0] + ''.join(text.removeprefix('format = 1\n') for text in texts[1:])
+
+
+LOOP, MISSING_PORT = psu('712B90FE'), psu('200FB4A42602')
+TIMER = psu('73B6207FB7' + '2B' * 7 + '1B2B', vector=0x180, interrupt=True)
+FIRST_OF_TWO = psu('71B6BA1B90FF' + 'FF' * (0x180 - 6) + '1B1C', vector=0x100, interrupt=True)
+SECOND_OF_TWO = psu('', 0x400, 8, 0x200, True)
+OWN_PORT = psu('A0B490FE')
+STEPS_1, PULSES = b'steps 1\n', b'at 1 pulse 1\nat 1 pulse 0\nsteps 2135\n'
+OF_LOOP = '''bus 1C S 00 -
+bus 08 L 00 cpu
+bus 00 S 71 0
+bus 00 S 2B 0
+bus 00 S 90 0
+bus 1C S 00 -
+bus 01 L FE 0
+bus 00 S 2B 0'''.splitlines()
+OF_MISSING_PORT = '''bus 1C S 00 -
+bus 08 L 00 cpu
+bus 00 S 20 0
+bus 03 L 0F 0
+bus 00 S B4 0
+bus 1C L 04 cpu
+bus 1A L 0F cpu
+bus 00 S A4 0
+bus 1C L 04 cpu
+bus 1B L 3F 0
+bus 00 S 26 0
+bus 03 L 02 0
+bus 1B L -- fault'''.splitlines()
+# Of docs/INTERRUPTS, a timeline.
+OF_TIMER = '''1C S 00 -|08 L 00 cpu|00 S 73 0|00 S B6 0|1C L 06 cpu|1A L 03 cpu|00 S 20 0|03 L 7F 0|00 S B7 0|1C L 07 cpu|1A L 7F cpu|00 S 2B 0
+00 S 2B 0|00 S 2B 0|00 S 2B 0|00 S 2B 0|00 S 2B 0|00 S 2B 0|00 S 1B 0|1C S 00 -|00 S 2B 0|10 L 00 -|1C S 00 -|0F L 00 0|13 L 01 0|00 S FF 0'''
+OF_TIMER = [f'bus {line}' for line in OF_TIMER.replace('\n', '|').split('|')]
+OF_OWN_PORT = '''bus 1C S 00 -
+bus 08 L 00 cpu
+bus 00 S A0 0
+bus 1C S 00 -
+bus 00 S B4 0
+bus 1C L 04 cpu
+bus 1A L 05 cpu
+bus 00 S 90 0
+bus 1C S 00 -
+bus 01 L FE 0
+bus 00 S B4 0'''.splitlines()
+OF_RESERVED = ['bus 1C S 00 -', 'bus 08 L 00 cpu', 'bus 00 S 2D 0']
+OF_NOTHING = ['bus 1C S 00 -', 'bus 08 L 00 cpu', 'bus 00 S -- fault']
+
+
+def changed(lines: list[str], number: int, line: str) -> list[str]:
+    """Lines with that of a number, from 1, changed."""
+    return [*lines[:number - 1], line, *lines[number:]]
+
+
+# By hand: description, script, lines of the trace, what is answered.
+ANSWERS = [
+    (LOOP, STEPS_1, OF_LOOP, 'accept 3'), (LOOP, b'steps 0\n', OF_LOOP, 'accept 3'),
+    (LOOP, STEPS_1, ['verdict whole', *OF_LOOP, 'stop done'], 'accept 3'),
+    (LOOP, STEPS_1, changed(['verdict whole', *OF_LOOP], 8, 'bus 01 L FD 0'), 'reject line 7'),
+    (LOOP, STEPS_1, ['verdict whole', *OF_LOOP[:7]], 'reject line 7'),
+    (LOOP, STEPS_1, OF_LOOP[:4], 'accept 1'), (LOOP, STEPS_1, OF_LOOP[:3], 'accept 0'), (LOOP, STEPS_1, OF_LOOP[:2], 'reject line 1'),
+    (LOOP, STEPS_1, ['verdict whole', *OF_LOOP[:2]], 'reject line 2'), (LOOP, STEPS_1, [], 'reject line 1'),
+    (LOOP, STEPS_1, ['one', '', 'three'], 'reject line 4'), (LOOP, STEPS_1, ['bus'], 'reject line 2'),
+    (LOOP, STEPS_1, [*OF_LOOP, 'bus 1C S 00 -'], 'reject line 9'), (LOOP, STEPS_1, changed(OF_LOOP, 5, 'bus 00 S 90 cpu'), 'reject line 5'),
+    (LOOP, STEPS_1, changed(OF_LOOP, 5, 'bus 00 L 90 0'), 'reject line 5'), (LOOP, STEPS_1, changed(OF_LOOP, 3, 'bus 00 S 72 0'), 'reject line 1'),
+    (LOOP, STEPS_1, changed(OF_LOOP, 7, 'bus 01 L -- fault'), 'reject line 6'),
+    (MISSING_PORT, STEPS_1, OF_MISSING_PORT, 'accept 3'),
+    (MISSING_PORT, STEPS_1, [*OF_MISSING_PORT, 'bus 00 S -- fault'], 'reject line 14'),
+    (MISSING_PORT, STEPS_1, [*OF_MISSING_PORT, 'bus 00 S 2B 0'], 'reject line 14'),
+    (MISSING_PORT, STEPS_1, changed(OF_MISSING_PORT, 10, 'bus 1B L FF 0'), 'accept 3'),
+    (MISSING_PORT, STEPS_1, changed(OF_MISSING_PORT, 10, 'bus 1B L 30 0'), 'reject line 9'),
+    (MISSING_PORT, STEPS_1, changed(OF_MISSING_PORT, 13, 'bus 1B L 02 0'), 'reject line 12'),
+    (psu('2D'), STEPS_1, OF_RESERVED, 'accept 0'), (psu('2D'), STEPS_1, [*OF_RESERVED, 'bus 00 S 2B 0'], 'reject line 4'),
+    ('format = 1\n', STEPS_1, OF_NOTHING, 'accept 0'), ('format = 1\n', STEPS_1, [*OF_NOTHING, 'bus 00 S -- fault'], 'reject line 4'),
+    (TIMER, STEPS_1, OF_TIMER, 'accept 13'), (TIMER, STEPS_1, changed(OF_TIMER, 24, 'bus 0F L 80 0'), 'reject line 22'),
+    (TIMER, STEPS_1, [*OF_TIMER[:21], 'bus 00 S FF 0'], 'reject line 22'),  # the request is there, so it is taken
+    (OWN_PORT, b'at 0 keys 00 05\nsteps 1\n', OF_OWN_PORT, 'accept 3'), (OWN_PORT, STEPS_1, OF_OWN_PORT, 'reject line 6'),
+    (OWN_PORT, b'power 05\nsteps 1\n', OF_OWN_PORT, 'reject line 6'),
+]
+# Lines that are at fault, and others with `bus` in front that are skipped.
+OUT_OF_FORM = ['bus ', 'bus 20 S 00 -', 'bus 1c S 00 -', 'bus 1C s 00 -', 'bus 1C S 0 -', 'bus 1C S 00', 'bus 1C S 00 16', 'bus 1C S 00 00', 'bus 1C S 00 CPU',
+               'bus 1C S -- -', 'bus 1C S 00 fault', 'bus 1C  S 00 -', 'bus 1C S 00 - ', 'bus 1C S 00 -\t', 'bus 1C M 00 -', 'bus C S 00 -', 'bus 1C S fe 0',
+               'bus 1C S 00 -1', 'bus 1C S -- fault ', 'bus  1C S 00 -']
+SKIPPED = ['bus', 'buses', ' bus 1C S 00 -', 'BUS 1C S 00 -', 'out 40 04 0F', '# bus', 'bus\t1C S 00 -', '']
+SHOWN = re.compile(r'(frame|[0-3] [0-3]{128})')
+
+
+def judged(cart: str, script: bytes, lines: list[str]) -> str:
+    return answer(Description.of(cart.encode()), script, ''.join(line + '\n' for line in lines).encode())[0]
+
+
+def printed(cart: str, script: bytes) -> list[str]:
+    return list(map(line_of, steps(Description.of(cart.encode()), Script.of(script))))
+
+
+@needs_toml
+class Auditing(unittest.TestCase):
+    """The auditor of the tests, on what was worked out by hand."""
+
+    def test_answers_by_hand(self) -> None:
+        for cart, script, lines, line in ANSWERS:
+            self.assertEqual(judged(cart, script, lines), line, (cart, lines))
+
+    def test_lines_by_hand(self) -> None:
+        for line in OUT_OF_FORM:
+            self.assertEqual(judged(LOOP, STEPS_1, [*OF_LOOP, line]), 'error trace line 9', line)
+        for line in SKIPPED:
+            self.assertEqual(judged(LOOP, STEPS_1, [*OF_LOOP[:5], line, *OF_LOOP[5:]]), 'accept 3', line)
+
+    def test_ends_of_lines(self) -> None:
+        description, text = Description.of(LOOP.encode()), '\n'.join(OF_LOOP).encode()
+        self.assertEqual(answer(description, STEPS_1, text), ('accept 3', 0))
+        self.assertEqual(answer(description, STEPS_1, text.replace(b'\n', b'\r\n') + b'\r\n'), ('accept 3', 0))
+        self.assertEqual(answer(description, STEPS_1, text + b'\r\r\n'), ('error trace line 8', 2))
+        self.assertEqual(answer(description, STEPS_1, b'\xff\0\n' + text), ('accept 3', 0))
+        self.assertEqual(answer(description, STEPS_1, text.ljust(MOST_BYTES + 1, b'\n')), ('error long trace', 2))
+
+    def test_traces_by_hand(self) -> None:
+        """What the steps of a run are, which the vectors above and the pages tell."""
+        for cart, script, lines in ((LOOP, b'steps 3\n', OF_LOOP), (MISSING_PORT, b'at 0 keys 04 30\nsteps 4\n', OF_MISSING_PORT),
+                                    (TIMER, b'steps 13\n', OF_TIMER), (OWN_PORT, b'at 0 keys 00 05\nsteps 3\n', OF_OWN_PORT)):
+            self.assertEqual(printed(cart, script), lines)
+
+    def test_pulses(self) -> None:
+        """Two pulses that a script gave, in an audit without a script that gives any."""
+        lines = printed(chips(FIRST_OF_TWO, SECOND_OF_TWO), PULSES)
+        self.assertEqual((len(lines), lines[-5:-1]), (6411, ['bus 10 L 00 -', 'bus 1C S 00 -', 'bus 0F L 80 1', 'bus 13 L 02 1']))
+        self.assertEqual(judged(chips(FIRST_OF_TWO, SECOND_OF_TWO), STEPS_1, lines), 'accept 2135')
+        unwired = chips(FIRST_OF_TWO, SECOND_OF_TWO.replace('true', 'false'))
+        self.assertEqual(judged(unwired, STEPS_1, lines), 'reject line 6405')  # 6408 behind a verdict and two writes
+
+
+class Traces(unittest.TestCase):
+    """The program against that auditor."""
+
+    def setUp(self) -> None:
+        room = tempfile.TemporaryDirectory()
+        self.addCleanup(room.cleanup)
+        self.folder = Path(room.name)
+
+    def program(self, cart: Path, script: Path, trace: bytes) -> tuple[str, int]:
+        (self.folder / 'trace').write_bytes(trace)
+        done = subprocess.run([PROGRAM, 'audit', cart, script, self.folder / 'trace'], cwd=TOP, capture_output=True, text=True, timeout=60)
+        return done.stdout.removesuffix('\n'), done.returncode
+
+    def files(self, cart: str, script: bytes) -> tuple[Path, Path]:
+        """A description and a script as files."""
+        names = self.folder / 'cart.toml', self.folder / 'script.txt'
+        for path, data in zip(names, (cart.encode(), script)):
+            path.write_bytes(data)
+        return names
+
+
+@needs_program
+@needs_toml
+class Programs(Traces):
+    """On what was worked out by hand."""
+
+    def test_answers_by_hand(self) -> None:
+        for cart, script, lines, line in ANSWERS:
+            status = 0 if line.startswith('accept') else 7
+            self.assertEqual(self.program(*self.files(cart, script), ''.join(line + '\n' for line in lines).encode()), (line, status), lines)
+
+    def test_lines_by_hand(self) -> None:
+        files = self.files(LOOP, STEPS_1)
+        for line in OUT_OF_FORM:
+            self.assertEqual(self.program(*files, '\n'.join([*OF_LOOP, line]).encode()), ('error trace line 9', 2), line)
+        for line in SKIPPED:
+            self.assertEqual(self.program(*files, '\n'.join([*OF_LOOP[:5], line, *OF_LOOP[5:]]).encode()), ('accept 3', 0), line)
+
+    def test_pulses(self) -> None:
+        two = chips(FIRST_OF_TWO, SECOND_OF_TWO)
+        trace = played(*self.files(two, PULSES))
+        self.assertEqual(self.program(*self.files(two, STEPS_1), trace), ('accept 2135', 0))
+        unwired = chips(FIRST_OF_TWO, SECOND_OF_TWO.replace('true', 'false'))
+        self.assertEqual(self.program(*self.files(unwired, STEPS_1), trace), ('reject line 6408', 7))
+
+    def test_limits(self) -> None:
+        files, text = self.files(LOOP, STEPS_1), '\n'.join(OF_LOOP).encode() + b'\n'
+        self.assertEqual(self.program(*files, text.ljust(MOST_BYTES, b'\n')), ('accept 3', 0))
+        self.assertEqual(self.program(*files, text.ljust(MOST_BYTES + 1, b'\n')), ('error long trace', 2))
+
+    def test_files_in_their_order(self) -> None:
+        cart, script = self.files(LOOP, STEPS_1)
+        for words, line, status in (([cart, script, 'missing'], 'error store trace', 4), ([cart, 'missing', 'missing'], 'error store script', 4),
+                                    (['missing', script, 'missing'], 'error store cart', 4), ([cart, script], 'error words', 1),
+                                    (['--trace', cart, script, script], 'error words', 1), ([cart, script, script], 'reject line 2', 7)):
+            done = subprocess.run([PROGRAM, 'audit', *words], cwd=self.folder, capture_output=True, text=True, timeout=60)
+            self.assertEqual((done.stdout, done.returncode), (line + '\n', status), words)
+
+
+CARTRIDGES = sorted([*TOP.glob('cartridges/*/cart.toml'), *TOP.glob('cartridges/*/city.toml'), *TOP.glob('cartridges/*/tunnel.toml')])
+CHANGES = 12  # of each cartridge
+MOST_LINES = 20_000  # of a trace that is changed
+
+
+def played(cart: Path, script: Path) -> bytes:
+    """What `play --trace` prints, but for pictures."""
+    done = subprocess.run([PROGRAM, 'play', '--trace', cart, script], cwd=TOP, capture_output=True, timeout=60)
+    return b''.join(line for line in done.stdout.splitlines(True) if not SHOWN.match(line.decode('ascii')))
+
+
+def altered(random: Random, lines: list[bytes]) -> tuple[str, list[bytes]]:
+    """Lines of a trace with one change: a byte, a code, a length, a driver, a line left out, doubled or exchanged with the next."""
+    at = random.choice([number for number, line in enumerate(lines) if line.startswith(b'bus ')])
+    code, length, byte, driver = lines[at].split()[1:]
+    digits = b'%02X' % random.randrange(256)
+    kind, found = random.choice([
+        ('byte', [b' '.join((b'bus', code, length, digits, driver if driver != b'fault' else b'cpu'))]),
+        ('bit', [b' '.join((b'bus', code, length, b'%02X' % (int(byte, 16) ^ 1 << random.randrange(8)) if byte != b'--' else digits, driver if byte != b'--' else b'0'))]),
+        ('code', [b' '.join((b'bus', b'%02X' % random.randrange(32), length, byte, driver))]),
+        ('length', [b' '.join((b'bus', code, b'L' if length == b'S' else b'S', byte, driver))]),
+        ('driver', [b' '.join((b'bus', code, length, byte, random.choice((b'cpu', b'-', b'0', b'1', b'12', b'14'))))] if byte != b'--' else []),
+        ('fault', [b' '.join((b'bus', code, length, b'--', b'fault'))]), ('left out', []), ('doubled', [lines[at]] * 2)])
+    return f'{kind} in line {at + 1}', [*lines[:at], *found, *lines[at + 1:]]
+
+
+@needs_program
+@needs_toml
+class Cartridges(Traces):
+    """On the traces of the cartridges here."""
+
+    def test_every_trace_is_accepted_and_every_change_judged(self) -> None:
+        told = set()
+        for cart in CARTRIDGES:
+            with self.subTest(cart=cart.parent.name):
+                script, description = cart.parent / 'script.txt', Description.read(cart, Program.of(str(PROGRAM)))
+                trace = played(cart, script)
+                count = re.search(rb'total (\d+) instructions', trace)[1].decode()
+                self.assertEqual(self.program(cart, script, trace[:MOST_BYTES]) if len(trace) > MOST_BYTES else self.program(cart, script, trace),
+                                 (f'accept {count}', 0))
+                told |= set(self.judge(description, cart, script, trace.splitlines()[:MOST_LINES]))
+        self.assertLessEqual({'accept', 'reject', 'error'}, told)
+
+    def judge(self, description: Description, cart: Path, script: Path, lines: list[bytes]) -> list[str]:
+        random, text = Random(cart.parent.name), script.read_bytes()
+        cases = [('whole', lines), *(altered(random, lines) for _ in range(CHANGES))]
+        found = []
+        for what, case in cases:
+            trace = b''.join(line + b'\n' for line in case)
+            own = answer(description, text, trace)
+            self.assertEqual(self.program(cart, script, trace), own, f'{cart}: {what}')
+            found.append(own[0].split()[0])
+        return found
+
+
+if __name__ == '__main__':
+    unittest.main()
