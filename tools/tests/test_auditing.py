@@ -10,74 +10,12 @@ from random import Random
 
 from tool import PROGRAM, TOP, needs_program, needs_toml
 
-from audited import answer, steps
-from companion.auditing.traces import MOST_BYTES, line_of
+from audited import answer
+from companion.auditing.traces import MOST_BYTES
 from companion.description import Description
 from companion.program import Program
-from companion.script import Script
-
-PSU = 'format = 1\n[[chip]]\nkind = "3851"\nbase = {base}\nports = {ports}\nvector = {vector}\ninterrupt = {interrupt}\nrom = "{rom}"\n'
-
-
-def psu(rom: str, base: int = 0, ports: int = 4, vector: int = 0, interrupt: bool = False) -> str:
-    return PSU.format(rom=rom, base=base, ports=ports, vector=vector, interrupt=str(interrupt).lower())
-
-
-def chips(*texts: str) -> str:
-    """Descriptions of a chip each as one of all."""
-    return texts[0] + ''.join(text.removeprefix('format = 1\n') for text in texts[1:])
-
-
-LOOP, MISSING_PORT = psu('712B90FE'), psu('200FB4A42602')
-TIMER = psu('73B6207FB7' + '2B' * 7 + '1B2B', vector=0x180, interrupt=True)
-FIRST_OF_TWO = psu('71B6BA1B90FF' + 'FF' * (0x180 - 6) + '1B1C', vector=0x100, interrupt=True)
-SECOND_OF_TWO = psu('', 0x400, 8, 0x200, True)
-OWN_PORT = psu('A0B490FE')
-STEPS_1, PULSES = b'steps 1\n', b'at 1 pulse 1\nat 1 pulse 0\nsteps 2135\n'
-OF_LOOP = '''bus 1C S 00 -
-bus 08 L 00 cpu
-bus 00 S 71 0
-bus 00 S 2B 0
-bus 00 S 90 0
-bus 1C S 00 -
-bus 01 L FE 0
-bus 00 S 2B 0'''.splitlines()
-OF_MISSING_PORT = '''bus 1C S 00 -
-bus 08 L 00 cpu
-bus 00 S 20 0
-bus 03 L 0F 0
-bus 00 S B4 0
-bus 1C L 04 cpu
-bus 1A L 0F cpu
-bus 00 S A4 0
-bus 1C L 04 cpu
-bus 1B L 3F 0
-bus 00 S 26 0
-bus 03 L 02 0
-bus 1B L -- fault'''.splitlines()
-# Of docs/INTERRUPTS, a timeline.
-OF_TIMER = '''1C S 00 -|08 L 00 cpu|00 S 73 0|00 S B6 0|1C L 06 cpu|1A L 03 cpu|00 S 20 0|03 L 7F 0|00 S B7 0|1C L 07 cpu|1A L 7F cpu|00 S 2B 0
-00 S 2B 0|00 S 2B 0|00 S 2B 0|00 S 2B 0|00 S 2B 0|00 S 2B 0|00 S 1B 0|1C S 00 -|00 S 2B 0|10 L 00 -|1C S 00 -|0F L 00 0|13 L 01 0|00 S FF 0'''
-OF_TIMER = [f'bus {line}' for line in OF_TIMER.replace('\n', '|').split('|')]
-OF_OWN_PORT = '''bus 1C S 00 -
-bus 08 L 00 cpu
-bus 00 S A0 0
-bus 1C S 00 -
-bus 00 S B4 0
-bus 1C L 04 cpu
-bus 1A L 05 cpu
-bus 00 S 90 0
-bus 1C S 00 -
-bus 01 L FE 0
-bus 00 S B4 0'''.splitlines()
-OF_RESERVED = ['bus 1C S 00 -', 'bus 08 L 00 cpu', 'bus 00 S 2D 0']
-OF_NOTHING = ['bus 1C S 00 -', 'bus 08 L 00 cpu', 'bus 00 S -- fault']
-
-
-def changed(lines: list[str], number: int, line: str) -> list[str]:
-    """Lines with that of a number, from 1, changed."""
-    return [*lines[:number - 1], line, *lines[number:]]
-
+from traced import (CARTRIDGES, FIRST_OF_TWO, LOOP, MISSING_PORT, OF_LOOP, OF_MISSING_PORT, OF_NOTHING, OF_OWN_PORT, OF_RESERVED, OF_TIMER,
+                    OWN_PORT, PULSES, SECOND_OF_TWO, STEPS_1, TIMER, changed, chips, played, printed, psu)
 
 # By hand: description, script, lines of the trace, what is answered.
 ANSWERS = [
@@ -109,15 +47,12 @@ OUT_OF_FORM = ['bus ', 'bus 20 S 00 -', 'bus 1c S 00 -', 'bus 1C s 00 -', 'bus 1
                'bus 1C S -- -', 'bus 1C S 00 fault', 'bus 1C  S 00 -', 'bus 1C S 00 - ', 'bus 1C S 00 -\t', 'bus 1C M 00 -', 'bus C S 00 -', 'bus 1C S fe 0',
                'bus 1C S 00 -1', 'bus 1C S -- fault ', 'bus  1C S 00 -']
 SKIPPED = ['bus', 'buses', ' bus 1C S 00 -', 'BUS 1C S 00 -', 'out 40 04 0F', '# bus', 'bus\t1C S 00 -', '']
-SHOWN = re.compile(r'(frame|[0-3] [0-3]{128})')
 
 
 def judged(cart: str, script: bytes, lines: list[str]) -> str:
     return answer(Description.of(cart.encode()), script, ''.join(line + '\n' for line in lines).encode())[0]
 
 
-def printed(cart: str, script: bytes) -> list[str]:
-    return list(map(line_of, steps(Description.of(cart.encode()), Script.of(script))))
 
 
 @needs_toml
@@ -216,30 +151,24 @@ class Programs(Traces):
             self.assertEqual((done.stdout, done.returncode), (line + '\n', status), words)
 
 
-CARTRIDGES = sorted([*TOP.glob('cartridges/*/cart.toml'), *TOP.glob('cartridges/*/city.toml'), *TOP.glob('cartridges/*/tunnel.toml')])
 CHANGES = 12  # of each cartridge
-MOST_LINES = 20_000  # of a trace that is changed
-
-
-def played(cart: Path, script: Path) -> bytes:
-    """What `play --trace` prints, but for pictures."""
-    done = subprocess.run([PROGRAM, 'play', '--trace', cart, script], cwd=TOP, capture_output=True, timeout=60)
-    return b''.join(line for line in done.stdout.splitlines(True) if not SHOWN.match(line.decode('ascii')))
+MOST_LINES, MOST_CHANGED = 20_000, 4_000  # that the slower of the two goes over, of a trace as it is and of one that is changed
 
 
 def altered(random: Random, lines: list[bytes]) -> tuple[str, list[bytes]]:
-    """Lines of a trace with one change: a byte, a code, a length, a driver, a line left out, doubled or exchanged with the next."""
+    """Lines of a trace with one change in a step: a byte, a bit, a code, a length, a driver, a fault, or a line left out or doubled."""
     at = random.choice([number for number, line in enumerate(lines) if line.startswith(b'bus ')])
     code, length, byte, driver = lines[at].split()[1:]
-    digits = b'%02X' % random.randrange(256)
-    kind, found = random.choice([
-        ('byte', [b' '.join((b'bus', code, length, digits, driver if driver != b'fault' else b'cpu'))]),
-        ('bit', [b' '.join((b'bus', code, length, b'%02X' % (int(byte, 16) ^ 1 << random.randrange(8)) if byte != b'--' else digits, driver if byte != b'--' else b'0'))]),
-        ('code', [b' '.join((b'bus', b'%02X' % random.randrange(32), length, byte, driver))]),
-        ('length', [b' '.join((b'bus', code, b'L' if length == b'S' else b'S', byte, driver))]),
-        ('driver', [b' '.join((b'bus', code, length, byte, random.choice((b'cpu', b'-', b'0', b'1', b'12', b'14'))))] if byte != b'--' else []),
-        ('fault', [b' '.join((b'bus', code, length, b'--', b'fault'))]), ('left out', []), ('doubled', [lines[at]] * 2)])
-    return f'{kind} in line {at + 1}', [*lines[:at], *found, *lines[at + 1:]]
+    is_served = byte != b'--'
+    digits, flipped = b'%02X' % random.randrange(256), b'%02X' % (int(byte if is_served else b'00', 16) ^ 1 << random.randrange(8))
+    who = random.choice((b'cpu', b'-', b'0', b'1', b'12', b'14'))
+    what, words = random.choice([
+        ('byte', (code, length, digits, driver if is_served else who)), ('bit', (code, length, flipped, driver if is_served else who)),
+        ('code', (b'%02X' % random.randrange(32), length, byte, driver)), ('length', (code, b'L' if length == b'S' else b'S', byte, driver)),
+        ('driver', (code, length, byte if is_served else digits, who)), ('fault', (code, length, b'--', b'fault')),
+        ('out of form', (code, length, digits, b'16')), ('left out', None), ('doubled', (code, length, byte, driver))])
+    found = [] if words is None else [b' '.join((b'bus', *words))]
+    return f'{what} in line {at + 1}', [*lines[:at], *found, *lines[at + (what != 'doubled'):]]
 
 
 @needs_program
@@ -254,14 +183,13 @@ class Cartridges(Traces):
                 script, description = cart.parent / 'script.txt', Description.read(cart, Program.of(str(PROGRAM)))
                 trace = played(cart, script)
                 count = re.search(rb'total (\d+) instructions', trace)[1].decode()
-                self.assertEqual(self.program(cart, script, trace[:MOST_BYTES]) if len(trace) > MOST_BYTES else self.program(cart, script, trace),
-                                 (f'accept {count}', 0))
+                self.assertEqual(self.program(cart, script, trace), (f'accept {count}', 0))
                 told |= set(self.judge(description, cart, script, trace.splitlines()[:MOST_LINES]))
         self.assertLessEqual({'accept', 'reject', 'error'}, told)
 
     def judge(self, description: Description, cart: Path, script: Path, lines: list[bytes]) -> list[str]:
         random, text = Random(cart.parent.name), script.read_bytes()
-        cases = [('whole', lines), *(altered(random, lines) for _ in range(CHANGES))]
+        cases = [('whole', lines), *(altered(random, lines[:MOST_CHANGED]) for _ in range(CHANGES))]
         found = []
         for what, case in cases:
             trace = b''.join(line + b'\n' for line in case)

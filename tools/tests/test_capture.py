@@ -11,11 +11,10 @@ from typing import Iterator
 
 from tool import PROGRAM, TOP, call, needs_program, needs_toml
 
-from test_auditing import (CARTRIDGES, FIRST_OF_TWO, LOOP, MISSING_PORT, OF_LOOP, OF_MISSING_PORT, OF_TIMER, PULSES, SECOND_OF_TWO, TIMER, chips,
-                           played, printed, psu)
 from companion.auditing.drivers import Cycle, Drivers
 from companion.auditing.traces import Trace, line_of
 from companion.description import Description
+from traced import CARTRIDGES, FIRST_OF_TWO, LOOP, MISSING_PORT, OF_LOOP, OF_MISSING_PORT, OF_TIMER, PULSES, SECOND_OF_TWO, TIMER, chips, played, printed, psu
 
 NAMES = [*(f'ROMC{bit}' for bit in range(5)), *(f'D{bit}' for bit in range(8)), 'WRITE', 'PHI']
 FLOATING = 0xA5  # on the wires where nobody drives them
