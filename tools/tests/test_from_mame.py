@@ -12,7 +12,7 @@ from tool import TOP, call, needs_toml
 from audited import answer
 from companion.auditing.drivers import Drivers
 from companion.auditing.machine import Machine
-from companion.auditing.mame import COMMAND, cycles_of, lines_of
+from companion.auditing.mame import cycles_of, lines_of
 from companion.auditing.traces import line_of
 from companion.counters import DC0, PC1
 from companion.description import Description
@@ -41,7 +41,7 @@ PROGRAMS, MOST_INSTRUCTIONS = 60, 400
 
 
 def told(machine: Machine) -> str:
-    """The line before an instruction, as MAME writes it by the command of --help."""
+    """The line before an instruction, as MAME writes it by the commands of --commands."""
     memory, cpu = machine.chips[0], machine.cpu
     code = ''.join(f'{memory.byte((machine.address + at) % ADDRESSES):02X}' for at in range(3))
     counters = machine.reference.counters
@@ -124,10 +124,15 @@ class FromMame(unittest.TestCase):
             self.assertEqual(done.returncode, 1)
             self.assertIn(told_words, done.told)
 
-    def test_the_help_and_the_page_have_the_command(self) -> None:
-        squeezed = ''.join(COMMAND.split())
-        for text in (call('from_mame', '--help').text, (TOP / 'docs/AUDIT.md').read_text('utf-8')):
-            self.assertIn(squeezed, ''.join(text.split()))
+    def test_commands(self) -> None:
+        """Each value of a line has its expression, and the page shows the first command."""
+        lines = call('from_mame', '--commands', 'game.tr').text.splitlines()
+        form, values = lines[0].split('"')[1:]
+        self.assertEqual((len(lines), lines[1:], form.count('%')), (3, ['softreset', 'go'], len(values.strip(',}').split(','))))
+        self.assertIn(lines[0], (TOP / 'docs/AUDIT.md').read_text('utf-8'))
+
+    def test_words(self) -> None:
+        self.assertIn('name the description', call('from_mame', 'cart.toml').told)
 
 
 if __name__ == '__main__':

@@ -11,6 +11,7 @@ from companion.bus import FETCH, RELEASE, Step, Turn
 from companion.instructions import Instruction
 
 OWN_PORTS = 2  # the ports 0 and 1 are the processor's own
+OWN_READS = (0xA0, 0xA1)  # INS of them
 MOST_STEPS = 9  # of an instruction with an interrupt
 TO_A_VECTOR = [RELEASE, IDLE, VECTOR_LOW]
 TOLD_EVERY = 1 << 12  # instructions, between two calls of those who wait
@@ -29,6 +30,7 @@ class Audit:
     instruction: Instruction | None = None  # None in reset
     fault: Fault | None = None  # of the last step that is due, or the one by which the run is over
     is_reserved: bool = False  # the run is over at the opcode of the instruction
+    has_read_own_ports: bool = False  # before that
 
     @property
     def is_accepted(self) -> bool:
@@ -104,9 +106,10 @@ def audited(machine: Machine, trace: Trace, tell: Callable[[int], None] = lambda
         give_pulse(machine, rest)
         if found.instructions % TOLD_EVERY == 0:
             tell(found.matched)
-        instruction = instruction_of(machine)
+        instruction, reads_own = instruction_of(machine), machine.opcode in OWN_READS
         if not found.goes_on(machine.instruction(), instruction):
             return found
         found.instructions += 1
+        found.has_read_own_ports |= reads_own
     found.is_reserved, found.instruction = True, machine.next_instruction()
     return found

@@ -12,8 +12,12 @@ from companion.bus import FETCH, PORT_READ, PORT_WRITE, READ, RELEASE, STORE
 from companion.instructions import ADDRESSES, OPCODES, Flow, Instruction
 from companion.words import Refused
 
-COMMAND = ('trace game.tr,maincpu,noloop,{tracelog "PC0=%04X OP=%02X%02X%02X A=%02X W=%02X IS=%02o PC1=%04X DC0=%04X M=%02X  ",'
-           'pc0,b@(pc0-1),b@pc0,b@(pc0+1),a,w,is,pc1,dc0,b@dc0}')
+# For the debugger, with the name of the file that it writes. The addresses go by PC0, which is one past that of the instruction.
+COMMANDS = '''trace {file},maincpu,noloop,{{tracelog "PC0=%04X OP=%02X%02X%02X A=%02X W=%02X IS=%02o PC1=%04X DC0=%04X M=%02X  ",\
+pc0,b@(pc0-1),b@pc0,b@(pc0+1),a,w,is,pc1,dc0,b@dc0}}
+softreset
+go
+'''
 LINE = re.compile(r'PC0=([0-9A-F]{4}) OP=([0-9A-F]{6}) A=([0-9A-F]{2}) W=([0-9A-F]{2}) IS=([0-7]{2}) PC1=([0-9A-F]{4}) DC0=([0-9A-F]{4}) M=([0-9A-F]{2})'
                   r'(?:\s.*)?', re.I)
 POP, LR_P_K = 0x1C, 0x09
@@ -126,7 +130,7 @@ def cycles_of(lines: Iterable[Before]) -> Iterator[Cycle]:
             yield from told_cycles(now, then)
         now = then
     if now is None:
-        raise Untold('no line has the form that --help shows')
+        raise Untold('no line has the form that the commands of --commands give')
 
 
 def check(now: Before, then: Before) -> None:

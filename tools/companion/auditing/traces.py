@@ -13,10 +13,10 @@ BEGINNING = b'bus '
 CODE, LENGTH, BYTE = r'[01][0-9A-F]', '[SL]', '[0-9A-F]{2}'
 SOCKET = r'[0-9]|1[0-5]'
 LINE = re.compile(rf'bus ({CODE}) ({LENGTH}) (?:({BYTE}) (cpu|-|{SOCKET})|-- fault)'.encode())
-# The words of a line, each with its form and what is said of one that hasn't it.
-WORDS = ((CODE, 'The code is two digits from 00 to 1F, with capital letters'), (LENGTH, 'A step is `S`, short, or `L`, long'),
-         (BYTE, 'The byte is two digits with capital letters, or `--` before `fault`'),
-         (f'cpu|-|{SOCKET}', 'The driver is `cpu`, `-`, or a socket from 0 to 15 without a zero in front'))
+# The words behind `bus`, each with its form and what is said of another one.
+WORDS = ((CODE, 'A code is two digits from 00 to 1F, with capital letters.'), (LENGTH, 'A step is `S`, short, or `L`, long.'),
+         (BYTE + '|--', 'A byte is two digits, with capital letters. A step that is not served has `-- fault` in its place.'),
+         (f'cpu|-|{SOCKET}', 'The driver is `cpu`, `-` for nobody, or a socket from 0 to 15 without a zero in front.'))
 
 
 class Unreadable(Exception):
@@ -48,17 +48,18 @@ def text_lines(data: bytes) -> list[bytes]:
     return [line.removesuffix(b'\r') for line in data.removesuffix(b'\n').split(b'\n')] if data else []
 
 
-def fault_in(line: str) -> str:
-    """What hinders a line that begins with `bus `."""
-    words = line.split(' ')[1:]
-    if words[2:3] == ['--'] and words[3:] != ['fault']:
-        return 'Behind `--` stands `fault` and nothing else.'
-    for word, (form, said) in zip(words, WORDS):
+def fault_in(line: str) -> tuple[int, str]:
+    """What hinders a line that begins with `bus `, with the column of the word, from 1."""
+    column, words = len(BEGINNING) + 1, line.split(' ')[1:]
+    for number, (word, (form, said)) in enumerate(zip(words, WORDS)):
         if word == '':
-            return 'Between two words is one blank, and none at the end of the line.'
-        if not re.fullmatch(form, word) and word != '--' and not (word == 'fault' and words[2] == '--'):
-            return f'{said}: `{word}` is neither.' if form == LENGTH else f'{said}: `{word}` is none.'
-    return 'A line has five words, as `bus 00 S 2B 0`, or `bus 1B L -- fault`.'
+            return column, 'One blank stands between two words, and none at the end.'
+        if number == 3 and words[2] == '--':
+            form, said = 'fault', 'Behind `--` stands `fault`.'
+        if not re.fullmatch(form, word):
+            return column, said
+        column += len(word) + 1
+    return min(column, len(line) + 1), 'A line has four words behind `bus`: code, length, byte and driver, as `bus 00 S 2B 0`; or `-- fault` in place of the last two.'
 
 
 @dataclass(frozen=True)

@@ -15,10 +15,10 @@ from companion.page_tables import forms_of, mnemonics
 from companion.plans import Planned, planned
 from companion.program import Program
 
-COMMANDS = ('play', 'debug', 'check', 'verify', 'migrate', 'ref', 'asm', 'link', 'dis', 'gen')
-NAMES = ('cart', 'script', 'commands', 'cert', 'file', 'plan')
+COMMANDS = ('play', 'debug', 'check', 'verify', 'migrate', 'ref', 'asm', 'link', 'dis', 'gen', 'audit')
+NAMES = ('cart', 'script', 'commands', 'cert', 'file', 'plan', 'trace')
 FILES_OF = {'play': ('cart', 'script'), 'debug': ('cart', 'commands'), 'ref': ('cart', 'script'), 'check': ('cart',), 'verify': ('cart', 'cert'),
-            'migrate': ('cart',), 'link': ('plan',)}
+            'migrate': ('cart',), 'link': ('plan',), 'audit': ('cart', 'script', 'trace')}
 FEWEST_DIGITS = 16  # of a file of digits, which a short word like BC would be too
 MOST_OF = 0.7  # of the lines of a script or of commands have a word of theirs in front
 SHOWN = 140  # characters of a line, at most
@@ -27,10 +27,11 @@ SHOWN = 140  # characters of a line, at most
 class Sort(Enum):
     """What a file looks like, with what is said of it in the place of another one."""
     NOTHING = 'This file is empty.'
-    DESCRIPTION = 'This is a description of a cartridge: it is the first file after `play`, `ref`, `debug`, `check`, `verify` and `migrate`.'
-    SCRIPT = 'This is a script: it is the second file after `play` and `ref`, behind the description.'
+    DESCRIPTION = 'This is a description of a cartridge: it is the first file after `play`, `ref`, `debug`, `check`, `verify`, `migrate` and `audit`.'
+    SCRIPT = 'This is a script: it is the second file after `play`, `ref` and `audit`, behind the description.'
     COMMANDS = 'These are commands of the debugger: they are the second file after `debug`, behind the description.'
     CERTIFICATE = 'This is a certificate: it is the second file after `verify`, behind the description.'
+    TRACE = 'This is a trace, as `play --trace` prints it: it is the third file after `audit`, behind description and script.'
     PLAN = 'This is a plan of modules: it is the file after `link`.'
     ASSEMBLY = 'This is an assembly text. A description names it: `source = "{name}"` below a `[[chip]]` with `kind`, `base` and `ports`.'
     ASM_LINES = 'These are lines of `asm`, with addresses in front: tools/disassembly and tools/describe read them.'
@@ -66,6 +67,8 @@ def sort_of(data: bytes) -> Sort:
     if any(re.match(r'\s*(\[\[\s*chip\s*\]\]|format\s*=)', line) for line in lines):
         return Sort.DESCRIPTION
     firsts = [line.split()[0] for line in lines if not line.lstrip().startswith('#')]
+    if share(firsts, {'bus'}) > 0.5:
+        return Sort.TRACE
     for sort, section in ((Sort.SCRIPT, 'Script'), (Sort.COMMANDS, 'Debugger'), (Sort.PLAN, 'Plan')):
         if share(firsts, {form.split()[0] for form in forms_of(section)}) > MOST_OF:
             return sort
@@ -130,7 +133,7 @@ class Files:
         return Reach.of(self.cartridge)
 
     def path(self, what: str) -> str:
-        """The name of the file that a refusal calls cart, script, commands, cert, file, plan, source I or module I."""
+        """The name of the file that a refusal calls cart, script, commands, cert, file, plan, trace, source I or module I."""
         if what.startswith('module '):
             return next((module.file for module in self.modules if module.number == int(what[7:])), '')
         if what.startswith('source '):

@@ -11,19 +11,21 @@ from companion.explaining.files import Files
 from companion.explaining.modules import link, module, plan
 from companion.explaining.runs import agreed, fault, not_closed, refused, reserved, stopped_at, too_many, unsafe
 from companion.explaining.scripts import cert, debug, digits, script
+from companion.explaining.traces import out_of_form, rejected
 from companion.page_tables import row_of_line
 
-TOLD = ('error', 'stop', 'agreed', 'refused', 'toomany', 'notclosed', 'unsafe')  # the first words of the lines that are explained
+TOLD = ('error', 'stop', 'agreed', 'refused', 'toomany', 'notclosed', 'unsafe', 'reject')  # the first words of the lines that are explained
 ADDRESS = '[0-9A-F]{4}'  # as the program writes it
 POINT = rf'({ADDRESS}) ({ADDRESS}|----) (\S+)'
 NUMBER = r'(\d{1,9})'
-WHAT = r'(cart|script|commands|cert|file|plan|(?:source|module) \d{1,9})'
+WHAT = r'(cart|script|commands|cert|file|plan|trace|(?:source|module) \d{1,9})'
 EXPLAINERS: list[tuple[str, Callable[..., list[str]]]] = [
     (rf'error asm (file|source \d{{1,9}}) line {NUMBER} column {NUMBER} cause {NUMBER}', asm), (r'error cart toml', toml),
     (rf'error cart(?: chip {NUMBER})? key (\S+) cause {NUMBER}', key), (rf'error script line {NUMBER} cause {NUMBER}', script),
     (rf'error cert line {NUMBER} cause {NUMBER}', cert), (rf'error debug line {NUMBER} cause {NUMBER}', debug),
     (rf'error plan line {NUMBER} cause {NUMBER}', plan), (rf'error module {NUMBER} line {NUMBER} column {NUMBER} cause {NUMBER}', module),
-    (rf'error link module {NUMBER} cause {NUMBER}', link), (rf'error store {WHAT}', store), (rf'error long {WHAT}', too_long), (r'error hex', digits), (r'error words', wrong_words),
+    (rf'error link module {NUMBER} cause {NUMBER}', link), (rf'error trace line {NUMBER}', out_of_form), (rf'reject line {NUMBER}', rejected),
+    (rf'error store {WHAT}', store), (rf'error long {WHAT}', too_long), (r'error hex', digits), (r'error words', wrong_words),
     (rf'error sockets ({"|".join(KINDS)}) need {NUMBER} have {NUMBER}', sockets), (rf'error rack {NUMBER}', lambda *_: []),
     (rf'stop (conflict|undriven|astray) romc (..)((?: socket \d\d? at {ADDRESS}| at {ADDRESS}| reference {ADDRESS})+)', fault),
     (rf'stop reserved (..) at ({ADDRESS})', reserved),
