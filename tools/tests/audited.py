@@ -11,6 +11,7 @@ from __future__ import annotations
 
 import sys
 from pathlib import Path
+from random import Random
 from typing import Iterator
 
 sys.path.insert(0, str(Path(__file__).resolve().parent.parent))  # where the package `companion` lies
@@ -47,6 +48,28 @@ def steps(description: Description, script: Script) -> Iterator[Step]:
         yield from course.steps
         if machine.phi // FRAME != before:
             give(machine, script, machine.phi // FRAME)
+
+
+def free_run(description: Description, script: Script, random: Random, most: int) -> list[Step]:
+    """The bus steps of a free run: key bytes of chips' ports and pulses come at random, before reset and at the ends of instructions."""
+    machine = Machine(description, script)
+    give_at_random(machine, random)
+    found, fault = machine.reset()
+    for _ in range(most):
+        if fault or machine.is_reserved:
+            break
+        give_at_random(machine, random)
+        course, fault = machine.instruction()
+        found += course
+    return found
+
+
+def give_at_random(machine: Machine, random: Random) -> None:
+    for chip in machine.chips:
+        if chip.seat.data_ports and random.random() < 0.2:
+            chip.key(random.choice(chip.seat.data_ports), random.randrange(256))
+        if random.random() < 0.1:
+            chip.pulse()
 
 
 def is_over(machine: Machine, script: Script) -> bool:

@@ -7,15 +7,18 @@ import tempfile
 import unittest
 from pathlib import Path
 from random import Random
+from typing import Iterator
 
 from tool import PROGRAM, TOP, needs_program, needs_toml
 
-from audited import answer
-from companion.auditing.traces import MOST_BYTES
+from audited import answer, free_run
+from companion.auditing.traces import MOST_BYTES, line_of
 from companion.description import Description
 from companion.program import Program
-from traced import (CARTRIDGES, FIRST_OF_TWO, LOOP, MISSING_PORT, OF_LOOP, OF_MISSING_PORT, OF_NOTHING, OF_OWN_PORT, OF_RESERVED, OF_TIMER,
-                    OWN_PORT, PULSES, SECOND_OF_TWO, STEPS_1, TIMER, changed, chips, played, printed, psu)
+from companion.script import Script
+from random_cartridges import cartridge
+from traced import (BOTH_SORTS, CARTRIDGES, FIRST_OF_TWO, LOOP, MISSING_PORT, OF_LOOP, OF_MISSING_PORT, OF_NOTHING, OF_OWN_PORT, OF_PIO, OF_RESERVED,
+                    OF_TIMER, OWN_PORT, PULSES, SECOND_OF_TWO, STEPS_1, TIMER, changed, chips, played, printed, psu)
 
 # By hand: description, script, lines of the trace, what is answered.
 ANSWERS = [
@@ -92,6 +95,33 @@ class Auditing(unittest.TestCase):
         self.assertEqual(judged(unwired, STEPS_1, lines), 'reject line 6405')  # 6408 behind a verdict and two writes
 
 
+RUNS, MOST_INSTRUCTIONS = 30, 300
+OWN_KEYS = b'power 5A\nat 0 keys 00 A5\nat 0 keys 01 3C\nsteps 1\n'
+
+
+def random_runs() -> Iterator[tuple[str, Description, list[bytes]]]:
+    """Descriptions with free runs of them, as the lines of traces."""
+    texts = [chips(FIRST_OF_TWO, SECOND_OF_TWO), OF_PIO, *[BOTH_SORTS] * 4, *(cartridge(seed) for seed in range(RUNS))]
+    for seed, text in enumerate(texts):
+        description = Description.of(text.encode())
+        run = free_run(description, Script.of(OWN_KEYS), Random(seed), MOST_INSTRUCTIONS)
+        yield text, description, [line_of(step).encode() for step in run]
+
+
+@needs_toml
+class FreeRuns(unittest.TestCase):
+    """Whatever key bytes and pulses a run was given, its record is accepted without them."""
+
+    def test_free_runs(self) -> None:
+        found = ''
+        for text, description, lines in random_runs():
+            answered = answer(description, OWN_KEYS, b'\n'.join(lines))
+            self.assertRegex(answered[0], 'accept [0-9]+', text)
+            found += b'\n'.join(lines).decode()
+        for pattern in ('0F L 8. [0-9]', '0F L 0. [0-9]', '1B L .. [0-9]', '-- fault'):
+            self.assertRegex(found, pattern)
+
+
 class Traces(unittest.TestCase):
     """The program against that auditor."""
 
@@ -149,6 +179,19 @@ class Programs(Traces):
                                     (['--trace', cart, script, script], 'error words', 1), ([cart, script, script], 'reject line 2', 7)):
             done = subprocess.run([PROGRAM, 'audit', *words], cwd=self.folder, capture_output=True, text=True, timeout=60)
             self.assertEqual((done.stdout, done.returncode), (line + '\n', status), words)
+
+
+@needs_program
+@needs_toml
+class RandomRuns(Traces):
+    """On free runs, and with one change."""
+
+    def test_random_runs(self) -> None:
+        for number, (text, description, lines) in enumerate(random_runs()):
+            files, random = self.files(text, OWN_KEYS), Random(number)
+            for what, case in (('whole', lines), *(altered(random, lines) for _ in range(CHANGES))):
+                trace = b''.join(line + b'\n' for line in case)
+                self.assertEqual(self.program(*files, trace), answer(description, OWN_KEYS, trace), (what, text, trace))
 
 
 CHANGES = 12  # of each cartridge

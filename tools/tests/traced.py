@@ -29,6 +29,10 @@ TIMER = psu('73B6207FB7' + '2B' * 7 + '1B2B', vector=0x180, interrupt=True)
 FIRST_OF_TWO = psu('71B6BA1B90FF' + 'FF' * (0x180 - 6) + '1B1C', vector=0x100, interrupt=True)
 SECOND_OF_TWO = psu('', 0x400, 8, 0x200, True)
 OWN_PORT = psu('A0B490FE')
+# Of docs/INTERRUPTS, from a 3861.
+OF_PIO = 'format = 2\n[[chip]]\nkind = "3861"\nports = 8\nvector = 256\ninterrupt = true\n' + psu('71BA1B90FF' + 'FF' * 251 + '1B1C' + 'FF' * 126 + '1B1C')[len('format = 1\n'):]
+# Controls that let in the timer and pulses in turn, and a key byte that goes to a data port.
+BOTH_SORTS = psu('1B73B6207FB7A4B5' + '2B' * 8 + '71B6A4B590EC' + 'FF' * (0x100 - 22) + '1B1C' + 'FF' * 126 + '1B1C', vector=0x100, interrupt=True)
 STEPS_1, PULSES = b'steps 1\n', b'at 1 pulse 1\nat 1 pulse 0\nsteps 2135\n'
 OF_LOOP = '''bus 1C S 00 -
 bus 08 L 00 cpu
