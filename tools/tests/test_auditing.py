@@ -1,4 +1,4 @@
-"""`audit` on traces: by hand, and those of the cartridges as `play --trace` prints them, whole and changed, against an auditor that was written apart."""
+"""`audit` on traces worked out by hand, on those of cartridges and of free runs, whole and changed, against another auditor."""
 from __future__ import annotations
 
 import re
@@ -17,8 +17,8 @@ from companion.description import Description
 from companion.program import Program
 from companion.script import Script
 from random_cartridges import cartridge
-from traced import (BOTH_SORTS, CARTRIDGES, FIRST_OF_TWO, LOOP, MISSING_PORT, OF_LOOP, OF_MISSING_PORT, OF_NOTHING, OF_OWN_PORT, OF_PIO, OF_RESERVED,
-                    OF_TIMER, OWN_PORT, PULSES, SECOND_OF_TWO, STEPS_1, TIMER, changed, chips, played, printed, psu)
+from traced import (BOTH_SORTS, CARTRIDGES, FIRST_OF_TWO, LOOP, MISSING_PORT, OF_LOOP, OF_MISSING_PORT, OF_NOTHING, OF_OWN_PORT, OF_PIO,
+                    OF_RESERVED, OF_TIMER, OWN_PORT, PULSES, SECOND_OF_TWO, STEPS_1, TIMER, changed, chips, played, printed, psu)
 
 # By hand: description, script, lines of the trace, what is answered.
 ANSWERS = [
@@ -30,7 +30,8 @@ ANSWERS = [
     (LOOP, STEPS_1, ['verdict whole', *OF_LOOP[:2]], 'reject line 2'), (LOOP, STEPS_1, [], 'reject line 1'),
     (LOOP, STEPS_1, ['one', '', 'three'], 'reject line 4'), (LOOP, STEPS_1, ['bus'], 'reject line 2'),
     (LOOP, STEPS_1, [*OF_LOOP, 'bus 1C S 00 -'], 'reject line 9'), (LOOP, STEPS_1, changed(OF_LOOP, 5, 'bus 00 S 90 cpu'), 'reject line 5'),
-    (LOOP, STEPS_1, changed(OF_LOOP, 5, 'bus 00 L 90 0'), 'reject line 5'), (LOOP, STEPS_1, changed(OF_LOOP, 3, 'bus 00 S 72 0'), 'reject line 1'),
+    (LOOP, STEPS_1, changed(OF_LOOP, 5, 'bus 00 L 90 0'), 'reject line 5'),
+    (LOOP, STEPS_1, changed(OF_LOOP, 3, 'bus 00 S 72 0'), 'reject line 1'),
     (LOOP, STEPS_1, changed(OF_LOOP, 7, 'bus 01 L -- fault'), 'reject line 6'),
     (MISSING_PORT, STEPS_1, OF_MISSING_PORT, 'accept 3'),
     (MISSING_PORT, STEPS_1, [*OF_MISSING_PORT, 'bus 00 S -- fault'], 'reject line 14'),
@@ -46,9 +47,9 @@ ANSWERS = [
     (OWN_PORT, b'power 05\nsteps 1\n', OF_OWN_PORT, 'reject line 6'),
 ]
 # Lines that are at fault, and others with `bus` in front that are skipped.
-OUT_OF_FORM = ['bus ', 'bus 20 S 00 -', 'bus 1c S 00 -', 'bus 1C s 00 -', 'bus 1C S 0 -', 'bus 1C S 00', 'bus 1C S 00 16', 'bus 1C S 00 00', 'bus 1C S 00 CPU',
-               'bus 1C S -- -', 'bus 1C S 00 fault', 'bus 1C  S 00 -', 'bus 1C S 00 - ', 'bus 1C S 00 -\t', 'bus 1C M 00 -', 'bus C S 00 -', 'bus 1C S fe 0',
-               'bus 1C S 00 -1', 'bus 1C S -- fault ', 'bus  1C S 00 -']
+OUT_OF_FORM = ['bus ', 'bus 20 S 00 -', 'bus 1c S 00 -', 'bus 1C s 00 -', 'bus 1C S 0 -', 'bus 1C S 00', 'bus 1C S 00 16', 'bus 1C S 00 00',
+               'bus 1C S 00 CPU', 'bus 1C S -- -', 'bus 1C S 00 fault', 'bus 1C  S 00 -', 'bus 1C S 00 - ', 'bus 1C S 00 -\t',
+               'bus 1C M 00 -', 'bus C S 00 -', 'bus 1C S fe 0', 'bus 1C S 00 -1', 'bus 1C S -- fault ', 'bus  1C S 00 -']
 SKIPPED = ['bus', 'buses', ' bus 1C S 00 -', 'BUS 1C S 00 -', 'out 40 04 0F', '# bus', 'bus\t1C S 00 -', '']
 
 
@@ -151,7 +152,8 @@ class Programs(Traces):
     def test_answers_by_hand(self) -> None:
         for cart, script, lines, line in ANSWERS:
             status = 0 if line.startswith('accept') else 7
-            self.assertEqual(self.program(*self.files(cart, script), ''.join(line + '\n' for line in lines).encode()), (line, status), lines)
+            trace = ''.join(line + '\n' for line in lines).encode()
+            self.assertEqual(self.program(*self.files(cart, script), trace), (line, status), lines)
 
     def test_lines_by_hand(self) -> None:
         files = self.files(LOOP, STEPS_1)
@@ -174,7 +176,8 @@ class Programs(Traces):
 
     def test_files_in_their_order(self) -> None:
         cart, script = self.files(LOOP, STEPS_1)
-        for words, line, status in (([cart, script, 'missing'], 'error store trace', 4), ([cart, 'missing', 'missing'], 'error store script', 4),
+        for words, line, status in (([cart, script, 'missing'], 'error store trace', 4),
+                                    ([cart, 'missing', 'missing'], 'error store script', 4),
                                     (['missing', script, 'missing'], 'error store cart', 4), ([cart, script], 'error words', 1),
                                     (['--trace', cart, script, script], 'error words', 1), ([cart, script, script], 'reject line 2', 7)):
             done = subprocess.run([PROGRAM, 'audit', *words], cwd=self.folder, capture_output=True, text=True, timeout=60)
@@ -207,7 +210,8 @@ def altered(random: Random, lines: list[bytes]) -> tuple[str, list[bytes]]:
     who = random.choice((b'cpu', b'-', b'0', b'1', b'12', b'14'))
     what, words = random.choice([
         ('byte', (code, length, digits, driver if is_served else who)), ('bit', (code, length, flipped, driver if is_served else who)),
-        ('code', (b'%02X' % random.randrange(32), length, byte, driver)), ('length', (code, b'L' if length == b'S' else b'S', byte, driver)),
+        ('code', (b'%02X' % random.randrange(32), length, byte, driver)),
+        ('length', (code, b'L' if length == b'S' else b'S', byte, driver)),
         ('driver', (code, length, byte if is_served else digits, who)), ('fault', (code, length, b'--', b'fault')),
         ('out of form', (code, length, digits, b'16')), ('left out', None), ('doubled', (code, length, byte, driver))])
     found = [] if words is None else [b' '.join((b'bus', *words))]

@@ -9,18 +9,19 @@ from pathlib import Path
 from random import Random
 from typing import Iterator
 
-from tool import PROGRAM, TOP, call, needs_program, needs_toml
+from tool import call, needs_program, needs_toml
 
 from companion.auditing.drivers import Cycle, Drivers
 from companion.auditing.traces import Trace, line_of
 from companion.description import Description
-from traced import CARTRIDGES, FIRST_OF_TWO, LOOP, MISSING_PORT, OF_LOOP, OF_MISSING_PORT, OF_TIMER, PULSES, SECOND_OF_TWO, TIMER, chips, played, printed, psu
+from traced import (CARTRIDGES, FIRST_OF_TWO, LOOP, MISSING_PORT, OF_LOOP, OF_MISSING_PORT, OF_TIMER, PULSES, SECOND_OF_TWO, TIMER, chips,
+                    played, printed, psu)
 
 NAMES = [*(f'ROMC{bit}' for bit in range(5)), *(f'D{bit}' for bit in range(8)), 'WRITE', 'PHI']
 FLOATING = 0xA5  # on the wires where nobody drives them
 MOST_LINES = 3_000  # of a cartridge's trace
 # A 3853 with RAM, whose pages aren't those of the 3851.
-WITH_RAM = 'format = 2\n[[chip]]\nkind = "3851"\nbase = 0\nports = 4\nrom = "2A280075172A280016B490FF"\n[[chip]]\nkind = "3853"\npages = ["ram 28"]\n'
+WITH_RAM = psu('2A280075172A280016B490FF').replace('format = 1', 'format = 2') + '[[chip]]\nkind = "3853"\npages = ["ram 28"]\n'
 
 
 def levels(value: int, bits: int) -> list[int]:
@@ -112,8 +113,10 @@ class Capture(unittest.TestCase):
     def test_tables_at_fault(self) -> None:
         good = table(OF_LOOP)
         for capture, told in (('', 'no line with the names'), (good.replace('ROMC3', 'ROM'), 'no column ROMC3'),
-                              (good.replace('Time [s]', 'WRITE'), 'more than one column WRITE'), (good.replace(',1\n', ',x\n', 1), 'line 2 of the capture: each column has a level'),
-                              ('\n'.join(good.split('\n')[:20] + good.split('\n')[21:]), 'a bus cycle of'), (table(OF_LOOP[2:]), 'no reset')):
+                              (good.replace('Time [s]', 'WRITE'), 'more than one column WRITE'),
+                              (good.replace(',1\n', ',x\n', 1), 'line 2 of the capture: each column has a level'),
+                              ('\n'.join(good.split('\n')[:20] + good.split('\n')[21:]), 'a bus cycle of'),
+                              (table(OF_LOOP[2:]), 'no reset')):
             done = self.captured(LOOP, capture)
             self.assertEqual(done.returncode, 1, told)
             self.assertIn(told, done.told)

@@ -6,32 +6,40 @@ import tempfile
 import unittest
 from pathlib import Path
 
-from tool import TOOLS, call, needs_program, needs_toml
+from tool import TOOLS, call, needs_toml
 
 from explanations import explanation
-from traced import LOOP, MISSING_PORT, OF_LOOP, OF_MISSING_PORT, OF_NOTHING, OF_OWN_PORT, OF_RESERVED, OF_TIMER, OWN_PORT, TIMER, changed, psu
+from traced import (LOOP, MISSING_PORT, OF_LOOP, OF_MISSING_PORT, OF_NOTHING, OF_OWN_PORT, OF_RESERVED, OF_TIMER, OWN_PORT, TIMER, changed,
+                    psu)
 
 STEPS = 'steps 1\n'
 # Lines out of form, the column of the word at fault, and what is said.
 LINES = [
-    ('bus 20 S 00 -', 5, 'from 00 to 1F'), ('bus 1c S 00 -', 5, 'capital letters'), ('bus 1C s 00 -', 8, '`S`, short, or `L`, long'), ('bus 1C S 0 -', 10, 'A byte is two digits'),
-    ('bus 1C S 00 16', 13, 'a socket from 0 to 15'), ('bus 1C S 00 00', 13, 'without a zero'), ('bus 1C S -- -', 13, 'stands `fault`'), ('bus 1C S 00', 12, 'four words'),
-    ('bus 1C S 00 - 0', 15, 'four words'), ('bus 1C  S 00 -', 8, 'One blank'), ('bus 1C S 00 - ', 15, 'four words'), ('bus ', 5, 'One blank')]
+    ('bus 20 S 00 -', 5, 'from 00 to 1F'), ('bus 1c S 00 -', 5, 'capital letters'), ('bus 1C s 00 -', 8, '`S`, short, or `L`, long'),
+    ('bus 1C S 0 -', 10, 'A byte is two digits'), ('bus 1C S 00 16', 13, 'a socket from 0 to 15'), ('bus 1C S 00 00', 13, 'without a zero'),
+    ('bus 1C S -- -', 13, 'stands `fault`'),
+    ('bus 1C S 00', 12, 'Four words'), ('bus 1C S 00 - 0', 15, 'Four words'),
+    ('bus 1C  S 00 -', 8, 'One blank'), ('bus 1C S 00 - ', 15, 'Four words'), ('bus ', 5, 'One blank')]
 # A description, the lines of a trace, the line that is rejected, and what is said of it.
 REJECTED = [
-    (LOOP, changed(OF_LOOP, 7, 'bus 01 L FD 0'), 6, ['2 instructions are done as the trace has them. The next steps are those of 0002 BR $0001:',
-                                                    'bus 01 L FE 0               line 7  bus 01 L FD 0  <', 'In line 7 the byte is another one.', 'Code 01: ']),
+    (LOOP, changed(OF_LOOP, 7, 'bus 01 L FD 0'), 6, [
+        '2 instructions are done as the trace has them. The next steps are those of 0002 BR $0001:',
+        'bus 01 L FE 0               line 7  bus 01 L FD 0  <', 'In line 7 the byte is another one.', 'Code 01: ']),
     (LOOP, OF_LOOP[:7], 6, ['The trace ends before the step 00 S 2B 0']), (LOOP, [], 1, ['No line of it begins with `bus `']),
-    (LOOP, OF_LOOP[3:], 1, ['0 instructions are done', 'those of reset', 'In line 1 the code and the byte and the driver are another', 'A trace begins with the three steps of reset']),
+    (LOOP, OF_LOOP[3:], 1, [
+        '0 instructions are done', 'those of reset', 'In line 1 the code and the byte and the driver are another',
+        'A trace begins with the three steps of reset']),
     (LOOP, changed(OF_LOOP, 4, 'bus 00 L 2B 0'), 4, ['those of 0000 LIS 1', 'In line 4 the length is another one']),
     (LOOP, changed(OF_LOOP, 4, 'bus 00 S -- fault'), 4, ['In line 4 a step is not served that is.']),
     (LOOP, changed(OF_LOOP, 4, 'bus 10 L 00 -'), 4, ['No interrupt can be taken at the end']),
     (MISSING_PORT, [*OF_MISSING_PORT, 'bus 00 S 2B 0'], 14, ['The step before is one of 0004 IN $02 that is not served']),
-    (MISSING_PORT, changed(OF_MISSING_PORT, 13, 'bus 1B L 02 0'), 12, ['In line 13 a step is served that can not be.', 'no chip drives there (undriven']),
+    (MISSING_PORT, changed(OF_MISSING_PORT, 13, 'bus 1B L 02 0'), 12, [
+        'In line 13 a step is served that can not be.', 'no chip drives there (undriven']),
     (MISSING_PORT, changed(OF_MISSING_PORT, 10, 'bus 1B L 30 0'), 9, ['no key byte takes away a bit that was written']),
     (psu('2D'), [*OF_RESERVED, 'bus 00 S 2B 0'], 4, ['The next one would be 0000 reserved 2D: its opcode belongs to no instruction']),
     ('format = 1\n', [*OF_NOTHING, 'bus 00 S -- fault'], 4, ['one of reset that is not served']),
-    (TIMER, [*OF_TIMER[:21], 'bus 00 S FF 0'], 22, ['A chip asks there and ICB is set']), (OWN_PORT, OF_OWN_PORT, 6, ['come from the script alone'])]
+    (TIMER, [*OF_TIMER[:21], 'bus 00 S FF 0'], 22, ['A chip asks there and ICB is set']),
+    (OWN_PORT, OF_OWN_PORT, 6, ['come from the script alone'])]
 
 
 def text(lines: list[str]) -> str:
@@ -68,7 +76,8 @@ class ExplainTraces(unittest.TestCase):
     def test_a_command(self) -> None:
         """Names come from --names where no source tells them."""
         with tempfile.TemporaryDirectory() as folder:
-            files = {'cart.toml': LOOP, 'script.txt': STEPS, 'trace.txt': text(changed(OF_LOOP, 7, 'bus 01 L FD 0')), 'game.sym': 'LOOP 0001\n'}
+            trace = text(changed(OF_LOOP, 7, 'bus 01 L FD 0'))
+            files = {'cart.toml': LOOP, 'script.txt': STEPS, 'trace.txt': trace, 'game.sym': 'LOOP 0001\n'}
             for name, data in files.items():
                 (Path(folder) / name).write_text(data)
             paths = [Path(folder) / name for name in files]

@@ -34,8 +34,8 @@ PC0=000C OP=94FB90 A=03 W=03 IS=00 PC1=0004 DC0=0010 M=01  000B: BNZ  H'0007'
 PC0=0008 OP=418851 A=03 W=03 IS=00 PC1=0004 DC0=0010 M=01  0007: LR   A,R1
 '''
 SUMMED = psu('2A000F785070514188513094FB90FF0301040105090206')
-STEPS_OF_SUMMED = '''1C S 00 -|08 L 00 cpu|00 S 2A 0|11 L 00 0|03 S 00 0|0E L 0F 0|03 S 0F 0|00 S 78 0|00 S 50 0|00 S 70 0|00 S 51 0|00 S 41 0|00 S 88 0
-02 L 03 0|00 S 51 0|00 S 30 0|00 L 94 0|1C S 00 -|01 L FB 0|00 S 41 0'''.replace('\n', '|').split('|')
+STEPS_OF_SUMMED = '''1C S 00 -|08 L 00 cpu|00 S 2A 0|11 L 00 0|03 S 00 0|0E L 0F 0|03 S 0F 0|00 S 78 0|00 S 50 0|00 S 70 0
+00 S 51 0|00 S 41 0|00 S 88 0|02 L 03 0|00 S 51 0|00 S 30 0|00 L 94 0|1C S 00 -|01 L FB 0|00 S 41 0'''.replace('\n', '|').split('|')
 WITH_RAM = 'format = 2\n[[chip]]\nkind = "3853"\npages = ["rom 00-0F", "ram 10-FF"]\nrom = "{}"\n[[chip]]\nkind = "3861"\nports = 4\n'
 PROGRAMS, MOST_INSTRUCTIONS = 60, 400
 
@@ -45,8 +45,9 @@ def told(machine: Machine) -> str:
     memory, cpu = machine.chips[0], machine.cpu
     code = ''.join(f'{memory.byte((machine.address + at) % ADDRESSES):02X}' for at in range(3))
     counters = machine.reference.counters
-    return (f'PC0={(machine.address + 1) % ADDRESSES:04X} OP={code} A={cpu.a:02X} W={cpu.status:02X} IS={cpu.isar:02o} PC1={counters[PC1]:04X} '
-            f'DC0={counters[DC0]:04X} M={memory.byte(counters[DC0]):02X}  {machine.address:04X}: {OPCODES[machine.opcode].name}\n')
+    return (f'PC0={(machine.address + 1) % ADDRESSES:04X} OP={code} A={cpu.a:02X} W={cpu.status:02X} IS={cpu.isar:02o} '
+            f'PC1={counters[PC1]:04X} DC0={counters[DC0]:04X} M={memory.byte(counters[DC0]):02X}  '
+            f'{machine.address:04X}: {OPCODES[machine.opcode].name}\n')
 
 
 def random_program(random: Random) -> bytes:
@@ -55,8 +56,8 @@ def random_program(random: Random) -> bytes:
     found = bytearray()
     while len(found) < 4096:
         opcode = OPCODES[random.choice(opcodes)]
-        operand = {0: b'', 1: bytes([random.choice((4, 5, random.randrange(2, 12)))]), 2: bytes([random.randrange(16), random.randrange(256)])}
-        found += bytes([opcode.code]) + operand[opcode.operand.size]
+        operand = bytes([random.choice((4, 5, random.randrange(2, 12))), random.randrange(256)])
+        found += bytes([opcode.code]) + operand[:opcode.operand.size]
     return bytes(found[:4096])
 
 
@@ -112,13 +113,15 @@ class FromMame(unittest.TestCase):
 
     def test_a_step_that_no_chip_drives(self) -> None:
         """MAME reads FF at an address that the description gives to no chip."""
-        trace = "PC0=0001 OP=29FFFE A=00 W=00 IS=00 PC1=0000 DC0=0000 M=29  0000: JMP\nPC0=FFFF OP=2B29FF A=FF W=00 IS=00 PC1=0000 DC0=0000 M=29  FFFE: NOP\n"
+        trace = ('PC0=0001 OP=29FFFE A=00 W=00 IS=00 PC1=0000 DC0=0000 M=29  0000: JMP\n'
+                 'PC0=FFFF OP=2B29FF A=FF W=00 IS=00 PC1=0000 DC0=0000 M=29  FFFE: NOP\n')
         done = self.converted(psu('29FFFE'), trace)
         self.assertEqual((done.text.splitlines()[-1], done.returncode), ('bus 00 S -- fault', 3))
 
     def test_what_is_not_told(self) -> None:
         lines = OF_SUMMED.splitlines(True)
-        for trace, told_words in (('0000: NOP\n', 'no line has the form'), (''.join(lines[1:]), 'not at 0000 behind a reset'), (lines[0] + lines[3], 'an interrupt or a reset'),
+        for trace, told_words in (('0000: NOP\n', 'no line has the form'), (''.join(lines[1:]), 'not at 0000 behind a reset'),
+                                  (lines[0] + lines[3], 'an interrupt or a reset'),
                                   (lines[0].replace('OP=2A', 'OP=2D') + lines[1], 'belongs to no instruction')):
             done = self.converted(SUMMED, trace)
             self.assertEqual(done.returncode, 1)

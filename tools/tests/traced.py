@@ -30,9 +30,11 @@ FIRST_OF_TWO = psu('71B6BA1B90FF' + 'FF' * (0x180 - 6) + '1B1C', vector=0x100, i
 SECOND_OF_TWO = psu('', 0x400, 8, 0x200, True)
 OWN_PORT = psu('A0B490FE')
 # Of docs/INTERRUPTS, from a 3861.
-OF_PIO = 'format = 2\n[[chip]]\nkind = "3861"\nports = 8\nvector = 256\ninterrupt = true\n' + psu('71BA1B90FF' + 'FF' * 251 + '1B1C' + 'FF' * 126 + '1B1C')[len('format = 1\n'):]
+ROUTINES = '1B1C' + 'FF' * 126 + '1B1C'  # at 0100 and 0180
+PIO = 'format = 2\n[[chip]]\nkind = "3861"\nports = 8\nvector = 256\ninterrupt = true\n'
+OF_PIO = chips(PIO, psu('71BA1B90FF' + 'FF' * 251 + ROUTINES))
 # Controls that let in the timer and pulses in turn, and a key byte that goes to a data port.
-BOTH_SORTS = psu('1B73B6207FB7A4B5' + '2B' * 8 + '71B6A4B590EC' + 'FF' * (0x100 - 22) + '1B1C' + 'FF' * 126 + '1B1C', vector=0x100, interrupt=True)
+BOTH_SORTS = psu('1B73B6207FB7A4B5' + '2B' * 8 + '71B6A4B590EC' + 'FF' * (0x100 - 22) + ROUTINES, vector=0x100, interrupt=True)
 STEPS_1, PULSES = b'steps 1\n', b'at 1 pulse 1\nat 1 pulse 0\nsteps 2135\n'
 OF_LOOP = '''bus 1C S 00 -
 bus 08 L 00 cpu
@@ -56,8 +58,9 @@ bus 00 S 26 0
 bus 03 L 02 0
 bus 1B L -- fault'''.splitlines()
 # Of docs/INTERRUPTS, a timeline.
-OF_TIMER = '''1C S 00 -|08 L 00 cpu|00 S 73 0|00 S B6 0|1C L 06 cpu|1A L 03 cpu|00 S 20 0|03 L 7F 0|00 S B7 0|1C L 07 cpu|1A L 7F cpu|00 S 2B 0
-00 S 2B 0|00 S 2B 0|00 S 2B 0|00 S 2B 0|00 S 2B 0|00 S 2B 0|00 S 1B 0|1C S 00 -|00 S 2B 0|10 L 00 -|1C S 00 -|0F L 00 0|13 L 01 0|00 S FF 0'''
+OF_TIMER = '''1C S 00 -|08 L 00 cpu|00 S 73 0|00 S B6 0|1C L 06 cpu|1A L 03 cpu|00 S 20 0|03 L 7F 0|00 S B7 0
+1C L 07 cpu|1A L 7F cpu|00 S 2B 0|00 S 2B 0|00 S 2B 0|00 S 2B 0|00 S 2B 0|00 S 2B 0|00 S 2B 0|00 S 1B 0|1C S 00 -|00 S 2B 0
+10 L 00 -|1C S 00 -|0F L 00 0|13 L 01 0|00 S FF 0'''
 OF_TIMER = [f'bus {line}' for line in OF_TIMER.replace('\n', '|').split('|')]
 OF_OWN_PORT = '''bus 1C S 00 -
 bus 08 L 00 cpu

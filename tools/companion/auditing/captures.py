@@ -84,7 +84,7 @@ def cycles_of(rows: Iterable[Row]) -> Iterator[Cycle]:
 def cycle_of(last: Row, fall: Row, clocks: int) -> Cycle:
     """A cycle by the row before WRITE falls, and by its clocks."""
     if clocks not in (SHORT, LONG):
-        raise Refused(f'line {fall.line} of the capture: a bus cycle of {clocks} Φ ends there. It has 4 or 6: was the capture fast enough?')
+        raise Refused(f'line {fall.line} of the capture: a bus cycle of {clocks} Φ ends there, and not of 4 or 6: are samples missing?')
     return Cycle(last.code, clocks == LONG, last.byte)
 
 

@@ -1,4 +1,4 @@
-"""A chip of a description on the bus: its counters, bytes, ports, timer and request, as docs/MACHINE.md and docs/INTERRUPTS.md have them."""
+"""A chip of a description on the bus: its counters, bytes, ports, timer and request, by docs/MACHINE.md and docs/INTERRUPTS.md."""
 from __future__ import annotations
 
 from companion.auditing.arbitration import VECTOR_HIGH, Seat

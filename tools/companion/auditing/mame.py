@@ -8,7 +8,7 @@ from typing import Callable, Iterable, Iterator
 from companion.auditing.arbitration import IDLE, RESET
 from companion.auditing.drivers import Cycle
 from companion.auditing.machine import BRANCHES, IN, OUT, SKIPPED, STEPS, TAKEN, is_long_fetch
-from companion.bus import FETCH, PORT_READ, PORT_WRITE, READ, RELEASE, STORE
+from companion.bus import ADD, BRANCH, FETCH, OPERAND, PORT_READ, PORT_WRITE, READ, STORE
 from companion.instructions import ADDRESSES, OPCODES, Flow, Instruction
 from companion.words import Refused
 
@@ -18,9 +18,8 @@ pc0,b@(pc0-1),b@pc0,b@(pc0+1),a,w,is,pc1,dc0,b@dc0}}
 softreset
 go
 '''
-LINE = re.compile(r'PC0=([0-9A-F]{4}) OP=([0-9A-F]{6}) A=([0-9A-F]{2}) W=([0-9A-F]{2}) IS=([0-7]{2}) PC1=([0-9A-F]{4}) DC0=([0-9A-F]{4}) M=([0-9A-F]{2})'
-                  r'(?:\s.*)?', re.I)
-POP, LR_P_K = 0x1C, 0x09
+BYTE, WORD = '([0-9A-F]{2})', '([0-9A-F]{4})'
+LINE = re.compile(rf'PC0={WORD} OP=([0-9A-F]{{6}}) A={BYTE} W={BYTE} IS=([0-7]{{2}}) PC1={WORD} DC0={WORD} M={BYTE}(?:\s.*)?', re.I)
 
 
 class Untold(Refused):
@@ -87,14 +86,18 @@ def pair(codes: tuple[int, int], value: Callable[[Before, Before], int]) -> Byte
     return lambda now, then: dict(zip(codes, halves(value(now, then))))
 
 
+def to_address(now: Before, then: Before) -> dict[int, int]:
+    """The high byte of an address comes by the operand, and again from the processor."""
+    return {OPERAND: now.bytes[1], 0x0C: now.bytes[2], 0x14: now.bytes[1]}
+
+
 LOADED = pair((0x16, 0x19), lambda now, then: then.dc0)
 TOLD = pair((0x06, 0x09), lambda now, then: now.dc0)
 WORDS: dict[int, Bytes] = {
-    0x08: pair((0x07, 0x0B), lambda now, then: now.pc1), LR_P_K: pair((0x15, 0x18), lambda now, then: then.pc1),
+    0x08: pair((0x07, 0x0B), lambda now, then: now.pc1), 0x09: pair((0x15, 0x18), lambda now, then: then.pc1),
     0x0C: pair((0x14, 0x12), lambda now, then: then.address), 0x0D: pair((0x14, 0x17), lambda now, then: then.address),
     0x0E: TOLD, 0x11: TOLD, 0x0F: LOADED, 0x10: LOADED,
-    0x28: lambda now, then: {0x03: now.bytes[1], 0x0C: now.bytes[2], 0x14: now.bytes[1]},
-    0x29: lambda now, then: {0x03: now.bytes[1], 0x0C: now.bytes[2], 0x14: now.bytes[1]}}
+    0x28: to_address, 0x29: to_address}
 
 
 def bytes_of(now: Before, then: Before) -> dict[int, int]:
@@ -103,7 +106,8 @@ def bytes_of(now: Before, then: Before) -> dict[int, int]:
         return WORDS[now.opcode](now, then)
     port = now.bytes[1] if now.opcode in (IN, OUT) else now.opcode & 15
     named = {IDLE: port} if now.opcode not in (IN, OUT) and now.opcode >> 4 in (0xA, 0xB) and port > 1 else {}
-    return {0x01: now.bytes[1], 0x03: now.bytes[1], READ: now.memory, STORE: now.a, 0x0A: now.a, PORT_WRITE: now.a, PORT_READ: then.a, **named}
+    operand = dict.fromkeys((BRANCH, OPERAND), now.bytes[1])
+    return {**operand, READ: now.memory, **dict.fromkeys((STORE, ADD, PORT_WRITE), now.a), PORT_READ: then.a, **named}
 
 
 def told_cycles(now: Before, then: Before) -> Iterator[Cycle]:
@@ -123,7 +127,7 @@ def cycles_of(lines: Iterable[Before]) -> Iterator[Cycle]:
     for then in lines:
         if now is None:
             if then.address:
-                raise Untold(f'line {then.line}: the trace begins at {then.address:04X}, and not at 0000 behind a reset: write `softreset` behind `trace`')
+                raise Untold(f'line {then.line}: the trace begins at {then.address:04X}, and not at 0000 behind a reset')
             yield from (Cycle(IDLE, False, 0), Cycle(RESET, True, 0), Cycle(FETCH, False, then.opcode))
         else:
             check(now, then)

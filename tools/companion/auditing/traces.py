@@ -4,7 +4,6 @@ from __future__ import annotations
 import re
 from dataclasses import dataclass
 from functools import lru_cache
-from typing import Iterable, Iterator
 
 from companion.bus import Step
 
@@ -17,6 +16,7 @@ LINE = re.compile(rf'bus ({CODE}) ({LENGTH}) (?:({BYTE}) (cpu|-|{SOCKET})|-- fau
 WORDS = ((CODE, 'A code is two digits from 00 to 1F, with capital letters.'), (LENGTH, 'A step is `S`, short, or `L`, long.'),
          (BYTE + '|--', 'A byte is two digits, with capital letters. A step that is not served has `-- fault` in its place.'),
          (f'cpu|-|{SOCKET}', 'The driver is `cpu`, `-` for nobody, or a socket from 0 to 15 without a zero in front.'))
+FOUR_WORDS = 'Four words stand behind `bus`: code, length, byte and driver, as `bus 00 S 2B 0`; or `-- fault` for the last two.'
 
 
 class Unreadable(Exception):
@@ -59,7 +59,7 @@ def fault_in(line: str) -> tuple[int, str]:
         if not re.fullmatch(form, word):
             return column, said
         column += len(word) + 1
-    return min(column, len(line) + 1), 'A line has four words behind `bus`: code, length, byte and driver, as `bus 00 S 2B 0`; or `-- fault` in place of the last two.'
+    return min(column, len(line) + 1), FOUR_WORDS
 
 
 @dataclass(frozen=True)
@@ -85,7 +85,3 @@ class Trace:
     def line(self, at: int) -> int:
         """The line of a step by its place, and the one behind the text where there is no such step."""
         return self.numbers[at] if at < len(self.numbers) else self.after
-
-
-def text_of(steps: Iterable[Step]) -> Iterator[str]:
-    return (line_of(step) + '\n' for step in steps)

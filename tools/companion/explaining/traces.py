@@ -16,6 +16,7 @@ from companion.script import Script
 from companion.words import Refused, waiting
 
 NO_STEP = 'No line of it begins with `bus `: the steps of a run are printed by `play --trace`.'
+OVER = 'So the run is over, and no step comes behind it.'
 BESIDE = 28  # columns, to the steps of the trace
 FAULTS = {'conflict': 'several chips drive or take', 'undriven': 'no chip drives', 'astray': 'a chip is away from the reference'}
 
@@ -42,7 +43,7 @@ def rejected(files: Files, line: str) -> list[str]:
         return [*shown, *odd]
     try:
         found = audit_of(files)
-    except (Refused, Unreadable, OSError):
+    except (Refused, Unreadable, OSError, ValueError):
         found = None
     if found is None:
         return [*shown, 'What was due there is told where the description, its bytes, the script and the trace are at hand.']
@@ -67,9 +68,9 @@ def due(files: Files, found: Audit) -> list[str]:
     behind = f'{count} instruction{" is" if count == 1 else "s are"} done as the trace has {"it" if count == 1 else "them"}. '
     name = files.labels.statement(found.instruction) if found.instruction else 'reset'
     if found.is_reserved:
-        return [f'{behind}The next one would be {name}: its opcode belongs to no instruction, so the run is over, and no step comes behind it.']
+        return [f'{behind}The next one would be {name}: its opcode belongs to no instruction. {OVER}']
     if not found.due:
-        return [f'{behind}The step before is one of {name} that is not served, so the run is over, and no step comes behind it.']
+        return [f'{behind}The step before is one of {name} that is not served. {OVER}']
     came = list(found.trace.steps[found.matched:found.matched + len(found.due)])
     at = next(at for at, (step, other) in enumerate(zip_longest(found.due, came)) if step != other)
     other = came[at] if at < len(came) else None
@@ -96,8 +97,8 @@ def difference(step: Step, other: Step | None) -> str:
         return 'a step is served that can not be.'
     if other.byte is None:
         return 'a step is not served that is.'
-    names = (('code', step.code, other.code), ('length', step.is_long, other.is_long), ('byte', step.byte, other.byte), ('driver', step.driver, other.driver))
-    parts = [name for name, one, another in names if one != another]
+    names = {'code': 'code', 'length': 'is_long', 'byte': 'byte', 'driver': 'driver'}
+    parts = [name for name, part in names.items() if getattr(step, part) != getattr(other, part)]
     return f'{" and ".join(f"the {part}" for part in parts)} {"is" if len(parts) == 1 else "are"} another one.'
 
 
@@ -111,7 +112,8 @@ def hints(description: Description, found: Audit, at: int, other: Step | None) -
     if found.instruction is None:
         yield 'A trace begins with the three steps of reset, whose last one fetches the byte at 0000.'
     elif step.code == FETCH and other.code == RELEASE:
-        yield 'No interrupt can be taken at the end of this instruction: ICB is clear, the instruction shields, or no chip can ask (docs/INTERRUPTS.md).'
+        yield ('No interrupt can be taken at the end of this instruction: ICB is clear, the instruction shields, or no chip can ask '
+               '(docs/INTERRUPTS.md).')
     elif step.code == RELEASE and other.code == FETCH:
         yield 'A chip asks there and ICB is set, so the interrupt is taken, and the fetch waits.'
     elif step.code == PORT_READ and other.byte is not None:
@@ -127,4 +129,5 @@ def hints_of_bytes(description: Description, found: Audit, step: Step) -> Iterat
     elif found.has_read_own_ports:
         yield 'The program has read port 0 or 1: their key bytes come from the script alone, by lines `at F keys 00 HH`.'
     else:
-        yield 'The bytes are those of the description, and what the run stored; registers and RAM begin with the power-on byte of the script.'
+        yield ('The bytes are those of the description, and what the run stored; registers and RAM begin with the power-on byte of the '
+               'script.')
