@@ -1,12 +1,13 @@
 """What `explain` says of traces: of lines out of form, and of what was due where one is rejected."""
 from __future__ import annotations
 
+import subprocess
 import sys
 import tempfile
 import unittest
 from pathlib import Path
 
-from tool import TOOLS, call, needs_toml
+from tool import PROGRAM, TOOLS, TOP, call, needs_program, needs_toml
 
 from explanations import explanation
 from traced import (LOOP, MISSING_PORT, OF_LOOP, OF_MISSING_PORT, OF_NOTHING, OF_OWN_PORT, OF_RESERVED, OF_TIMER, OWN_PORT, TIMER, changed,
@@ -84,6 +85,23 @@ class ExplainTraces(unittest.TestCase):
             done = call('explain', '--names', paths[3], sys.executable, TOOLS / 'tests/audited.py', 'audit', *paths[:3])
         self.assertEqual((done.text, done.returncode), ('reject line 6\n', 7))
         self.assertIn('those of 0002 LOOP+1: BR LOOP:', done.told)
+
+    @needs_program
+    @needs_toml
+    def test_the_walk_of_the_page(self) -> None:
+        files = ['cartridges/summed/cart.toml', 'cartridges/summed/script.txt']
+        printed = subprocess.run([PROGRAM, 'play', '--trace', *files], cwd=TOP, capture_output=True, text=True, timeout=60).stdout.split('\n')
+        shown = [line[4:] for line in (TOP / 'docs/AUDIT.md').read_text('utf-8').partition('## A walk')[2].partition('\n## ')[0].split('\n')]
+        self.assertIn(printed[14], shown)
+        with tempfile.TemporaryDirectory() as folder:
+            trace = Path(folder) / 'changed.txt'
+            for lines in (changed(printed, 15, printed[14].replace('03 0', '04 0')), [*printed[:15], *printed[16:]]):
+                trace.write_text('\n'.join(lines))
+                done = call('explain', PROGRAM, 'audit', *files, trace)
+                self.assertEqual((done.text, done.returncode), ('reject line 15\n', 7))
+                told = done.told.replace(f'{folder}/', '').splitlines()
+                due = told.index(next(line for line in told if line.strip().startswith('due ')))
+                self.assertEqual([line for line in told[:due + 3] if line not in shown and not line.endswith('.md).')], [])
 
 
 if __name__ == '__main__':
