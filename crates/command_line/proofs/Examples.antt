@@ -1,6 +1,6 @@
 -- Words with what they ask for, each worked out from the rules by hand and computed from the definitions.
 use Rattle.std.proofs.Common.{◌≡◌, true, false, [], ◌∷◌, Some, None, codes, refl}
-use Rattle.command_line.specs.CommandLine.{Play, Ref, Debug, Check, Verify, Migrate, Asm, Dis, Gen, command_of}
+use Rattle.command_line.specs.CommandLine.{Play, Ref, Debug, Audit, Check, Verify, Migrate, Asm, Dis, Gen, command_of}
 
 pub two_words : command_of (codes "play" ∷ (codes "game.toml" ∷ (codes "run.txt" ∷ []))) ≡ Some (Play (codes "game.toml") (codes "run.txt") false)
 two_words = refl
@@ -44,6 +44,16 @@ debugged_cart = refl
 
 pub debug_without_flags : command_of (codes "debug" ∷ (codes "a" ∷ (codes "b" ∷ (codes "--trace" ∷ [])))) ≡ None
 debug_without_flags = refl
+
+pub audited_trace : command_of (codes "audit" ∷ (codes "game.toml" ∷ (codes "run.txt" ∷ (codes "steps.txt" ∷ []))))
+    ≡ Some (Audit (codes "game.toml") (codes "run.txt") (codes "steps.txt"))
+audited_trace = refl
+
+pub audit_without_trace : command_of (codes "audit" ∷ (codes "game.toml" ∷ (codes "run.txt" ∷ []))) ≡ None
+audit_without_trace = refl
+
+pub audit_without_flags : command_of (codes "audit" ∷ (codes "--trace" ∷ (codes "a" ∷ (codes "b" ∷ (codes "c" ∷ []))))) ≡ None
+audit_without_flags = refl
 
 pub checked_cart : command_of (codes "check" ∷ (codes "game.toml" ∷ [])) ≡ Some (Check (codes "game.toml") false)
 checked_cart = refl

@@ -2,6 +2,7 @@ pub mod WordSorts
 pub mod Reading
 pub mod OneWord
 pub mod TwoFiles
+pub mod ThreeFiles
 pub mod PlayRun
 pub mod CheckRun
 pub mod Parsed

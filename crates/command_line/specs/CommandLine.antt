@@ -10,6 +10,7 @@ pub data Command : Type 0 where
   Play : (cart script : List ℕ) (traced : Bool) → Command
   Ref : (cart script : List ℕ) → Command
   Debug : (cart commands : List ℕ) → Command
+  Audit : (cart script trace : List ℕ) → Command
   Check : (cart : List ℕ) (certified : Bool) → Command
   Verify : (cart cert : List ℕ) → Command
   Migrate : (cart : List ℕ) → Command
@@ -60,6 +61,14 @@ two_in words = None
 
 abbrev pub two_of : List (List ℕ) → Option (List ℕ × List ℕ)
 two_of words = option_and_then two_in (words_of trace_flag words)
+
+-- three plain words and nothing else, no flag either
+abbrev pub three_in : List Word → Option (List ℕ × List ℕ × List ℕ)
+three_in (Plain first ∷ (Plain second ∷ (Plain third ∷ []))) = Some (first, second, third)
+three_in words = None
+
+abbrev pub three_of : List (List ℕ) → Option (List ℕ × List ℕ × List ℕ)
+three_of words = option_and_then three_in (words_of trace_flag words)
 
 -- two files, with whether the flag stands among them, once, at any place
 pub record Run : Type 0 where
@@ -117,6 +126,7 @@ command_words =
     record { name = codes "play"; asks = λ words. option_map play_of (run_of words) }
     ∷ record { name = codes "ref"; asks = λ words. option_map (λ files. Ref files.0 files.1) (two_of words) }
     ∷ record { name = codes "debug"; asks = λ words. option_map (λ files. Debug files.0 files.1) (two_of words) }
+    ∷ record { name = codes "audit"; asks = λ words. option_map (λ files. Audit files.0 files.1 files.2) (three_of words) }
     ∷ record { name = codes "check"; asks = λ words. option_map check_of (checking_of words) }
     ∷ record { name = codes "verify"; asks = λ words. option_map (λ files. Verify files.0 files.1) (two_of words) }
     ∷ record { name = codes "migrate"; asks = λ words. option_map Migrate (one_of words) }

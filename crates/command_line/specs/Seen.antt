@@ -3,12 +3,13 @@ use Rattle.std.specs.Prelude.{ℕ, List}
 use Rattle.std.specs.Borrow.{Bor}
 use Rattle.command_line.specs.CommandLine as line
 use Rattle.command_line.specs.declared.asked.Command.{Command}
-use Rattle.command_line.specs.declared.asked.Command.TheVariants.{Play, Ref, Debug, Check, Verify, Migrate, Asm, Link, Dis, Gen}
+use Rattle.command_line.specs.declared.asked.Command.TheVariants.{Play, Ref, Debug, Audit, Check, Verify, Migrate, Asm, Link, Dis, Gen}
 
 abbrev pub seen_command : Command → line.Command
 seen_command (Play cart script traced) = line.Play cart.now script.now traced
 seen_command (Ref cart script) = line.Ref cart.now script.now
 seen_command (Debug cart commands) = line.Debug cart.now commands.now
+seen_command (Audit cart script trace) = line.Audit cart.now script.now trace.now
 seen_command (Check cart certified) = line.Check cart.now certified
 seen_command (Verify cart cert) = line.Verify cart.now cert.now
 seen_command (Migrate cart) = line.Migrate cart.now
@@ -20,3 +21,7 @@ seen_command (Gen seed) = line.Gen seed
 -- the texts of two names
 abbrev pub seen_files : Bor (List ℕ) × Bor (List ℕ) → List ℕ × List ℕ
 seen_files files = (files.0.now, files.1.now)
+
+-- and of three
+abbrev pub seen_three_files : Bor (List ℕ) × Bor (List ℕ) × Bor (List ℕ) → List ℕ × List ℕ × List ℕ
+seen_three_files files = (files.0.now, files.1.now, files.2.now)

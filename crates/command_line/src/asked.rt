@@ -32,6 +32,18 @@ pub enum Command<'a> {
         commands: &'a str,
     },
 
+    /// The audit of a trace: whether it can come from the cartridge.
+    Audit {
+        /// The description of the cartridge.
+        cart: &'a str,
+
+        /// The script of the run.
+        script: &'a str,
+
+        /// The trace.
+        trace: &'a str,
+    },
+
     /// The check of a cartridge.
     Check {
         /// The description of the cartridge.

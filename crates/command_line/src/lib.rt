@@ -1,6 +1,6 @@
 //! The words of the program's command line, read into what they ask for (all of it this project's own): `play CART SCRIPT [--trace]`,
-//! `debug CART COMMANDS`, `ref CART SCRIPT`, `check CART [--cert]`, `verify CART CERT`, `migrate CART`, `asm FILE`,
-//! `link PLAN`, `dis FILE` and `gen N`.
+//! `debug CART COMMANDS`, `audit CART SCRIPT TRACE`, `ref CART SCRIPT`, `check CART [--cert]`, `verify CART CERT`, `migrate CART`,
+//! `asm FILE`, `link PLAN`, `dis FILE` and `gen N`.
 //!
 //! The first word is the command, and the rest is read by that command's own `clap` command, which has no help and no version. The
 //! number of plain words has to be exact. After the first word `--` behind the command every word is plain; before it a word of two or

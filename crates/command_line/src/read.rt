@@ -6,7 +6,7 @@ ghost use Rattle.command_line.specs.Seen.{seen_command};
 
 use super::asked::Command;
 use super::checking::check;
-use super::files::{one_word, two_files};
+use super::files::{one_word, three_files, two_files};
 use super::play::play;
 use super::seed::seed_of;
 use clap::Error;
@@ -32,6 +32,14 @@ fn asked_for<'a>(alloc: Global, words: &'a [String]) -> Result<Option<Command<'a
         "debug" => {
             let files = two_files(alloc, words)?;
             Ok(files.map(|(cart, commands)| Command::Debug { cart, commands }))
+        }
+        "audit" => {
+            let files = three_files(alloc, words)?;
+            Ok(files.map(|(cart, script, trace)| Command::Audit {
+                cart,
+                script,
+                trace,
+            }))
         }
         "check" => check(alloc, words),
         "verify" => Ok(two_files(alloc, words)?.map(|(cart, cert)| Command::Verify { cart, cert })),

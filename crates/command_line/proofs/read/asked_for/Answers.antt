@@ -1,6 +1,6 @@
 -- The first word is no command.
 use Rattle.std.proofs.Common.{◌≡◌, ◌∙◌, ◌<◌, Bool, true, false, List, [], ◌∷◌, None, String, string_bytes}
-use Rattle.std.proofs.Common.{bytes_eq, get_or, length, map, arith, refl, sym, ap}
+use Rattle.std.proofs.Common.{bytes_eq, drop, get_or, length, map, arith, refl, sym, ap}
 use Rattle.std.specs.Prelude.{option_and_then}
 use Rattle.std.specs.List.{find}
 use Rattle.std.proofs.lemmas.Slice.Eq.{bytes_eq-Decides}
@@ -37,5 +37,7 @@ pub returns-in_default-as_str-clause-asked : goal.returns-in_default-as_str-clau
 returns-in_default-as_str-clause-asked c =
     let first = c.in-Some.ensures.item in
     let it = c.in_default-as_str in
+    let others : NamesNone (drop 6 command_words) c.as_str.result.now =
+    (it.not-migrate, (it.not-asm, (it.not-link, (it.not-dis, (it.not-gen, tt))))) in
     unknown c.args.words.now c.in-Some.name.now c.as_str.result.now first.3.0 first.1 c.as_str.ensures.value
-    (it.not-play, (it.not-ref, (it.not-debug, (it.not-check, (it.not-verify, (it.not-migrate, (it.not-asm, (it.not-link, (it.not-dis, (it.not-gen, tt))))))))))
+    (it.not-play, (it.not-ref, (it.not-debug, (it.not-audit, (it.not-check, (it.not-verify, others))))))
