@@ -14,7 +14,7 @@ use Rattle.console_spec.specs.Scripts.{Script as RunScript}
 use Rattle.f8_asm.specs.declared.answers.Room.{Room}
 use Rattle.loader.specs.declared.purposes.Purpose.TheVariants.{Cart as CartFile, Script, Source}
 use Rattle.loader.specs.declared.refusals.Stop.{Stop}
-use Rattle.loader.specs.Readings.{Says, image_in, description_of}
+use Rattle.loader.specs.Readings.{Says, image_in, description_of, script_in}
 use Rattle.loader.specs.Games.{Game, image_for, filled_from, filled_at, filled_up_to, finished, planned_cart, cart_of}
 use Rattle.loader.specs.Games.{script_by, game_of}
 use Rattle.loader.specs.Work.{Work, gives, reads, ask, ◌>>=◌}
@@ -178,6 +178,20 @@ cart_loaded a b c name bytes plan outcome first read second =
 -- a run behind its cartridge
 abbrev with_script : List ℕ → Cart → Work Game
 with_script script cart = script_by script >>= λ run. gives (record { script = run; cart = cart })
+
+ordered_script : (name : List ℕ) → IsOrdered (order_of Script) (script_by name)
+unfolding script_by
+ordered_script name =
+    ordered_then (order_of Script) (ask Script name 65536) (λ text. reads (script_in text))
+    (ordered_ask (order_of Script) Script name 65536 (omega arith)) (λ text. ordered_reads (order_of Script) (script_in text))
+
+pub ordered_game : (name script : List ℕ) → IsOrdered (order_of Script) (game_of name script)
+unfolding game_of
+ordered_game name script =
+    ordered_then (order_of Script) (cart_of name) (with_script script)
+    (ordered_more MOST_CHIPS (order_of Script) (cart_of name) (omega arith) (ordered_cart name))
+    (λ cart. ordered_then (order_of Script) (script_by script) (λ run. gives (record { script = run; cart = cart })) (ordered_script script)
+    (λ run. ordered_gives (order_of Script) (record { script = run; cart = cart })))
 
 pub game_loaded : (a b c : Input) (name script : List ℕ) (cart : Cart) (run : RunScript) →
     Works a b (cart_of name) (Ok cart) → Works b c (script_by script) (Ok run) →

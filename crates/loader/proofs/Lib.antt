@@ -6,3 +6,4 @@ mod ModulesLoaded
 mod GamesLoaded
 mod ClaimsLoaded
 mod DebuggingsLoaded
+mod AuditingsLoaded

@@ -14,10 +14,11 @@ use Rattle.console_spec.specs.Scripts.{Script as RunScript}
 use Rattle.f8_link.specs.Objects.{Object}
 use Rattle.f8_link.specs.Plans.{PlannedModule}
 use Rattle.f8_link.specs.declared.parts.Part.{Part}
-use Rattle.loader.specs.declared.purposes.Purpose.TheVariants.{Cart as CartFile, Script, Cert, Commands, File, Source, Plan, Module}
+use Rattle.bus_audit.specs.Answers.{Trace}
+use Rattle.loader.specs.declared.purposes.Purpose.TheVariants.{Cart as CartFile, Script, Cert, Commands, Trace as TraceFile, File, Source, Plan, Module}
 use Rattle.chip_debug.specs.declared.command.Command.{Command}
 use Rattle.loader.specs.declared.games.Debugging.{Debugging}
-use Rattle.loader.specs.Readings.{description_of, described_table, image_in, script_in, notes_in, commands_in, bytes_in, modules_in, object_in, linked_in}
+use Rattle.loader.specs.Readings.{description_of, described_table, image_in, script_in, notes_in, commands_in, trace_in, bytes_in, modules_in, object_in, linked_in}
 use Rattle.loader.specs.Work.{Work, gives, reads, ask, ◌>>=◌}
 
 -- ---- a cartridge
@@ -97,6 +98,21 @@ commands_by name = ask Commands name 65536 >>= λ text. reads (commands_in text)
 unfoldable pub debugging_of : List ℕ → List ℕ → Work Debugging
 debugging_of cart commands =
     cart_of cart >>= λ cartridge. commands_by commands >>= λ said. gives (record { cart = cartridge; commands = said })
+
+-- ---- an audit
+
+-- the trace with this name
+unfoldable pub trace_by : List ℕ → Work Trace
+trace_by name = ask TraceFile name 16777216 >>= λ text. reads (trace_in text)
+
+-- what the trace is to come from, and the trace
+pub record Auditing : Type 0 where
+  pub game : Game
+  pub trace : Trace
+
+unfoldable pub auditing_of : List ℕ → List ℕ → List ℕ → Work Auditing
+auditing_of cart script trace =
+    game_of cart script >>= λ game. trace_by trace >>= λ told. gives (record { game = game; trace = told })
 
 -- ---- one file
 

@@ -25,6 +25,9 @@ use Rattle.f8_link.specs.declared.parts.Part.{Part}
 use Rattle.pad_script.specs.Answers.{ScriptFault}
 use Rattle.console_spec.specs.Scripts.{Script}
 use Rattle.pad_script.specs.Reading.{script_of}
+use Rattle.bus_audit.specs.Answers.{Trace}
+use Rattle.bus_audit.specs.TraceText.{trace_of}
+use Rattle.bus_audit.specs.declared.read.TraceFault.{TraceFault}
 use Rattle.hex_file.specs.DigitText.{HexFault, bytes_of_text}
 use Rattle.hex_file.specs.DigitText as hex
 use Rattle.loader.specs.declared.purposes.Purpose.TheVariants.{File}
@@ -32,7 +35,7 @@ use Rattle.loader.specs.declared.refusals.Refusal.{Refusal}
 use Rattle.loader.specs.declared.refusals.Stop.{Stop}
 use Rattle.loader.specs.declared.refusals.Stop.TheVariants.{Refused, Store, Memory}
 use Rattle.loader.specs.declared.refusals.Refusal.TheVariants.{Document, Cart, Assembly, Script as AtScript, Cert as AtCert}
-use Rattle.loader.specs.declared.refusals.Refusal.TheVariants.{Commands as AtCommands}
+use Rattle.loader.specs.declared.refusals.Refusal.TheVariants.{Commands as AtCommands, Trace as AtTrace}
 use Rattle.loader.specs.declared.refusals.Refusal.TheVariants.{Plan as AtPlan, Module as AtModule, Link as AtLink}
 use Rattle.loader.specs.declared.refusals.Refusal.TheVariants.{Digits, Long}
 
@@ -136,6 +139,16 @@ commands_told (Err fault) = Err (AtCommands fault)
 -- the commands of a text
 unfoldable pub commands_in : List ℕ → Result (List Command) Refusal
 commands_in text = commands_told (commands_of text)
+
+-- ---- traces
+
+abbrev pub trace_told : Result Trace TraceFault → Result Trace Refusal
+trace_told (Ok trace) = Ok trace
+trace_told (Err fault) = Err (AtTrace fault)
+
+-- the trace of a text
+unfoldable pub trace_in : List ℕ → Result Trace Refusal
+trace_in text = trace_told (trace_of text)
 
 -- ---- digits
 

@@ -62,7 +62,7 @@ StoreFails old new (Err Memory) = new.faults ≡ old.faults
 -- ---- refusals
 
 -- The order in which a command asks for its files: a description, the sources of its chips by their numbers, which are bytes, and then a
--- script, a certificate or the debugger's commands; or one file; or a plan, and its modules by their numbers, which are bytes.
+-- script, a certificate or the debugger's commands, and behind a script a trace; or one file; or a plan, and its modules by their numbers, which are bytes.
 abbrev pub order_of : Purpose → ℕ
 order_of purpose.Cart = 0
 order_of purpose.File = 0
@@ -72,6 +72,7 @@ order_of (purpose.Module number) = number + 1
 order_of purpose.Script = 2 ^ 8 + 1
 order_of purpose.Cert = 2 ^ 8 + 1
 order_of purpose.Commands = 2 ^ 8 + 1
+order_of purpose.Trace = 2 ^ 8 + 2
 
 abbrev pub purpose_of_text : Option ℕ → Purpose
 purpose_of_text None = purpose.File
@@ -85,6 +86,7 @@ file_of (refusal.Assembly source fault) = purpose_of_text source
 file_of (refusal.Script fault) = purpose.Script
 file_of (refusal.Cert fault) = purpose.Cert
 file_of (refusal.Commands fault) = purpose.Commands
+file_of (refusal.Trace fault) = purpose.Trace
 file_of (refusal.Plan fault) = purpose.Plan
 file_of (refusal.Module number fault) = purpose.Module number
 file_of (refusal.Link fault) = purpose.Module 63

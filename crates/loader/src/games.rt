@@ -1,4 +1,5 @@
-// A run, or a session of the debugger, that is asked for.
+// A run, a session of the debugger, or an audit, that is asked for.
+use bus_audit::TraceList;
 use cartridge::Cart;
 use chip_debug::CommandList;
 use pad_script::Script;
@@ -19,4 +20,13 @@ pub struct Debugging {
     pub cart: Cart,
     /// The commands.
     pub commands: CommandList,
+}
+
+/// An audit that is asked for.
+#[derive(Debug, Drop)]
+pub struct Auditing {
+    /// What the trace is to come from: the cartridge, and the script, of which an audit doesn't use the end.
+    pub game: Game,
+    /// The trace.
+    pub trace: TraceList,
 }

@@ -2,23 +2,25 @@
 ghost use Rattle.std.specs.Prelude.{◌≤◌, IfOk, IsOk, length};
 ghost use Rattle.toml.specs.View.{table_view};
 ghost use Rattle.cartridge.specs.Filling.{plan_of};
-ghost use Rattle.loader.specs.Games.{cart_of, table_by, script_by, game_of, notes_by, claim_of, commands_by, debugging_of, image_by, bytes_by};
+ghost use Rattle.loader.specs.Games.{cart_of, table_by, script_by, game_of, notes_by, claim_of, commands_by, debugging_of, trace_by, auditing_of, image_by, bytes_by};
 ghost use Rattle.certificate.specs.CertificateLaws.{AllFit};
 ghost use Rattle.pad_script.specs.Limits.{HasLimits};
 ghost use Rattle.pad_script.specs.Reading.{seen};
-ghost use Rattle.loader.specs.Seen.{seen_game, seen_claim};
+ghost use Rattle.loader.specs.Seen.{seen_game, seen_claim, seen_auditing};
 ghost use Rattle.loader.specs.Works.{Works, RefusesFrom, order_of, outcome_as};
 
 use super::claims::Claim;
 use super::fetching::fetch;
-use super::games::{Debugging, Game};
+use super::games::{Auditing, Debugging, Game};
 use super::purposes::Purpose;
 use super::readings::{
     read_bytes, read_described, read_description, read_image, read_notes, read_run, read_session,
+    read_steps,
 };
 use super::refusals::Stop;
 use super::sources::{ASSEMBLY_LIMIT, load_planned};
 use abs_step::Annotation;
+use bus_audit::TraceList;
 use cartridge::{Cart, Split};
 use chip_debug::CommandList;
 use f8_asm::{Image, Room};
@@ -32,6 +34,9 @@ const TEXT_LIMIT: u32 = 65_536;
 
 /// The most bytes of a certificate.
 const CERT_LIMIT: u32 = 16_777_216;
+
+/// The most bytes of a trace.
+const TRACE_LIMIT: u32 = 16_777_216;
 
 /// The most bytes of a file of digits.
 const DIGITS_LIMIT: u32 = 262_144;
@@ -184,6 +189,41 @@ pub fn load_debugging<S: Store>(
         cart: cartridge,
         commands,
     })
+}
+
+/// The trace of an audit.
+#[tactic(auto, using(crate::proofs::AuditingsLoaded::trace_read, crate::proofs::AuditingsLoaded::trace_stop, crate::proofs::AuditingsLoaded::trace_order))]
+fn load_trace<S: Store>(alloc: Global, store: &mut S, name: &str) -> Result<TraceList, Stop>
+    ensures works { Works (S.input store.old) (S.input store.new)
+        (trace_by name.now) (outcome_as (λ trace. trace) result) }
+    ensures order { RefusesFrom (order_of Purpose.Trace) result }
+    ensures few { IfOk result (λ trace. length trace.told ≤ 2000000) }
+{
+    let text = fetch(alloc, store, Purpose::Trace, name, TRACE_LIMIT)?;
+    read_steps(alloc, text.as_slice())
+}
+
+/// An audit by the names of its description, its script and its trace: all that `load_game` fetches, and then the trace, each of them fetched and
+/// read before the next. The trace has at most 16,777,216 bytes, and 2,000,000 steps.
+///
+/// # Errors
+///
+/// As those of `load_game`.
+#[tactic(auto, using(crate::proofs::AuditingsLoaded::audit_loaded, crate::proofs::AuditingsLoaded::audit_without_game, crate::proofs::AuditingsLoaded::audit_without_trace))]
+pub fn load_audit<S: Store>(
+    alloc: Global,
+    store: &mut S,
+    cart: &str,
+    script: &str,
+    trace: &str,
+) -> Result<Auditing, Stop>
+    ensures works { Works (S.input store.old) (S.input store.new)
+        (auditing_of cart.now script.now trace.now) (outcome_as seen_auditing result) }
+    ensures few { IfOk result (λ asked. length asked.trace.told ≤ 2000000) }
+{
+    let game = load_game(alloc, store, cart, script)?;
+    let trace = load_trace(alloc, store, trace)?;
+    Ok(Auditing { game, trace })
 }
 
 /// The image of an assembly file, which may have all addresses. The file has at most 262,144 bytes.

@@ -10,6 +10,8 @@ pub enum Purpose {
     Cert,
     /// The commands of the debugger.
     Commands,
+    /// The trace of an audit.
+    Trace,
     /// The one file of a command.
     File,
     /// The assembly text of a chip's bytes. Chips are counted from 0, in the order of the description.

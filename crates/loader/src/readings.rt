@@ -7,11 +7,12 @@ ghost use Rattle.cartridge.specs.Rooms.{LiesIn};
 ghost use Rattle.certificate.specs.CertificateLaws.{AllFit};
 ghost use Rattle.pad_script.specs.Limits.{HasLimits};
 ghost use Rattle.pad_script.specs.Reading.{seen};
-ghost use Rattle.loader.specs.Readings.{Says, bytes_in, commands_in, linked_in, modules_in, object_in, plan_told, table_of, description_of, described_table, image_in, notes_in, script_in};
+ghost use Rattle.loader.specs.Readings.{Says, bytes_in, commands_in, trace_in, linked_in, modules_in, object_in, plan_told, table_of, description_of, described_table, image_in, notes_in, script_in};
 
 use super::purposes::Purpose;
 use super::refusals::{Refusal, Stop};
 use abs_step::Annotation;
+use bus_audit::{TraceAnswer, TraceList, read_trace};
 use cartridge::{CartAnswer, Plan, Split, migrate, read_cart};
 use certificate::{CertAnswer, read_cert};
 use chip_debug::{CommandList, DebugAnswer, read_commands};
@@ -169,6 +170,20 @@ pub fn read_session(alloc: Global, text: &[u8]) -> Result<CommandList, Stop>
         Ok(commands) => Ok(commands),
         Err(DebugAnswer::Fault(fault)) => Err(Stop::Refused(Refusal::Commands(fault))),
         Err(DebugAnswer::Memory) => Err(Stop::Memory),
+    }
+}
+
+/// The steps of a trace's text.
+#[tactic(auto, unfolding(crate::specs::Readings::trace_in))]
+pub fn read_steps(alloc: Global, text: &[u8]) -> Result<TraceList, Stop>
+    requires { length text.now ≤ 16777216 }
+    ensures says { Says (λ trace. trace) result (trace_in text.now) }
+    ensures few { IfOk result (λ trace. length trace.told ≤ 2000000) }
+{
+    match read_trace(alloc, text) {
+        Ok(trace) => Ok(trace),
+        Err(TraceAnswer::Fault(fault)) => Err(Stop::Refused(Refusal::Trace(fault))),
+        Err(TraceAnswer::Memory) => Err(Stop::Memory),
     }
 }
 

@@ -1,5 +1,6 @@
 // Why a command does not get what it wants of its files.
 use super::purposes::Purpose;
+use bus_audit::TraceFault;
 use cartridge::CartFault;
 use certificate::CertFault;
 use chip_debug::DebugFault;
@@ -29,6 +30,9 @@ pub enum Refusal {
     /// The debugger's commands are at fault.
     #[error("the commands are at fault")]
     Commands(DebugFault),
+    /// The trace is at fault.
+    #[error("the trace is at fault")]
+    Trace(TraceFault),
     /// The plan of some modules is at fault.
     #[error("the plan is at fault")]
     Plan(PlanFault),
