@@ -128,6 +128,27 @@ fn files_alone(rt: HostRuntime) -> Result<(), Fail> {
 }
 
 #[test]
+fn audits(rt: HostRuntime) -> Result<(), Fail> {
+    let lines = [
+        ("audit c s t", "c", "s", "t"),
+        ("audit c -- s --trace", "c", "s", "--trace"),
+        ("audit - trace ", "-", "trace", ""),
+    ];
+    for (line, cart, script, trace) in lines {
+        let wanted = Some(Command::Audit {
+            cart,
+            script,
+            trace,
+        });
+        assert!(rt; asks(rt.alloc(), line, wanted)?, "{line}");
+    }
+    for line in ["audit c s", "audit c s t u", "audit --trace c s t"] {
+        assert!(rt; asks(rt.alloc(), line, None)?, "{line}");
+    }
+    Ok(())
+}
+
+#[test]
 fn checks(rt: HostRuntime) -> Result<(), Fail> {
     let lines = [
         ("check c.toml", "c.toml", false),

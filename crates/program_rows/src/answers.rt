@@ -17,7 +17,7 @@ const DATA_CART: &str =
 const SOURCE_CART: &str =
     "format = 1\n[[chip]]\nkind = '3851'\nbase = 0\nports = 4\nsource = 'loop.f8'\n";
 
-const NEIGHBOURS_CART: &str = "format = 1\n\
+pub(crate) const NEIGHBOURS_CART: &str = "format = 1\n\
      [[chip]]\nkind = '3851'\nbase = 0\nports = 4\nrom = '1C'\n\
      [[chip]]\nkind = '3851'\nbase = 0x400\nports = 8\nrom = ''\n";
 
@@ -60,7 +60,7 @@ const EXCHANGE_PLAY: &str = "verdict none\n\
      s30 00 00 00 00 00 00 00 00 00 00 00 00 00 00 00 00\n\
      total 4 instructions 78 phi\n";
 
-const LOOP_TRACE: &str = "verdict whole\n\
+pub(crate) const LOOP_TRACE: &str = "verdict whole\n\
      bus 1C S 00 -\n\
      bus 08 L 00 cpu\n\
      bus 00 S 71 0\n\

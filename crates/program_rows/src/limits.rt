@@ -9,7 +9,7 @@ use std::test::Fail;
 /// Words, the file `text`, the status, what is written first, and how many bytes are written.
 type Row<'a> = (&'a [&'a str], Text<'a>, u8, &'a str, usize);
 
-const ROWS: [Row; 15] = [
+const ROWS: [Row; 17] = [
     // a listing and an image of 65,536 bytes
     (
         &["dis", "text"],
@@ -81,6 +81,13 @@ const ROWS: [Row; 15] = [
         "ORG $0000\nNOP\n",
         14,
     ),
+    (
+        &["audit", "cart", "script", "text"],
+        &[("################", 1_048_576)],
+        7,
+        "reject line 2\n",
+        14,
+    ),
     // and one byte more, or as many lines as they have bytes
     (
         &["play", "cart", "text"],
@@ -109,6 +116,13 @@ const ROWS: [Row; 15] = [
         2,
         "error long cert\n",
         16,
+    ),
+    (
+        &["audit", "cart", "script", "text"],
+        &[("################", 1_048_576), ("#", 1)],
+        2,
+        "error long trace\n",
+        17,
     ),
     (
         &["asm", "text"],
