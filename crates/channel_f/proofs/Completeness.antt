@@ -9,13 +9,15 @@ use Rattle.console_spec.specs.RunText.{text_of}
 use Rattle.outside.specs.Counts.{Rose}
 use Rattle.outside.specs.SinkRules.{Adds}
 use Rattle.outside.specs.StoreRules.{NamedBytes, Input}
-use Rattle.command_line.specs.CommandLine.{Command, Play, Check, Verify, Migrate, Ref, Debug, Asm, Link, Dis, Gen}
+use Rattle.command_line.specs.CommandLine.{Command, Play, Check, Verify, Migrate, Ref, Debug, Audit, Asm, Link, Dis, Gen}
 use Rattle.console_spec.specs.Telling.{Telling}
 use Rattle.console_spec.specs.declared.VerdictWord.{VerdictWord}
 use Rattle.cart_checker.specs.Verdicts.{verdict_word}
 use Rattle.cart_checker.specs.declared.verdict.Verdict.{Verdict}
 use Rattle.cart_checker.specs.declared.verdict.Verdict.TheVariants.{Whole as FaultFree, Agreed, Refused as RefusedCart, TooMany}
 use Rattle.cartridge.specs.declared.finish.Cart.{Cart}
+use Rattle.bus_audit.specs.declared.answers.AuditAnswer.{AuditAnswer}
+use Rattle.bus_audit.specs.declared.answers.AuditAnswer.TheVariants.{Accept, Reject}
 use Rattle.certificate.specs.declared.examined.VerifyAnswer.{VerifyAnswer}
 use Rattle.certificate.specs.declared.examined.VerifyAnswer.TheVariants as found
 use Rattle.loader.specs.declared.refusals.Refusal.{Refusal}
@@ -23,12 +25,14 @@ use Rattle.loader.specs.declared.refusals.Stop.{Stop}
 use Rattle.loader.specs.declared.refusals.Stop.TheVariants.{Refused, Store, Memory}
 use Rattle.chip_face.specs.declared.specification.ChipSpec.{ChipSpec}
 use Rattle.loader.specs.declared.games.Debugging.{Debugging}
-use Rattle.loader.specs.Games.{Game, game_of, cart_of, table_by, claim_of, debugging_of, image_by, linked_by, bytes_by}
+use Rattle.loader.specs.Games.{Auditing, Game, game_of, cart_of, table_by, claim_of, debugging_of, auditing_of, image_by, linked_by}
+use Rattle.loader.specs.Games.{bytes_by}
 use Rattle.loader.specs.Work.{End, Gives, Refuses, Lacks, Work, gives, ◌>>=◌}
 use Rattle.loader.specs.Works.{HasFiles, Misses, order_of, file_of, Works, outcome_as}
 use Rattle.loader.proofs.WorkLaws.{works_gives, works_done, works_stop}
 use Rattle.channel_f.specs.Answers.{Answer, Due, Plain, Judged, Reading, refusal, status_of, run_answer, judged_run, game_run, ref_run}
 use Rattle.channel_f.specs.Answers.{unless_refused, game_due, generated_game, gen_due, play_due, check_answer, check_due}
+use Rattle.channel_f.specs.Answers.{audit_answer, audit_due, audited_answer}
 use Rattle.channel_f.specs.Answers.{debug_answer, debug_due, migrate_due, text_answer, cert_answer, found_answer, verify_answer}
 use Rattle.channel_f.specs.Answers.{ref_answer, asm_answer, dis_answer, words_answer, due_of, refusal_answer}
 use Rattle.channel_f.specs.Commands.{Around, Ends, Says}
@@ -426,6 +430,15 @@ debug_ordinary rack asked =
     unless_ordinary rack asked.cart.chips (refusal asked.cart.chips rack) (Plain (debug_answer asked rack)) refl
     (done_ordinary rack _)
 
+audited_ordinary : (rack : List ChipState) (found : AuditAnswer) → IsOrdinary rack (audited_answer found)
+audited_ordinary rack (Accept instructions) = done_ordinary rack _
+audited_ordinary rack (Reject line) = no_verdict_ordinary rack _
+
+audit_ordinary : (rack : List ChipState) (asked : Auditing) → AreOrdinary rack (audit_due rack asked)
+audit_ordinary rack asked =
+    unless_ordinary rack asked.game.cart.chips (refusal asked.game.cart.chips rack) (Plain (audit_answer asked rack)) refl
+    (audited_ordinary rack _)
+
 check_ordinary : (rack : List ChipState) (tracked : List ℕ) (verdict : Verdict) → IsOrdinary rack (check_answer tracked verdict)
 check_ordinary rack tracked (FaultFree notes) = done_ordinary rack _
 check_ordinary rack tracked (Agreed notes) = done_ordinary rack _
@@ -470,6 +483,9 @@ completed old new said (Some (Ref cart script)) says =
     (λ game. stop_ordinary old.rack (ref_run game).ending.stop _) says.told.works says.told.ends
 completed old new said (Some (Debug cart commands)) says =
     complete_of old new said (debugging_of cart commands) (debug_due old.rack) says.outcome (debug_ordinary old.rack)
+    says.works says.ends
+completed old new said (Some (Audit cart script trace)) says =
+    complete_of old new said (auditing_of cart script trace) (audit_due old.rack) says.outcome (audit_ordinary old.rack)
     says.works says.ends
 completed old new said (Some (Asm file)) says =
     complete_of old new said (image_by file) (λ picture. Plain (asm_answer picture)) says.told.outcome

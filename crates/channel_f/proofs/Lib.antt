@@ -6,6 +6,7 @@ mod KeyWords
 pub mod Games
 pub mod FittedPatches
 pub mod Debuggings
+pub mod Auditings
 mod StatusCodes
 mod Outcomes
 mod Completeness

@@ -5,19 +5,22 @@ use Rattle.std.specs.Prelude.{IsTrue, is_some, option_and_then}
 use Rattle.outside.specs.SinkRules.{Output}
 use Rattle.outside.specs.StoreRules.{Input}
 use Rattle.outside.proofs.SinkLaws.{adds_none}
-use Rattle.command_line.specs.CommandLine.{Command, Play, Check, Verify, Migrate, Ref, Debug, Asm, Link, Dis, Gen, command_of, has_command}
+use Rattle.command_line.specs.CommandLine.{Command, Play, Check, Verify, Migrate, Ref, Debug, Audit, Asm, Link, Dis, Gen, command_of, has_command}
 use Rattle.command_line.specs.CommandLine.{CommandWord, command_word}
 use Rattle.loader.specs.declared.refusals.Stop.{Stop}
 use Rattle.loader.specs.declared.refusals.Stop.TheVariants.{Memory}
 use Rattle.loader.specs.declared.games.Debugging.{Debugging}
-use Rattle.loader.specs.Games.{Game, game_of, cart_of, table_by, claim_of, debugging_of, image_by, linked_by, bytes_by}
+use Rattle.loader.specs.Games.{Auditing, Game, game_of, cart_of, table_by, claim_of, debugging_of, auditing_of, image_by, linked_by}
+use Rattle.loader.specs.Games.{bytes_by}
 use Rattle.loader.specs.Work.{Work}
 use Rattle.loader.specs.Works.{Works}
 use Rattle.loader.proofs.WorkLaws.{works_memory}
 use Rattle.channel_f.specs.Answers.{Due, Plain, generated_game, gen_due, play_due, check_due, ref_answer, asm_answer, dis_answer}
-use Rattle.channel_f.specs.Answers.{debug_due, migrate_due, verify_answer, words_answer}
-use Rattle.channel_f.specs.Commands.{Around, Told, Tells, TellsDebugging, TellsGame, Says}
+use Rattle.channel_f.specs.Answers.{audit_due, debug_due, migrate_due, verify_answer, words_answer}
+use Rattle.channel_f.specs.Commands.{Around, Told, Tells, TellsAudit, TellsDebugging, TellsGame, Says}
 use Rattle.channel_f.specs.RackAfter.{PlaysGame, RackAfter}
+use Rattle.channel_f.specs.ExactAudits.{AnswersExactly}
+use Rattle.channel_f.specs.RackAudited.{RackAudited}
 use Rattle.channel_f.specs.RackDebugged.{RackDebugged}
 use Rattle.channel_f.specs.Reports.{Answers, AnswersDue, Reports, Stops}
 use Rattle.channel_f.specs.SafeGames.{KeepsVerdict}
@@ -68,6 +71,23 @@ module _ (old new : Around) (said : Status) where
   tells_no_debugging work stop works stops same none =
       record { outcome = Err stop; works = works; ends = stops; chips = record { same = same; unasked = none } }
 
+  pub tells_audit : (work : Work Auditing) (asked : Auditing) → Works old.input new.input work (Ok asked) →
+      AnswersDue old.output new.output said (audit_due old.rack asked) →
+      RackAudited said (Ok asked) old.rack new.rack old.asked new.asked → AnswersExactly said asked old.rack →
+      TellsAudit old new said work
+  tells_audit work asked works answers chips exact =
+      record { outcome = Ok asked; works = works; ends = answers; chips = chips; exact = exact }
+
+  pub tells_no_audit : (work : Work Auditing) (stop : Stop) → Works old.input new.input work (Err stop) →
+      Stops old.output new.output said stop → new.rack ≡ old.rack → new.asked ≡ old.asked → TellsAudit old new said work
+  tells_no_audit work stop works stops same none = record {
+    outcome = Err stop;
+    works = works;
+    ends = stops;
+    chips = record { same = same; unasked = none };
+    exact = tt;
+  }
+
   -- ---- all commands
 
   pub says_play : (traced : Bool) (cart script : List ℕ) (command : Option Command) →
@@ -98,6 +118,10 @@ module _ (old new : Around) (said : Status) where
   pub says_debug : (cart commands : List ℕ) (command : Option Command) → Some (Debug cart commands) ≡ command →
       TellsDebugging old new said (debugging_of cart commands) → Says old new said command
   says_debug cart commands command is tells = rw (← is) tells
+
+  pub says_audit : (cart script trace : List ℕ) (command : Option Command) → Some (Audit cart script trace) ≡ command →
+      TellsAudit old new said (auditing_of cart script trace) → Says old new said command
+  says_audit cart script trace command is tells = rw (← is) tells
 
   pub says_asm : (file : List ℕ) (command : Option Command) → Some (Asm file) ≡ command →
       Told old.output new.output old.input new.input said (image_by file) (λ picture. Plain (asm_answer picture)) →
@@ -152,6 +176,9 @@ module _ (now : Around) where
   says_wanting (Some (Debug cart commands)) =
       tells_no_debugging now now status.Memory (debugging_of cart commands) Memory
       (works_memory now.input (debugging_of cart commands)) wanting refl refl
+  says_wanting (Some (Audit cart script trace)) =
+      tells_no_audit now now status.Memory (auditing_of cart script trace) Memory
+      (works_memory now.input (auditing_of cart script trace)) wanting refl refl
   says_wanting (Some (Asm file)) = tells_wanting (image_by file) (λ picture. Plain (asm_answer picture))
   says_wanting (Some (Link plan)) = tells_wanting (linked_by plan) (λ picture. Plain (asm_answer picture))
   says_wanting (Some (Dis file)) = tells_wanting (bytes_by file) (λ bytes. Plain (dis_answer bytes))

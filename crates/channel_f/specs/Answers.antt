@@ -2,7 +2,7 @@
 use Rattle.std.specs.Prelude.{ℕ, Bool, true, false, nat_lt, if◌then◌else◌, List, [], ◌∷◌, length, replicate, Option, Some, None, option_map}
 use Rattle.toml.specs.Data.{Members}
 use Rattle.chip_face.specs.declared.sizes.TheConstants.{MOST_CHIPS}
-use Rattle.f8_spec.specs.ChipState.{ChipState}
+use Rattle.f8_spec.specs.ChipState.{ChipState, ChipView}
 use Rattle.f8_spec.specs.Powers.{usual_power}
 use Rattle.console_spec.specs.Run.{Stop, Done, Unserved, Reserved}
 use Rattle.console_spec.specs.RunText.{flat_telling_lines}
@@ -28,15 +28,22 @@ use Rattle.certificate.specs.declared.examined.VerifyAnswer.TheVariants as found
 use Rattle.f8_asm.specs.Image.{Picture}
 use Rattle.f8_asm.specs.Listing.{listing}
 use Rattle.asm_lines.specs.ImageLines.{image_lines}
+use Rattle.bus_audit.specs.Answers.{answer_in, setup_of, steps_of}
+use Rattle.bus_audit.specs.DictatedRuns.{dictated}
+use Rattle.bus_audit.specs.FreeRuns.{Setup}
+use Rattle.bus_audit.specs.declared.answers.AuditAnswer.{AuditAnswer}
+use Rattle.bus_audit.specs.declared.answers.AuditAnswer.TheVariants.{Accept, Reject}
 use Rattle.chip_face.specs.declared.specification.ChipSpec.{ChipSpec}
 use Rattle.chip_debug.specs.Carried.{first_scene, told_by}
 use Rattle.chip_debug.specs.Scenes.{Scene}
-use Rattle.command_line.specs.CommandLine.{Command, Play, Check, Verify, Migrate, Ref, Debug, Asm, Link, Dis, Gen}
+use Rattle.command_line.specs.CommandLine.{Command, Play, Check, Verify, Migrate, Ref, Debug, Audit, Asm, Link, Dis, Gen}
 use Rattle.loader.specs.declared.purposes.Purpose.{Purpose}
 use Rattle.loader.specs.declared.refusals.Refusal.{Refusal}
 use Rattle.loader.specs.declared.games.Debugging.{Debugging}
-use Rattle.loader.specs.Games.{Game, Claim, game_of, cart_of, table_by, claim_of, debugging_of, image_by, linked_by, bytes_by}
+use Rattle.loader.specs.Games.{Game, Claim, Auditing, game_of, cart_of, table_by, claim_of, debugging_of, auditing_of, image_by, linked_by}
+use Rattle.loader.specs.Games.{bytes_by}
 use Rattle.loader.specs.Work.{Work, gives, ◌>>=◌}
+use Rattle.channel_f.specs.AuditLines.{accept_line, reject_line}
 use Rattle.channel_f.specs.Manners.{run_by, lines_by}
 use Rattle.channel_f.specs.ErrorLines.{refusal_line, missing_line}
 use Rattle.channel_f.specs.declared.manner.Manner.{Manner}
@@ -116,6 +123,27 @@ debug_answer asked rack = record { status = status.Done; lines = told_by asked.c
 abbrev pub debug_due : List ChipState → Debugging → Due
 debug_due rack asked = unless_refused (refusal asked.cart.chips rack) (Plain (debug_answer asked rack))
 
+-- what the runs of an audit are given: chips that are fitted, with the chain of those described, and the script
+abbrev pub audit_setup : Auditing → List ℕ → List ChipView → Setup
+audit_setup asked chain vs = setup_of vs chain asked.game.cart.powers asked.game.script
+
+-- what is found of a trace on such chips
+unfoldable pub audit_by : Auditing → List ℕ → List ChipView → AuditAnswer
+audit_by asked chain vs = answer_in asked.trace (dictated (audit_setup asked chain vs) (steps_of asked.trace.told))
+
+-- done where the trace is accepted, and else no verdict
+abbrev pub audited_answer : AuditAnswer → Answer
+audited_answer (Accept instructions) = record { status = status.Done; lines = accept_line instructions ∷ [] }
+audited_answer (Reject line) = record { status = status.NoVerdict; lines = reject_line line ∷ [] }
+
+-- what is found of it on the chips of a rack, fitted for the cartridge, each with its own patch in its bytes
+abbrev pub audit_answer : Auditing → List ChipState → Answer
+audit_answer asked rack =
+    audited_answer (audit_by asked (game_chain asked.game rack) (fitted_views asked.game.cart.chips rack))
+
+abbrev pub audit_due : List ChipState → Auditing → Due
+audit_due rack asked = unless_refused (refusal asked.game.cart.chips rack) (Plain (audit_answer asked rack))
+
 -- The generated cartridge has no register that is tracked, nothing is said of the power-on of its chips, and it runs for 60 frames, without
 -- keys and shown frames.
 abbrev pub generated_game : ℕ → Game
@@ -192,6 +220,7 @@ due_of rack (Some (Verify cart cert)) = claim_of cart cert >>= λ claim. gives (
 due_of rack (Some (Migrate cart)) = table_by cart >>= λ table. gives (migrate_due table)
 due_of rack (Some (Ref cart script)) = game_of cart script >>= λ game. gives (Plain (ref_answer game))
 due_of rack (Some (Debug cart commands)) = debugging_of cart commands >>= λ asked. gives (debug_due rack asked)
+due_of rack (Some (Audit cart script trace)) = auditing_of cart script trace >>= λ asked. gives (audit_due rack asked)
 due_of rack (Some (Asm file)) = image_by file >>= λ picture. gives (Plain (asm_answer picture))
 due_of rack (Some (Link plan)) = linked_by plan >>= λ picture. gives (Plain (asm_answer picture))
 due_of rack (Some (Dis file)) = bytes_by file >>= λ bytes. gives (Plain (dis_answer bytes))

@@ -3,15 +3,18 @@ use Rattle.std.specs.Prelude.{◌≡◌, ℕ, Bool, List, Option, Some, None, Re
 use Rattle.f8_spec.specs.ChipState.{ChipState}
 use Rattle.outside.specs.SinkRules.{Output}
 use Rattle.outside.specs.StoreRules.{Input}
-use Rattle.command_line.specs.CommandLine.{Command, Play, Check, Verify, Migrate, Ref, Debug, Asm, Link, Dis, Gen}
+use Rattle.command_line.specs.CommandLine.{Command, Play, Check, Verify, Migrate, Ref, Debug, Audit, Asm, Link, Dis, Gen}
 use Rattle.loader.specs.declared.refusals.Stop.{Stop}
 use Rattle.loader.specs.declared.games.Debugging.{Debugging}
-use Rattle.loader.specs.Games.{Game, game_of, cart_of, table_by, claim_of, debugging_of, image_by, linked_by, bytes_by}
+use Rattle.loader.specs.Games.{Auditing, Game, game_of, cart_of, table_by, claim_of, debugging_of, auditing_of, image_by, linked_by}
+use Rattle.loader.specs.Games.{bytes_by}
 use Rattle.loader.specs.Work.{Work}
 use Rattle.loader.specs.Works.{Works, outcome_as}
 use Rattle.channel_f.specs.Answers.{Due, Plain, generated_game, gen_due, play_due, check_due, ref_answer, asm_answer, dis_answer}
-use Rattle.channel_f.specs.Answers.{debug_due, migrate_due, verify_answer, words_answer}
+use Rattle.channel_f.specs.Answers.{audit_due, debug_due, migrate_due, verify_answer, words_answer}
+use Rattle.channel_f.specs.ExactAudits.{IsExactAudit}
 use Rattle.channel_f.specs.RackAfter.{PlaysGame, RackAfter}
+use Rattle.channel_f.specs.RackAudited.{RackAudited}
 use Rattle.channel_f.specs.RackDebugged.{RackDebugged}
 use Rattle.channel_f.specs.Reports.{Answers, AnswersDue, Stops}
 use Rattle.channel_f.specs.SafeGames.{KeepsVerdict, IsSafeRun}
@@ -60,6 +63,14 @@ pub record TellsDebugging (old new : Around) (said : Status) (work : Work Debugg
   pub ends : Ends old.output new.output said (outcome_as (debug_due old.rack) outcome)
   pub chips : RackDebugged old.output new.output said outcome old.rack new.rack old.asked new.asked
 
+-- a command that audits the trace that the files gave on the rack
+pub record TellsAudit (old new : Around) (said : Status) (work : Work Auditing) : Type 0 where
+  pub outcome : Result Auditing Stop
+  pub works : Works old.input new.input work outcome
+  pub ends : Ends old.output new.output said (outcome_as (audit_due old.rack) outcome)
+  pub chips : RackAudited said outcome old.rack new.rack old.asked new.asked
+  pub exact : IsExactAudit said outcome old.rack
+
 -- a command that plays the generated game on the rack, and asks for no file
 pub record TellsGenerated (old new : Around) (said : Status) (seed : ℕ) : Type 0 where
   pub answers : AnswersDue old.output new.output said (gen_due old.rack seed)
@@ -82,6 +93,7 @@ Says old new said (Some (Verify cart cert)) = Tells old new said (claim_of cart 
 Says old new said (Some (Migrate cart)) = Tells old new said (table_by cart) migrate_due
 Says old new said (Some (Ref cart script)) = Tells old new said (game_of cart script) (λ game. Plain (ref_answer game))
 Says old new said (Some (Debug cart commands)) = TellsDebugging old new said (debugging_of cart commands)
+Says old new said (Some (Audit cart script trace)) = TellsAudit old new said (auditing_of cart script trace)
 Says old new said (Some (Asm file)) = Tells old new said (image_by file) (λ picture. Plain (asm_answer picture))
 Says old new said (Some (Link plan)) = Tells old new said (linked_by plan) (λ picture. Plain (asm_answer picture))
 Says old new said (Some (Dis file)) = Tells old new said (bytes_by file) (λ bytes. Plain (dis_answer bytes))

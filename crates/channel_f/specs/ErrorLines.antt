@@ -10,6 +10,7 @@ use Rattle.pad_script.specs.Answers.{cause_number as script_cause}
 use Rattle.chip_debug.specs.Answers.{cause_number as debug_cause}
 use Rattle.report.specs.declared.error_lines.Reader.TheVariants as reader
 use Rattle.report.specs.ErrorLines.{toml_line, cart_line, asm_line, module_line, link_line, reader_line, hex_line, long_line, store_line}
+use Rattle.channel_f.specs.AuditLines.{trace_line}
 use Rattle.loader.specs.declared.purposes.Purpose.{Purpose}
 use Rattle.loader.specs.declared.purposes.Purpose.TheVariants as purpose
 use Rattle.loader.specs.declared.refusals.Refusal.{Refusal}
@@ -21,6 +22,7 @@ purpose_word purpose.Cart = codes "cart"
 purpose_word purpose.Script = codes "script"
 purpose_word purpose.Cert = codes "cert"
 purpose_word purpose.Commands = codes "commands"
+purpose_word purpose.Trace = codes "trace"
 purpose_word purpose.File = codes "file"
 purpose_word (purpose.Source chip) = codes "source"
 purpose_word purpose.Plan = codes "plan"
@@ -31,6 +33,7 @@ purpose_number purpose.Cart = None
 purpose_number purpose.Script = None
 purpose_number purpose.Cert = None
 purpose_number purpose.Commands = None
+purpose_number purpose.Trace = None
 purpose_number purpose.File = None
 purpose_number (purpose.Source chip) = Some chip
 purpose_number purpose.Plan = None
@@ -43,6 +46,7 @@ refusal_line (refusal.Assembly source fault) = asm_line source fault.line fault.
 refusal_line (refusal.Script fault) = reader_line reader.Script fault.line (script_cause fault.cause)
 refusal_line (refusal.Cert fault) = reader_line reader.Cert fault.line (cert_cause fault.cause)
 refusal_line (refusal.Commands fault) = reader_line reader.Debug fault.line (debug_cause fault.cause)
+refusal_line (refusal.Trace fault) = trace_line fault.line
 refusal_line (refusal.Plan fault) = reader_line reader.Plan fault.line (plan_cause fault.cause)
 refusal_line (refusal.Module number fault) = module_line number fault.line fault.column (module_cause_number fault.cause)
 refusal_line (refusal.Link fault) = link_line fault.«module» (link_cause_number fault.cause)

@@ -1,4 +1,5 @@
 pub mod Statuses
+pub mod AuditLines
 pub mod ErrorLines
 pub mod Manners
 pub mod Answers
@@ -7,6 +8,8 @@ pub mod SafeRuns
 pub mod SafeGames
 pub mod RackAfter
 pub mod RackDebugged
+pub mod RackAudited
+pub mod ExactAudits
 pub mod JudgedRuns
 pub mod CheckedCertificates
 pub mod Commands

@@ -3,16 +3,17 @@ ghost use Rattle.std.specs.Prelude.{◌≡◌, ◌≤◌, ◌⊎◌, IfOk, IsOk,
 ghost use Rattle.toml.specs.View.{table_view};
 ghost use Rattle.cartridge.specs.Filling.{plan_of};
 ghost use Rattle.certificate.specs.CertificateLaws.{AllFit};
-ghost use Rattle.loader.specs.Games.{game_of, cart_of, table_by, claim_of, debugging_of, image_by, linked_by, bytes_by};
+ghost use Rattle.loader.specs.Games.{game_of, cart_of, table_by, claim_of, debugging_of, auditing_of, image_by, linked_by, bytes_by};
 ghost use Rattle.channel_f.specs.Answers.{Plain, generated_game, gen_due, check_due, ref_answer};
 ghost use Rattle.channel_f.specs.Answers.{asm_answer, cert_answer, dis_answer, migrate_due, verify_answer};
-ghost use Rattle.channel_f.specs.Commands.{around, Told, TellsDebugging, TellsGame};
+ghost use Rattle.channel_f.specs.Commands.{around, Told, TellsAudit, TellsDebugging, TellsGame};
 ghost use Rattle.loader.specs.Seen.{seen_game, seen_claim};
 ghost use Rattle.pad_script.specs.Limits.{HasLimits};
 ghost use Rattle.channel_f.specs.RackAfter.{PlaysGame};
 ghost use Rattle.channel_f.specs.Reports.{Answers, AnswersDue, Reports, Wants};
 ghost use Rattle.channel_f.specs.SafeGames.{KeepsVerdict};
 
+use super::auditing::audit_trace;
 use super::debugging::debug;
 use super::error_lines::put_stop;
 use super::lines_out::{put_document, put_found, put_modules, put_picture, put_text, put_verdict};
@@ -29,8 +30,8 @@ use f8_machine::Rack;
 use f8_spec::Memory;
 use generator::generated_chips;
 use loader::{
-    Claim, Game, load_bytes, load_cart, load_claim, load_debugging, load_game, load_image,
-    load_linked, load_table, migrated_text,
+    Claim, Game, load_audit, load_bytes, load_cart, load_claim, load_debugging, load_game,
+    load_image, load_linked, load_table, migrated_text,
 };
 use outside::{Sink, Store};
 use pad_script::{EventList, Script, ShowList};
@@ -208,6 +209,30 @@ pub fn answer_debug<S: Store, K: Sink>(
 {
     match load_debugging(alloc, store, cart, commands) {
         Ok(asked) => debug(alloc, &asked, sink, rack),
+        Err(stop) => put_stop(sink, stop),
+    }
+}
+
+/// `audit CART SCRIPT TRACE`.
+#[tactic(auto, using(crate::proofs::Outcomes::tells_audit, crate::proofs::Outcomes::tells_no_audit))]
+pub fn answer_audit<S: Store, K: Sink>(
+    alloc: Global,
+    cart: &str,
+    script: &str,
+    trace: &str,
+    store: &mut S,
+    sink: &mut K,
+    rack: &mut Rack,
+) -> Status
+    ensures { TellsAudit
+        (around (K.output sink.old) (S.input store.old) (map state rack.old.items)
+        (sum_by queries rack.old.items))
+        (around (K.output sink.new) (S.input store.new) (map state rack.new.items)
+        (sum_by queries rack.new.items))
+        result (auditing_of cart.now script.now trace.now) }
+{
+    match load_audit(alloc, store, cart, script, trace) {
+        Ok(asked) => audit_trace(alloc, &asked, sink, rack),
         Err(stop) => put_stop(sink, stop),
     }
 }

@@ -6,6 +6,7 @@ ghost use Rattle.channel_f.specs.ErrorLines.{purpose_word as spelled_word, purpo
 ghost use Rattle.channel_f.specs.ErrorLines.{refusal_line as spelled_refusal, missing_line as spelled_missing};
 ghost use Rattle.channel_f.specs.Reports.{Stops};
 
+use super::audit_lines::error_trace;
 use super::lines_out::put_lines;
 use super::status::Status;
 use loader::{Purpose, Refusal, Stop};
@@ -26,6 +27,7 @@ fn purpose_word(purpose: Purpose) -> &'static str
         Purpose::Script => "script",
         Purpose::Cert => "cert",
         Purpose::Commands => "commands",
+        Purpose::Trace => "trace",
         Purpose::File => "file",
         Purpose::Source(_) => "source",
         Purpose::Plan => "plan",
@@ -43,6 +45,7 @@ fn purpose_number(purpose: Purpose) -> Option<u8>
         | Purpose::Script
         | Purpose::Cert
         | Purpose::Commands
+        | Purpose::Trace
         | Purpose::File
         | Purpose::Plan => None,
     }
@@ -65,6 +68,7 @@ fn refusal_line(refusal: Refusal) -> Line
         Refusal::Script(fault) => error_reader(Reader::Script, fault.line, fault.cause.number()),
         Refusal::Cert(fault) => error_reader(Reader::Cert, fault.line, fault.cause.number()),
         Refusal::Commands(fault) => error_reader(Reader::Debug, fault.line, fault.cause.number()),
+        Refusal::Trace(fault) => error_trace(fault.line),
         Refusal::Plan(fault) => error_reader(Reader::Plan, fault.line, fault.cause.number()),
         Refusal::Module { number, fault } => error_module(
             number,

@@ -1,6 +1,8 @@
 //! The program, but for the system (this project's own): words, files and a rack of chips in, lines and an exit status out.
 #![tactic(auto)]
 
+mod audit_lines;
+mod auditing;
 mod commands;
 mod debugging;
 mod error_lines;

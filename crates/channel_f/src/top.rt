@@ -7,8 +7,8 @@ ghost use Rattle.channel_f.specs.Completeness.{IsComplete};
 ghost use Rattle.channel_f.specs.Statuses.{exit_code, HasStatus};
 
 use super::commands::{
-    answer_asm, answer_check, answer_debug, answer_dis, answer_gen, answer_link, answer_migrate,
-    answer_play, answer_ref, answer_verify,
+    answer_asm, answer_audit, answer_check, answer_debug, answer_dis, answer_gen, answer_link,
+    answer_migrate, answer_play, answer_ref, answer_verify,
 };
 use super::lines_out::put_lines;
 use super::status::Status;
@@ -19,7 +19,7 @@ use f8_spec::Memory;
 use outside::{Sink, Store};
 use std::alloc::Global;
 
-#[tactic(auto, using(crate::proofs::Outcomes::says_play, crate::proofs::Outcomes::says_check, crate::proofs::Outcomes::says_verify, crate::proofs::Outcomes::says_migrate, crate::proofs::Outcomes::says_ref, crate::proofs::Outcomes::says_debug, crate::proofs::Outcomes::says_asm, crate::proofs::Outcomes::says_link, crate::proofs::Outcomes::says_dis, crate::proofs::Outcomes::says_gen, crate::proofs::Outcomes::says_words, crate::proofs::Outcomes::says_wanting, crate::proofs::Outcomes::command_named, crate::proofs::Outcomes::words_not_memory, crate::proofs::Games::answers_of))]
+#[tactic(auto, using(crate::proofs::Outcomes::says_play, crate::proofs::Outcomes::says_check, crate::proofs::Outcomes::says_verify, crate::proofs::Outcomes::says_migrate, crate::proofs::Outcomes::says_ref, crate::proofs::Outcomes::says_debug, crate::proofs::Outcomes::says_audit, crate::proofs::Outcomes::says_asm, crate::proofs::Outcomes::says_link, crate::proofs::Outcomes::says_dis, crate::proofs::Outcomes::says_gen, crate::proofs::Outcomes::says_words, crate::proofs::Outcomes::says_wanting, crate::proofs::Outcomes::command_named, crate::proofs::Outcomes::words_not_memory, crate::proofs::Games::answers_of))]
 fn answer_words<S: Store, K: Sink>(
     alloc: Global,
     words: &[String],
@@ -54,6 +54,15 @@ fn answer_words<S: Store, K: Sink>(
         Ok(Some(Command::Debug { cart, commands })) => {
             answer_debug(alloc, cart, commands, store, sink, rack)
         }
+        Ok(
+            Some(
+                Command::Audit {
+                    cart,
+                    script,
+                    trace,
+                },
+            ),
+        ) => answer_audit(alloc, cart, script, trace, store, sink, rack),
         Ok(Some(Command::Asm { file })) => answer_asm(alloc, file, store, sink),
         Ok(Some(Command::Link { plan })) => answer_link(alloc, plan, store, sink),
         Ok(Some(Command::Dis { file })) => answer_dis(alloc, file, store, sink),
@@ -75,13 +84,16 @@ fn answer_words<S: Store, K: Sink>(
 /// - `migrate CART`: a description in the newest format that says the same, as one document of many. Its sources aren't asked for.
 /// - `ref CART SCRIPT`: the same bytes run on the flat instruction set alone, and the rack stays as it was.
 /// - `debug CART COMMANDS`: the rack is fitted for the chips described, powered and reset, and carries out the debugger's commands.
+/// - `audit CART SCRIPT TRACE`: whether the bus steps that the trace tells are the whole record of a run of the chips described, with the power
+///   byte of the script and its key bytes of ports 0 and 1, and any key bytes of other ports and any pulses. The rack is fitted for the chips.
 /// - `asm FILE`: the bytes that an assembly text makes, and its names.
 /// - `link PLAN`: the bytes that the modules of a plan make together, each in its room, and the names that they export.
 /// - `dis FILE`: the assembly text of a file of hexadecimal digits.
 /// - `gen N`: the rack is fitted for a large cartridge that is generated from the number, and runs for 60 frames. Its run is summed up.
 ///
 /// Each file is read before the next is asked for: the description, then the source of each chip that has one, then the script, the
-/// debugger's commands or the certificate; the plan, and then each of its modules. `play`, `debug` and `gen` look at the rack after all of them, and then its chips are fitted.
+/// debugger's commands or the certificate, and behind the script of an audit its trace; the plan, and then each of its modules. `play`,
+/// `debug`, `gen` and `audit` look at the rack after all of them, and then its chips are fitted.
 /// The first refusal ends the call with its one line. Each line is one put.
 ///
 /// Where the store tells its files and has those that are asked for, neither count of faults rose, and memory wasn't wanting, what is
@@ -92,12 +104,13 @@ fn answer_words<S: Store, K: Sink>(
 ///
 /// - 0 where all is done,
 /// - 1 where the words are none of these,
-/// - 2 where a file is refused, or the rack has more than 16 chips or too few sockets of a kind,
+/// - 2 where a file is refused, or the command is `play`, `debug`, `gen` or `audit` and the rack has more than 16 chips or too few sockets of a
+///   kind,
 /// - 3 where a bus step isn't served,
 /// - 4 where the store failed, as one does that hasn't the file,
 /// - 5 where the sink failed,
 /// - 6 where memory was wanting, and then nothing was written; this comes only where the first word is that of a command,
-/// - 7 where `check` can't show that the cartridge is safe, or `verify` finds that the certificate doesn't,
+/// - 7 where `check` can't show that the cartridge is safe, or `verify` finds that the certificate doesn't, or `audit` rejects the trace,
 /// - 8 at a reserved opcode.
 ///
 /// Where a run of `play` or `gen` began, each chip has heard its bus steps and has taken its key bytes and pulses, and nothing else.
@@ -106,8 +119,9 @@ fn answer_words<S: Store, K: Sink>(
 /// session of `debug` they are as its commands left them, up to the one whose line failed. From each power-on on they were put as many
 /// questions at most as in a run, and besides those of the commands themselves: `show chips` puts at most one to each chip, `mem` at
 /// most one to each chip for each byte, and `run` one to each chip described behind each instruction, where counters that part are a
-/// break. Where neither a run nor a session began, they were put none. Each chip counts its questions up to the greatest `u64`, and the
-/// clause goes by these counts.
+/// break. Where neither a run nor a session nor an audit began, they were put none. Each chip counts its questions up to the greatest
+/// `u64`, and the clause goes by these counts. An audit accepts a trace exactly where its steps are the whole record of such a run on the
+/// fitted chips (clause `says`).
 #[tactic(auto, using(crate::proofs::Completeness::completed))]
 pub fn console<S: Store, K: Sink>(
     alloc: Global,
