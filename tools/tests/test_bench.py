@@ -17,7 +17,7 @@ sys.path.insert(0, str(BENCH))  # where the measurements find what they have ali
 
 import measuring  # noqa: E402
 
-PLAIN = ('certificates', 'check', 'link')
+PLAIN = ('audit', 'certificates', 'check', 'link')
 COUNTED = {'assemble': 'LAPS', 'bus_step': 'LAPS', 'reading': 'LAPS', 'speed': 'SECONDS'}
 BUILT = (*PLAIN, 'reading', 'speed')
 
