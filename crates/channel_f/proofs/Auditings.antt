@@ -1,9 +1,9 @@
 -- What an audit on a rack answers, and what becomes of the rack.
-use Rattle.std.proofs.Common.{◌≡◌, ◌≢◌, ℕ, List, length, map, refl, sym, ap, ◌∙◌, subst}
-use Rattle.std.proofs.lemmas.List.{length-map}
+use Rattle.std.proofs.Common.{◌≡◌, ◌≢◌, ℕ, List, refl, ap, ◌∙◌, subst}
 use Rattle.f8_spec.specs.ChipState.{ChipState, ChipView}
 use Rattle.data_bus.specs.Racks.{views}
 use Rattle.bus_audit.specs.Answers.{answer_in, steps_of}
+use Rattle.bus_audit.specs.Audits.{Audits}
 use Rattle.bus_audit.specs.DictatedRuns.{dictated}
 use Rattle.bus_audit.specs.declared.answers.AuditAnswer.{AuditAnswer}
 use Rattle.bus_audit.specs.declared.answers.AuditAnswer.TheVariants.{Accept, Reject}
@@ -12,16 +12,11 @@ use Rattle.loader.specs.Games.{Auditing}
 use Rattle.rack_run.specs.Seating.{fitted_views, seated, RackFits, RackFitsInPart}
 use Rattle.channel_f.specs.Answers.{audit_answer, audit_by, audit_setup, audited_answer, game_chain}
 use Rattle.channel_f.specs.ExactAudits.{AcceptsExactly, FindsExactly}
-use Rattle.channel_f.specs.RackAudited.{AuditsRack}
+use Rattle.channel_f.specs.RackAudited.{AuditsRack, audit_begun}
 use Rattle.channel_f.specs.Reports.{Answers, Reports}
 use Rattle.channel_f.specs.declared.status.Status.{Status}
 use Rattle.channel_f.specs.declared.status.Status.TheVariants as status
 use Rattle.channel_f.proofs.Games.{answers_of, no_memory_from}
-
--- as many chips have as many states
-pub as_many : {A : Type 0} (state_of : A → ChipState) (olds news : List A) → length news ≡ length olds →
-    length (map state_of news) ≡ length (map state_of olds)
-as_many state_of olds news chips = length-map news state_of ∙ chips ∙ sym (length-map olds state_of)
 
 audited_not_memory : (found : AuditAnswer) → (audited_answer found).status ≢ status.Memory
 audited_not_memory (Accept instructions) e = cc
@@ -50,12 +45,18 @@ module _ (a b : Output) (said : Status) (asked : Auditing) (rack fitted : List C
       answers_of a b said (audit_answer asked rack).status (audit_answer asked rack).lines (audited_not_memory _)
       (subst (λ (found : AuditAnswer). Reports a b said (audited_answer found).status (audited_answer found).lines) found_same reports)
 
-  pub audits_rack : (news : List ChipState) (before after : ℕ) → RackFits (seated asked.game.cart.chips rack) rack fitted →
-      length news ≡ length fitted → AuditsRack said asked rack news before after
-  audits_rack news before after fits chips = record {
+  pub audits_rack : (news : List ChipState) (before begun after : ℕ) → RackFits (seated asked.game.cart.chips rack) rack fitted →
+      begun ≡ before → Audits (audit_begun asked chain fitted begun) news after → AuditsRack said asked rack news before after
+  audits_rack news before begun after fits none audits = record {
     wanting = λ by_memory. absurd (no_memory_from said _ (audited_not_memory _) reports.which by_memory);
     unasked = λ by_memory. absurd (no_memory_from said _ (audited_not_memory _) reports.which by_memory);
-    audited = λ by_memory. record { fitted = fitted; fits = fits; chips = chips };
+    audited = λ by_memory. record {
+      fitted = fitted;
+      fits = fits;
+      audited =
+          subst (λ (n : ℕ). Audits (audit_begun asked (game_chain asked.game rack) fitted n) news after) none
+          (subst (λ (sockets : List ℕ). Audits (audit_begun asked sockets fitted begun) news after) linked audits);
+    };
   }
 
 pub exact_on : (asked : Auditing) (rack fitted : List ChipState) (chain : List ℕ) →

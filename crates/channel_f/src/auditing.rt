@@ -3,12 +3,13 @@ ghost use Rattle.std.specs.Prelude.{◌≡◌, ◌≢◌, ◌≤◌, length, map
 ghost use Rattle.f8_spec.specs.BusArbitration.{seat_of};
 ghost use Rattle.cpu3850.specs.OwnWrites.{LeaveOwnPorts};
 ghost use Rattle.data_bus.specs.Racks.{views};
+ghost use Rattle.bus_audit.specs.Audits.{Audits};
 ghost use Rattle.f8_machine.specs.Refinement.{AreWhole};
 ghost use Rattle.loader.specs.Seen.{seen_auditing};
 ghost use Rattle.rack_run.specs.Seating.{fitted_views};
 ghost use Rattle.channel_f.specs.Answers.{audit_answer, audit_by, audit_due, audited_answer, game_chain, refusal as spelled_refusal};
 ghost use Rattle.channel_f.specs.ExactAudits.{AnswersExactly, FindsExactly};
-ghost use Rattle.channel_f.specs.RackAudited.{AuditsRack, AuditsUnless};
+ghost use Rattle.channel_f.specs.RackAudited.{AuditsRack, AuditsUnless, audit_begun};
 ghost use Rattle.channel_f.specs.Reports.{Answers, AnswersDue, Reports};
 
 use super::audit_lines::put_audited;
@@ -36,7 +37,10 @@ fn audit_fitted<K: Sink>(asked: &Auditing, chain: Chain, sink: &mut K, rack: &mu
         Reports (K.output sink.old) (K.output sink.new) result due.status due.lines }
     ensures exact { FindsExactly
         (seen_auditing asked.now) chain (views (map state rack.old.items)) }
-    ensures chips { length rack.new.items ≡ length rack.old.items }
+    ensures audits { Audits
+        (audit_begun (seen_auditing asked.now) chain (map state rack.old.items)
+        (sum_by queries rack.old.items))
+        (map state rack.new.items) (sum_by queries rack.new.items) }
 {
     let found = audit(
         &asked.game.cart,

@@ -2,7 +2,7 @@
 use Rattle.loader.specs.Seen.{seen_auditing}
 use Rattle.rack_run.proofs.AskingLaws.{none_asked}
 use Rattle.channel_f.specs.Answers.{audit_answer}
-use Rattle.channel_f.proofs.Auditings.{as_many, audit_answers, audits_rack, audits_wanting, exact_on}
+use Rattle.channel_f.proofs.Auditings.{audit_answers, audits_rack, audits_wanting, exact_on}
 use Rattle.channel_f.proofs.Games.{answers_wanting}
 use Rattle.channel_f.proofs.auditing.fit_and_audit.Goals as goal
 
@@ -14,8 +14,9 @@ returns-in-Ok-clause-answers g c =
 pub returns-in-Ok-clause-rack : goal.returns-in-Ok-clause-rack
 returns-in-Ok-clause-rack g c =
     audits_rack _ _ _ (seen_auditing c.args.asked.now) _ _ _ c.in-Ok.ensures.views c.chain_of-chain.ensures
-    c.audit_fitted.ensures.reports _ _ _ c.in-Ok.ensures.fitted
-    (as_many (λ b. (goal.Chip-dyn g (b.vtable, b.value)).state b.value) _ _ c.audit_fitted.ensures.chips)
+    c.audit_fitted.ensures.reports _ _ _ _ c.in-Ok.ensures.fitted
+    (none_asked (λ b. (goal.Chip-dyn g (b.vtable, b.value)).queries b.value) c.args.rack.now.items c.fit_all.new.rack.items
+    c.fit_all.ensures.asked) c.audit_fitted.ensures.audits
 
 pub returns-in-Ok-clause-exact : goal.returns-in-Ok-clause-exact
 returns-in-Ok-clause-exact g c =
