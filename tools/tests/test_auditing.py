@@ -1,6 +1,7 @@
 """`audit` on traces worked out by hand, on those of cartridges and of free runs, whole and changed, against another auditor."""
 from __future__ import annotations
 
+import os
 import re
 import subprocess
 import tempfile
@@ -222,6 +223,11 @@ def altered(random: Random, lines: list[bytes]) -> tuple[str, list[bytes]]:
 @needs_toml
 class Cartridges(Traces):
     """On the traces of the cartridges here."""
+
+    def setUp(self) -> None:
+        super().setUp()
+        self.addCleanup(os.chdir, os.getcwd())
+        os.chdir(TOP)  # where the names of sources start
 
     def test_every_trace_is_accepted_and_every_change_judged(self) -> None:
         told = set()

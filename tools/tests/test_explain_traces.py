@@ -95,13 +95,14 @@ class ExplainTraces(unittest.TestCase):
         self.assertIn(printed[14], shown)
         with tempfile.TemporaryDirectory() as folder:
             trace = Path(folder) / 'changed.txt'
-            for lines in (changed(printed, 15, printed[14].replace('03 0', '04 0')), [*printed[:15], *printed[16:]]):
+            for top, lines in (('changed.txt, line', changed(printed, 15, printed[14].replace('03 0', '04 0'))),
+                               ('    due ', [*printed[:15], *printed[16:]])):
                 trace.write_text('\n'.join(lines))
                 done = call('explain', PROGRAM, 'audit', *files, trace)
                 self.assertEqual((done.text, done.returncode), ('reject line 15\n', 7))
                 told = done.told.replace(f'{folder}/', '').splitlines()
-                due = told.index(next(line for line in told if line.strip().startswith('due ')))
-                self.assertEqual([line for line in told[:due + 3] if line not in shown and not line.endswith('.md).')], [])
+                first, due = (next(at for at, line in enumerate(told) if line.startswith(start)) for start in (top, '    due '))
+                self.assertEqual([line for line in told[first:due + 3] if line not in shown], [])
 
 
 if __name__ == '__main__':
