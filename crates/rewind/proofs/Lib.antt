@@ -1,0 +1,5 @@
+pub mod FilledAgain
+pub mod ChipLaws
+pub mod RackLaws
+pub mod Memories
+pub mod Laws

@@ -1,0 +1,2 @@
+pub mod PowerAlike
+pub mod Forgetting
