@@ -3,3 +3,7 @@ pub mod ChipLaws
 pub mod RackLaws
 pub mod Memories
 pub mod Laws
+pub mod Entries
+pub mod LogSteps
+pub mod LogCalls
+pub mod WorkedLogs

@@ -24,7 +24,8 @@ use Rattle.rewind.specs.PowerAlike.{PowerAlike, RacksPowerAlike}
 -- ---- the chips at power-on
 
 powered_from : (fill start : ℕ → ℕ) (n : ℕ) (us vs : List ChipView) → RacksPowerAlike us vs →
-    map (λ x. powered (fill x.0) (start x.0) x.1) (enumerate_from n us) ≡ map (λ x. powered (fill x.0) (start x.0) x.1) (enumerate_from n vs)
+    map (λ x. powered (fill x.0) (start x.0) x.1) (enumerate_from n us)
+    ≡ map (λ x. powered (fill x.0) (start x.0) x.1) (enumerate_from n vs)
 powered_from fill start n [] [] alike = refl
 powered_from fill start n [] (v ∷ vs) alike = absurd alike
 powered_from fill start n (u ∷ us) [] alike = absurd alike
@@ -61,7 +62,8 @@ record Sole (vs : List ChipView) (at : ℕ) : Type 0 where
 -- where the address has one sort, one chip holds it
 sole : (vs : List ChipView) (at : ℕ) (sort : PageSort) → filter_map (λ s. sort_at s.pages at) (map seat_of vs) ≡ sort ∷ [] → Sole vs at
 sole vs at sort is =
-    let one : OneKept (λ (s : Seat). sort_at s.pages at) (map seat_of vs) sort = one_kept (λ s. sort_at s.pages at) (map seat_of vs) sort is in
+    let one : OneKept (λ (s : Seat). sort_at s.pages at) (map seat_of vs) sort =
+    one_kept (λ s. sort_at s.pages at) (map seat_of vs) sort is in
     let chip : Comes seat_of (slice_get vs one.place) one.element =
     comes seat_of (slice_get vs one.place) one.element (sym (slice_get-map seat_of vs one.place) ∙ one.lies) in
     record {
@@ -72,13 +74,14 @@ sole vs at sort is =
       once = λ j w lies held. alone one j w lies held (cases_eq j one.place);
     }
   where
-    alone : (one : OneKept (λ (s : Seat). sort_at s.pages at) (map seat_of vs) sort) (j : ℕ) (w : ChipView) → slice_get vs j ≡ Some w →
-        holds w at ≡ true → (j ≡ one.place) ⊎ (j ≡ one.place → ⊥) → j ≡ one.place
+    alone : (one : OneKept (λ (s : Seat). sort_at s.pages at) (map seat_of vs) sort) (j : ℕ) (w : ChipView) →
+        slice_get vs j ≡ Some w → holds w at ≡ true → (j ≡ one.place) ⊎ (j ≡ one.place → ⊥) → j ≡ one.place
     alone one j w lies held cases = ⊎_elim (λ same. same) apart cases
       where
         apart : (j ≡ one.place → ⊥) → j ≡ one.place
         apart other =
-            let none : sort_at w.pages at ≡ None = one.others j (seat_of w) (slice_get-map seat_of vs j ∙ ap (option_map seat_of) lies) other in
+            let none : sort_at w.pages at ≡ None =
+            one.others j (seat_of w) (slice_get-map seat_of vs j ∙ ap (option_map seat_of) lies) other in
             let page : Held w.pages at = held_in w.pages at held in
             let some : sort_at w.pages at ≡ Some page.page.sort = page.sorted in
             cc

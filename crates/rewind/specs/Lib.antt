@@ -1,2 +1,4 @@
 pub mod PowerAlike
 pub mod Forgetting
+pub mod LogEntries
+pub mod LogView
