@@ -11,6 +11,7 @@ from pathlib import Path
 import tool
 from companion.instructions import OPCODES, Flow, Operand
 from tool import TOP, call, needs_program
+from traced import OF_LOOP
 
 needs_toml = unittest.skipUnless(sys.version_info >= (3, 11), 'Python before 3.11 has no reader of TOML')
 
@@ -20,17 +21,7 @@ CART = 'format = 1\n[[chip]]\nkind = "3851"\nbase = 0x0000\nports = 4\nrom = "71
 SMI = '[[chip]]\nkind = "3853"\nram_page = 0x28\nram_pages = 4\n'
 # What parts copies or leaves the code and the RAM: LR K,P and LR P,K, loads of DC0 from registers, interrupts, XDC, and ports of no chip.
 NOT_IN_A_ROW = {0x08, 0x09, 0x0F, 0x10, 0x2C, *range(0xA6, 0xB0), *range(0xB6, 0xC0)}
-RUN = '''verdict whole
-bus 1C S 00 -
-bus 08 L 00 cpu
-bus 00 S 71 0
-bus 00 S 2B 0
-bus 00 S 90 0
-bus 1C S 00 -
-bus 01 L FE 0
-bus 00 S 2B 0
-stop done
-'''
+RUN = '\n'.join(('verdict whole', *OF_LOOP, 'stop done', ''))
 
 # DCI $2800, ST, LI $FF, ADC, and NOP with an interrupt to 0180 at its end; A is 04 from power-on.
 WALK = '''verdict none
