@@ -13,16 +13,17 @@ use Rattle.outside.specs.SinkRules.{Output, Adds, AddsPart}
 use Rattle.outside.proofs.SinkLaws.{PutSoFar, adds_none, adds_then}
 use Rattle.report.proofs.TextLaws.{text_of-nil, text_of-append}
 use Rattle.rack_run.proofs.PutLaws.{so_far_cut}
-use Rattle.rack_run.specs.Seating.{fitted_views, kinds_of, seated, RackFitsInPart}
+use Rattle.rack_run.specs.Seating.{fitted_views, kinds_of, seated, RackFits, RackFitsInPart}
 use Rattle.rack_run.specs.Sockets.{chain_of}
 use Rattle.rack_run.specs.Texts.{Puts}
 use Rattle.chip_face.specs.declared.specification.ChipSpec.{ChipSpec}
-use Rattle.chip_debug.specs.Asking.{allowed_since_power, command_allowed, commands_allowed, session_allowed}
-use Rattle.chip_debug.specs.Breaks.{no_breaks}
-use Rattle.chip_debug.specs.Carried.{first_scene, lines_of, scene_after, scene_by, told_by}
-use Rattle.chip_debug.specs.Limits.{count_of, total_of}
-use Rattle.chip_debug.specs.Scenes.{Scene, started}
-use Rattle.chip_debug.specs.Standing.{SessionState, IsAt, patches}
+use Rattle.rewind.specs.Asking.{allowed_since_power}
+use Rattle.rewind.specs.Standing.{patches}
+use Rattle.chip_debug.specs.Asking.{command_allowed, commands_allowed, session_allowed}
+use Rattle.chip_debug.specs.Carried.{first_scene, lines_of, scene_after, scene_by, scene_on, told_by}
+use Rattle.chip_debug.specs.Limits.{count_of, room_of, rooms_of, total_of}
+use Rattle.chip_debug.specs.Scenes.{Scene, reached}
+use Rattle.chip_debug.specs.Standing.{SessionState, IsAt}
 use Rattle.chip_debug.specs.declared.command.Command.{Command}
 use Rattle.chip_debug.specs.declared.command.Command.TheVariants.{Power}
 use Rattle.loader.specs.declared.games.Debugging.{Debugging}
@@ -31,7 +32,6 @@ use Rattle.channel_f.specs.RackDebugged.{AreOf, Debugs, FailedAt}
 use Rattle.channel_f.specs.Reports.{Answers, Reports}
 use Rattle.channel_f.specs.declared.status.Status.{Status}
 use Rattle.channel_f.specs.declared.status.Status.TheVariants as status
-use Rattle.channel_f.proofs.FittedPatches.{partly_patched}
 use Rattle.channel_f.proofs.Games.{answers_of}
 
 -- ---- the commands that are left
@@ -41,6 +41,13 @@ pub total_next : (commands : List Command) (i : ℕ) → i < length commands →
 total_next commands i within =
     ap total_of (drop_more commands i (Power 0) within)
     ∙ sum_by-cons count_of (get_or commands i (Power 0)) (drop (i + 1) commands)
+
+-- and the room that they take
+pub rooms_next : (commands : List Command) (i : ℕ) → i < length commands →
+    rooms_of (drop i commands) ≡ room_of (get_or commands i (Power 0)) + rooms_of (drop (i + 1) commands)
+rooms_next commands i within =
+    ap rooms_of (drop_more commands i (Power 0) within)
+    ∙ sum_by-cons room_of (get_or commands i (Power 0)) (drop (i + 1) commands)
 
 scene_by-append : (done : List Command) (command : Command) (s : Scene) →
     scene_by (done ++ command ∷ []) s ≡ scene_after command (scene_by done s)
@@ -67,7 +74,7 @@ allowed_by-append (c ∷ done) command s =
 
 -- where a session is at a scene, the chips are the scene's
 are_of : (s : SessionState) (states : List ChipState) (scene : Scene) → IsAt s states scene → AreOf scene states
-are_of s states scene at = record { chips = at.chips; heard = at.heard }
+are_of s states scene at = record { chips = at.there.chips; heard = at.there.heard }
 
 -- ---- so far
 
@@ -152,7 +159,7 @@ module _ (commands left : List Command) (command : Command) (later : List Comman
   pub failed_at : IsAt after news (scene_after command (scene_by along.done first)) →
       AddsPart b c (text_of (lines_of command (scene_by along.done first))) →
       text_of (lines_of command (scene_by along.done first)) ≢ [] →
-      r ≤ q + command_allowed command (scene_by along.done first) → (before : ℕ) → p ≤ before + allowed_since_power first →
+      r ≤ q + command_allowed command (scene_by along.done first) → (before : ℕ) → p ≤ before + allowed_since_power (reached first) →
       FailedAt a c commands first news before r
   failed_at at part some few before begun = record {
     before = along.done;
@@ -194,18 +201,18 @@ kinds_seen [] = refl
 kinds_seen (s ∷ states) = ap (λ (kinds : List ChipKind). s.view.kind ∷ kinds) (kinds_seen states)
 
 pub starts_at : (chips : List ChipSpec) (powers : List PowerOn) (olds : List ChipState) (s : SessionState) (news : List ChipState) →
-    IsAt s news (started 0 (chain_of chips (kinds_of olds)) powers no_breaks (views olds)) →
+    IsAt s news (scene_on (chain_of chips (kinds_of olds)) powers (views olds)) →
     IsAt s news (first_scene chips powers (views olds))
 starts_at chips powers olds s news at =
-    subst (λ (kinds : List ChipKind). IsAt s news (started 0 (chain_of chips kinds) powers no_breaks (views olds)))
+    subst (λ (kinds : List ChipKind). IsAt s news (scene_on (chain_of chips kinds) powers (views olds)))
     (kinds_seen olds) at
 
 -- and so many questions were put until then
 pub begun_asks : (chips : List ChipSpec) (powers : List PowerOn) (olds : List ChipState) (p q : ℕ) →
-    q ≤ p + allowed_since_power (started 0 (chain_of chips (kinds_of olds)) powers no_breaks (views olds)) →
-    q ≤ p + allowed_since_power (first_scene chips powers (views olds))
+    q ≤ p + allowed_since_power (reached (scene_on (chain_of chips (kinds_of olds)) powers (views olds))) →
+    q ≤ p + allowed_since_power (reached (first_scene chips powers (views olds)))
 begun_asks chips powers olds p q few =
-    subst (λ (kinds : List ChipKind). q ≤ p + allowed_since_power (started 0 (chain_of chips kinds) powers no_breaks (views olds)))
+    subst (λ (kinds : List ChipKind). q ≤ p + allowed_since_power (reached (scene_on (chain_of chips kinds) powers (views olds))))
     (kinds_seen olds) few
 
 -- ---- what it answers
@@ -255,12 +262,18 @@ module _ (a b : Output) (said : Status) (asked : Debugging) (rack fitted : List 
   }
 
 pub debugs_wanting : (a b : Output) (asked : Debugging) (rack news : List ChipState) (before after : ℕ) → after ≡ before →
-    RackFitsInPart (seated asked.cart.chips rack) rack news → Debugs a b status.Memory asked rack news before after
-debugs_wanting a b asked rack news before after none partly = record {
-  patched = partly_patched asked.cart.chips rack news partly;
+    patches news ≡ patches rack → RackFits (seated asked.cart.chips rack) rack news ⊎ RackFitsInPart (seated asked.cart.chips rack) rack news →
+    Debugs a b status.Memory asked rack news before after
+debugs_wanting a b asked rack news before after none patched partly = record {
+  patched = patched;
   asks = λ by_sink by_memory. absurd (by_memory refl);
   wanting = λ by_memory. partly;
   unasked = λ by_memory. none;
   whole = λ by_sink by_memory. absurd (by_memory refl);
   failed = λ by_sink. cc;
 }
+
+-- chips that stay as they were fitted
+pub fitted_still : (chips : List ChipSpec) (rack fitted news : List ChipState) → news ≡ fitted → RackFits (seated chips rack) rack fitted →
+    RackFits (seated chips rack) rack news
+fitted_still chips rack fitted news same fits = subst (λ (states : List ChipState). RackFits (seated chips rack) rack states) (sym same) fits

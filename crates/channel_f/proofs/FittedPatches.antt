@@ -7,7 +7,7 @@ use Rattle.chip_face.specs.declared.specification.ChipSpec.{ChipSpec}
 use Rattle.data_bus.specs.Racks.{NumberedZip}
 use Rattle.rack_run.specs.Seating.{FitsWhole, RackFits, RackFitsInPart, kinds_of, no_sockets, seated}
 use Rattle.rack_run.proofs.Seats.{seated_length}
-use Rattle.chip_debug.specs.Standing.{patches}
+use Rattle.rewind.specs.Standing.{patches}
 
 -- something sits in each socket
 

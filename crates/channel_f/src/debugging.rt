@@ -1,5 +1,5 @@
 // A session of the debugger on a rack.
-ghost use Rattle.std.specs.Prelude.{◌≡◌, ◌≢◌, ◌≤◌, ◌+◌, ℕ, length, map, sum_by, OnErr, OnOk};
+ghost use Rattle.std.specs.Prelude.{◌≡◌, ◌≢◌, ◌≤◌, ◌+◌, ℕ, IfOk, length, map, sum_by, OnErr, OnOk};
 ghost use Rattle.f8_spec.specs.BusArbitration.{seat_of};
 ghost use Rattle.console_spec.specs.RunText.{text_of};
 ghost use Rattle.cpu3850.specs.OwnWrites.{LeaveOwnPorts};
@@ -7,11 +7,13 @@ ghost use Rattle.data_bus.specs.Racks.{views};
 ghost use Rattle.f8_machine.specs.Fitting.{Fits};
 ghost use Rattle.f8_machine.specs.Refinement.{AreWhole};
 ghost use Rattle.rack_run.specs.Texts.{Puts};
-ghost use Rattle.chip_debug.specs.Asking.{allowed_since_power, commands_allowed, session_allowed};
+ghost use Rattle.rewind.specs.Asking.{allowed_since_power};
+ghost use Rattle.chip_debug.specs.Asking.{commands_allowed, session_allowed};
 ghost use Rattle.chip_debug.specs.Carried.{first_scene, scene_by, told_by};
-ghost use Rattle.chip_debug.specs.Limits.{AreCommands, most_instructions, total_of};
-ghost use Rattle.chip_debug.specs.Scenes.{Scene};
-ghost use Rattle.chip_debug.specs.Standing.{IsAt, patches};
+ghost use Rattle.chip_debug.specs.Limits.{AreCommands, most_instructions, rooms_of, total_of};
+ghost use Rattle.chip_debug.specs.Scenes.{Scene, reached};
+ghost use Rattle.chip_debug.specs.Standing.{IsAt, count_in};
+ghost use Rattle.rewind.specs.Standing.{patches};
 ghost use Rattle.channel_f.specs.Answers.{debug_answer, debug_due, refusal as spelled_refusal};
 ghost use Rattle.channel_f.specs.RackDebugged.{AreOf, Debugs, DebugsUnless, FailedAt};
 ghost use Rattle.channel_f.specs.Reports.{Answers, AnswersDue, Reports};
@@ -38,15 +40,17 @@ fn carry_out<K: Sink>(
     requires few { length rack.old.items ≤ MOST_CHIPS }
     requires ranges { AreCommands commands.now }
     requires total { total_of commands.now ≤ most_instructions }
-    requires begun { session.old.count ≡ 0 }
-    requires fits { Fits session.old.machine (map state rack.old.items) }
+    requires begun { count_in session.old ≡ 0 }
+    requires stands { (scene : Scene) × IsAt session.old (map state rack.old.items) scene }
+    requires room { rooms_of commands.now ≤ session.old.tape.log.spare }
+    requires fits { Fits session.old.tape.machine (map state rack.old.items) }
     ensures told { (scene : Scene) → IsAt session.old (map state rack.old.items) scene →
         Puts result (K.output sink.old) (K.output sink.new) (text_of (told_by commands.now scene)) }
     ensures whole { (scene : Scene) → IsAt session.old (map state rack.old.items) scene →
         OnOk result (AreOf (scene_by commands.now scene) (map state rack.new.items)) }
     ensures failed { (scene : Scene) (before : ℕ) →
         IsAt session.old (map state rack.old.items) scene →
-        sum_by queries rack.old.items ≤ before + allowed_since_power scene →
+        sum_by queries rack.old.items ≤ before + allowed_since_power (reached scene) →
         OnErr result (FailedAt (K.output sink.old) (K.output sink.new) commands.now scene
         (map state rack.new.items) before (sum_by queries rack.new.items)) }
     ensures asked { (scene : Scene) → IsAt session.old (map state rack.old.items) scene →
@@ -61,31 +65,41 @@ fn carry_out<K: Sink>(
     Ok(())
 }
 
-/// A session on a rack that is fitted for the cartridge. It takes no memory.
-fn debug_fitted<K: Sink>(asked: &Debugging, sink: &mut K, rack: &mut Rack) -> Status
+/// A session on a rack that is fitted for the cartridge. Where memory is wanting for its key bytes and pulses, the rack is as it was, and
+/// nothing is written.
+fn debug_fitted<K: Sink>(
+    alloc: Global,
+    asked: &Debugging,
+    sink: &mut K,
+    rack: &mut Rack,
+) -> Result<Status, Memory>
     requires few { length rack.old.items ≤ MOST_CHIPS }
     requires whole { AreWhole (map state rack.old.items) }
     requires ports { LeaveOwnPorts (map seat_of (views (map state rack.old.items))) }
-    ensures reports { Reports (K.output sink.old) (K.output sink.new) result Status.Done
-        (told_by asked.now.commands (first_scene asked.now.cart.chips asked.now.cart.powers
-        (views (map state rack.old.items)))) }
-    ensures whole { result ≢ Status.Sink → AreOf (scene_by asked.now.commands
+    ensures reports { IfOk result (λ said. Reports (K.output sink.old) (K.output sink.new) said
+        Status.Done (told_by asked.now.commands (first_scene asked.now.cart.chips
+        asked.now.cart.powers (views (map state rack.old.items))))) }
+    ensures whole { IfOk result (λ said. said ≢ Status.Sink → AreOf (scene_by asked.now.commands
         (first_scene asked.now.cart.chips asked.now.cart.powers
-        (views (map state rack.old.items)))) (map state rack.new.items) }
-    ensures failed { result ≡ Status.Sink → FailedAt (K.output sink.old) (K.output sink.new)
-        asked.now.commands (first_scene asked.now.cart.chips asked.now.cart.powers
-        (views (map state rack.old.items)))
-        (map state rack.new.items) (sum_by queries rack.old.items) (sum_by queries rack.new.items) }
-    ensures asked { result ≢ Status.Sink →
+        (views (map state rack.old.items)))) (map state rack.new.items)) }
+    ensures failed { IfOk result (λ said. said ≡ Status.Sink → FailedAt (K.output sink.old)
+        (K.output sink.new) asked.now.commands (first_scene asked.now.cart.chips
+        asked.now.cart.powers (views (map state rack.old.items)))
+        (map state rack.new.items) (sum_by queries rack.old.items)
+        (sum_by queries rack.new.items)) }
+    ensures asked { IfOk result (λ said. said ≢ Status.Sink →
         sum_by queries rack.new.items ≤ sum_by queries rack.old.items
-        + session_allowed asked.now.commands (first_scene asked.now.cart.chips asked.now.cart.powers
-        (views (map state rack.old.items))) }
+        + session_allowed asked.now.commands (first_scene asked.now.cart.chips
+        asked.now.cart.powers (views (map state rack.old.items)))) }
+    ensures stays { OnErr result (map state rack.new.items ≡ map state rack.old.items) }
+    ensures unasked { OnErr result (map queries rack.new.items ≡ map queries rack.old.items) }
+    ensures nothing { OnErr result (K.output sink.new ≡ K.output sink.old) }
     ensures patches { patches (map state rack.new.items) ≡ patches (map state rack.old.items) }
 {
-    let mut session = Session::new(&asked.cart, rack);
+    let mut session = Session::new(alloc, &asked.cart, &asked.commands, rack)?;
     match carry_out(&mut session, asked.commands.as_slice(), sink, rack) {
-        Ok(()) => Status::Done,
-        Err(SinkFault) => Status::Sink,
+        Ok(()) => Ok(Status::Done),
+        Err(SinkFault) => Ok(Status::Sink),
     }
 }
 
@@ -99,7 +113,10 @@ fn fit_and_debug<K: Sink>(alloc: Global, asked: &Debugging, sink: &mut K, rack: 
         (sum_by queries rack.old.items) (sum_by queries rack.new.items) }
 {
     match fit_all(alloc, &asked.cart.chips, rack) {
-        Ok(()) => debug_fitted(asked, sink, rack),
+        Ok(()) => match debug_fitted(alloc, asked, sink, rack) {
+            Ok(status) => status,
+            Err(Memory) => Status::Memory,
+        },
         Err(Memory) => Status::Memory,
     }
 }

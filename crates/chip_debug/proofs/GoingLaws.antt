@@ -3,26 +3,27 @@ use Rattle.std.proofs.Common.{◌≡◌, ℕ, zero, suc, ◌+◌, ◌*◌, ◌<�
 use Rattle.std.proofs.Common.{zero-add, add_assoc}
 use Rattle.std.specs.Prelude.{◌-◌, ◌&&◌, if◌then◌else◌, is_some}
 use Rattle.f8_spec.specs.ChipState.{ChipState}
+use Rattle.rewind.specs.Asking.{allowed_since_power}
 use Rattle.chip_debug.specs.declared.session.Came.{Came}
 use Rattle.chip_debug.specs.declared.session.Came.TheVariants.{Done, Met, Stopped}
 use Rattle.chip_debug.specs.declared.session.Ran.{Ran}
-use Rattle.chip_debug.specs.Scenes.{Going, Scene, and_before, going, is_met, next_steps, turned, went}
+use Rattle.chip_debug.specs.Scenes.{Going, Scene, and_before, going, has_stopped, is_met, reached, stepped, stops, went}
 use Rattle.chip_debug.specs.Standing.{SessionState, IsAt, IsGone, IsTurned, behind, came_of}
-use Rattle.chip_debug.specs.Asking.{allowed_between, allowed_since_power, behind_allowed}
+use Rattle.chip_debug.specs.Asking.{allowed_between, behind_allowed}
 use Rattle.chip_debug.specs.declared.breaks.Breaks.{Breaks}
-use Rattle.chip_debug.proofs.Turned.{turned_breaks, turned_chain}
+use Rattle.chip_debug.proofs.SceneLaws.{stepped_breaks, stepped_chain}
 
 -- ---- one instruction more
 
 -- by whether the session has stopped, whether the instruction stops it, and whether it meets a break
 abbrev going_by : Bool → Bool → Bool → Scene → Going → Going
 going_by stopped stops met s rest =
-    if stopped then went s 0 false else if stops then went (turned s) 0 false else
-    if met then went (turned s) 1 true else and_before 1 rest
+    if stopped then went s 0 false else if stops then went (stepped s) 0 false else
+    if met then went (stepped s) 1 true else and_before 1 rest
 
 going-suc : (heeds : Bool) (n : ℕ) (s : Scene) → going heeds (suc n) s
-    ≡ going_by (is_some s.stop) (is_some (turned s).stop) (heeds && is_met (next_steps s) (turned s)) s
-    (going heeds n (turned s))
+    ≡ going_by (has_stopped s) (stops s) (heeds && is_met s) s
+    (going heeds n (stepped s))
 unfolding going
 going-suc heeds n s = refl
 
@@ -30,7 +31,7 @@ going-zero : (heeds : Bool) (s : Scene) → going heeds zero s ≡ went s 0 fals
 unfolding going
 going-zero heeds s = refl
 
-pub going-stopped : (heeds : Bool) (n : ℕ) (s : Scene) → is_some s.stop ≡ true → going heeds n s ≡ went s 0 false
+pub going-stopped : (heeds : Bool) (n : ℕ) (s : Scene) → has_stopped s ≡ true → going heeds n s ≡ went s 0 false
 going-stopped heeds zero s stopped = going-zero heeds s
 going-stopped heeds (suc n) s stopped = going-suc heeds n s ∙ rw stopped refl
 
@@ -38,38 +39,38 @@ abbrev came_by : Bool → Bool → Came
 came_by stops met = if stops then Stopped else if met then Met else Done
 
 -- where the instruction is done and meets no break that is heeded
-going-done : (heeds : Bool) (n : ℕ) (s : Scene) → is_some s.stop ≡ false → Done ≡ came_of heeds s →
-    going heeds (suc n) s ≡ and_before 1 (going heeds n (turned s))
+going-done : (heeds : Bool) (n : ℕ) (s : Scene) → has_stopped s ≡ false → Done ≡ came_of heeds s →
+    going heeds (suc n) s ≡ and_before 1 (going heeds n (stepped s))
 going-done heeds n s running is =
     going-suc heeds n s
-    ∙ rw running (by (is_some (turned s).stop) (heeds && is_met (next_steps s) (turned s)) is)
+    ∙ rw running (by (stops s) (heeds && is_met s) is)
   where
     by : (stops met : Bool) → Done ≡ came_by stops met →
-        going_by false stops met s (going heeds n (turned s)) ≡ and_before 1 (going heeds n (turned s))
+        going_by false stops met s (going heeds n (stepped s)) ≡ and_before 1 (going heeds n (stepped s))
     by true met e = cc
     by false true e = cc
     by false false e = refl
 
-going-met : (heeds : Bool) (n : ℕ) (s : Scene) → is_some s.stop ≡ false → Met ≡ came_of heeds s →
-    going heeds (suc n) s ≡ went (turned s) 1 true
+going-met : (heeds : Bool) (n : ℕ) (s : Scene) → has_stopped s ≡ false → Met ≡ came_of heeds s →
+    going heeds (suc n) s ≡ went (stepped s) 1 true
 going-met heeds n s running is =
     going-suc heeds n s
-    ∙ rw running (by (is_some (turned s).stop) (heeds && is_met (next_steps s) (turned s)) is)
+    ∙ rw running (by (stops s) (heeds && is_met s) is)
   where
     by : (stops met : Bool) → Met ≡ came_by stops met →
-        going_by false stops met s (going heeds n (turned s)) ≡ went (turned s) 1 true
+        going_by false stops met s (going heeds n (stepped s)) ≡ went (stepped s) 1 true
     by true met e = cc
     by false true e = refl
     by false false e = cc
 
-going-stops : (heeds : Bool) (n : ℕ) (s : Scene) → is_some s.stop ≡ false → Stopped ≡ came_of heeds s →
-    going heeds (suc n) s ≡ went (turned s) 0 false
+going-stops : (heeds : Bool) (n : ℕ) (s : Scene) → has_stopped s ≡ false → Stopped ≡ came_of heeds s →
+    going heeds (suc n) s ≡ went (stepped s) 0 false
 going-stops heeds n s running is =
     going-suc heeds n s
-    ∙ rw running (by (is_some (turned s).stop) (heeds && is_met (next_steps s) (turned s)) is)
+    ∙ rw running (by (stops s) (heeds && is_met s) is)
   where
     by : (stops met : Bool) → Stopped ≡ came_by stops met →
-        going_by false stops met s (going heeds n (turned s)) ≡ went (turned s) 0 false
+        going_by false stops met s (going heeds n (stepped s)) ≡ went (stepped s) 0 false
     by true met e = refl
     by false true e = cc
     by false false e = cc
@@ -109,10 +110,10 @@ pub record Reached (heeds : Bool) (count : ℕ) (first : Scene) (done : ℕ) (s 
   pub all : count ≡ done + left
   pub rest : going heeds count first ≡ and_before done (going heeds left there)
   pub breaks : there.breaks ≡ first.breaks
-  pub chain : there.position.chain ≡ first.position.chain
+  pub chain : there.chain ≡ first.chain
   pub asked :
-      after + allowed_since_power first
-      ≤ before + allowed_since_power there + done * behind_allowed heeds first.breaks first.position.chain
+      after + allowed_since_power (reached first)
+      ≤ before + allowed_since_power (reached there) + done * behind_allowed heeds first.breaks first.chain
 
 pub reached_first : (heeds : Bool) (count : ℕ) (scene : Scene) (s : SessionState) (states : List ChipState) (before : ℕ) →
     IsAt s states scene → Reached heeds count scene 0 s states before before
@@ -124,35 +125,35 @@ reached_first heeds count scene s states before at = record {
   rest = sym (before_none (going heeds count scene));
   breaks = refl;
   chain = refl;
-  asked = none_more before (allowed_since_power scene) (behind_allowed heeds scene.breaks scene.position.chain);
+  asked = none_more before (allowed_since_power (reached scene)) (behind_allowed heeds scene.breaks scene.chain);
 }
 
 gone_as : (heeds : Bool) (count : ℕ) (scene t : Scene) (n : ℕ) (broke : Bool) (ran : Ran) (s : SessionState)
     (states : List ChipState) (p q : ℕ) →
     going heeds count scene ≡ went t n broke → IsAt s states t → ran.count ≡ n → ran.broke ≡ broke →
-    q + allowed_since_power scene ≤ p + allowed_since_power t + n * behind_allowed heeds scene.breaks scene.position.chain →
+    q + allowed_since_power (reached scene) ≤ p + allowed_since_power (reached t) + n * behind_allowed heeds scene.breaks scene.chain →
     IsGone heeds count ran s states scene p q
 gone_as heeds count scene t n broke ran s states p q is at counted met few = record {
   at = subst (λ (g : Going). IsAt s states g.scene) (sym is) at;
   counted = counted ∙ sym (ap (λ (g : Going). g.ran) is);
   met = met ∙ sym (ap (λ (g : Going). g.broke) is);
   asked = subst (λ (g : Going). q ≤ p + (allowed_between scene g.scene
-      + g.ran * behind_allowed heeds scene.breaks scene.position.chain)) (sym is)
-      (within p q (allowed_since_power scene) (allowed_since_power t)
-      (n * behind_allowed heeds scene.breaks scene.position.chain) few);
+      + g.ran * behind_allowed heeds scene.breaks scene.chain)) (sym is)
+      (within p q (allowed_since_power (reached scene)) (allowed_since_power (reached t))
+      (n * behind_allowed heeds scene.breaks scene.chain) few);
 }
 
 pub gone_stopped : (heeds : Bool) (count : ℕ) (scene : Scene) (ran : Ran) (s : SessionState) (states : List ChipState) (p : ℕ) →
-    IsAt s states scene → is_some scene.stop ≡ true → ran.count ≡ 0 → ran.broke ≡ false →
+    IsAt s states scene → has_stopped scene ≡ true → ran.count ≡ 0 → ran.broke ≡ false →
     IsGone heeds count ran s states scene p p
 gone_stopped heeds count scene ran s states p at stopped counted met =
     gone_as heeds count scene scene 0 false ran s states p p (going-stopped heeds count scene stopped) at counted met
-    (none_more p (allowed_since_power scene) (behind_allowed heeds scene.breaks scene.position.chain))
+    (none_more p (allowed_since_power (reached scene)) (behind_allowed heeds scene.breaks scene.chain))
 
 module _ (heeds : Bool) (count : ℕ) (first : Scene) (done : ℕ) (s : SessionState) (states : List ChipState) (p q : ℕ)
     (r : Reached heeds count first done s states p q) where
   abbrev each : ℕ
-  each = behind_allowed heeds first.breaks first.position.chain
+  each = behind_allowed heeds first.breaks first.chain
 
   -- all are done
   pub gone_all : (ran : Ran) → count ≤ done → ran.count ≡ count → ran.broke ≡ false →
@@ -162,12 +163,12 @@ module _ (heeds : Bool) (count : ℕ) (first : Scene) (done : ℕ) (s : SessionS
       let is : going heeds count first ≡ went r.there (done + 0) false =
       r.rest ∙ ap (λ n. and_before done (going heeds n r.there)) none ∙ ap (and_before done) (going-zero heeds r.there) in
       let counts : ran.count ≡ done + 0 = let all = r.all in omega (arith, all, none, counted) in
-      let so_far : q + allowed_since_power first ≤ p + allowed_since_power r.there + (done + 0) * each =
-      then_asked p q q (allowed_since_power first) (allowed_since_power r.there) (allowed_since_power r.there) (done * each) 0
+      let so_far : q + allowed_since_power (reached first) ≤ p + allowed_since_power (reached r.there) + (done + 0) * each =
+      then_asked p q q (allowed_since_power (reached first)) (allowed_since_power (reached r.there)) (allowed_since_power (reached r.there)) (done * each) 0
       ((done + 0) * each) r.asked (omega arith) (omega arith) in
       gone_as heeds count first r.there (done + 0) false ran s states p q is r.at counts met so_far
 
-  module _ (more : done < count) (running : is_some r.there.stop ≡ false) (came : Came) (after : SessionState)
+  module _ (more : done < count) (running : has_stopped r.there ≡ false) (came : Came) (after : SessionState)
       (news : List ChipState) (asked : ℕ) (turns : IsTurned heeds came after news r.there q asked) where
     left_more : (m : ℕ) × (r.left ≡ suc m)
     left_more = by r.left r.all
@@ -181,38 +182,38 @@ module _ (heeds : Bool) (count : ℕ) (first : Scene) (done : ℕ) (s : SessionS
 
     -- so many questions were put, with those behind the instruction
     asked_more : (n all : ℕ) → behind came each ≡ n → all ≡ done * each + n →
-        asked + allowed_since_power first ≤ p + allowed_since_power (turned r.there) + all
+        asked + allowed_since_power (reached first) ≤ p + allowed_since_power (reached (stepped r.there)) + all
     asked_more n all is both =
-        then_asked p q asked (allowed_since_power first) (allowed_since_power r.there) (allowed_since_power (turned r.there))
+        then_asked p q asked (allowed_since_power (reached first)) (allowed_since_power (reached r.there)) (allowed_since_power (reached (stepped r.there)))
         (done * each) n all r.asked
-        (subst (λ k. asked + allowed_since_power r.there ≤ q + allowed_since_power (turned r.there) + k)
+        (subst (λ k. asked + allowed_since_power (reached r.there) ≤ q + allowed_since_power (reached (stepped r.there)) + k)
         (ap (behind came) (ap₂ (λ (b : Breaks) (c : List ℕ). behind_allowed heeds b c) r.breaks r.chain) ∙ is) turns.asked)
         both
 
     pub reached_more : came ≡ Done → Reached heeds count first (done + 1) after news p asked
     reached_more is = record {
-      there = turned r.there;
+      there = stepped r.there;
       at = turns.at;
       left = left_more.0;
       all = let all = r.all in let left = left_more.1 in omega (arith, all, left);
       rest = next_is ∙ ap (and_before done) (going-done heeds left_more.0 r.there running (sym is ∙ turns.is))
-          ∙ before_then done 1 (going heeds left_more.0 (turned r.there));
-      breaks = turned_breaks r.there ∙ r.breaks;
-      chain = turned_chain r.there ∙ r.chain;
+          ∙ before_then done 1 (going heeds left_more.0 (stepped r.there));
+      breaks = stepped_breaks r.there ∙ r.breaks;
+      chain = stepped_chain r.there ∙ r.chain;
       asked = asked_more each ((done + 1) * each) (ap (λ (c : Came). behind c each) is) (once_more done each);
     }
 
     pub gone_met : (ran : Ran) → came ≡ Met → ran.count ≡ done + 1 → ran.broke ≡ true →
         IsGone heeds count ran after news first p asked
     gone_met ran is counted met =
-        gone_as heeds count first (turned r.there) (done + 1) true ran after news p asked
+        gone_as heeds count first (stepped r.there) (done + 1) true ran after news p asked
         (next_is ∙ ap (and_before done) (going-met heeds left_more.0 r.there running (sym is ∙ turns.is))) turns.at
         counted met (asked_more each ((done + 1) * each) (ap (λ (c : Came). behind c each) is) (once_more done each))
 
     pub gone_stops : (ran : Ran) → came ≡ Stopped → ran.count ≡ done → ran.broke ≡ false →
         IsGone heeds count ran after news first p asked
     gone_stops ran is counted met =
-        gone_as heeds count first (turned r.there) (done + 0) false ran after news p asked
+        gone_as heeds count first (stepped r.there) (done + 0) false ran after news p asked
         (next_is ∙ ap (and_before done) (going-stops heeds left_more.0 r.there running (sym is ∙ turns.is))) turns.at
         (omega (arith, counted)) met
         (asked_more 0 ((done + 0) * each) (ap (λ (c : Came). behind c each) is) (omega arith))

@@ -1,20 +1,19 @@
 pub mod WordNumbers
 pub mod LineSteps
-pub mod KeptBytes
-pub mod KeptChips
-pub mod KeptRacks
-pub mod KeptHearing
-pub mod PatchLaws
-pub mod AskingLaws
-pub mod SceneLaws
-pub mod Starts
-pub mod Turned
 pub mod Halts
-pub mod Happening
+pub mod SceneLaws
+pub mod MeetLaws
+pub mod Placing
+pub mod Returning
+pub mod Turned
+pub mod Storing
 pub mod ChainLaws
 pub mod GoingLaws
+pub mod SteppingLaws
 pub mod PutLines
 pub mod SocketLaws
+pub mod Searches
+pub mod Replays
 mod WorkedCommands
 mod WorkedSessions
 mod WorkedStops

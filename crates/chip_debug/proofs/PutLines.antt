@@ -3,7 +3,7 @@ use Rattle.std.proofs.Common.{◌≡◌, ◌≢◌, ℕ, ◌+◌, ◌<◌, ◌�
 use Rattle.std.specs.Prelude.{Option, option_map, Result, Ok, Err, OnOk, OnErr}
 use Rattle.f8_spec.specs.ChipState.{ChipState}
 use Rattle.rack_run.specs.Endings.{stop_of}
-use Rattle.chip_debug.specs.Scenes.{Scene}
+use Rattle.chip_debug.specs.Scenes.{Scene, reached}
 use Rattle.chip_debug.specs.Standing.{SessionState, IsAt}
 use Rattle.std.proofs.lemmas.List.FromFn.{length-map-range_with_len, get_or-map-range_with_len}
 use Rattle.f8_spec.specs.declared.bus.Counters.{Counters}
@@ -18,7 +18,7 @@ use Rattle.rack_run.proofs.PutLaws.{puts_none, puts_then, puts_first, puts_line}
 use Rattle.rack_run.proofs.TellingTexts.{text_of-one}
 use Rattle.rack_run.specs.Texts.{Puts}
 use Rattle.chip_debug.specs.Carried.{scratchpad_lines, start_lines}
-use Rattle.chip_debug.specs.DebugText.{ready_line, ran_line, break_line, chip_line, probe_line, mem_line}
+use Rattle.chip_debug.specs.DebugText.{at_line, break_line, chip_line, mem_line, probe_line, ran_line, ready_line, stored_line}
 
 -- ---- lines are not empty
 
@@ -33,6 +33,14 @@ ran_some ran e = cc
 pub break_some : break_line ≢ []
 unfolding break_line
 break_some e = cc
+
+pub at_some : (place : ℕ) → at_line place ≢ []
+unfolding at_line
+at_some place e = cc
+
+pub stored_some : (place : Option ℕ) → stored_line place ≢ []
+unfolding stored_line
+stored_some place e = cc
 
 pub chip_some : (socket : ℕ) (kind : ChipKind) (counters : Option Counters) → chip_line socket kind counters ≢ []
 unfolding chip_line
@@ -75,6 +83,11 @@ pub puts_one : {T : Type 0} {E : Type 0} (r : Result T E) (a b : Output) (bytes 
     line ≢ [] → OnOk r (Adds a b bytes) → OnErr r (AddsPart a b bytes) → Puts r a b (text_of (line ∷ []))
 puts_one r a b bytes line is some ok err =
     rw (text_of-one line) (puts_line r a b line some (rw is at ok) (rw is at err))
+
+-- some lines that are others
+pub puts_told : {T : Type 0} {E : Type 0} (r : Result T E) (a b : Output) (lines told : List (List ℕ)) → lines ≡ told →
+    Puts r a b (text_of lines) → Puts r a b (text_of told)
+puts_told r a b lines told same puts = subst (λ (ls : List (List ℕ)). Puts r a b (text_of ls)) same puts
 
 -- ---- several lines
 
@@ -128,6 +141,6 @@ rows_all regs row past =
 -- what a session tells of its start is what its scene says
 pub puts_start : {T : Type 0} {E : Type 0} (r : Result T E) (a b : Output) (s : SessionState) (states : List ChipState)
     (scene : Scene) → IsAt s states scene → Puts r a b (text_of (start_lines (option_map stop_of s.halt))) →
-    Puts r a b (text_of (start_lines scene.stop))
+    Puts r a b (text_of (start_lines (reached scene).stop))
 puts_start r a b s states scene at puts =
     subst (λ (stop : Option Stop). Puts r a b (text_of (start_lines stop))) at.stop puts

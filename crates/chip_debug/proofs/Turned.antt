@@ -1,149 +1,272 @@
--- An instruction leads to the next scene.
-use Rattle.std.proofs.Common.{◌≡◌, ℕ, ◌+◌, ◌≤◌, ◌++◌, Bool, true, false, List, length, refl, sym, ap, ap₂, subst, ◌∙◌, arith}
-use Rattle.std.specs.Prelude.{◌||◌, ◌&&◌, if◌then◌else◌, Option, Some, None, is_some}
-use Rattle.std.specs.List.{list_any}
-use Rattle.f8_spec.specs.ChipState.{ChipView, ChipState}
-use Rattle.f8_spec.specs.Instructions.{decoded}
-use Rattle.f8_spec.specs.declared.instructions.Op.{Op}
-use Rattle.console_spec.specs.Processor.{Flow}
-use Rattle.console_spec.specs.Run.{Position, Goes, decided, goes_unless, instruction_fault, next, opcode_at}
-use Rattle.console_spec.specs.Run.{position_after, turn_course}
-use Rattle.console_spec.specs.Services.{Fault}
-use Rattle.probe.specs.ProbeState.{ProbeState, probe_counters}
+-- An instruction leads a session to the next scene.
+use Rattle.std.proofs.Common.{◌≡◌, ℕ, ◌+◌, ◌≤◌, ◌++◌, Bool, true, false, List, [], ◌∷◌, refl, sym, ap, ap₂, subst, ◌∙◌, arith}
+use Rattle.std.specs.Prelude.{◌&&◌, if◌then◌else◌, Option, Some, None, is_some}
+use Rattle.f8_spec.specs.ChipState.{ChipState}
+use Rattle.console_spec.specs.BusTrace.{Course}
+use Rattle.console_spec.specs.Run.{Stop, Stops, Turn, Reserved as ReservedStop, next}
 use Rattle.data_bus.specs.Racks.{views}
-use Rattle.f8_machine.specs.Advancing.{Follows}
-use Rattle.f8_machine.specs.Fitting.{Fits, tried}
 use Rattle.f8_machine.specs.HeardSteps.{HaveBytes}
-use Rattle.f8_machine.specs.MachineState.{MachineState, steps_in}
-use Rattle.f8_machine.specs.Questions.{allowances}
-use Rattle.f8_machine.specs.Refinement.{Refines, Represents}
+use Rattle.f8_machine.specs.MachineState.{steps_in}
+use Rattle.f8_machine.specs.Refinement.{Refines}
 use Rattle.f8_machine.specs.declared.heard.Heard.{Heard}
 use Rattle.f8_machine.specs.declared.outcome.Outcome.{Outcome}
-use Rattle.f8_machine.specs.declared.outcome.Outcome.TheVariants.{Done, Fault as FaultOutcome, Reserved}
-use Rattle.rack_run.proofs.MachineTurns.{reads_kept}
-use Rattle.rack_run.proofs.Outcomes.{outcome_heard}
-use Rattle.rack_run.specs.Machines.{machine_reads}
+use Rattle.f8_machine.specs.declared.outcome.Outcome.TheVariants.{Done, Fault, Reserved}
+use Rattle.probe.specs.ProbeState.{probe_counters}
+use Rattle.rack_run.proofs.Outcomes.{reserved_course}
+use Rattle.rack_run.specs.Endings.{stop_of}
 use Rattle.rack_run.specs.declared.ending.Halt.{Halt}
-use Rattle.rack_run.specs.declared.ending.Halt.TheVariants.{Fault as FaultHalt, Reserved as ReservedHalt}
+use Rattle.rewind.specs.Asking.{AsksBetween, allowed_since_power, unserved_codes}
+use Rattle.rewind.specs.LogEntries.{instructions_in}
+use Rattle.rewind.specs.Reached.{Reached, hearing, led_by, next_steps, served_steps, turned}
+use Rattle.rewind.specs.Standing.{HasReached}
+use Rattle.rewind.specs.Tape.{TapeState, Instructs, IsTaped, come, come_by, mode_faulted, played_from, stop_in, tape_after}
+use Rattle.rewind.specs.declared.entry.Entry.{Entry}
+use Rattle.rewind.specs.declared.entry.Entry.TheVariants.{Instruction}
+use Rattle.rewind.specs.declared.tape_mode.TapeMode.{TapeMode}
+use Rattle.rewind.specs.declared.tape_mode.TapeMode.TheVariants.{Faulted, Going}
+use Rattle.rewind.proofs.Entries.{instructions-append}
+use Rattle.rewind.proofs.ReachedLaws.{hearing_none, represents_at}
+use Rattle.rewind.proofs.Turned.{outcome_is, turned_at}
+use Rattle.chip_debug.specs.Asking.{behind_allowed}
+use Rattle.chip_debug.specs.Breaks.{are_met}
+use Rattle.chip_debug.specs.Scenes.{Scene, is_met, meets_break, reached, stepped, stops}
+use Rattle.chip_debug.specs.Standing.{SessionState, IsAt, IsPlayed, came_of, halt_in}
 use Rattle.chip_debug.specs.declared.breaks.Breaks.{Breaks}
-use Rattle.chip_debug.specs.Breaks.{are_met, meets_behind, meets_step}
-use Rattle.chip_debug.specs.Asking.{allowed_since_power, behind_allowed}
-use Rattle.chip_debug.specs.Scenes.{Scene, hearing, is_met, next_steps, turned}
-use Rattle.chip_debug.specs.Standing.{SessionState, IsAt, RunsAt, came_of, halt_in}
 use Rattle.chip_debug.specs.declared.session.Came.{Came}
 use Rattle.chip_debug.specs.declared.session.Came.TheVariants.{Done as DoneCame, Met, Stopped}
-use Rattle.chip_debug.proofs.Halts.{runs_at, stops_as}
-use Rattle.chip_debug.proofs.AskingLaws.{steps_ask}
-use Rattle.chip_debug.proofs.SceneLaws.{Shows, shows_at, shows_heard, goes_at, stops_at, led_breaks, led_chain, led_heard}
+use Rattle.chip_debug.proofs.Halts.{not_stopped, runs_at}
+use Rattle.chip_debug.proofs.MeetLaws.{meets_is}
+use Rattle.chip_debug.proofs.SceneLaws.{entered_is, reached_off, reached_on, reached_running, reached_stepped, stepped_breaks}
+use Rattle.chip_debug.proofs.SceneLaws.{stepped_chain, stepped_off, stepped_on, with_instruction, with_stop}
 
--- ---- an instruction that is done counts
+-- ---- a reserved opcode
 
-goes_count : (x y : Position) (fault : Option Fault) (op : Op) → goes_unless fault (position_after op x) ≡ Goes y →
-    y.flat.state.count ≡ x.flat.state.count + 1
-goes_count x y None op e =
-    let same : position_after op x ≡ y = cc in
-    ap (λ (z : Position). z.flat.state.count) (sym same)
-goes_count x y (Some fault) op e = cc
+-- it has no bus steps
+turned_reserved : (r : Reached) (address code : ℕ) → next r.position ≡ Stops (ReservedStop address code) →
+    turned r ≡ record r { stop = Some (ReservedStop address code) }
+turned_reserved r address code turns =
+    let steps : next_steps r ≡ [] =
+    ap (λ (course : Course). served_steps course) (reserved_course r.position address code turns) in
+    ap₂ led_by turns (ap (λ (hs : List Heard). hearing hs r) steps ∙ hearing_none r)
 
-decided_count : (x y : Position) (at code : ℕ) (found : Option Op) →
-    decided (λ op. goes_unless (instruction_fault op x) (position_after op x)) at code found ≡ Goes y →
-    y.flat.state.count ≡ x.flat.state.count + 1
-decided_count x y at code None e = cc
-decided_count x y at code (Some op) e = goes_count x y (instruction_fault op x) op e
-
-next_count : (x y : Position) → next x ≡ Goes y → y.flat.state.count ≡ x.flat.state.count + 1
-next_count x y e = decided_count x y x.flat.state.flow.p (opcode_at x) (decoded (opcode_at x)) e
-
--- ---- and the chain and the breaks stay
-
-goes_chain : (x y : Position) (fault : Option Fault) (op : Op) → goes_unless fault (position_after op x) ≡ Goes y → y.chain ≡ x.chain
-goes_chain x y None op e =
-    let same : position_after op x ≡ y = cc in
-    ap (λ (z : Position). z.chain) (sym same)
-goes_chain x y (Some fault) op e = cc
-
-decided_chain : (x y : Position) (at code : ℕ) (found : Option Op) →
-    decided (λ op. goes_unless (instruction_fault op x) (position_after op x)) at code found ≡ Goes y → y.chain ≡ x.chain
-decided_chain x y at code None e = cc
-decided_chain x y at code (Some op) e = goes_chain x y (instruction_fault op x) op e
-
-next_chain : (x y : Position) → next x ≡ Goes y → y.chain ≡ x.chain
-next_chain x y e = decided_chain x y x.flat.state.flow.p (opcode_at x) (decoded (opcode_at x)) e
-
-pub turned_chain : (s : Scene) → (turned s).position.chain ≡ s.position.chain
-turned_chain s = led_chain (next s.position) (hearing (next_steps s) s) (next_chain s.position)
-
-pub turned_breaks : (s : Scene) → (turned s).breaks ≡ s.breaks
-turned_breaks s = led_breaks (next s.position) (hearing (next_steps s) s)
+-- and asks nothing
+reserved_allowed : (r : Reached) (address code : ℕ) → r.stop ≡ None → next r.position ≡ Stops (ReservedStop address code) →
+    allowed_since_power (turned r) ≡ allowed_since_power r
+reserved_allowed r address code running turns =
+    ap allowed_since_power (turned_reserved r address code turns)
+    ∙ ap (λ (stop : Option Stop). allowed_since_power (record r { stop = stop })) (sym running)
 
 -- ---- where it leads
 
--- so many instructions are done where an outcome leaves off
-abbrev pub count_with : Option Halt → ℕ → ℕ
-count_with None count = count + 1
-count_with (Some halt) count = count
+-- a session as an outcome leaves it
+abbrev pub session_with : TapeState → Option Halt → SessionState → SessionState
+session_with tape halt s = record { tape = tape; halt = halt; breaks = s.breaks }
 
--- a session as the outcome leaves it
-abbrev pub session_with : MachineState → Option Halt → SessionState → SessionState
-session_with after halt s =
-    record { machine = after; halt = halt; count = count_with halt s.count; breaks = s.breaks; powers = s.powers }
+module _ (s : SessionState) (tape : TapeState) (olds news : List ChipState) (scene : Scene) (at : IsAt s olds scene)
+    (halt : is_some s.halt ≡ false) (none : s.halt ≡ None) (taped : IsTaped tape news scene.first) where
+  running : (reached scene).stop ≡ None
+  running = runs_at s olds scene at none
 
--- a session that goes on represents the position of its scene
-pub represents_at : (s : SessionState) (states : List ChipState) (scene : Scene) → IsAt s states scene → scene.stop ≡ None →
-    Represents s.machine states scene.position
-represents_at s states scene at running =
-    let runs : RunsAt s.machine states scene.position = rw running at at.machine in
-    runs.represents
+  unstopped : scene.stopped ≡ false
+  unstopped = not_stopped s olds scene at halt
 
-module _ (s : SessionState) (after : MachineState) (olds news : List ChipState) (scene : Scene) (at : IsAt s olds scene)
-    (running : scene.stop ≡ None) where
-  turned_by : (outcome : Outcome) → Refines outcome s.machine after news scene.position →
-      Shows after news (hearing (next_steps scene) scene) →
-      IsAt (session_with after (halt_in outcome) s) news (turned scene)
-  turned_by (Done wrote steps) done heard =
-      goes_at after news (hearing (next_steps scene) scene) (next scene.position) done.after (s.count + 1) s.breaks
-      s.powers done.turns heard running (record { represents = done.represents; running = done.running })
-      (ap (λ n. n + 1) at.count ∙ sym (next_count scene.position done.after done.turns)) at.breaks at.powers
-  turned_by (FaultOutcome fault long steps) faulted heard =
-      stops_at after news (hearing (next_steps scene) scene) (next scene.position) (FaultHalt fault) s.count s.breaks
-      s.powers faulted.turns heard
-      (reads_kept s.machine after (ap (λ (n : MachineState). n.flow) faulted.kept)
-      (ap (λ (n : MachineState). n.cpu) faulted.kept) (ap (λ (n : MachineState). n.phi) faulted.kept)
-      ∙ machine_reads s.machine olds scene.position (represents_at s olds scene at running))
-      at.count at.breaks at.powers
-  turned_by (Reserved address code) halted heard =
-      stops_at after news (hearing (next_steps scene) scene) (next scene.position) (ReservedHalt address code) s.count
-      s.breaks s.powers halted.turns heard
-      (reads_kept s.machine after (ap (λ (n : MachineState). n.flow) halted.kept)
-      (ap (λ (n : MachineState). n.cpu) halted.kept) (ap (λ (n : MachineState). n.phi) halted.kept)
-      ∙ machine_reads s.machine olds scene.position (represents_at s olds scene at running))
-      at.count at.breaks at.powers
+  leads : (outcome : Outcome) → tape ≡ tape_after outcome tape.machine s.tape → tape.machine.chain ≡ s.tape.machine.chain →
+      HasReached tape.machine news (turned (reached scene)) → stop_in outcome ≡ (turned (reached scene)).stop →
+      IsAt (session_with tape (halt_in outcome) s) news (stepped scene)
+  leads (Done wrote steps) is chain there stop =
+      let on : IsAt (session_with tape None s) news (with_instruction scene) = record {
+        there = subst (λ (r : Reached). HasReached tape.machine news r) (sym (reached_on scene unstopped)) there;
+        taped = taped;
+        chain = chain ∙ at.chain;
+        fill = ap (λ (t : TapeState). t.fill) is ∙ at.fill;
+        powers = ap (λ (t : TapeState). t.powers) is ∙ at.powers;
+        entries = ap (λ (t : TapeState). t.log.played) is ∙ ap (λ (es : List Entry). es ++ Instruction ∷ []) at.entries;
+        stop = stop ∙ sym (ap (λ (r : Reached). r.stop) (reached_on scene unstopped));
+        stopped = λ stopped. absurd (let same = sym stopped ∙ unstopped in cc);
+        went = λ stopped. absurd (let same = sym stopped ∙ unstopped in cc);
+        breaks = at.breaks;
+      } in
+      subst (λ (there : Scene). IsAt (session_with tape None s) news there)
+      (sym (stepped_on scene (sym (ap (λ (o : Option Stop). is_some o) stop)))) on
+  leads (Fault fault long steps) is chain there stop =
+      let off : IsAt (session_with tape (halt_in (Fault fault long steps)) s) news (with_stop scene) = record {
+        there = subst (λ (r : Reached). HasReached tape.machine news r) (sym (reached_off scene unstopped)) there;
+        taped = taped;
+        chain = chain ∙ at.chain;
+        fill = ap (λ (t : TapeState). t.fill) is ∙ at.fill;
+        powers = ap (λ (t : TapeState). t.powers) is ∙ at.powers;
+        entries = ap (λ (t : TapeState). t.log.played) is ∙ at.entries;
+        stop = stop ∙ sym (ap (λ (r : Reached). r.stop) (reached_off scene unstopped));
+        stopped = λ stopped. ap (λ (r : Reached). is_some r.stop) (reached_off scene unstopped)
+            ∙ sym (ap (λ (o : Option Stop). is_some o) stop);
+        went = λ stopped. sym (ap (λ (r : Reached). r.stop) (reached_running scene unstopped)) ∙ running;
+        breaks = at.breaks;
+      } in
+      subst (λ (there : Scene). IsAt (session_with tape (halt_in (Fault fault long steps)) s) news there)
+      (sym (stepped_off scene (sym (ap (λ (o : Option Stop). is_some o) stop)))) off
+  leads (Reserved address code) is chain there stop =
+      let off : IsAt (session_with tape (halt_in (Reserved address code)) s) news (with_stop scene) = record {
+        there = subst (λ (r : Reached). HasReached tape.machine news r) (sym (reached_off scene unstopped)) there;
+        taped = taped;
+        chain = chain ∙ at.chain;
+        fill = ap (λ (t : TapeState). t.fill) is ∙ at.fill;
+        powers = ap (λ (t : TapeState). t.powers) is ∙ at.powers;
+        entries = ap (λ (t : TapeState). t.log.played) is ∙ at.entries;
+        stop = stop ∙ sym (ap (λ (r : Reached). r.stop) (reached_off scene unstopped));
+        stopped = λ stopped. ap (λ (r : Reached). is_some r.stop) (reached_off scene unstopped)
+            ∙ sym (ap (λ (o : Option Stop). is_some o) stop);
+        went = λ stopped. sym (ap (λ (r : Reached). r.stop) (reached_running scene unstopped)) ∙ running;
+        breaks = at.breaks;
+      } in
+      subst (λ (there : Scene). IsAt (session_with tape (halt_in (Reserved address code)) s) news there)
+      (sym (stepped_off scene (sym (ap (λ (o : Option Stop). is_some o) stop)))) off
 
-  pub turned_at : (outcome : Outcome) → Refines outcome s.machine after news scene.position →
-      Follows outcome s.machine after olds news → HaveBytes (steps_in outcome) →
-      IsAt (session_with after (halt_in outcome) s) news (turned scene)
-  turned_at outcome refines follows bytes =
-      turned_by outcome refines
-      (shows_heard outcome s.machine after olds news scene (turn_course scene.position) (shows_at s olds scene at) follows
-      bytes (outcome_heard outcome s.machine after news scene.position refines))
+  -- ---- what it asks
 
-  -- the bus steps are those of the instruction
-  pub steps_are : (outcome : Outcome) → Refines outcome s.machine after news scene.position →
-      steps_in outcome ≡ next_steps scene
-  steps_are outcome refines = outcome_heard outcome s.machine after news scene.position refines
+  -- a tape that goes on has come to where its entries lead
+  come_going : (t : TapeState) (mode : TapeMode) → t.mode ≡ mode → come t scene.first ≡ come_by mode (played_from t scene.first)
+  come_going t mode same = ap (λ (m : TapeMode). come_by m (played_from t scene.first)) same
 
-  -- and so many questions they ask
-  pub turn_asks : (n : ℕ) (outcome : Outcome) → Refines outcome s.machine after news scene.position →
-      Follows outcome s.machine after olds news → HaveBytes (steps_in outcome) → length olds ≡ n → length news ≡ n →
-      Fits s.machine olds → Fits after news → (p q : ℕ) → q ≤ p + allowances n s.machine.index (tried s.machine.mode outcome) →
-      q + allowed_since_power scene ≤ p + allowed_since_power (turned scene)
-  turn_asks n outcome refines follows bytes long kept fits fit p q few =
-      let there = turned_at outcome refines follows bytes in
-      steps_ask n s.machine after olds news scene (turned scene) outcome long kept at.chips there.chips fits fit at.index follows.index
-      running
-      (led_heard (next scene.position) (hearing (next_steps scene) scene)
-      ∙ ap (λ (steps : List Heard). scene.heard ++ steps) (sym (steps_are outcome refines)))
-      there.stop p q few
+  come_first : s.tape.mode ≡ Going → come s.tape scene.first ≡ reached scene
+  come_first going = come_going s.tape Going going ∙ entered_is s olds scene at ∙ sym (reached_running scene unstopped)
+
+  -- the place to which a done instruction, or one that met a fault, brings the tape
+  come_next : (outcome : Outcome) → s.tape.mode ≡ Going → tape ≡ tape_after outcome tape.machine s.tape →
+      IsAt (session_with tape (halt_in outcome) s) news (stepped scene) → stop_in outcome ≡ (turned (reached scene)).stop →
+      Refines outcome s.tape.machine tape.machine news (reached scene).position →
+      allowed_since_power (come tape scene.first) ≡ allowed_since_power (turned (reached scene))
+  come_next (Done wrote steps) going is there stop refines =
+      let same : stepped scene ≡ with_instruction scene =
+      stepped_on scene (sym (ap (λ (o : Option Stop). is_some o) stop)) in
+      let now : IsAt (session_with tape None s) news (with_instruction scene) =
+      subst (λ (x : Scene). IsAt (session_with tape None s) news x) same there in
+      ap allowed_since_power
+      (come_going tape Going (ap (λ (t : TapeState). t.mode) is ∙ going)
+      ∙ entered_is (session_with tape None s) news (with_instruction scene) now
+      ∙ sym (reached_running (with_instruction scene) unstopped) ∙ reached_on scene unstopped)
+  come_next (Fault fault long steps) going is there stop refines =
+      let same : stepped scene ≡ with_stop scene =
+      stepped_off scene (sym (ap (λ (o : Option Stop). is_some o) stop)) in
+      let session = session_with tape (halt_in (Fault fault long steps)) s in
+      let now : IsAt session news (with_stop scene) = subst (λ (x : Scene). IsAt session news x) same there in
+      ap allowed_since_power
+      (come_going tape Faulted (ap (λ (t : TapeState). t.mode) is ∙ ap mode_faulted going)
+      ∙ ap turned (entered_is session news (with_stop scene) now) ∙ reached_off scene unstopped)
+  come_next (Reserved address code) going is there stop refines =
+      let same : stepped scene ≡ with_stop scene =
+      stepped_off scene (sym (ap (λ (o : Option Stop). is_some o) stop)) in
+      let session = session_with tape (halt_in (Reserved address code)) s in
+      let now : IsAt session news (with_stop scene) = subst (λ (x : Scene). IsAt session news x) same there in
+      ap allowed_since_power
+      (come_going tape Going (ap (λ (t : TapeState). t.mode) is ∙ going)
+      ∙ entered_is session news (with_stop scene) now ∙ sym (reached_running scene unstopped))
+      ∙ sym (reserved_allowed (reached scene) address code running refines.turns)
+
+  -- ---- an instruction of the tape
+
+  module _ (outcome : Outcome) (is : tape ≡ tape_after outcome tape.machine s.tape)
+      (instructs : Instructs outcome s.tape.machine tape.machine olds news) (bytes : HaveBytes (steps_in outcome)) where
+    refines : Refines outcome s.tape.machine tape.machine news (reached scene).position
+    refines =
+        instructs.advances.refines (reached scene).position
+        (represents_at s.tape.machine olds (reached scene) at.there running)
+
+    there_at : HasReached tape.machine news (turned (reached scene))
+    there_at =
+        turned_at s.tape.machine tape.machine olds news (reached scene) at.there running outcome refines instructs.follows bytes
+
+    stop_at : stop_in outcome ≡ (turned (reached scene)).stop
+    stop_at = (outcome_is s.tape.machine tape.machine olds news (reached scene) at.there running outcome refines).stop
+
+    pub steps_are : steps_in outcome ≡ next_steps (reached scene)
+    steps_are = (outcome_is s.tape.machine tape.machine olds news (reached scene) at.there running outcome refines).steps
+
+    pub turned_to : IsAt (session_with tape (halt_in outcome) s) news (stepped scene)
+    turned_to = leads outcome is instructs.follows.chain there_at stop_at
+
+    -- where it stops the session
+    pub stops_is : stops scene ≡ is_some (halt_in outcome)
+    stops_is = ap (λ (o : Option Stop). is_some o) (sym stop_at) ∙ by outcome
+      where
+        by : (o : Outcome) → is_some (stop_in o) ≡ is_some (halt_in o)
+        by (Done wrote steps) = refl
+        by (Fault fault long steps) = refl
+        by (Reserved address code) = refl
+
+    pub turn_asked : s.tape.mode ≡ Going → (p q : ℕ) → AsksBetween (come s.tape scene.first) (come tape scene.first) p q →
+        q + allowed_since_power (reached scene) ≤ p + allowed_since_power (reached (stepped scene))
+    turn_asked going p q asks =
+        let first : allowed_since_power (come s.tape scene.first) ≡ allowed_since_power (reached scene) =
+        ap allowed_since_power (come_first going) in
+        let last : allowed_since_power (come tape scene.first) ≡ allowed_since_power (reached (stepped scene)) =
+        come_next outcome going is turned_to stop_at refines
+        ∙ sym (ap allowed_since_power (reached_stepped scene unstopped)) in
+        subst (λ (b : ℕ). q + allowed_since_power (reached scene) ≤ p + b) last
+        (subst (λ (a : ℕ). q + a ≤ p + allowed_since_power (come tape scene.first)) first asks)
+
+    -- whether it met a break, where it is done
+    pub met_is : (breaks : Breaks) → breaks ≡ scene.breaks → is_some (halt_in outcome) ≡ false →
+        are_met breaks (steps_in outcome) tape.machine.flow.p (probe_counters tape.machine.probe) tape.machine.chain (views news)
+        ≡ is_met scene
+    met_is breaks same goes =
+        meets_is breaks scene.chain (reached scene) (steps_in outcome) tape.machine news there_at runs
+        (instructs.follows.chain ∙ at.chain) steps_are
+        ∙ ap (λ (b : Breaks). meets_break b scene.chain (reached scene)) same
+      where
+        none_by : (o : Option Stop) → is_some o ≡ false → o ≡ None
+        none_by None e = refl
+        none_by (Some stop) e = cc
+
+        runs : (turned (reached scene)).stop ≡ None
+        runs = none_by (turned (reached scene)).stop (stops_is ∙ goes)
+
+-- ---- what becomes of the tape
+
+pub kept_spare : (outcome : Outcome) (t tape : TapeState) → tape ≡ tape_after outcome tape.machine t →
+    tape.log.spare ≡ t.log.spare
+kept_spare (Done wrote steps) t tape is = ap (λ (x : TapeState). x.log.spare) is
+kept_spare (Fault fault long steps) t tape is = ap (λ (x : TapeState). x.log.spare) is
+kept_spare (Reserved address code) t tape is = ap (λ (x : TapeState). x.log.spare) is
+
+pub kept_left : (outcome : Outcome) (t tape : TapeState) → tape ≡ tape_after outcome tape.machine t → tape.log.left ≡ t.log.left
+kept_left (Done wrote steps) t tape is = ap (λ (x : TapeState). x.log.left) is
+kept_left (Fault fault long steps) t tape is = ap (λ (x : TapeState). x.log.left) is
+kept_left (Reserved address code) t tape is = ap (λ (x : TapeState). x.log.left) is
+
+pub count_most : (outcome : Outcome) (t tape : TapeState) → tape ≡ tape_after outcome tape.machine t →
+    instructions_in tape.log.played ≤ instructions_in t.log.played + 1
+count_most (Done wrote steps) t tape is =
+    let played = ap (λ (x : TapeState). instructions_in x.log.played) is in
+    omega (arith, played, instructions-append t.log.played (Instruction ∷ []))
+count_most (Fault fault long steps) t tape is =
+    let played = ap (λ (x : TapeState). instructions_in x.log.played) is in
+    omega (arith, played)
+count_most (Reserved address code) t tape is =
+    let played = ap (λ (x : TapeState). instructions_in x.log.played) is in
+    omega (arith, played)
+
+goes_with : (outcome : Outcome) (t tape : TapeState) → tape ≡ tape_after outcome tape.machine t →
+    halt_in outcome ≡ None → tape.mode ≡ t.mode
+goes_with (Done wrote steps) t tape is none = ap (λ (x : TapeState). x.mode) is
+goes_with (Fault fault long steps) t tape is none = cc
+goes_with (Reserved address code) t tape is none = cc
+
+-- all of its entries are played still, and it goes on where nothing stops the session
+pub played_with : (outcome : Outcome) (t tape : TapeState) (halt : Option Halt) → tape ≡ tape_after outcome tape.machine t →
+    IsPlayed t halt → halt ≡ None → (now : Option Halt) → now ≡ halt_in outcome → IsPlayed tape now
+played_with outcome t tape halt is played none now same = record {
+  left = kept_left outcome t tape is ∙ played.left;
+  goes = λ goes. goes_with outcome t tape is (sym same ∙ goes) ∙ played.goes none;
+}
+
+-- ---- what comes of it
+
+abbrev pub came_by : Bool → Bool → Came
+came_by halts met = if halts then Stopped else if met then Met else DoneCame
+
+pub came_is : (heeds halts met : Bool) (scene : Scene) → stops scene ≡ halts → (heeds && is_met scene) ≡ met →
+    came_by halts met ≡ came_of heeds scene
+came_is heeds halts met scene stop meets = sym (ap₂ (λ (h : Bool) (m : Bool). came_by h m) stop meets)
 
 pub none_behind : (p q a b : ℕ) → q + a ≤ p + b → q + a ≤ p + b + 0
 none_behind p q a b few = omega arith
@@ -151,67 +274,12 @@ none_behind p q a b few = omega arith
 pub then_behind : (p q r a b each all : ℕ) → q + a ≤ p + b → r ≤ q + each → each ≡ all → r + a ≤ p + b + all
 then_behind p q r a b each all steps few same = omega arith
 
--- what is asked behind it, in a session at the scene to which it leads
-pub behind_asks : (heeds : Bool) (scene : Scene) (s : SessionState) (states : List ChipState) → IsAt s states (turned scene) →
-    behind_allowed heeds s.breaks s.machine.chain ≡ behind_allowed heeds scene.breaks scene.position.chain
+-- what is asked behind it, by a session there
+pub behind_asks : (heeds : Bool) (scene : Scene) (s : SessionState) (states : List ChipState) → IsAt s states (stepped scene) →
+    behind_allowed heeds s.breaks s.tape.machine.chain ≡ behind_allowed heeds scene.breaks scene.chain
 behind_asks heeds scene s states at =
-    ap₂ (λ (breaks : Breaks) (chain : List ℕ). behind_allowed heeds breaks chain) (at.breaks ∙ turned_breaks scene)
-    (at.chain ∙ turned_chain scene)
-
--- ---- what comes of it
-
-abbrev pub came_by : Bool → Bool → Came
-came_by stops met = if stops then Stopped else if met then Met else DoneCame
-
-pub stopped_is : (heeds : Bool) (scene : Scene) (s : SessionState) (states : List ChipState) → IsAt s states (turned scene) →
-    is_some s.halt ≡ true → Stopped ≡ came_of heeds scene
-stopped_is heeds scene s states at halted =
-    sym (ap (λ (stops : Bool). came_by stops (heeds && is_met (next_steps scene) (turned scene)))
-    (stops_as s states (turned scene) at ∙ halted))
-
-pub done_is : (met heeds : Bool) (scene : Scene) (s : SessionState) (states : List ChipState) → IsAt s states (turned scene) →
-    is_some s.halt ≡ false → (heeds && is_met (next_steps scene) (turned scene)) ≡ met →
-    came_by false met ≡ came_of heeds scene
-done_is met heeds scene s states at none is =
-    sym (ap₂ (λ (stops : Bool) (m : Bool). came_by stops m) (stops_as s states (turned scene) at ∙ none) is)
-
--- a session that goes on tells whether an instruction with these steps met a break
-pub met_at : (s : SessionState) (states : List ChipState) (scene : Scene) (steps : List Heard) → IsAt s states scene →
-    scene.stop ≡ None →
-    (list_any (meets_step s.breaks) steps
-    || meets_behind s.breaks s.machine.flow.p (probe_counters s.machine.probe) s.machine.chain (views states))
-    ≡ is_met steps scene
-met_at s states scene steps at running =
-    let met : Breaks → ℕ → ProbeState → List ℕ → List ChipView → Bool =
-    λ breaks p probe chain vs. are_met breaks steps p (probe_counters probe) chain vs in
-    let here = represents_at s states scene at running in
-    ap (λ (b : Breaks). met b s.machine.flow.p s.machine.probe s.machine.chain (views states)) at.breaks
-    ∙ ap (λ (c : Flow). met scene.breaks c.p s.machine.probe s.machine.chain (views states)) here.stands.flow
-    ∙ ap (λ (p : ProbeState). met scene.breaks scene.position.flat.state.flow.p p s.machine.chain (views states)) at.probe
-    ∙ ap (λ (l : List ℕ). met scene.breaks scene.position.flat.state.flow.p scene.probe l (views states)) at.chain
-    ∙ ap (λ (vs : List ChipView). met scene.breaks scene.position.flat.state.flow.p scene.probe scene.position.chain vs) at.chips
-
--- a break is heeded wherever it is met
-heeded : (heeds steps behind : Bool) → ((heeds && steps) || (heeds && behind)) ≡ (heeds && (steps || behind))
-heeded true steps behind = refl
-heeded false steps behind = refl
-
--- and so what came of the instruction
-pub turned_is : (met heeds steps_meet : Bool) (s : SessionState) (news : List ChipState) (scene : Scene) →
-    IsAt s news (turned scene) → s.halt ≡ None →
-    steps_meet ≡ (heeds && list_any (meets_step s.breaks) (next_steps scene)) →
-    met
-    ≡ (steps_meet
-    || (heeds && meets_behind s.breaks s.machine.flow.p (probe_counters s.machine.probe) s.machine.chain (views news))) →
-    came_by false met ≡ came_of heeds scene
-turned_is met heeds steps_meet s news scene at none steps is =
-    let behind = meets_behind s.breaks s.machine.flow.p (probe_counters s.machine.probe) s.machine.chain (views news) in
-    done_is met heeds scene s news at (ap (λ (o : Option Halt). is_some o) none)
-    (ap (λ (m : Bool). heeds && m)
-    (sym (met_at s news (turned scene) (next_steps scene) at (runs_at s news (turned scene) at none)))
-    ∙ sym (heeded heeds (list_any (meets_step s.breaks) (next_steps scene)) behind)
-    ∙ ap (λ (m : Bool). m || (heeds && behind)) (sym steps)
-    ∙ sym is)
+    ap₂ (λ (breaks : Breaks) (chain : List ℕ). behind_allowed heeds breaks chain) (at.breaks ∙ stepped_breaks scene)
+    (at.chain ∙ stepped_chain scene)
 
 -- on a rack that stays
 pub still_at : (s : SessionState) (states nows : List ChipState) (scene : Scene) → nows ≡ states → IsAt s states scene →

@@ -18,8 +18,9 @@ use Rattle.rack_run.specs.Seating.{fitted_views}
 use Rattle.chip_debug.specs.declared.command.Command.{Command}
 use Rattle.chip_debug.specs.declared.command.Command.TheVariants.{Power, Keys, Pulse, Step, Run, BreakAt, BreakRomc}
 use Rattle.chip_debug.specs.declared.command.Command.TheVariants.{BreakChip, BreakApart, Clear, ShowRegs, ShowChips, Mem}
+use Rattle.chip_debug.specs.declared.command.Command.TheVariants.{Back, BackRun, Stored}
 use Rattle.chip_debug.specs.Carried.{first_scene, told_by}
-use Rattle.chip_debug.specs.DebugText.{ready_line, ran_line, break_line, chip_line, probe_line, mem_line}
+use Rattle.chip_debug.specs.DebugText.{at_line, break_line, chip_line, mem_line, probe_line, ran_line, ready_line, stored_line}
 use Rattle.chip_debug.specs.Scenes.{going}
 
 -- a rack with two sockets for 3851s and one for a 3853
@@ -83,6 +84,29 @@ unfolding digits going ran_line stop_line fault_line regs_line scratch_line tota
     steps_to_expiry effect decoded first_memory
 nothing_fitted = refl
 
+-- nothing is done, so there is nothing to go back by, and reset fails as before
+nothing_to_undo : told [] (Back 3 ∷ Stored 0 ∷ Step 1 ∷ BackRun 3 ∷ [])
+    ≡ codes "at 0\n"
+    ∷ codes "stored none\n"
+    ∷ codes "ran 0\n"
+    ∷ codes "stop undriven romc 00 at 0000\n"
+    ∷ codes "at 0\n"
+    ∷ []
+unfolding digits going ran_line at_line stored_line stop_line fault_line own_inputs chosen_at steps_to_expiry effect decoded first_memory
+nothing_to_undo = refl
+
+-- ---- LIS 1 and a reserved opcode: going back by more than was done leads to reset, and the stop comes again
+
+a_stop_again : told (psu_at 0 4 (0x71 ∷ 0x2D ∷ []) ∷ []) (Step 9 ∷ Back 5 ∷ Step 9 ∷ [])
+    ≡ codes "ran 1\n"
+    ∷ codes "stop reserved 2D at 0001\n"
+    ∷ codes "at 0\n"
+    ∷ codes "ran 1\n"
+    ∷ codes "stop reserved 2D at 0001\n"
+    ∷ []
+unfolding digits going ran_line at_line stop_line own_inputs chosen_at steps_to_expiry effect decoded first_memory
+a_stop_again = refl
+
 -- ---- two chips at one address: neither's byte is told, and both are fitted; `mem` goes on at 0000 behind FFFF
 
 held_twice : told (psu_at 0 4 (0x2B ∷ []) ∷ psu_at 0 8 (0x2B ∷ []) ∷ []) (Mem 0x03FF 2 ∷ ShowChips ∷ [])
@@ -115,6 +139,24 @@ takes_a_byte : told (psu_at 0 4 (0x2A ∷ 0x28 ∷ 0x00 ∷ 0x77 ∷ 0x17 ∷ 0x
     ∷ []
 unfolding digits going ready_line ran_line break_line mem_line own_inputs chosen_at steps_to_expiry effect decoded first_memory
 takes_a_byte = refl
+
+-- that store is the third instruction; of those before the last one it alone meets the break, and before it the RAM has its first byte
+looks_back : told (psu_at 0 4 (0x2A ∷ 0x28 ∷ 0x00 ∷ 0x77 ∷ 0x17 ∷ 0x90 ∷ 0xFF ∷ []) ∷ ram ∷ []) (
+    Step 5 ∷ Stored 0x2800 ∷ Stored 0x2801 ∷ BreakChip 2 ∷ BackRun 1 ∷ BackRun 2 ∷ Mem 0x2800 1 ∷ Back 1 ∷ Mem 0x2800 1
+    ∷ Stored 0x2800 ∷ [])
+    ≡ codes "ran 5\n"
+    ∷ codes "stored 3\n"
+    ∷ codes "stored none\n"
+    ∷ codes "at 4\n"
+    ∷ codes "at 3\n"
+    ∷ codes "break\n"
+    ∷ codes "mem 2800 07\n"
+    ∷ codes "at 2\n"
+    ∷ codes "mem 2800 00\n"
+    ∷ codes "stored none\n"
+    ∷ []
+unfolding digits going ran_line at_line break_line mem_line stored_line own_inputs chosen_at steps_to_expiry effect decoded first_memory
+looks_back = refl
 
 -- ---- INS 4 and a reserved opcode: a key byte counts until `power`, and none comes once the session has stopped
 

@@ -9,6 +9,7 @@ use Rattle.chip_debug.specs.declared.breaks.Breaks.{Breaks}
 use Rattle.chip_debug.specs.declared.command.Command.{Command}
 use Rattle.chip_debug.specs.declared.command.Command.TheVariants.{Power, Keys, Pulse, Step, Run, BreakAt, BreakRomc}
 use Rattle.chip_debug.specs.declared.command.Command.TheVariants.{BreakChip, BreakApart, Clear, ShowRegs, ShowChips, Mem}
+use Rattle.chip_debug.specs.declared.command.Command.TheVariants.{Back, BackRun, Stored}
 
 abbrev pub no_breaks : Breaks
 no_breaks = record { at = None; romc = None; chip = None; apart = false }
@@ -28,6 +29,9 @@ breaks_after (Run count) breaks = breaks
 breaks_after ShowRegs breaks = breaks
 breaks_after ShowChips breaks = breaks
 breaks_after (Mem at count) breaks = breaks
+breaks_after (Back count) breaks = breaks
+breaks_after (BackRun count) breaks = breaks
+breaks_after (Stored at) breaks = breaks
 
 -- ---- addresses, codes and sockets
 

@@ -1,5 +1,5 @@
 -- What a command makes of a session, and what it tells.
-use Rattle.std.specs.Prelude.{ℕ, ◌+◌, ◌%◌, Bool, true, false, List, [], ◌∷◌, ◌++◌, map, filter_map, Option, Some, None}
+use Rattle.std.specs.Prelude.{ℕ, ◌+◌, ◌%◌, Bool, true, false, List, [], ◌∷◌, ◌++◌, map, filter_map, Option, Some, None, is_some}
 use Rattle.std.specs.List.{range_with_len}
 use Rattle.f8_spec.specs.ChipState.{ChipView, held_byte}
 use Rattle.f8_spec.specs.declared.bus.Counters.{Counters}
@@ -13,21 +13,23 @@ use Rattle.probe.specs.ProbeState.{probe_counters}
 use Rattle.chip_debug.specs.declared.command.Command.{Command}
 use Rattle.chip_debug.specs.declared.command.Command.TheVariants.{Power, Keys, Pulse, Step, Run, BreakAt, BreakRomc}
 use Rattle.chip_debug.specs.declared.command.Command.TheVariants.{BreakChip, BreakApart, Clear, ShowRegs, ShowChips, Mem}
+use Rattle.chip_debug.specs.declared.command.Command.TheVariants.{Back, BackRun, Stored}
 use Rattle.chip_debug.specs.declared.breaks.Breaks.{Breaks}
 use Rattle.chip_face.specs.declared.specification.ChipSpec.{ChipSpec}
 use Rattle.rack_run.specs.Sockets.{chain_of}
 use Rattle.chip_debug.specs.Breaks.{breaks_after, fitted, no_breaks, own_counters}
-use Rattle.chip_debug.specs.DebugText.{ready_line, ran_line, break_line, chip_line, probe_line, mem_line}
-use Rattle.chip_debug.specs.Scenes.{Scene, Going, started, happened, going}
+use Rattle.chip_debug.specs.DebugText.{at_line, break_line, chip_line, mem_line, probe_line, ran_line, ready_line, stored_line}
+use Rattle.chip_debug.specs.Scenes.{Scene, Going, going, happened, reached}
+use Rattle.chip_debug.specs.Stepping.{back_by, back_to_break, gone_to, met_before, stored_by}
 
 -- ---- what it makes of the session
 
 abbrev pub with_breaks : Breaks → Scene → Scene
 with_breaks breaks s = record s { breaks = breaks }
 
--- power-on and reset on the chips as they are, with the same chips described, the same that is said of them, and the same breaks
+-- power-on and reset, with the same chips described, the same that is said of them, and the same breaks; what came before is dropped
 abbrev pub restarted : ℕ → Scene → Scene
-restarted fill s = started fill s.position.chain s.powers s.breaks s.chips
+restarted fill s = record s { fill = fill; entries = []; stopped = false }
 
 -- A command that sets breaks or clears them does so whether the session has stopped or not.
 abbrev pub scene_after : Command → Scene → Scene
@@ -44,6 +46,9 @@ scene_after Clear s = with_breaks (breaks_after Clear s.breaks) s
 scene_after ShowRegs s = s
 scene_after ShowChips s = s
 scene_after (Mem at count) s = s
+scene_after (Back count) s = gone_to (back_by count s) s
+scene_after (BackRun count) s = gone_to (back_to_break count s) s
+scene_after (Stored at) s = s
 
 -- ---- what it tells
 
@@ -62,7 +67,7 @@ halt_lines None broke = break_lines broke
 halt_lines (Some stop) broke = stop_line stop ∷ []
 
 abbrev pub going_lines : Going → List (List ℕ)
-going_lines g = ran_line g.ran ∷ halt_lines g.scene.stop g.broke
+going_lines g = ran_line g.ran ∷ halt_lines (reached g.scene).stop g.broke
 
 -- the rows of the scratchpad
 abbrev pub scratchpad_lines : Regs → List (List ℕ)
@@ -98,7 +103,7 @@ abbrev pub bytes_held : List ChipView → ℕ → ℕ → List (Option ℕ)
 bytes_held vs at count = map (λ place. byte_held vs ((at + place) % 65536)) (range_with_len 0 count)
 
 abbrev pub lines_of : Command → Scene → List (List ℕ)
-lines_of (Power fill) s = start_lines (restarted fill s).stop
+lines_of (Power fill) s = start_lines (reached (restarted fill s)).stop
 lines_of (Keys port byte) s = []
 lines_of (Pulse chip) s = []
 lines_of (Step count) s = going_lines (going false count s)
@@ -108,16 +113,30 @@ lines_of (BreakRomc romc) s = []
 lines_of (BreakChip socket) s = []
 lines_of BreakApart s = []
 lines_of Clear s = []
-lines_of ShowRegs s = state_lines s.position.flat.state
-lines_of ShowChips s = chips_lines (probe_counters s.probe) s.position.chain s.chips
-lines_of (Mem at count) s = mem_line at (bytes_held s.chips at count) ∷ []
+lines_of ShowRegs s = state_lines (reached s).position.flat.state
+lines_of ShowChips s = chips_lines (probe_counters (reached s).probe) s.chain (reached s).chips
+lines_of (Mem at count) s = mem_line at (bytes_held (reached s).chips at count) ∷ []
+lines_of (Back count) s = at_line (back_by count s) ∷ []
+lines_of (BackRun count) s = at_line (back_to_break count s) ∷ break_lines (is_some (met_before count s))
+lines_of (Stored at) s = stored_line (stored_by at s) ∷ []
 
 -- ---- one command after another
 
--- the scene at which a session begins, on chips that are fitted for a description: power-on with 00 and reset, with the chain of the chips
--- described and what is said of each, and no break
+-- a session begins on some chips with the chain of those described and what is said of each: power-on with 00 and reset, and no break
+abbrev pub scene_on : List ℕ → List PowerOn → List ChipView → Scene
+scene_on chain powers vs = record {
+  first = vs;
+  chain = chain;
+  fill = 0;
+  powers = powers;
+  entries = [];
+  stopped = false;
+  breaks = no_breaks;
+}
+
+-- so it does on chips that are fitted for a description
 abbrev pub first_scene : List ChipSpec → List PowerOn → List ChipView → Scene
-first_scene chips powers vs = started 0 (chain_of chips (map (λ v. v.kind) vs)) powers no_breaks vs
+first_scene chips powers vs = scene_on (chain_of chips (map (λ v. v.kind) vs)) powers vs
 
 abbrev pub scene_by : List Command → Scene → Scene
 scene_by [] s = s

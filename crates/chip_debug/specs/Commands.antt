@@ -7,6 +7,7 @@ use Rattle.chip_debug.specs.declared.answers.DebugCause.TheVariants.{Word, Numbe
 use Rattle.chip_debug.specs.declared.command.Command.{Command}
 use Rattle.chip_debug.specs.declared.command.Command.TheVariants.{Power, Keys, Pulse, Step, Run, BreakAt, BreakRomc}
 use Rattle.chip_debug.specs.declared.command.Command.TheVariants.{BreakChip, BreakApart, Clear, ShowRegs, ShowChips, Mem}
+use Rattle.chip_debug.specs.declared.command.Command.TheVariants.{Back, BackRun, Stored}
 use Rattle.chip_debug.specs.Answers.{made_of}
 
 -- ---- two words
@@ -26,6 +27,18 @@ step_of count = made_of Step (within 0 1000000 (number_of count))
 -- `run N`
 unfoldable pub run_of : List ℕ → Result Command DebugCause
 run_of count = made_of Run (within 0 1000000 (number_of count))
+
+-- `back run N`
+unfoldable pub back_run : List ℕ → Result Command DebugCause
+back_run count = made_of BackRun (within 1 1000000 (number_of count))
+
+-- `back N`; the word `run` is no number
+unfoldable pub back_of : List ℕ → Result Command DebugCause
+back_of count = made_of Back (within 1 1000000 (number_of count))
+
+-- `stored AAAA`
+unfoldable pub stored_of : List ℕ → Result Command DebugCause
+stored_of at = made_of Stored (spelled (address_of at))
 
 -- `break apart`
 abbrev pub bare_break : List ℕ → Result Command DebugCause
@@ -60,6 +73,10 @@ break_romc romc = made_of BreakRomc (within 0 31 (byte_of romc))
 unfoldable pub break_chip : List ℕ → Result Command DebugCause
 break_chip socket = made_of BreakChip (within 0 15 (number_of socket))
 
+-- `run N`, behind `back`
+abbrev pub back_with : List ℕ → List ℕ → Result Command DebugCause
+back_with kind count = if bytes_eq kind (codes "run") then back_run count else Err Word
+
 -- a break with a number
 abbrev pub break_of : List ℕ → List ℕ → Result Command DebugCause
 break_of kind number =
@@ -91,6 +108,8 @@ with_one name word =
     if bytes_eq name (codes "run") then run_of word else
     if bytes_eq name (codes "break") then bare_break word else
     if bytes_eq name (codes "show") then shown_of word else
+    if bytes_eq name (codes "back") then back_of word else
+    if bytes_eq name (codes "stored") then stored_of word else
     Err Word
 
 -- a name and two words
@@ -99,6 +118,7 @@ with_two name word other =
     if bytes_eq name (codes "keys") then keys_of word other else
     if bytes_eq name (codes "break") then break_of word other else
     if bytes_eq name (codes "mem") then mem_of word other else
+    if bytes_eq name (codes "back") then back_with word other else
     Err Word
 
 -- the words of a line

@@ -17,6 +17,18 @@ ran_line ran = codes "ran " ++ decimal ran ++ codes "\n"
 unfoldable pub break_line : List ℕ
 break_line = codes "break\n"
 
+-- the session went back to this instruction
+unfoldable pub at_line : ℕ → List ℕ
+at_line n = codes "at " ++ decimal n ++ codes "\n"
+
+-- this instruction stored last, or none did
+abbrev pub stored_text : Option ℕ → List ℕ
+stored_text None = codes "none"
+stored_text (Some n) = decimal n
+
+unfoldable pub stored_line : Option ℕ → List ℕ
+stored_line n = codes "stored " ++ stored_text n ++ codes "\n"
+
 -- a second data counter, where there is one
 abbrev pub second_text : Option ℕ → List ℕ
 second_text None = []

@@ -6,6 +6,9 @@ pub mod FirstFault
 pub mod Breaks
 pub mod DebugText
 pub mod Scenes
+pub mod Stepping
 pub mod Carried
 pub mod Asking
 pub mod Standing
+pub mod Searching
+pub mod SteppingLaw

@@ -39,7 +39,7 @@ pub(crate) struct Breaks {
 }
 
 impl Breaks {
-    ghost use Rattle.std.specs.Prelude.{◌≡◌, ◌&&◌};
+    ghost use Rattle.std.specs.Prelude.{◌≡◌};
     ghost use Rattle.std.specs.List.{list_any};
     ghost use Rattle.chip_debug.specs.Breaks.{no_breaks, breaks_after, is_wanted, takes_part, meets_step};
 
@@ -111,16 +111,9 @@ impl Breaks {
     }
 
     /// One of the bus steps has the code of a break, or its chip takes part in it.
-    fn meets_steps(self, steps: &[Heard]) -> bool
+    pub(crate) fn meets_steps(self, steps: &[Heard]) -> bool
         ensures { result ≡ list_any (meets_step self) steps.now }
     {
         steps.iter().any(|step| self.meets_code(step.romc) || self.meets_chip(*step))
-    }
-
-    /// Breaks are heeded, and one of the bus steps meets one. Where they aren't, the steps aren't looked at.
-    pub(crate) fn meets_heeded(self, heeds: bool, steps: &[Heard]) -> bool
-        ensures { result ≡ (heeds && list_any (meets_step self) steps.now) }
-    {
-        heeds && self.meets_steps(steps)
     }
 }

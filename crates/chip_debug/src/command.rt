@@ -1,6 +1,6 @@
 // A command of the debugger.
 ghost use Rattle.std.specs.Prelude.{◌≡◌, ◌≤◌};
-ghost use Rattle.chip_debug.specs.Limits.{count_of, IsCommand};
+ghost use Rattle.chip_debug.specs.Limits.{count_of, room_of, IsCommand};
 
 /// A command of the debugger, with its numbers.
 #[derive(Clone, Copy, Debug, PartialEq, Eq)]
@@ -43,17 +43,40 @@ pub enum Command {
 
     /// So many bytes, 1 to 16, from this address on.
     Mem { at: u16, count: u8 },
+
+    /// Back by so many instructions, 1 to 1,000,000, or to power-on and reset where fewer are done.
+    Back { count: u32 },
+
+    /// Back to the last of these that met a break, but for the last one that is done; by all of them where none did.
+    BackRun { count: u32 },
+
+    /// The last instruction that stored at this address.
+    Stored { at: u16 },
 }
 
 impl Command {
-    /// The instructions that the command asks for.
+    /// The instructions that the command asks for, ahead or back.
     pub(crate) fn count(self) -> u32
         requires { IsCommand self }
         ensures count { result ≡ count_of self }
         ensures most { result ≤ 1000000 }
     {
         match self {
-            Command::Step { count } | Command::Run { count } => count,
+            Command::Step { count }
+            | Command::Run { count }
+            | Command::Back { count }
+            | Command::BackRun { count } => count,
+            _ => 0,
+        }
+    }
+
+    /// How many events the command has come, each of which a session keeps.
+    pub(crate) fn room(self) -> usize
+        ensures room { result ≡ room_of self }
+        ensures most { result ≤ 1 }
+    {
+        match self {
+            Command::Keys { .. } | Command::Pulse { .. } => 1,
             _ => 0,
         }
     }

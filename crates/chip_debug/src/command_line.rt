@@ -2,7 +2,7 @@
 ghost use Rattle.std.specs.Prelude.{◌≡◌, ◌∷◌, IfOk, IfSome};
 ghost use Rattle.line_words.specs.Words.{words};
 ghost use Rattle.chip_debug.specs.Limits.{IsCommand};
-ghost use Rattle.chip_debug.specs.Commands.{power_of as spelled_power, pulse_of as spelled_pulse, step_of as spelled_step, run_of as spelled_run, bare_break as spelled_bare, shown_of as spelled_shown, keys_of as spelled_keys, break_at as spelled_at, break_romc as spelled_romc, break_chip as spelled_chip, break_of as spelled_break, mem_of as spelled_mem, alone as spelled_alone, with_one as spelled_one, with_two as spelled_two, command_of as spelled_command, line_of as spelled_line};
+ghost use Rattle.chip_debug.specs.Commands.{power_of as spelled_power, pulse_of as spelled_pulse, step_of as spelled_step, run_of as spelled_run, bare_break as spelled_bare, shown_of as spelled_shown, keys_of as spelled_keys, break_at as spelled_at, break_romc as spelled_romc, break_chip as spelled_chip, break_of as spelled_break, mem_of as spelled_mem, alone as spelled_alone, back_run as spelled_back_run, back_of as spelled_back, stored_of as spelled_stored, back_with as spelled_back_with, with_one as spelled_one, with_two as spelled_two, command_of as spelled_command, line_of as spelled_line};
 
 use super::answers::DebugCause;
 use super::command::Command;
@@ -61,6 +61,49 @@ fn run_of(count: &[u8]) -> Result<Command, DebugCause>
 {
     let count = number_within(count, 0, MOST_AT_ONCE)?;
     Ok(Command::Run { count })
+}
+
+/// `back N`.
+#[tactic(auto, unfolding(crate::specs::Commands::back_of))]
+fn back_of(count: &[u8]) -> Result<Command, DebugCause>
+    ensures value { result ≡ spelled_back count.now }
+    ensures within { IfOk result IsCommand }
+{
+    let count = number_within(count, 1, MOST_AT_ONCE)?;
+    Ok(Command::Back { count })
+}
+
+/// `back run N`.
+#[tactic(auto, unfolding(crate::specs::Commands::back_run))]
+fn back_run(count: &[u8]) -> Result<Command, DebugCause>
+    ensures value { result ≡ spelled_back_run count.now }
+    ensures within { IfOk result IsCommand }
+{
+    let count = number_within(count, 1, MOST_AT_ONCE)?;
+    Ok(Command::BackRun { count })
+}
+
+/// `stored AAAA`.
+#[tactic(auto, unfolding(crate::specs::Commands::stored_of))]
+fn stored_of(at: &[u8]) -> Result<Command, DebugCause>
+    ensures value { result ≡ spelled_stored at.now }
+    ensures within { IfOk result IsCommand }
+{
+    match address_of(at) {
+        Some(at) => Ok(Command::Stored { at }),
+        None => Err(DebugCause::Number),
+    }
+}
+
+/// `run N`, behind `back`.
+fn back_with(kind: &[u8], count: &[u8]) -> Result<Command, DebugCause>
+    ensures value { result ≡ spelled_back_with kind.now count.now }
+    ensures within { IfOk result IsCommand }
+{
+    if is_word(kind, b"run") {
+        return back_run(count);
+    }
+    Err(DebugCause::Word)
 }
 
 /// `apart`, behind `break`.
@@ -204,6 +247,12 @@ fn with_one(name: &[u8], word: &[u8]) -> Result<Command, DebugCause>
     if is_word(name, b"show") {
         return shown_of(word);
     }
+    if is_word(name, b"back") {
+        return back_of(word);
+    }
+    if is_word(name, b"stored") {
+        return stored_of(word);
+    }
     Err(DebugCause::Word)
 }
 
@@ -220,6 +269,9 @@ fn with_two(name: &[u8], word: &[u8], other: &[u8]) -> Result<Command, DebugCaus
     }
     if is_word(name, b"mem") {
         return mem_of(word, other);
+    }
+    if is_word(name, b"back") {
+        return back_with(word, other);
     }
     Err(DebugCause::Word)
 }

@@ -1,6 +1,6 @@
 // The commands of a file.
 ghost use Rattle.std.specs.Prelude.{◌≡◌, ◌≤◌, length, slice_get};
-ghost use Rattle.chip_debug.specs.Limits.{AreCommands, most_instructions, total_of};
+ghost use Rattle.chip_debug.specs.Limits.{AreCommands, most_instructions, rooms_of, total_of};
 
 use super::command::Command;
 use std::marker::Model;
@@ -55,5 +55,16 @@ impl CommandList {
         ensures { result ≡ slice_get self.now place }
     {
         self.items.get(place).copied()
+    }
+
+    /// How many key bytes and pulses the commands have come.
+    pub(crate) fn rooms(&self) -> usize
+        ensures { result ≡ rooms_of self.now }
+    {
+        let mut rooms = 0;
+        for command in &self.items {
+            rooms += command.room();
+        }
+        rooms
     }
 }

@@ -7,10 +7,13 @@ mod command;
 mod command_line;
 mod command_list;
 mod draft;
+mod meeting;
 mod read;
+mod replaying;
 mod session;
 mod session_lines;
 mod sockets;
+mod stepping;
 mod telling;
 
 pub use answers::{DebugAnswer, DebugCause, DebugFault};
@@ -18,3 +21,4 @@ pub use command::Command;
 pub use command_list::CommandList;
 pub use read::read_commands;
 pub use session::Session;
+pub use stepping::stepping_law;

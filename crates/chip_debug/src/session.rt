@@ -4,15 +4,20 @@ ghost use Rattle.chip_debug.specs.Standing.{halt_in};
 
 use super::breaks::Breaks;
 use super::command::Command;
-use super::session_lines::mem_line;
-use super::sockets::are_apart;
-use super::telling::{put_chips, put_going, put_regs, put_start};
+use super::command_list::CommandList;
+use super::meeting::is_heeded;
+use super::replaying::{Sought, go_back, replay};
+use super::session_lines::{mem_line, stored_line};
+use super::telling::{put_back, put_chips, put_going, put_regs, put_start};
 use cartridge::Cart;
-use chip_face::{Chip, MOST_CHIPS, Powers};
+use chip_face::{Chip, MOST_CHIPS};
 use console_spec::Event;
-use f8_machine::{Chain, Machine, Outcome, Rack};
+use f8_machine::{Outcome, Rack};
+use f8_spec::Memory;
 use outside::{Sink, SinkFault};
-use rack_run::{Halt, chain_of, powers_law};
+use rack_run::{Halt, chain_of};
+use rewind::Tape;
+use std::alloc::Global;
 use std::marker::Model;
 
 /// What came of an instruction.
@@ -43,51 +48,54 @@ impl Ran {
     }
 }
 
-/// A debugger's session on a rack of storage chips, which is lent to each call. Contracts see a `SessionState`.
+/// Where a session went back to, and whether that instruction met a break.
+#[derive(Clone, Copy, Debug, PartialEq, Eq)]
+pub(crate) struct Returned {
+    pub(crate) place: u32,
+    pub(crate) broke: bool,
+}
+
+/// A debugger's session on a rack of storage chips, which is lent to each call. Each chip must then have the view and the patch that the
+/// session's last call left it. Contracts see a `SessionState`.
 #[derive(Drop)]
 pub struct Session {
-    machine: Machine,
+    tape: Tape,
 
     /// What stopped it since power-on, if anything did.
     halt: Option<Halt>,
-
-    /// The instructions that were done since power-on.
-    count: u32,
     breaks: Breaks,
-
-    /// How the chips described are powered on, in the order of the description.
-    powers: Powers,
 }
 
 impl Model for Session {
-    ghost use Rattle.chip_debug.specs.Standing.{SessionState, IsInTime};
+    ghost use Rattle.chip_debug.specs.Standing.{SessionState, IsPlayed};
 
     ghost Value = { SessionState };
 
     ghost view = { λ s. record {
-      machine = s.machine;
+      tape = s.tape;
       halt = s.halt;
-      count = s.count;
       breaks = s.breaks;
-      powers = s.powers;
     } };
 
-    ghost invariant = { λ s. IsInTime s.machine s.halt s.count };
+    ghost invariant = { λ s. IsPlayed s.tape s.halt };
 }
 
 /// What stops the session by an outcome, if it does.
-fn halt_of(outcome: Outcome) -> Option<Halt>
-    ensures { result ≡ halt_in outcome }
+fn halt_of(outcome: &Outcome) -> Option<Halt>
+    ensures { result ≡ halt_in outcome.now }
 {
     match outcome {
         Outcome::Done { .. } => None,
-        Outcome::Fault { fault, .. } => Some(Halt::Fault(fault)),
-        Outcome::Reserved { at, code } => Some(Halt::Reserved { at, code }),
+        Outcome::Fault { fault, .. } => Some(Halt::Fault(fault.copy())),
+        Outcome::Reserved { at, code } => Some(Halt::Reserved {
+            at: *at,
+            code: *code,
+        }),
     }
 }
 
 impl Session {
-    ghost use Rattle.std.specs.Prelude.{◌≡◌, ◌≤◌, ◌<◌, ◌+◌, ◌^◌, ◌&&◌, ◌||◌, length, map, sum_by, true, None};
+    ghost use Rattle.std.specs.Prelude.{◌≡◌, ◌≤◌, ◌<◌, ◌+◌, ◌-◌, ◌^◌, IfOk, OnErr, length, map, sum_by, is_some, Option, None};
     ghost use Rattle.f8_spec.specs.BusArbitration.{seat_of};
     ghost use Rattle.console_spec.specs.declared.Event.{Event};
     ghost use Rattle.console_spec.specs.RunText.{text_of};
@@ -95,68 +103,61 @@ impl Session {
     ghost use Rattle.data_bus.specs.Racks.{views};
     ghost use Rattle.f8_machine.specs.Fitting.{Fits};
     ghost use Rattle.f8_machine.specs.Refinement.{AreWhole};
-    ghost use Rattle.probe.specs.ProbeState.{probe_counters};
     ghost use Rattle.rack_run.specs.Seating.{kinds_of};
     ghost use Rattle.rack_run.specs.Sockets.{chain_of as chain_by};
     ghost use Rattle.rack_run.specs.Texts.{Puts};
-    ghost use Rattle.chip_debug.specs.Asking.{allowed_since_power, behind_allowed, command_allowed, going_allowed};
-    ghost use Rattle.chip_debug.specs.Breaks.{no_breaks, meets_behind as met_behind};
-    ghost use Rattle.chip_debug.specs.Carried.{going_lines, lines_of, restarted, scene_after};
-    ghost use Rattle.chip_debug.specs.Limits.{IsCommand, count_of};
-    ghost use Rattle.chip_debug.specs.Scenes.{Scene, going, happened, started};
-    ghost use Rattle.chip_debug.specs.Standing.{IsAt, IsGone, IsTurned, most_done, patches};
+    ghost use Rattle.rewind.specs.Asking.{allowed_since_power};
+    ghost use Rattle.rewind.specs.Standing.{patches};
+    ghost use Rattle.chip_debug.specs.Asking.{command_allowed, going_allowed, replay_allowed};
+    ghost use Rattle.chip_debug.specs.Carried.{going_lines, lines_of, restarted, scene_after, scene_on};
+    ghost use Rattle.chip_debug.specs.declared.command.Command.TheVariants.{BackRun};
+    ghost use Rattle.chip_debug.specs.Limits.{IsCommand, count_of, room_of, rooms_of};
+    ghost use Rattle.chip_debug.specs.Scenes.{Scene, going, happened, reached};
+    ghost use Rattle.chip_debug.specs.Standing.{IsAt, IsGone, IsTurned, count_in, most_done};
+    ghost use Rattle.chip_debug.specs.Stepping.{back_by, back_to_break, gone_to, met_before, stored_by};
 
     /// A session with the chips of a cartridge on a rack of at most 16 chips that is fitted for it: power-on with the byte 00, each chip
-    /// described as is said of it, and reset. What is said is kept. The chips are put in all at most 512 questions for each, and the
-    /// allowances of the bus steps of reset. No chip's patch changes.
-    pub fn new(cart: &Cart, rack: &mut Rack) -> Session
+    /// described as is said of it, and reset. What is said is kept. There is room for the key bytes and the pulses of these commands, each
+    /// given once. The chips are put in all at most 512 questions for each, and the allowances of the bus steps of reset. No chip's patch
+    /// changes.
+    ///
+    /// # Errors
+    ///
+    /// Memory is wanting for the key bytes and the pulses. Then the rack is as it was, and no chip was put a question.
+    pub fn new(
+        alloc: Global,
+        cart: &Cart,
+        commands: &CommandList,
+        rack: &mut Rack,
+    ) -> Result<Session, Memory>
         requires few { length rack.old.items ≤ MOST_CHIPS }
         requires whole { AreWhole (map state rack.old.items) }
         requires ports { LeaveOwnPorts (map seat_of (views (map state rack.old.items))) }
-        ensures at { IsAt result (map state rack.new.items) (started 0
+        ensures at { IfOk result (λ session. IsAt session (map state rack.new.items) (scene_on
             (chain_by cart.now.chips (kinds_of (map state rack.old.items)))
-            cart.now.powers no_breaks (views (map state rack.old.items))) }
+            cart.now.powers (views (map state rack.old.items)))) }
+        ensures room { IfOk result (λ session. session.tape.log.spare ≡ rooms_of commands.now) }
         ensures patches { patches (map state rack.new.items) ≡ patches (map state rack.old.items) }
-        ensures asked { sum_by queries rack.new.items ≤ sum_by queries rack.old.items
-            + allowed_since_power (started 0
+        ensures asked { IfOk result (λ session. sum_by queries rack.new.items
+            ≤ sum_by queries rack.old.items + allowed_since_power (reached (scene_on
             (chain_by cart.now.chips (kinds_of (map state rack.old.items)))
-            cart.now.powers no_breaks (views (map state rack.old.items))) }
-        ensures fits { Fits result.machine (map state rack.new.items) }
-        ensures count { result.count ≡ 0 }
+            cart.now.powers (views (map state rack.old.items))))) }
+        ensures fits { IfOk result (λ session. Fits session.tape.machine (map state rack.new.items)) }
+        ensures count { IfOk result (λ session. count_in session ≡ 0) }
+        ensures stays { OnErr result (map state rack.new.items ≡ map state rack.old.items) }
+        ensures unasked { OnErr result (map queries rack.new.items ≡ map queries rack.old.items) }
         ensures chips { length rack.new.items ≡ length rack.old.items }
     {
+        let Ok(room) = u32::try_from(commands.rooms()) else {
+            return Err(Memory);
+        };
         let chain = chain_of(&cart.chips, rack);
-        let powers = cart.powers.copy();
-        Session::start(0, chain, powers, Breaks::none(), rack)
-    }
-
-    /// Power-on and reset, with these breaks.
-    fn start(fill: u8, chain: Chain, powers: Powers, breaks: Breaks, rack: &mut Rack) -> Session
-        requires few { length rack.old.items ≤ MOST_CHIPS }
-        ensures at { AreWhole (map state rack.old.items) →
-            LeaveOwnPorts (map seat_of (views (map state rack.old.items))) →
-            IsAt result (map state rack.new.items) (started fill chain powers breaks
-            (views (map state rack.old.items))) }
-        ensures patches { patches (map state rack.new.items) ≡ patches (map state rack.old.items) }
-        ensures asked { AreWhole (map state rack.old.items) →
-            LeaveOwnPorts (map seat_of (views (map state rack.old.items))) →
-            sum_by queries rack.new.items ≤ sum_by queries rack.old.items
-            + allowed_since_power
-            (started fill chain powers breaks (views (map state rack.old.items))) }
-        ensures fits { Fits result.machine (map state rack.new.items) }
-        ensures count { result.count ≡ 0 }
-        ensures chips { length rack.new.items ≡ length rack.old.items }
-    {
-        powers_law(&powers);
-        let mut machine = Machine::power(fill, chain, &powers, rack);
-        let halt = halt_of(machine.reset(rack));
-        Session {
-            machine,
-            halt,
-            count: 0,
-            breaks,
-            powers,
-        }
+        let (tape, outcome) = Tape::start(alloc, 0, chain, cart.powers.copy(), room, rack)?;
+        Ok(Session {
+            tape,
+            halt: halt_of(&outcome),
+            breaks: Breaks::none(),
+        })
     }
 
     /// Power-on with this byte and reset, of the same rack with the same chips described, each as is said of it. Breaks stay.
@@ -167,111 +168,80 @@ impl Session {
         ensures patches { patches (map state rack.new.items) ≡ patches (map state rack.old.items) }
         ensures asked { (scene : Scene) → IsAt self.old (map state rack.old.items) scene →
             sum_by queries rack.new.items ≤ sum_by queries rack.old.items
-            + allowed_since_power (restarted fill scene) }
-        ensures fits { Fits self.new.machine (map state rack.new.items) }
-        ensures count { self.new.count ≡ 0 }
+            + allowed_since_power (reached (restarted fill scene)) }
+        ensures spare { self.old.tape.log.spare ≤ self.new.tape.log.spare }
+        ensures fits { Fits self.new.tape.machine (map state rack.new.items) }
+        ensures count { count_in self.new ≡ 0 }
         ensures chips { length rack.new.items ≡ length rack.old.items }
     {
-        let chain = self.machine.chain().copy();
-        let powers = self.powers.copy();
-        *self = Session::start(fill, chain, powers, self.breaks, rack);
+        let outcome = self.tape.power(fill, rack);
+        self.halt = halt_of(&outcome);
     }
 
     /// A key byte or a pulse, which changes nothing where the session has stopped.
     fn happen(&mut self, event: Event, rack: &mut Rack)
         requires few { length rack.old.items ≤ MOST_CHIPS }
-        requires fits { Fits self.old.machine (map state rack.old.items) }
+        requires room { 0 < self.old.tape.log.spare }
+        requires fits { Fits self.old.tape.machine (map state rack.old.items) }
         ensures at { (scene : Scene) → IsAt self.old (map state rack.old.items) scene →
             IsAt self.new (map state rack.new.items) (happened event scene) }
         ensures patches { patches (map state rack.new.items) ≡ patches (map state rack.old.items) }
         ensures asked { map queries rack.new.items ≡ map queries rack.old.items }
-        ensures fits { Fits self.new.machine (map state rack.new.items) }
-        ensures count { self.new.count ≡ self.old.count }
+        ensures spare { self.old.tape.log.spare ≤ self.new.tape.log.spare + 1 }
+        ensures fits { Fits self.new.tape.machine (map state rack.new.items) }
+        ensures count { count_in self.new ≡ count_in self.old }
         ensures chips { length rack.new.items ≡ length rack.old.items }
     {
         if self.halt.is_some() {
             return;
         }
         match event {
-            Event::Keys { port, byte } => self.machine.keys(rack, port, byte),
-            Event::Pulse { chip } => self.machine.pulse(rack, chip),
+            Event::Keys { port, byte } => self.tape.keys(rack, port, byte),
+            Event::Pulse { chip } => self.tape.pulse(rack, chip),
         }
-    }
-
-    /// A break is met by where the machine and its chips are behind an instruction.
-    fn meets_behind(&self, rack: &mut Rack) -> bool
-        requires few { length rack.old.items ≤ MOST_CHIPS }
-        ensures met { result ≡ met_behind self.now.breaks self.now.machine.flow.p
-            (probe_counters self.now.machine.probe) self.now.machine.chain
-            (views (map state rack.old.items)) }
-        ensures stays { map state rack.new.items ≡ map state rack.old.items }
-        ensures asked { sum_by queries rack.new.items ≤ sum_by queries rack.old.items
-            + behind_allowed true self.now.breaks self.now.machine.chain }
-        ensures chips { length rack.new.items ≡ length rack.old.items }
-    {
-        let machine = &self.machine;
-        self.breaks.meets_address(machine.next_address())
-            || (self.breaks.apart && are_apart(&machine.reference(), machine.chain(), rack))
-    }
-
-    /// A break that is heeded is met by a bus step, as is told, or behind the instruction.
-    fn is_met(&self, heeds: bool, meets_steps: bool, rack: &mut Rack) -> bool
-        requires few { length rack.old.items ≤ MOST_CHIPS }
-        ensures met { result ≡ (meets_steps || (heeds && met_behind self.now.breaks
-            self.now.machine.flow.p (probe_counters self.now.machine.probe) self.now.machine.chain
-            (views (map state rack.old.items)))) }
-        ensures stays { map state rack.new.items ≡ map state rack.old.items }
-        ensures asked { sum_by queries rack.new.items ≤ sum_by queries rack.old.items
-            + behind_allowed heeds self.now.breaks self.now.machine.chain }
-        ensures chips { length rack.new.items ≡ length rack.old.items }
-    {
-        meets_steps || (heeds && self.meets_behind(rack))
     }
 
     /// The next instruction of a session that hasn't stopped.
     fn turn(&mut self, heeds: bool, rack: &mut Rack) -> Came
         requires few { length rack.old.items ≤ MOST_CHIPS }
         requires running { self.old.halt ≡ None }
-        requires count { self.old.count + 1 < 2 ^ 32 }
-        requires fits { Fits self.old.machine (map state rack.old.items) }
+        requires count { count_in self.old + 1 < 2 ^ 32 }
+        requires fits { Fits self.old.tape.machine (map state rack.old.items) }
         ensures turned { (scene : Scene) → IsAt self.old (map state rack.old.items) scene →
             IsTurned heeds result self.new (map state rack.new.items) scene
             (sum_by queries rack.old.items) (sum_by queries rack.new.items) }
         ensures patches { patches (map state rack.new.items) ≡ patches (map state rack.old.items) }
         ensures goes_on { result ≡ Came.Done → self.new.halt ≡ None }
-        ensures fits { Fits self.new.machine (map state rack.new.items) }
-        ensures count { self.new.count ≤ self.old.count + 1 }
+        ensures spare { self.new.tape.log.spare ≡ self.old.tape.log.spare }
+        ensures fits { Fits self.new.tape.machine (map state rack.new.items) }
+        ensures count { count_in self.new ≤ count_in self.old + 1 }
         ensures chips { length rack.new.items ≡ length rack.old.items }
     {
-        let outcome = self.machine.instr(rack);
-        let meets_steps = self.breaks.meets_heeded(heeds, outcome.steps());
-        match halt_of(outcome) {
-            Some(halt) => {
-                self.halt = Some(halt);
-                Came::Stopped
-            }
-            None => {
-                self.count += 1;
-                if self.is_met(heeds, meets_steps, rack) {
-                    Came::Met
-                } else {
-                    Came::Done
-                }
-            }
+        let outcome = self.tape.instr(rack);
+        if let Some(halt) = halt_of(&outcome) {
+            self.halt = Some(halt);
+            return Came::Stopped;
+        }
+        let machine = self.tape.machine();
+        if is_heeded(heeds, self.breaks, outcome.steps(), machine, rack) {
+            Came::Met
+        } else {
+            Came::Done
         }
     }
 
     /// So many instructions at most.
     fn go(&mut self, count: u32, heeds: bool, rack: &mut Rack) -> Ran
         requires few { length rack.old.items ≤ MOST_CHIPS }
-        requires count { self.old.count + count < 2 ^ 32 }
-        requires fits { Fits self.old.machine (map state rack.old.items) }
+        requires count { count_in self.old + count < 2 ^ 32 }
+        requires fits { Fits self.old.tape.machine (map state rack.old.items) }
         ensures gone { (scene : Scene) → IsAt self.old (map state rack.old.items) scene →
             IsGone heeds count result self.new (map state rack.new.items) scene
             (sum_by queries rack.old.items) (sum_by queries rack.new.items) }
         ensures patches { patches (map state rack.new.items) ≡ patches (map state rack.old.items) }
-        ensures fits { Fits self.new.machine (map state rack.new.items) }
-        ensures count { self.new.count ≤ self.old.count + count }
+        ensures spare { self.new.tape.log.spare ≡ self.old.tape.log.spare }
+        ensures fits { Fits self.new.tape.machine (map state rack.new.items) }
+        ensures count { count_in self.new ≤ count_in self.old + count }
         ensures chips { length rack.new.items ≡ length rack.old.items }
     {
         if self.halt.is_some() {
@@ -296,8 +266,8 @@ impl Session {
         sink: &mut K,
     ) -> Result<(), SinkFault>
         requires few { length rack.old.items ≤ MOST_CHIPS }
-        requires count { self.old.count + count < 2 ^ 32 }
-        requires fits { Fits self.old.machine (map state rack.old.items) }
+        requires count { count_in self.old + count < 2 ^ 32 }
+        requires fits { Fits self.old.tape.machine (map state rack.old.items) }
         ensures carried { (scene : Scene) → IsAt self.old (map state rack.old.items) scene →
             IsAt self.new (map state rack.new.items) (going heeds count scene).scene }
         ensures told { (scene : Scene) → IsAt self.old (map state rack.old.items) scene →
@@ -307,18 +277,107 @@ impl Session {
         ensures asked { (scene : Scene) → IsAt self.old (map state rack.old.items) scene →
             sum_by queries rack.new.items ≤ sum_by queries rack.old.items
             + going_allowed heeds count scene }
-        ensures fits { Fits self.new.machine (map state rack.new.items) }
-        ensures count { self.new.count ≤ self.old.count + count }
+        ensures spare { self.new.tape.log.spare ≡ self.old.tape.log.spare }
+        ensures fits { Fits self.new.tape.machine (map state rack.new.items) }
+        ensures count { count_in self.new ≤ count_in self.old + count }
         ensures chips { length rack.new.items ≡ length rack.old.items }
     {
         let ran = self.go(count, heeds, rack);
         put_going(sink, ran, &self.halt)
     }
 
+    /// Goes back by so many instructions, or to 0, and answers to which.
+    fn back(&mut self, count: u32, rack: &mut Rack) -> u32
+        requires few { length rack.old.items ≤ MOST_CHIPS }
+        ensures at { (scene : Scene) → IsAt self.old (map state rack.old.items) scene →
+            IsAt self.new (map state rack.new.items) (gone_to (back_by count scene) scene) }
+        ensures place { (scene : Scene) → IsAt self.old (map state rack.old.items) scene →
+            result ≡ back_by count scene }
+        ensures patches { patches (map state rack.new.items) ≡ patches (map state rack.old.items) }
+        ensures asked { (scene : Scene) → IsAt self.old (map state rack.old.items) scene →
+            sum_by queries rack.new.items ≤ sum_by queries rack.old.items
+            + replay_allowed (back_by count scene) scene }
+        ensures spare { self.old.tape.log.spare ≤ self.new.tape.log.spare }
+        ensures fits { Fits self.new.tape.machine (map state rack.new.items) }
+        ensures count { count_in self.new ≤ count_in self.old }
+        ensures chips { length rack.new.items ≡ length rack.old.items }
+    {
+        let place = self.tape.place().saturating_sub(count);
+        go_back(&mut self.tape, &mut self.halt, place, rack);
+        place
+    }
+
+    /// Goes back to the last of so many instructions, but for the last one that is done, that met a break; by all of them where none did.
+    /// The breaks are those of now.
+    fn back_run(&mut self, count: u32, rack: &mut Rack) -> Returned
+        requires few { length rack.old.items ≤ MOST_CHIPS }
+        ensures at { (scene : Scene) → IsAt self.old (map state rack.old.items) scene →
+            IsAt self.new (map state rack.new.items) (gone_to (back_to_break count scene) scene) }
+        ensures place { (scene : Scene) → IsAt self.old (map state rack.old.items) scene →
+            result.place ≡ back_to_break count scene }
+        ensures broke { (scene : Scene) → IsAt self.old (map state rack.old.items) scene →
+            result.broke ≡ is_some (met_before count scene) }
+        ensures patches { patches (map state rack.new.items) ≡ patches (map state rack.old.items) }
+        ensures asked { (scene : Scene) → IsAt self.old (map state rack.old.items) scene →
+            sum_by queries rack.new.items ≤ sum_by queries rack.old.items
+            + command_allowed (BackRun count) scene }
+        ensures spare { self.old.tape.log.spare ≤ self.new.tape.log.spare }
+        ensures fits { Fits self.new.tape.machine (map state rack.new.items) }
+        ensures count { count_in self.new ≤ count_in self.old }
+        ensures chips { length rack.new.items ≡ length rack.old.items }
+    {
+        let done = self.tape.place();
+        let from = done.saturating_sub(count);
+        let sought = Sought::Break {
+            from,
+            breaks: self.breaks,
+        };
+        let met = replay(&mut self.tape, done.saturating_sub(1), sought, rack);
+        let place = met.unwrap_or(from);
+        go_back(&mut self.tape, &mut self.halt, place, rack);
+        Returned {
+            place,
+            broke: met.is_some(),
+        }
+    }
+
+    /// The last instruction that stored at this address. All entries are done again, and the instruction that stopped the session, if one
+    /// did, so that it stands where it stood.
+    fn stored(&mut self, at: u16, rack: &mut Rack) -> Option<u32>
+        requires few { length rack.old.items ≤ MOST_CHIPS }
+        requires count { count_in self.old < most_done }
+        requires fits { Fits self.old.tape.machine (map state rack.old.items) }
+        ensures at { (scene : Scene) → IsAt self.old (map state rack.old.items) scene →
+            IsAt self.new (map state rack.new.items) scene }
+        ensures place { (scene : Scene) → IsAt self.old (map state rack.old.items) scene →
+            result ≡ stored_by at scene }
+        ensures patches { patches (map state rack.new.items) ≡ patches (map state rack.old.items) }
+        ensures asked { (scene : Scene) → IsAt self.old (map state rack.old.items) scene →
+            sum_by queries rack.new.items ≤ sum_by queries rack.old.items
+            + allowed_since_power (reached scene) }
+        ensures spare { self.new.tape.log.spare ≡ self.old.tape.log.spare }
+        ensures fits { Fits self.new.tape.machine (map state rack.new.items) }
+        ensures count { (scene : Scene) → IsAt self.old (map state rack.old.items) scene →
+            count_in self.new ≤ count_in self.old }
+        ensures chips { length rack.new.items ≡ length rack.old.items }
+    {
+        let done = self.tape.place();
+        if done == 0 {
+            return None;
+        }
+        let found = replay(&mut self.tape, done, Sought::Store { at }, rack);
+        self.tape.finish(rack);
+        if self.halt.is_some() {
+            let _ = self.tape.instr(rack);
+        }
+        found
+    }
+
     /// Carries a command out, and puts its lines, each at once. The chips are put in all no more questions than the allowances of the bus steps
     /// that were tried, with 512 for each chip at power-on, and what the command asks itself: each chip for its counters or for each byte
-    /// of memory, and each chip described behind each instruction that is done, where counters that part are a break that is heeded. No
-    /// chip's patch changes.
+    /// of memory, and each chip described behind each instruction that is done, or done again, where counters that part are a break that
+    /// is heeded. Stepping back powers the chips and does again what came before; so does looking for a store. No chip's patch changes.
+    /// A key byte and a pulse need room, which `new` takes for each command of its list.
     ///
     /// # Errors
     ///
@@ -331,8 +390,9 @@ impl Session {
     ) -> Result<(), SinkFault>
         requires few { length rack.old.items ≤ MOST_CHIPS }
         requires ranges { IsCommand command.now }
-        requires count { self.old.count < most_done }
-        requires fits { Fits self.old.machine (map state rack.old.items) }
+        requires count { count_in self.old < most_done }
+        requires room { room_of command.now ≤ self.old.tape.log.spare }
+        requires fits { Fits self.old.tape.machine (map state rack.old.items) }
         ensures carried { (scene : Scene) → IsAt self.old (map state rack.old.items) scene →
             IsAt self.new (map state rack.new.items) (scene_after command.now scene) }
         ensures told { (scene : Scene) → IsAt self.old (map state rack.old.items) scene →
@@ -342,8 +402,10 @@ impl Session {
         ensures asked { (scene : Scene) → IsAt self.old (map state rack.old.items) scene →
             sum_by queries rack.new.items ≤ sum_by queries rack.old.items
             + command_allowed command.now scene }
-        ensures fits { Fits self.new.machine (map state rack.new.items) }
-        ensures count { self.new.count ≤ self.old.count + count_of command.now }
+        ensures room { self.old.tape.log.spare ≤ self.new.tape.log.spare + room_of command.now }
+        ensures fits { Fits self.new.tape.machine (map state rack.new.items) }
+        ensures count { (scene : Scene) → IsAt self.old (map state rack.old.items) scene →
+            count_in self.new ≤ count_in self.old + count_of command.now }
         ensures chips { length rack.new.items ≡ length rack.old.items }
     {
         match *command {
@@ -371,17 +433,23 @@ impl Session {
             }
             Command::ShowRegs => put_regs(
                 sink,
-                &self.machine.regs(),
-                self.count,
-                self.machine.phi(),
+                &self.tape.machine().regs(),
+                self.tape.place(),
+                self.tape.machine().phi(),
             ),
             Command::ShowChips => put_chips(
                 sink,
-                self.machine.chain(),
-                &self.machine.reference(),
+                self.tape.machine().chain(),
+                &self.tape.machine().reference(),
                 rack,
             ),
             Command::Mem { at, count } => sink.put(mem_line(rack, at, count).as_bytes()),
+            Command::Back { count } => put_back(sink, self.back(count, rack), false),
+            Command::BackRun { count } => {
+                let Returned { place, broke } = self.back_run(count, rack);
+                put_back(sink, place, broke)
+            }
+            Command::Stored { at } => sink.put(stored_line(self.stored(at, rack)).as_bytes()),
         }
     }
 }

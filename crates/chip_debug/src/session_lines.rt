@@ -2,7 +2,7 @@
 ghost use Rattle.std.specs.Prelude.{◌≡◌, ◌≤◌, ◌+◌, ◌*◌, ◌++◌, length, map, sum_by};
 ghost use Rattle.data_bus.specs.Racks.{views};
 ghost use Rattle.chip_debug.specs.Carried.{bytes_held};
-ghost use Rattle.chip_debug.specs.DebugText.{ready_line as spelled_ready, ran_line as spelled_ran, break_line as spelled_break, second_text, counters_text, own_text, chip_line as spelled_chip, probe_line as spelled_probe, byte_text, mem_line as spelled_mem};
+ghost use Rattle.chip_debug.specs.DebugText.{ready_line as spelled_ready, ran_line as spelled_ran, break_line as spelled_break, at_line as spelled_at, stored_text, stored_line as spelled_stored, second_text, counters_text, own_text, chip_line as spelled_chip, probe_line as spelled_probe, byte_text, mem_line as spelled_mem};
 
 use super::sockets::byte_held;
 use chip_face::{Chip, ChipKind, Counters, MOST_CHIPS};
@@ -38,6 +38,42 @@ pub(crate) fn break_line() -> Line
 {
     let mut line = Line::new();
     line.text(b"break\n");
+    line
+}
+
+/// `at`: the session went back to this instruction.
+#[tactic(auto, unfolding(crate::specs::DebugText::at_line))]
+pub(crate) fn at_line(place: u32) -> Line
+    ensures { result ≡ spelled_at place }
+{
+    let mut line = Line::new();
+    line.text(b"at ");
+    line.decimal(u64::from(place));
+    line.text(b"\n");
+    line
+}
+
+/// Writes the number of an instruction, or `none`.
+fn write_stored(line: &mut Line, place: Option<u32>)
+    requires { length line.old + 20 ≤ LINE_ROOM }
+    ensures text { line.new ≡ line.old ++ stored_text place }
+    ensures len { length line.new ≤ length line.old + 20 }
+{
+    match place {
+        Some(place) => line.decimal(u64::from(place)),
+        None => line.text(b"none"),
+    }
+}
+
+/// `stored`: the instruction that stored last, or that none did.
+#[tactic(auto, unfolding(crate::specs::DebugText::stored_line))]
+pub(crate) fn stored_line(place: Option<u32>) -> Line
+    ensures { result ≡ spelled_stored place }
+{
+    let mut line = Line::new();
+    line.text(b"stored ");
+    write_stored(&mut line, place);
+    line.text(b"\n");
     line
 }
 

@@ -6,12 +6,12 @@ ghost use Rattle.data_bus.specs.Racks.{views};
 ghost use Rattle.rack_run.specs.Endings.{stop_of};
 ghost use Rattle.rack_run.specs.Texts.{Puts};
 ghost use Rattle.chip_debug.specs.Breaks.{fitted, own_counters};
-ghost use Rattle.chip_debug.specs.Carried.{start_lines, halt_lines, scratchpad_lines, registers_lines};
+ghost use Rattle.chip_debug.specs.Carried.{break_lines, start_lines, halt_lines, scratchpad_lines, registers_lines};
 ghost use Rattle.chip_debug.specs.Carried.{fitted_lines, chips_lines};
-ghost use Rattle.chip_debug.specs.DebugText.{ran_line as spelled_ran, chip_line as spelled_chip};
+ghost use Rattle.chip_debug.specs.DebugText.{at_line as spelled_at, ran_line as spelled_ran, chip_line as spelled_chip};
 
 use super::session::Ran;
-use super::session_lines::{break_line, chip_line, probe_line, ran_line, ready_line};
+use super::session_lines::{at_line, break_line, chip_line, probe_line, ran_line, ready_line};
 use super::sockets::{counters_in, kind_in};
 use chip_face::{Chip, Counters, MOST_CHIPS};
 use console_spec::Regs;
@@ -51,6 +51,18 @@ fn put_halt<K: Sink>(sink: &mut K, halt: &Option<Halt>, broke: bool) -> Result<(
         None if broke => sink.put(break_line().as_bytes()),
         None => Ok(()),
     }
+}
+
+/// The instruction to which the session went back, and that it met a break, if it was looked for and did.
+pub(crate) fn put_back<K: Sink>(sink: &mut K, place: u32, broke: bool) -> Result<(), SinkFault>
+    ensures { Puts result (K.output sink.old) (K.output sink.new)
+        (text_of (spelled_at place ∷ break_lines broke)) }
+{
+    sink.put(at_line(place).as_bytes())?;
+    if broke {
+        sink.put(break_line().as_bytes())?;
+    }
+    Ok(())
 }
 
 /// How many instructions were done, and what ended them.

@@ -37,4 +37,6 @@ mod sessions;
 #[cfg(test)]
 mod sixteen_chips;
 #[cfg(test)]
+mod tapes;
+#[cfg(test)]
 mod unserved;

@@ -53,7 +53,7 @@ entries-append (m ∷ ms) b from mid to first later =
 
 -- ---- counts
 
-instructions-append : (a b : List Entry) → instructions_in (a ++ b) ≡ instructions_in a + instructions_in b
+pub instructions-append : (a b : List Entry) → instructions_in (a ++ b) ≡ instructions_in a + instructions_in b
 instructions-append [] b = omega arith
 instructions-append (Happens event ∷ a) b = instructions-append a b
 instructions-append (Instruction ∷ a) b = let rest = instructions-append a b in omega arith

@@ -17,7 +17,7 @@ use Rattle.rewind.proofs.ChipLaws.{chips_forget}
 use Rattle.rewind.proofs.Memories.{first_same, powered_same, seats_same}
 use Rattle.rewind.proofs.RackLaws.{racks_forget}
 
-position_same : (now first : List ChipView) → PowerAlike now first → (chain : List ℕ) (powers : List PowerOn) (fill : ℕ) →
+pub position_same : (now first : List ChipView) → PowerAlike now first → (chain : List ℕ) (powers : List PowerOn) (fill : ℕ) →
     power_position now chain powers fill ≡ power_position first chain powers fill
 position_same now first alike chain powers fill =
     ap₂ (λ (memory : List ℕ) (seats : List Seat). record {

@@ -1,3 +1,8 @@
+pub mod KeptBytes
+pub mod KeptChips
+pub mod KeptRacks
+pub mod KeptHearing
+pub mod PatchLaws
 pub mod FilledAgain
 pub mod ChipLaws
 pub mod RackLaws
@@ -6,4 +11,14 @@ pub mod Laws
 pub mod Entries
 pub mod LogSteps
 pub mod LogCalls
-pub mod WorkedLogs
+pub mod AskingLaws
+pub mod ReachedLaws
+pub mod Starts
+pub mod EventLaws
+pub mod Turned
+pub mod EntriesReached
+pub mod Counting
+pub mod TapeStarts
+pub mod TapeSteps
+pub mod TapeForward
+mod WorkedLogs

@@ -129,7 +129,11 @@ impl Log {
 
     /// Drops the entries that are left to play, and gives back the room of their events.
     pub fn cut(&mut self)
-        ensures { self.new ≡ record { played = self.old.played; left = []; spare = self.old.spare + events_in self.old.left } }
+        ensures { self.new ≡ record {
+          played = self.old.played;
+          left = [];
+          spare = self.old.spare + events_in self.old.left;
+        } }
     {
         self.marks.truncate(self.next);
         self.total = self.place;

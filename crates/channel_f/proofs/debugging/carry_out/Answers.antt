@@ -3,7 +3,7 @@ use Rattle.std.proofs.Common.{◌∙◌, ◌≤◌, [], arith, length, refl}
 use Rattle.std.proofs.lemmas.List.{drop_all, drop_more}
 use Rattle.std.proofs.lemmas.Result.{err_from_is_err_and}
 use Rattle.chip_debug.specs.declared.command.Command.TheVariants.{Power}
-use Rattle.channel_f.proofs.Debuggings.{along_first, along_more, along_cut, along_all, asked_all, failed_at, total_next, whole_all}
+use Rattle.channel_f.proofs.Debuggings.{along_first, along_more, along_cut, along_all, asked_all, failed_at, rooms_next, total_next, whole_all}
 use Rattle.channel_f.proofs.debugging.carry_out.Goals as goal
 
 pub loop-command-init : goal.loop-command-init
@@ -12,6 +12,7 @@ loop-command-init g c = record {
   same = refl;
   ranges = c.requires.ranges;
   counted = omega (arith, c.requires.begun);
+  room = c.requires.room;
   fits = c.requires.fits;
   chips = refl;
 }
@@ -21,10 +22,12 @@ command-requires g c =
     let next = drop_more c.args.commands.now c.loop-command.command-index (Power 0) c.loop-command-test.true in
     let inv = c.loop-command.invariant in
     let counted = total_next c.args.commands.now c.loop-command.command-index c.loop-command-test.true in
+    let rooms = rooms_next c.args.commands.now c.loop-command.command-index c.loop-command-test.true in
     record {
       few = omega (arith, c.requires.few, inv.chips);
       ranges = (rw next at inv.ranges).0;
       count = omega (arith, inv.counted, counted, c.requires.total);
+      room = omega (arith, inv.room, rooms);
       fits = inv.fits;
     }
 
@@ -33,6 +36,7 @@ loop-command-preserved g c =
     let next = drop_more c.args.commands.now c.loop-command.command-index (Power 0) c.loop-command-test.true in
     let inv = c.loop-command.invariant in
     let counted = total_next c.args.commands.now c.loop-command.command-index c.loop-command-test.true in
+    let rooms = rooms_next c.args.commands.now c.loop-command.command-index c.loop-command-test.true in
     let new = c.in_ok-command.ensures in
     record {
       along = λ scene at.
@@ -41,7 +45,8 @@ loop-command-preserved g c =
           (new.asked _ here.at);
       same = new.patches ∙ inv.same;
       ranges = (rw next at inv.ranges).1;
-      counted = omega (arith, inv.counted, counted, new.count);
+      counted = let here = (inv.along c.requires.stands.0 c.requires.stands.1).at in omega (arith, inv.counted, counted, new.count _ here);
+      room = omega (arith, inv.room, rooms, new.room);
       fits = new.fits;
       chips = new.chips ∙ inv.chips;
     }

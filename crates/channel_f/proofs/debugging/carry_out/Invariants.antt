@@ -2,9 +2,10 @@
 use Rattle.std.proofs.Common.{◌≡◌, ◌≤◌, ◌+◌, drop, length, map}
 use Rattle.std.specs.Prelude.{sum_by}
 use Rattle.f8_machine.specs.Fitting.{Fits}
-use Rattle.chip_debug.specs.Limits.{AreCommands, total_of}
+use Rattle.rewind.specs.Standing.{patches}
+use Rattle.chip_debug.specs.Limits.{AreCommands, rooms_of, total_of}
 use Rattle.chip_debug.specs.Scenes.{Scene}
-use Rattle.chip_debug.specs.Standing.{IsAt, patches}
+use Rattle.chip_debug.specs.Standing.{IsAt, count_in}
 use Rattle.channel_f.proofs.Debuggings.{Along}
 use Rattle.channel_f.proofs.debugging.carry_out.Given as goal
 
@@ -19,7 +20,8 @@ invariant-loop-command g l =
           (sum_by (λ b. (goal.Chip-dyn g (b.vtable, b.value)).queries b.value) l.rack.items);
       same : patches nows ≡ patches olds;
       ranges : AreCommands (drop l.command-index l.commands);
-      counted : l.session.count + total_of (drop l.command-index l.commands) ≤ total_of l.commands;
-      fits : Fits l.session.machine nows;
+      counted : count_in l.session + total_of (drop l.command-index l.commands) ≤ total_of l.commands;
+      room : rooms_of (drop l.command-index l.commands) ≤ l.session.tape.log.spare;
+      fits : Fits l.session.tape.machine nows;
       chips : length l.rack.items ≡ length l.fn.rack.items;
     }

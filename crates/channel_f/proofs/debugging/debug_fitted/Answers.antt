@@ -11,7 +11,7 @@ returns-in-Ok-clause-reports g c =
     let powers = c.args.asked.now.cart.powers in
     let olds = map (λ b. (goal.Chip-dyn g (b.vtable, b.value)).state b.value) c.args.rack.now.items in
     let first = first_scene chips powers (views olds) in
-    let done = c.in-Ok.ensures.told first (starts_at chips powers olds _ _ c.new-session.ensures.at) in
+    let done = c.in-Ok.ensures.told first (starts_at chips powers olds _ _ c.in_ok-session.ensures.at) in
     reports_done _ _ _ (rw c.as_slice.ensures.commands at done.ok)
 
 pub returns-in-Ok-clause-whole : goal.returns-in-Ok-clause-whole
@@ -20,26 +20,26 @@ returns-in-Ok-clause-whole g c =
     let powers = c.args.asked.now.cart.powers in
     let olds = map (λ b. (goal.Chip-dyn g (b.vtable, b.value)).state b.value) c.args.rack.now.items in
     let first = first_scene chips powers (views olds) in
-    let done = c.in-Ok.ensures.whole first (starts_at chips powers olds _ _ c.new-session.ensures.at) in
+    let done = c.in-Ok.ensures.whole first (starts_at chips powers olds _ _ c.in_ok-session.ensures.at) in
     λ by_sink. rw c.as_slice.ensures.commands at done
 
-pub returns-in-Err-clause-reports : goal.returns-in-Err-clause-reports
-returns-in-Err-clause-reports g c =
+pub returns-clause-reports : goal.returns-clause-reports
+returns-clause-reports g c =
     let chips = c.args.asked.now.cart.chips in
     let powers = c.args.asked.now.cart.powers in
     let olds = map (λ b. (goal.Chip-dyn g (b.vtable, b.value)).state b.value) c.args.rack.now.items in
     let first = first_scene chips powers (views olds) in
-    let done = c.in-Err.ensures.told first (starts_at chips powers olds _ _ c.new-session.ensures.at) in
+    let done = c.in-Err.ensures.told first (starts_at chips powers olds _ _ c.in_ok-session.ensures.at) in
     reports_cut_short _ _ _ (rw c.as_slice.ensures.commands at done.err)
 
-pub returns-in-Err-clause-failed : goal.returns-in-Err-clause-failed
-returns-in-Err-clause-failed g c =
+pub returns-clause-failed : goal.returns-clause-failed
+returns-clause-failed g c =
     let chips = c.args.asked.now.cart.chips in
     let powers = c.args.asked.now.cart.powers in
     let olds = map (λ b. (goal.Chip-dyn g (b.vtable, b.value)).state b.value) c.args.rack.now.items in
     let first = first_scene chips powers (views olds) in
-    let begun = begun_asks chips powers olds _ _ c.new-session.ensures.asked in
-    let done = c.in-Err.ensures.failed first _ (starts_at chips powers olds _ _ c.new-session.ensures.at) begun in
+    let begun = begun_asks chips powers olds _ _ c.in_ok-session.ensures.asked in
+    let done = c.in-Err.ensures.failed first _ (starts_at chips powers olds _ _ c.in_ok-session.ensures.at) begun in
     λ by_sink. rw c.as_slice.ensures.commands at done
 
 pub returns-in-Ok-clause-asked : goal.returns-in-Ok-clause-asked
@@ -48,7 +48,7 @@ returns-in-Ok-clause-asked g c =
     let powers = c.args.asked.now.cart.powers in
     let olds = map (λ b. (goal.Chip-dyn g (b.vtable, b.value)).state b.value) c.args.rack.now.items in
     let first = first_scene chips powers (views olds) in
-    let begun = begun_asks chips powers olds _ _ c.new-session.ensures.asked in
+    let begun = begun_asks chips powers olds _ _ c.in_ok-session.ensures.asked in
     let done = rw c.as_slice.ensures.commands at
-    (c.in-Ok.ensures.asked first (starts_at chips powers olds _ _ c.new-session.ensures.at)) in
+    (c.in-Ok.ensures.asked first (starts_at chips powers olds _ _ c.in_ok-session.ensures.at)) in
     λ by_sink. omega (arith, begun, done)

@@ -23,6 +23,7 @@ loop-done-init g c = record {
       ∙ none_of c.self.inside.halt (sym c.is_some.ensures ∙ c.if-is_some.false);
   fits = c.requires.fits;
   chips = refl;
+  spare = refl;
   counted = omega arith;
 }
 
@@ -37,6 +38,7 @@ loop-done-preserved g c = record {
   running = c.turn.ensures.goes_on c.in-Done.is;
   fits = c.turn.ensures.fits;
   chips = c.turn.ensures.chips ∙ c.loop-done.invariant.chips;
+  spare = c.turn.ensures.spare ∙ c.loop-done.invariant.spare;
   counted = omega (arith, c.turn.ensures.count, c.loop-done.invariant.counted);
 }
 

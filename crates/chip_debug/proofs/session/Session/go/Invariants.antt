@@ -3,7 +3,8 @@ use Rattle.std.proofs.Common.{◌≡◌, ◌≤◌, ◌+◌, length, map, None}
 use Rattle.std.specs.Prelude.{sum_by}
 use Rattle.f8_machine.specs.Fitting.{Fits}
 use Rattle.chip_debug.specs.Scenes.{Scene}
-use Rattle.chip_debug.specs.Standing.{IsAt, patches}
+use Rattle.rewind.specs.Standing.{patches}
+use Rattle.chip_debug.specs.Standing.{IsAt, count_in}
 use Rattle.chip_debug.proofs.GoingLaws.{Reached}
 use Rattle.chip_debug.proofs.session.Session.go.Given as goal
 
@@ -17,7 +18,8 @@ invariant-loop-done g l =
           (sum_by (λ b. (goal.Chip-dyn g (b.vtable, b.value)).queries b.value) l.rack.items);
       same : patches nows ≡ patches olds;
       running : l.self.halt ≡ None;
-      fits : Fits l.self.machine nows;
+      fits : Fits l.self.tape.machine nows;
       chips : length l.rack.items ≡ length l.fn.rack.items;
-      counted : l.self.count ≤ l.fn.self.count + l.done;
+      spare : l.self.tape.log.spare ≡ l.fn.self.tape.log.spare;
+      counted : count_in l.self ≤ count_in l.fn.self + l.done;
     }
