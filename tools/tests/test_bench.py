@@ -8,6 +8,7 @@ import tempfile
 import unittest
 from pathlib import Path
 from types import ModuleType
+from typing import Callable
 from unittest import mock
 
 from tool import TOP, load
@@ -19,7 +20,7 @@ import measuring  # noqa: E402
 
 PLAIN = ('audit', 'certificates', 'check', 'link')
 COUNTED = {'assemble': 'LAPS', 'bus_step': 'LAPS', 'reading': 'LAPS', 'speed': 'SECONDS'}
-BUILT = (*PLAIN, 'reading', 'speed')
+BUILT = (*PLAIN, 'debug', 'reading', 'speed')
 
 
 def loaded(name: str) -> ModuleType:
@@ -39,7 +40,7 @@ def ended(name: str, *words: str) -> tuple[int, str, str]:
 
 class Words(unittest.TestCase):
     def test_help_of_all(self) -> None:
-        for name in (*PLAIN, *COUNTED):
+        for name in (*PLAIN, 'debug', *COUNTED):
             status, wrote, told = ended(name, '--help')
             self.assertEqual((status, told), (0, ''))
             self.assertIn(f'\n    bench/{name}', wrote)
@@ -105,6 +106,23 @@ class Built(unittest.TestCase):
 
 
 class Measured(unittest.TestCase):
+    def test_steps_back_beside_the_steps_and_an_earlier_program(self) -> None:
+        debug, ran = loaded('debug'), 'ran 1000000\n'
+        printed = {debug.STEPS: ran, 10 * debug.STEPS: 10 * ran, **{debug.STEPS + one.commands: ran + one.printed for one in debug.SESSIONS}}
+
+        def told(words: list[str], is_right: Callable[[measuring.Run], bool]) -> measuring.Cost:
+            program, command, _, commands = words
+            text = Path(commands).read_text()
+            self.assertEqual((command, [is_right(measuring.Run(1, 1, printed[text], status)) for status in (0, 3)]), ('debug', [True, False]))
+            return measuring.Cost(text.count('step') + text.count('back') / 2 + (program == '/new'), 1)
+
+        with mock.patch.object(debug, 'cost_of', told), contextlib.redirect_stdout(io.StringIO()) as wrote:
+            self.assertEqual(debug.main(['--program', '/new', '/old']), 0)
+        lines = wrote.getvalue().splitlines()
+        self.assertEqual(lines[:2], ['step, 1,000,000 instructions: 2.000 seconds of processor time (median of 5)',
+                                     'back 1: 0.500 seconds besides, 0.25 times the steps (at most 1.2)'])
+        self.assertEqual(lines[-1], 'step, 10,000,000 instructions: 11.000 seconds, 1.10 times the 10.000 of the earlier program')
+
     def test_texts_of_the_size_that_is_said(self) -> None:
         reading = loaded('reading')
         self.assertEqual(len(loaded('assemble').text()), 262_144)

@@ -5,6 +5,7 @@ import os
 import tempfile
 import unittest
 from pathlib import Path
+from unittest import mock
 
 import tool
 from companion.calls import Reach
@@ -69,6 +70,44 @@ class Debugger(unittest.TestCase):
         self.assertEqual(self.at(prompt, 'watch ram 2800', 'run')[0], '1 done: 2800 00>C0')
         self.assertEqual(self.at(prompt, 'history 2'),
                          ['       7  000A COPY+1, copy.f8 line 12: XDC', '       8  000B COPY+2, copy.f8 line 13: ST'])
+
+    def test_back_to_breaks_and_by_whom_a_byte_was_stored(self):
+        prompt = self.parted()
+        self.at(prompt, 'break romc 1D', 'step 100')
+        self.assertEqual(self.at(prompt, 'back run')[:2], ['2 back: break romc 1D', '000D COPY+4, copy.f8 line 15: DS 0'])
+        self.assertEqual(self.at(prompt, 'back run 2')[0], '2 back: break romc 1D')
+        self.assertEqual(self.at(prompt, 'chips')[0], 'chip 0 3851 PC0=000C PC1=0000 DC0=0013  apart: DC0')
+        self.assertEqual(self.at(prompt, 'break COPY', 'back run')[:2], ['2 back: break at 0009 (COPY)', '0009 COPY, copy.f8 line 11: LM'])
+        self.assertEqual(self.at(prompt, 'stored 2800'), ['no instruction stored at 2800'])
+        self.assertEqual(self.at(prompt, 'step 100', 'stored 2800'), ['2800 was stored by instruction 8 of 11', '000B COPY+2, copy.f8 line 13: ST'])
+        self.assertEqual(self.at(prompt, 'back run 1')[0], '1 back: no break before')
+        self.assertEqual(self.at(prompt, 'commands'), ['power 00', 'step 10'])
+        self.assertEqual([self.at(prompt, line)[0] for line in ('back 20', 'back run', 'back')], ['10 back', '0 back: no break before', '0 back'])
+
+    def test_back_at_the_most_instructions(self):
+        prompt = prompt_of(self.folder / 'echo.toml')
+        self.at(prompt, 'step 40', 'break 0')
+        with mock.patch.multiple('companion.debugging.session', MOST_INSTRUCTIONS=40), mock.patch('companion.debugging.replay.MOST_INSTRUCTIONS', 40):
+            self.assertEqual(self.at(prompt, 'back 3')[:2], ['3 back', '0001 LR 1,A'])
+        self.assertEqual(self.at(prompt, 'back run')[0], '1 back: break at 0000')
+
+    def test_what_came_behind_an_instruction_is_gone_but_for_a_script_s(self):
+        (self.folder / 'script.txt').write_text('power 11\nat 2 keys 00 3F\nat 0 keys 00 20\nframes 9\n')
+        prompt = prompt_of(self.folder / 'echo.toml')
+        self.at(prompt, f'script {self.folder}/script.txt', 'until frame 2', 'keys 00 44', 'step 3')
+        frame = prompt.session.moves[1].count
+        self.assertEqual(self.at(prompt, 'commands'), ['power 11', 'keys 00 20', f'step {frame}', 'keys 00 3F', 'keys 00 44', 'step 3'])
+        self.assertEqual(self.at(prompt, 'back 1', 'commands')[-2:], ['keys 00 44', 'step 2'])
+        self.assertEqual(self.at(prompt, 'back 2', 'commands')[-2:], [f'step {frame}', 'keys 00 3F'])
+        self.assertEqual(self.at(prompt, 'keys 00 55', 'back 99999', 'commands'), ['power 11', 'keys 00 20'])
+
+    def test_the_way_back_leads_to_the_same_state(self):
+        for count, back in ((7, 3), (40, 13), (5, 5), (5, 9)):
+            prompt, fresh = prompt_of(self.folder / 'echo.toml'), prompt_of(self.folder / 'echo.toml')
+            self.at(prompt, 'keys 00 40', f'step {count}', f'back {back}')
+            if count > back:
+                self.at(fresh, 'keys 00 40', f'step {count - back}')
+            self.assertEqual((prompt.session.state, self.at(prompt, 'chips')), (fresh.session.state, self.at(fresh, 'chips')))
 
     def test_a_script_s_keys_come_at_their_frames(self):
         (self.folder / 'script.txt').write_text('power 11\nat 2 keys 00 3F\nat 0 keys 00 20\nframes 9\n')

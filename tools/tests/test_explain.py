@@ -228,6 +228,14 @@ class Explain(unittest.TestCase):
         self.assertRegex(told, r'commands, line 2\n    stop 5\nCause 1, Word: .*\nIs `step` meant\?\nThe form: `step N`\.')
         self.assertNotIn('show chips', self.explained('error script line 1 cause 1', script='stop 5\n'))
 
+    def test_steps_back_of_the_debugger(self):
+        for line, cause, hint in (('back run', 2, 'Say by how many instructions at most: `back run 100`.'), ('back', 1, 'Say by how many instructions: `back 1`.'),
+                                  ('run back 5', 1, '`back` stands in front: `back 5`, or `back run 5` to a break.'),
+                                  ('stored 28', 2, 'An address has four hexadecimal digits, with zeros in front.'), ('stored $2800', 2, ': `2800`.')):
+            told = self.explained(f'error debug line 2 cause {cause}', commands=f'step 4\n{line}\n')
+            self.assertIn(f'{hint}\n', told, line)
+        self.assertIn('The form: `back N`, or `back run N`.', self.explained('error debug line 1 cause 3', commands='back 0\n'))
+
     def test_the_line_may_have_lines_behind_it(self):
         done = call('explain', stdin='verdict none\nstop reserved 2D at 0000\nregs P=0000\ntotal 0 instructions 14 phi\n')
         self.assertIn('Look whether 0000 holds data', done.told)

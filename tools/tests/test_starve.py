@@ -71,13 +71,27 @@ class Judging(unittest.TestCase):
         self.assertFalse(self.judged((0, b''))[0])
 
     def test_one_call_of_its_own_that_fails_is_told(self):
-        for wrong, status in ((None, 0), ('play', 1), ('asm', 1), ('check', 1)):
+        for wrong, status in ((None, 0), ('play', 1), ('debug', 1), ('asm', 1), ('check', 1)):
             with mock.patch.object(starve, 'Starving', lambda program, words, folder: mock.Mock(all=lambda: words[0] != wrong)):
                 self.assertEqual(starve.main(['--program', '/bin/sh']), status)
 
 
 @tool.needs_program
 class Calls(unittest.TestCase):
+    def test_a_session_without_each_allocation(self):
+        with tempfile.TemporaryDirectory() as folder:
+            call = next(call for call in starve.own_calls(Path(folder)) if call[0] == 'debug')
+            commands = Path(folder, call[2])
+            done = [tool.call('starve', *call, cwd=Path(folder))]
+            # As many commands without a key byte and a pulse: then the session keeps nothing.
+            commands.write_text(re.sub('(?m)^(keys|pulse) .*', 'clear', starve.SESSION))
+            done.append(tool.call('starve', *call, cwd=Path(folder)))
+        if done[0].returncode == 2:
+            self.skipTest(done[0].told)
+        self.assertEqual([one.returncode for one in done], [0, 0], done[0].text)
+        kept, plain = (int(re.search(r'(\d+) allocations refused, \1 of them with status 6 and nothing written\n\Z', one.text)[1]) for one in done)
+        self.assertGreater(kept, plain)
+
     def test_an_assembly_without_each_allocation(self):
         with tempfile.TemporaryDirectory() as folder:
             Path(folder, 'loop.f8').write_text(starve.LOOP)

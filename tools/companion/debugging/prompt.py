@@ -116,9 +116,21 @@ class Prompt:
             yield from self.arrived(self.session.go(RUN, [*self.breaks, self.break_at(f'{instruction.next:04X}')], self.watches))
 
     def back(self, words: list[str]) -> Iterator[str]:
-        done = self.session.back(number(words, 1, MOST_STEP))
-        yield f'{done:,} back'
+        if words[:1] == ['run']:
+            arrival = self.session.back_run(number(words, RUN, MOST_STEP, 1), self.breaks)
+            yield f'{arrival.count:,} back: {arrival.why or "no break before"}'
+        else:
+            yield f'{self.session.back(number(words, 1, MOST_STEP)):,} back'
         yield from self.here()
+
+    def stored(self, words: list[str]) -> Iterator[str]:
+        address = self.places.address(self.one(words), self.session.state)
+        found = self.session.stored(address)
+        if found is None:
+            yield f'no instruction stored at {address:04X}'
+        else:
+            yield f'{address:04X} was stored by instruction {found[0]:,} of {self.session.state.instructions:,}'
+            yield self.places.told(found[1])
 
     def one(self, words: list[str]) -> str:
         if len(words) != 1:
@@ -288,7 +300,8 @@ COMMANDS = [
     Command('over', 'does an instruction, and a PI or PK with all up to the address behind it', Prompt.over),
     Command('run [N]', f'goes on to a break, a watch or a stop, N instructions at most ({RUN:,})', Prompt.run),
     Command('until PLACE', 'goes on to a place; `until frame F` to the end of an instruction at which the frame F falls', Prompt.until),
-    Command('back [N]', 'goes back N instructions', Prompt.back),
+    Command('back [N]', 'goes back N instructions; `back run [N]` to the last break before, by N at most', Prompt.back),
+    Command('stored PLACE', 'the last instruction that stored there', Prompt.stored),
     Command('break [PLACE]', 'a break; `break romc RR`, `break chip SOCKET` and `break apart` too; all breaks without a word', Prompt.add_break),
     Command('watch [WHAT]', 'stops behind a change: of A W IS P1 D0 D1, r0 to r63, `ram PLACE`; or a write, of `port PP`', Prompt.add_watch),
     Command('clear [NUMBER]', 'takes away a break or watch, or all', Prompt.clear),

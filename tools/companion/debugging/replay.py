@@ -56,6 +56,17 @@ class Ran:
         return cls(count, next((line for line in rest if line.startswith('stop ')), ''), 'break' in rest)
 
 
+@dataclass(frozen=True)
+class Returned:
+    """Where a step back led, and whether that instruction met a break."""
+    at: int
+    is_break: bool = False
+
+    @classmethod
+    def of(cls, lines: list[str]) -> Returned:
+        return cls(int(lines[0].split()[1]), 'break' in lines[1:])
+
+
 def steps(count: int) -> list[str]:
     """The commands for a number of instructions, none of which asks for too many."""
     whole, rest = divmod(count, MOST_STEP)
@@ -63,8 +74,8 @@ def steps(count: int) -> list[str]:
 
 
 def asked(commands: Iterable[str]) -> int:
-    """How many instructions commands ask for."""
-    return sum(int(command.split()[1]) for command in commands if command.startswith(('step ', 'run ')))
+    """How many instructions commands ask for, on and back."""
+    return sum(int(command.split()[-1]) for command in commands if command.startswith(('step ', 'run ', 'back ')))
 
 
 def text_of(commands: list[str]) -> bytes:
@@ -81,12 +92,12 @@ def taken(command: str, lines: deque[str]) -> list[str]:
         while not found or not found[-1].startswith('probe '):
             found.append(lines.popleft())
         return found
-    if word in ('mem', 'power'):
+    if word in ('mem', 'power', 'stored'):
         return [lines.popleft()]
-    if word not in ('step', 'run'):
+    if word not in ('step', 'run', 'back'):
         return []
     found = [lines.popleft()]
-    while lines and (lines[0] == 'break' or lines[0].startswith('stop ')):
+    if lines and (lines[0] == 'break' or lines[0].startswith('stop ')):
         found.append(lines.popleft())
     return found
 

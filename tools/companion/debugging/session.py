@@ -4,7 +4,8 @@ from __future__ import annotations
 from dataclasses import dataclass, field
 from typing import Callable, Iterator
 
-from companion.debugging.replay import MOST_BYTES, MOST_STEP, SHOW_REGS, Ran, State, carry_out, steps, text_of
+from companion.debugging.replay import (MOST_BYTES, MOST_INSTRUCTIONS, MOST_STEP, SHOW_REGS, Ran, Returned, State, asked, carry_out, steps,
+                                        text_of)
 from companion.debugging.stops import Break, Sample, Watch
 from companion.processor import FRAME
 from companion.program import Program
@@ -20,6 +21,7 @@ class Move:
     """Something that changed the machine: instructions, or what came from outside between two of them."""
     count: int = 0  # of instructions
     command: str = ''
+    is_scripted: bool = False  # it comes by itself at its frame
 
     def commands(self) -> list[str]:
         return [self.command] if self.command else steps(self.count)
@@ -54,8 +56,12 @@ class Session:
     def begin(self, power: int) -> None:
         """Power-on and reset; what comes at frame 0 comes with it."""
         self.power, self.moves, self.stop = power, [], ''
-        self.moves = [Move(command=command_of(event)) for event in self.events if event.frame == 0]
+        self.moves = self.scripted(0)
         self.look()
+
+    def scripted(self, frame: int) -> list[Move]:
+        """What comes at a frame by the script."""
+        return [Move(command=command_of(event), is_scripted=True) for event in self.events if event.frame == frame]
 
     def take(self, script: Script) -> None:
         """A script's power-on byte, and its events from frame 0 on."""
@@ -111,8 +117,7 @@ class Session:
         self.moves.append(Move(command=command))
 
     def let_events_come(self) -> None:
-        frame = self.state.phi // FRAME
-        self.moves += [Move(command=command_of(event)) for event in self.events if event.frame == frame]
+        self.moves += self.scripted(self.state.phi // FRAME)
 
     def before_event(self, count: int) -> int | None:
         """How many instructions there are up to the next frame at which the script has something, where it is within reach."""
@@ -201,11 +206,45 @@ class Session:
         return samples(commands, self.replay(commands, past), probes)
 
     def back(self, count: int) -> int:
-        """Goes back: the last instructions are left out, and what came from outside behind them. Returns how many there were."""
-        self.stop = ''
-        self.moves, later = self.parted(count)
-        self.look()
-        return sum(move.count for move in later)
+        """Goes back as the program does: the last instructions are left out, with what came from outside behind the earlier ones, but for
+        what a script has there. Returns how many instructions there were."""
+        count = min(count, self.state.instructions)
+        earlier, behind = self.kept(count)
+        commands = [f'back {max(count, 1)}', *(move.command for move in behind)]
+        if asked([*self.past(), *commands]) < MOST_INSTRUCTIONS:
+            *_, shown, ended = self.replay([*commands, SHOW_REGS, 'step 0'])
+        else:
+            shown, ended = self.replay([SHOW_REGS, 'step 0'], self.past([*earlier, *behind]))
+        self.moves = [*earlier, *behind]
+        self.state, self.stop = State.of(shown), Ran.of(ended).stop
+        return count
+
+    def kept(self, count: int) -> tuple[list[Move], list[Move]]:
+        """The moves up to the last instruction that stays, where so many are left out, and those of the script behind it."""
+        earlier, _ = self.parted(count)
+        behind: list[Move] = []
+        while earlier and not earlier[-1].count:
+            behind.insert(0, earlier.pop())
+        return earlier, [move for move in behind if move.is_scripted]
+
+    def back_run(self, count: int, breaks: list[Break]) -> Arrival:
+        """Goes back to the last instruction before that met a break, by so many at most. Each break is looked for by itself, no further
+        back than the last one that was found."""
+        here = self.state.instructions
+        best, why = max(here - count, 0), ''
+        for one in breaks if here > best else ():
+            found = Returned.of(self.replay([*one.commands, f'back run {here - best}'])[-1])
+            if found.is_break and (found.at > best or not why):
+                best, why = found.at, one.told()
+        return Arrival(self.back(here - best), self.state, why)
+
+    def stored(self, address: int) -> tuple[int, int] | None:
+        """The last instruction that stored at an address: its number and its own address."""
+        word = self.replay([f'stored {address:04X}'])[0][0].split()[1]
+        if word == 'none':
+            return None
+        earlier, _ = self.parted(self.state.instructions - int(word) + 1)
+        return int(word), State.of(self.replay([SHOW_REGS], self.past(earlier))[0]).address
 
     def parted(self, count: int) -> tuple[list[Move], list[Move]]:
         """The moves before the last instructions, and those from there on."""

@@ -2,6 +2,7 @@
 from __future__ import annotations
 
 import re
+from typing import Sequence
 
 from companion.explaining.files import Files, Sort, sort_of
 from companion.page_tables import cause_of, close, forms_of, row_about
@@ -15,7 +16,13 @@ HINTS = [
     (r'(?<=\S) *[#;]', 'A comment is a line of its own, and begins with `#`.'), (r'^[;/]', 'A comment begins with `#`.'),
     (r'=|,|:', 'Only blanks separate the words: `steps 100`.'), (r'  +', 'Two words are separated by one blank.'),
     (r'^[a-z]*[A-Z]|\b(KEYS|PULSE)\b', 'The words are written in small letters.'),
-    (rf'(0x|\$)({HEX}+)', r'Write two hexadecimal digits and nothing else: `\2`.'),
+    (rf'(0x|\$)({HEX}+)', r'Write the hexadecimal digits and nothing else: `\2`.'),
+]
+# The same for commands of the debugger alone.
+COMMAND_HINTS = [
+    (r'^back run$', 'Say by how many instructions at most: `back run 100`.'), (r'^back$', 'Say by how many instructions: `back 1`.'),
+    (r'^(run|step) back (\d+)$', r'`back` stands in front: `back \2`, or `back run \2` to a break.'),
+    (rf'^(stored|mem|break at) ({HEX}{{1,3}})\b', r'An address has four hexadecimal digits, with zeros in front.'),
 ]
 CERTIFICATE_HINTS = {
     1: 'The file is no certificate, or has lines that end with CR LF.', 4: 'Each point is there once, and the lines ascend.',
@@ -23,9 +30,9 @@ CERTIFICATE_HINTS = {
 }
 
 
-def found_in(text: str) -> tuple[re.Match, str] | None:
-    """The first thing of HINTS in a line."""
-    return next(((match, hint) for form, hint in HINTS if (match := re.search(form, text))), None)
+def found_in(text: str, hints: Sequence[tuple[str, str]] = HINTS) -> tuple[re.Match, str] | None:
+    """The first thing of some hints in a line."""
+    return next(((match, hint) for form, hint in hints if (match := re.search(form, text))), None)
 
 
 def forms(text: str, section: str) -> list[str]:
@@ -70,7 +77,7 @@ def debug(files: Files, line: str, cause: str) -> list[str]:
     sentence = cause_of('FORMATS.md', 'Debugger', f'error debug line {line} cause {cause}')
     if odd := files.looks_like('commands', Sort.COMMANDS, Sort.NOTHING, Sort.DIGITS):
         return [*shown, sentence, *odd]
-    found = found_in(text) if int(cause) in (1, 2) else None
+    found = found_in(text, [*COMMAND_HINTS, *HINTS]) if int(cause) in (1, 2) else None
     said = [found[0].expand(found[1]).replace('steps 100', 'step 100')] if found else []
     return [*shown, sentence, *said, *forms(text, 'Debugger')]
 
