@@ -35,6 +35,7 @@ pub mod PointFits
 pub mod CartridgeLaws
 pub mod Runs
 pub mod Answered
+pub mod OneInstruction
 pub mod SoundRuns
 pub mod ChipPages
 pub mod MapViews

@@ -133,8 +133,8 @@ pub record Stands (m : MapView) (seats : List Seat) (tracked : List ℕ) (notes 
   pub safe : IsSafeHere m tracked note op here
   pub chips : seats_of here.copies ≡ seats
 
--- an invariant of the map that is beside a position is safe there
-safe_here : (m : MapView) (tracked : List ℕ) (x : Invariant) (here : Position) → unsafe_reason m tracked x ≡ None → IsBeside m x here →
+-- an invariant that is safe and beside a position is safe there
+pub safe_here : (m : MapView) (tracked : List ℕ) (x : Invariant) (here : Position) → unsafe_reason m tracked x ≡ None → IsBeside m x here →
     (op : Op) × IsSafeHere m tracked x op here
 safe_here m tracked x here none beside =
     let state = safe_state m tracked x none in
@@ -147,10 +147,18 @@ safe_here m tracked x here none beside =
       },
     )
 
--- ---- one step
-
 same_op : (here : Position) (op other : Op) → decoded (opcode_at here) ≡ Some op → decoded (opcode_at here) ≡ Some other → op ≡ other
 same_op here op other p q = cc
+
+-- whatever instruction stands there
+pub safe_there : (m : MapView) (tracked : List ℕ) (x : Invariant) (here : Position) (op : Op) → unsafe_reason m tracked x ≡ None →
+    IsBeside m x here → decoded (opcode_at here) ≡ Some op → IsSafeHere m tracked x op here
+safe_there m tracked x here op none beside is =
+    let found = safe_here m tracked x here none beside in
+    let same : found.0 ≡ op = same_op here found.0 op (opcode_told m x here found.0 beside found.1.state.is) is in
+    subst (λ (o : Op). IsSafeHere m tracked x o here) same found.1
+
+-- ---- one step
 
 start_beside : (m : MapView) (seats : List Seat) (here : Position) → IsViewOf m seats → IsFreeStart m.byte seats here →
     IsBeside m start_invariant here
@@ -204,10 +212,7 @@ step_sound : (m : MapView) (tracked : List ℕ) (x : Invariant) (here : Position
     unsafe_reason m tracked x ≡ None → IsBeside m x here → decoded (opcode_at here) ≡ Some op → AllByRecursion HasByte events →
     IsLedTo m tracked x op (with_events events (position_after op here))
 step_sound m tracked x here op events none beside is small =
-    let found = safe_here m tracked x here none beside in
-    let same : found.0 ≡ op = same_op here found.0 op (opcode_told m x here found.0 beside found.1.state.is) is in
-    let safe : IsSafeHere m tracked x op here = subst (λ (o : Op). IsSafeHere m tracked x o here) same found.1 in
-    let there = led_to m tracked x op here safe in
+    let there = led_to m tracked x op here (safe_there m tracked x here op none beside is) in
     record { to = there.to; is = there.is; beside = events_beside m there.to events (position_after op here) small there.beside }
 
 pub sound_steps : SoundStepLaw

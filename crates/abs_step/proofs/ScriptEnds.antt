@@ -1,4 +1,4 @@
--- How runs by scripts end over a closed and safe invariant map.
+-- How runs by scripts end, where something is shown of all runs with free inputs, as a closed and safe invariant map shows it.
 use Rattle.std.proofs.Common.{◌≡◌, ℕ, zero, suc, Bool, true, false, List, [], map, refl, ap, sym, subst, inl, inr}
 use Rattle.std.specs.Prelude.{Option, Some, None, if◌then◌else◌}
 use Rattle.std.specs.List.{AllByRecursion}
@@ -17,12 +17,9 @@ use Rattle.console_spec.specs.Telling.{events_fallen, events_behind, moment_of, 
 use Rattle.console_spec.specs.Telling.{on_rack, begun, telling_behind, played_by}
 use Rattle.console_spec.specs.declared.At.{At}
 use Rattle.console_spec.specs.declared.Event.{Event}
-use Rattle.abs_domain.specs.AbstractState.{AbstractState}
-use Rattle.abs_domain.specs.declared.points.Point.{Point}
-use Rattle.abs_step.specs.MapView.{MapView}
-use Rattle.console_spec.specs.FreeRuns.{HasByte, IsReached}
-use Rattle.abs_step.specs.Soundness.{IsSafeMap, OnlyUndriven, GoesOn}
-use Rattle.abs_step.specs.ScriptRuns.{IsScriptFor, EndsBy, ScriptRunLaw}
+use Rattle.console_spec.specs.FreeRuns.{HasByte, IsFreeStart, IsReached}
+use Rattle.abs_step.specs.Soundness.{OnlyUndriven, GoesOn}
+use Rattle.abs_step.specs.ScriptRuns.{IsScriptFor, EndsBy, FreeRunLaw, ScriptRunLaw}
 use Rattle.abs_step.proofs.SoundRuns.{soundness}
 use Rattle.abs_step.proofs.ScriptStarts.{events_small, begun_free, reset_free}
 
@@ -80,23 +77,22 @@ module _ (bytes : ℕ → Option ℕ) (seats : List Seat) (claim : Position → 
 
 -- ---- whole runs
 
-module _ (m : MapView) (tracked : List ℕ) (notes : List (Point × AbstractState)) (vs : List ChipView) (chain : List ℕ) (powers : List PowerOn)
-    (traced : Bool) (script : Script) (safe : IsSafeMap m (map seat_of vs) tracked notes) (are : ArePowers powers)
-    (for : IsScriptFor m.byte vs script) where
+module _ (bytes : ℕ → Option ℕ) (vs : List ChipView) (chain : List ℕ) (powers : List PowerOn) (traced : Bool) (script : Script)
+    (are : ArePowers powers) (for : IsScriptFor bytes vs script)
+    (served : (here : Position) → IsFreeStart bytes (map seat_of vs) here → reset_fault here ≡ None) where
   reset_goes : reset_fault (begun vs chain powers script) ≡ None
-  reset_goes = soundness.reset m (map seat_of vs) tracked notes safe (begun vs chain powers script)
-      (begun_free m.byte vs chain powers script are for)
+  reset_goes = served (begun vs chain powers script) (begun_free bytes vs chain powers script are for)
 
   whole_ends : (claim : Position → Option Fault → Type 0) →
-      ((n : ℕ) (here : Position) → IsReached m.byte (map seat_of vs) n here → GoesOn (claim here) here) →
+      ((n : ℕ) (here : Position) → IsReached bytes (map seat_of vs) n here → GoesOn (claim here) here) →
       EndsBy claim (played_by vs chain powers traced script).ending
   unfolding played_by
   whole_ends claim each =
       let x : Position = begun vs chain powers script in
       let rest : Position → Telling = telling (on_rack traced) script (most_instructions script.end) in
       let later : EndsBy claim (rest (position_after_reset x)).ending =
-      telling_ends m.byte (map seat_of vs) claim each traced script for.events (most_instructions script.end) 0 (position_after_reset x)
-      (reset_free m.byte (map seat_of vs) x (begun_free m.byte vs chain powers script are for)) in
+      telling_ends bytes (map seat_of vs) claim each traced script for.events (most_instructions script.end) 0 (position_after_reset x)
+      (reset_free bytes (map seat_of vs) x (begun_free bytes vs chain powers script are for)) in
       subst (λ (f : Option Fault). EndsBy claim (telling_behind x rest (goes_unless f (position_after_reset x))).ending) (sym reset_goes)
       later
 
@@ -104,16 +100,24 @@ done_of : (e : Ending) → EndsBy (λ here fault. fault ≡ None) e → e.stop �
 done_of e (inl is_done) = is_done
 done_of e (inr (fault, is, none)) = absurd (cc)
 
+pub free_runs : FreeRunLaw
+free_runs = record {
+  sound = λ bytes vs chain powers traced script are script_for served each.
+      whole_ends bytes vs chain powers traced script are script_for served (λ here fault. OnlyUndriven here.flat.state.flow.d0 fault) each;
+  fault_free = λ bytes vs chain powers traced script are script_for served each.
+      done_of (played_by vs chain powers traced script).ending
+      (whole_ends bytes vs chain powers traced script are script_for served (λ here fault. fault ≡ None) each);
+}
+
+-- over a closed and safe map
 pub script_runs : ScriptRunLaw
 script_runs = record {
   start = λ bytes vs chain powers script are script_for.
       reset_free bytes (map seat_of vs) (begun vs chain powers script) (begun_free bytes vs chain powers script are script_for);
   sound = λ m tracked notes vs chain powers traced script safe are script_for.
-      whole_ends m tracked notes vs chain powers traced script safe are script_for
-      (λ here fault. OnlyUndriven here.flat.state.flow.d0 fault)
-      (λ n here h. soundness.sound m (map seat_of vs) tracked notes safe n here h);
+      free_runs.sound m.byte vs chain powers traced script are script_for (soundness.reset m (map seat_of vs) tracked notes safe)
+      (soundness.sound m (map seat_of vs) tracked notes safe);
   fault_free = λ m tracked notes vs chain powers traced script safe free are script_for.
-      done_of (played_by vs chain powers traced script).ending
-      (whole_ends m tracked notes vs chain powers traced script safe are script_for (λ here fault. fault ≡ None)
-      (λ n here h. soundness.fault_free m (map seat_of vs) tracked notes safe free n here h));
+      free_runs.fault_free m.byte vs chain powers traced script are script_for (soundness.reset m (map seat_of vs) tracked notes safe)
+      (soundness.fault_free m (map seat_of vs) tracked notes safe free);
 }

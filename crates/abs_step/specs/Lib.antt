@@ -14,6 +14,7 @@ pub mod Analysis
 pub mod ReachedStates
 pub mod CartridgeAnalysis
 pub mod Soundness
+pub mod ServedSteps
 pub mod ScriptRuns
 pub mod WithoutVectors
 pub mod RackSeats

@@ -4,7 +4,8 @@ ghost use Rattle.abs_step.specs.WithoutVectors.{WithoutVectorsLaw};
 ghost use Rattle.abs_step.specs.FitLaws.{FitLaw};
 ghost use Rattle.abs_step.specs.MapView.{MapViewLaw};
 ghost use Rattle.abs_step.specs.RackSeats.{SeatedViewLaw};
-ghost use Rattle.abs_step.specs.ScriptRuns.{ScriptRunLaw};
+ghost use Rattle.abs_step.specs.ScriptRuns.{FreeRunLaw, ScriptRunLaw};
+ghost use Rattle.abs_step.specs.ServedSteps.{ServedStepLaw};
 ghost use Rattle.abs_step.specs.Soundness.{SoundnessLaw};
 ghost use Rattle.abs_step.specs.SoundSteps.{SoundStepLaw};
 ghost use Rattle.abs_step.specs.StepOrder.{StepOrderLaw};
@@ -40,12 +41,29 @@ pub fn sound_step_law()
     ensures { SoundStepLaw }
 {}
 
+/// What a safe state says that stands for a position: the next opcode isn't reserved; where a run begins reset is served; and where a safe
+/// state stands for the position after the instruction too, each bus access of the instruction, and of an interrupt at its end, is served but
+/// for reads at D0 that no chip answers; and where the first state is free of faults besides, each is (this project's own). This call does
+/// nothing; its contract is the law.
+#[tactic(auto, using(crate::proofs::OneInstruction::served_steps))]
+pub fn served_step_law()
+    ensures { ServedStepLaw }
+{}
+
 /// What an analysis shows to be safe that follows no vector, and refuses every chip that can interrupt where an interrupt may be taken, is
 /// shown to be safe, and leads to the same points, where vectors are followed; and no interrupt is taken there (this project's own). This
 /// call does nothing; its contract is the law.
 #[tactic(auto, using(crate::proofs::VectorsKept::without_vectors_kept))]
 pub fn without_vectors_law()
     ensures { WithoutVectorsLaw }
+{}
+
+/// What is shown of every run with free inputs on some chips holds of a run by a script on them. Where reset is served and each instruction
+/// goes on but for reads at D0 that no chip answers, the run is done, or it stops at such a read; and where each instruction is served, it is
+/// done (this project's own). This call does nothing; its contract is the law.
+#[tactic(auto, using(crate::proofs::ScriptEnds::free_runs))]
+pub fn free_run_law()
+    ensures { FreeRunLaw }
 {}
 
 /// Over a closed and safe invariant map of the chips a run by a script is done, or it stops at a read at D0 that no chip answers; and where

@@ -22,8 +22,8 @@ mod writes;
 pub use annotation::{Annotation, MOST_POINTS};
 pub use fault_free::whole;
 pub use laws::{
-    analysis_law, fit_law, map_view_law, script_run_law, seated_view_law, sound_step_law,
-    soundness_law, step_order_law, without_vectors_law,
+    analysis_law, fit_law, free_run_law, map_view_law, script_run_law, seated_view_law,
+    served_step_law, sound_step_law, soundness_law, step_order_law, without_vectors_law,
 };
-pub use step::{after, start};
+pub use step::{after, instruction_at, start};
 pub use successors::Successors;

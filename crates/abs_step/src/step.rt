@@ -62,8 +62,8 @@ pub fn start(split: &Split) -> (Point, Abs)
     (point, START)
 }
 
-/// The instruction at an address, where a byte stays there and it is an opcode.
-pub(crate) fn instruction_at(map: &Map, at: u16) -> Option<Op>
+/// The instruction at an address, where a byte stays there and it is an opcode (this project's own).
+pub fn instruction_at(map: &Map, at: u16) -> Option<Op>
     ensures instruction { result ≡ option_and_then decoded ((view_of map.now).byte at) }
     ensures in_range { ForSome result InRange }
 {

@@ -13,5 +13,5 @@ mod write;
 pub use answers::{CertAnswer, CertCause, CertFault};
 pub use examined::{VerifyAnswer, verify};
 pub use laws::{closed_map_law, round_trip_law, verified_map_law};
-pub use read::read_cert;
+pub use read::{first_line, read_cert};
 pub use write::write_cert;

@@ -3,10 +3,10 @@ ghost use Rattle.std.specs.Prelude.{◌≡◌, ◌==◌, ◌<◌, ◌≤◌, ◌
 ghost use Rattle.abs_domain.specs.StateView.{state_of};
 ghost use Rattle.cartridge.specs.Splits.{IsSplit};
 ghost use Rattle.abs_step.specs.StatesAtPoints.{state_in, states_of};
-ghost use Rattle.certificate.specs.Answers.{ReadsAs, entry_as};
+ghost use Rattle.certificate.specs.Answers.{Gives, ReadsAs, entry_as};
 ghost use Rattle.text_lines.specs.ReadErrors.{SaysSeen, OnMemory};
 ghost use Rattle.certificate.specs.CertificateLaws.{AllFit, HaveSplit};
-ghost use Rattle.certificate.specs.CertificateText.{line_at as spelled_line};
+ghost use Rattle.certificate.specs.CertificateText.{first_line as spelled_first, line_at as spelled_line};
 ghost use Rattle.certificate.specs.CertificateText.{count_of as spelled_count, has_split as spelled_split, is_behind as spelled_behind};
 ghost use Rattle.certificate.specs.CertificateText.{at_line, header_at as spelled_header, end_at as spelled_end};
 ghost use Rattle.certificate.specs.CertificateText.{entry_in as spelled_entry, entries_at, certificate_of};
@@ -32,13 +32,21 @@ fn line_feed(text: &[u8]) -> Option<usize>
     text.iter().position(|byte| *byte == b'\n')
 }
 
-/// The first line of a text, and what is behind it. A line feed ends every line.
+/// The first line of a text without the line feed that ends it, and what is behind it. `None`: there is no line feed (this project's own).
 #[tactic(auto, unfolding(crate::specs::CertificateText::first_line))]
+pub fn first_line(text: &[u8]) -> Option<(&[u8], &[u8])>
+    ensures { Gives (λ x. (x.0.now, x.1.now)) result (spelled_first text.now) }
+{
+    let at = line_feed(text)?;
+    Some((&text[..at], &text[at + 1..]))
+}
+
+/// The same of the line of a number. A line feed ends every line.
 fn line_at(number: u32, text: &[u8]) -> Result<(&[u8], &[u8]), CertFault>
     ensures { ReadsAs (λ x. (x.0.now, x.1.now)) result (spelled_line number text.now) }
 {
-    match line_feed(text) {
-        Some(at) => Ok((&text[..at], &text[at + 1..])),
+    match first_line(text) {
+        Some(line) => Ok(line),
         None => Err(CertFault {
             line: number,
             cause: CertCause::End,
