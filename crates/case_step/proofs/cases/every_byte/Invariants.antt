@@ -1,0 +1,7 @@
+-- the bytes so far
+use Rattle.std.proofs.Common.{◌≡◌}
+use Rattle.std.specs.List.{range_with_len}
+use Rattle.case_step.proofs.cases.every_byte.Given as goal
+
+abbrev pub invariant-loop-byte : goal.invariant-loop-byte
+invariant-loop-byte l = l.bytes.items ≡ range_with_len 0 l.byte
