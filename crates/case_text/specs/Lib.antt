@@ -1,0 +1,4 @@
+pub mod EntryWords
+pub mod CasesText
+pub mod WrittenCases
+pub mod WrittenLaws
