@@ -1,0 +1,6 @@
+mod NotedForms
+mod NotedSizes
+mod NotedTexts
+mod ShownLists
+mod NotedVerdicts
+mod BetterAnswers

@@ -1,0 +1,14 @@
+pub mod NumberSets
+pub mod KnownSets
+pub mod WaysAlike
+pub mod StepFrames
+pub mod IsarApart
+pub mod LeastCounters
+pub mod IsarReads
+pub mod CasesBelow
+pub mod NotedSteps
+pub mod PartsKept
+pub mod CoverParts
+pub mod NotedCover
+pub mod NotedLoops
+pub mod NotedLists

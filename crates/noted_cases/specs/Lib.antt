@@ -1,0 +1,2 @@
+pub mod NotedEntries
+pub mod NotedLaws
