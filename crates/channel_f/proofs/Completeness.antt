@@ -9,7 +9,7 @@ use Rattle.console_spec.specs.RunText.{text_of}
 use Rattle.outside.specs.Counts.{Rose}
 use Rattle.outside.specs.SinkRules.{Adds}
 use Rattle.outside.specs.StoreRules.{NamedBytes, Input}
-use Rattle.command_line.specs.CommandLine.{Command, Play, Check, Verify, Migrate, Ref, Debug, Audit, Asm, Link, Dis, Gen}
+use Rattle.command_line.specs.CommandLine.{Command, Play, Check, Verify, Prove, Confirm, Migrate, Ref, Debug, Audit, Asm, Link, Dis, Gen}
 use Rattle.console_spec.specs.Telling.{Telling}
 use Rattle.console_spec.specs.declared.VerdictWord.{VerdictWord}
 use Rattle.cart_checker.specs.Verdicts.{verdict_word}
@@ -18,6 +18,10 @@ use Rattle.cart_checker.specs.declared.verdict.Verdict.TheVariants.{Whole as Fau
 use Rattle.cartridge.specs.declared.finish.Cart.{Cart}
 use Rattle.bus_audit.specs.declared.answers.AuditAnswer.{AuditAnswer}
 use Rattle.bus_audit.specs.declared.answers.AuditAnswer.TheVariants.{Accept, Reject}
+use Rattle.case_step.specs.declared.answer.CasesAnswer.{CasesAnswer}
+use Rattle.case_step.specs.declared.answer.CasesAnswer.TheVariants as confirmed
+use Rattle.case_search.specs.declared.proving.ProveAnswer.{ProveAnswer}
+use Rattle.case_search.specs.declared.proving.ProveAnswer.TheVariants as proved
 use Rattle.certificate.specs.declared.examined.VerifyAnswer.{VerifyAnswer}
 use Rattle.certificate.specs.declared.examined.VerifyAnswer.TheVariants as found
 use Rattle.loader.specs.declared.refusals.Refusal.{Refusal}
@@ -26,15 +30,16 @@ use Rattle.loader.specs.declared.refusals.Stop.TheVariants.{Refused, Store, Memo
 use Rattle.chip_face.specs.declared.specification.ChipSpec.{ChipSpec}
 use Rattle.loader.specs.declared.games.Debugging.{Debugging}
 use Rattle.loader.specs.Games.{Auditing, Game, game_of, cart_of, table_by, claim_of, debugging_of, auditing_of, image_by, linked_by}
-use Rattle.loader.specs.Games.{bytes_by}
+use Rattle.loader.specs.Games.{bytes_by, confirming_of}
 use Rattle.loader.specs.Work.{End, Gives, Refuses, Lacks, Work, gives, ◌>>=◌}
 use Rattle.loader.specs.Works.{HasFiles, Misses, order_of, file_of, Works, outcome_as}
 use Rattle.loader.proofs.WorkLaws.{works_gives, works_done, works_stop}
-use Rattle.channel_f.specs.Answers.{Answer, Due, Plain, Judged, Reading, refusal, status_of, run_answer, judged_run, game_run, ref_run}
+use Rattle.channel_f.specs.Answers.{Answer, Due, Plain, Judged, Proved, Reading, refusal, status_of, run_answer, judged_run, game_run}
 use Rattle.channel_f.specs.Answers.{unless_refused, game_due, generated_game, gen_due, play_due, check_answer, check_due}
-use Rattle.channel_f.specs.Answers.{audit_answer, audit_due, audited_answer}
+use Rattle.channel_f.specs.Answers.{audit_answer, audit_due, audited_answer, confirm_answer, confirmed_answer}
 use Rattle.channel_f.specs.Answers.{debug_answer, debug_due, migrate_due, text_answer, cert_answer, found_answer, verify_answer}
-use Rattle.channel_f.specs.Answers.{ref_answer, asm_answer, dis_answer, words_answer, due_of, refusal_answer}
+use Rattle.channel_f.specs.Answers.{listed_answer, prove_answer, prove_due}
+use Rattle.channel_f.specs.Answers.{ref_answer, ref_run, asm_answer, dis_answer, words_answer, due_of, refusal_answer}
 use Rattle.channel_f.specs.Commands.{Around, Ends, Says}
 use Rattle.channel_f.specs.Completeness.{due_at, Answered, AnsweredDue, RefusesBehind, RefusesRack, IsComplete}
 use Rattle.channel_f.specs.Reports.{Answers, AnswersDue, Wants, Stops}
@@ -317,6 +322,7 @@ record IsOrdinary (rack : List ChipState) (answer : Answer) : Type 0 where
 abbrev AreOrdinary : List ChipState → Due → Type 0
 AreOrdinary rack (Plain answer) = IsOrdinary rack answer
 AreOrdinary rack (Judged cart by) = (verdict : Verdict) → IsOrdinary rack (by verdict)
+AreOrdinary rack (Proved cart by) = (answer : ProveAnswer) → IsOrdinary rack (by answer)
 AreOrdinary rack (Reading table) = (text : List ℕ) → IsOrdinary rack (text_answer text)
 
 complete_given : (old new : Around) (said : Status) (work : Work Due) (due : Due) → AreOrdinary old.rack due →
@@ -338,6 +344,21 @@ complete_given old new said work (Judged cart by) ordinary works (inr judges) =
           answers_of old.output new.output said (by judges.right.verdict).status (by judges.right.verdict).lines mine.plain.memory
           judges.reports;
       is_due = λ answered. record { right = judges.right; answered = answered };
+    })
+    works
+complete_given old new said work (Proved cart by) ordinary works (inl wants) =
+    complete_wanting old new said work (Proved cart by) wants works
+complete_given old new said work (Proved cart by) ordinary works (inr proves) =
+    let mine = ordinary proves.answer in
+    complete_ok old new said work (Proved cart by)
+    (record {
+      answer = by proves.answer;
+      plain = mine.plain;
+      of_rack = mine.of_rack;
+      ends =
+          answers_of old.output new.output said (by proves.answer).status (by proves.answer).lines mine.plain.memory
+          proves.reports;
+      is_due = λ answered. record { answer = proves.answer; shows = proves.shows; no_less = proves.no_less; answered = answered };
     })
     works
 complete_given old new said work (Reading table) ordinary works (inl wants) =
@@ -462,6 +483,26 @@ found_ordinary rack tracked points found.Agreed = done_ordinary rack _
 found_ordinary rack tracked points (found.NotClosed from to) = no_verdict_ordinary rack _
 found_ordinary rack tracked points (found.Unsafe point reason) = no_verdict_ordinary rack _
 
+confirmed_ordinary : (rack : List ChipState) (entries : ℕ) (answer : CasesAnswer) → IsOrdinary rack (confirmed_answer entries answer)
+confirmed_ordinary rack entries confirmed.Whole = done_ordinary rack _
+confirmed_ordinary rack entries confirmed.Agreed = done_ordinary rack _
+confirmed_ordinary rack entries (confirmed.NotClosed from to) = no_verdict_ordinary rack _
+confirmed_ordinary rack entries (confirmed.Unsafe place reason) = no_verdict_ordinary rack _
+
+prove_ordinary : (rack : List ChipState) (answer : ProveAnswer) → IsOrdinary rack (prove_answer answer)
+prove_ordinary rack (proved.Whole shown) = done_ordinary rack _
+prove_ordinary rack (proved.Agreed shown) = done_ordinary rack _
+prove_ordinary rack (proved.Unproved point reason) = no_verdict_ordinary rack _
+
+listed_ordinary : (rack : List ChipState) (answer : ProveAnswer) → IsOrdinary rack (listed_answer answer)
+listed_ordinary rack (proved.Whole shown) = done_ordinary rack _
+listed_ordinary rack (proved.Agreed shown) = done_ordinary rack _
+listed_ordinary rack (proved.Unproved point reason) = no_verdict_ordinary rack _
+
+proved_ordinary : (rack : List ChipState) (listed : Bool) (cart : Cart) → AreOrdinary rack (prove_due listed cart)
+proved_ordinary rack true cart = listed_ordinary rack
+proved_ordinary rack false cart = prove_ordinary rack
+
 -- ---- all commands
 
 pub completed : (old new : Around) (said : Status) (command : Option Command) → Says old new said command →
@@ -475,6 +516,12 @@ completed old new said (Some (Check cart certified)) says =
 completed old new said (Some (Verify cart cert)) says =
     complete_of old new said (claim_of cart cert) (λ claim. Plain (verify_answer claim)) says.told.outcome
     (λ claim. found_ordinary old.rack claim.cart.split _ _) says.told.works says.told.ends
+completed old new said (Some (Prove cart listed)) says =
+    complete_of old new said (cart_of cart) (prove_due listed) says.told.outcome
+    (λ cartridge. proved_ordinary old.rack listed cartridge) says.told.works says.told.ends
+completed old new said (Some (Confirm cart cases)) says =
+    complete_of old new said (confirming_of cart cases) (λ asked. Plain (confirm_answer asked)) says.told.outcome
+    (λ asked. confirmed_ordinary old.rack _ _) says.told.works says.told.ends
 completed old new said (Some (Migrate cart)) says =
     complete_of old new said (table_by cart) migrate_due says.told.outcome
     (λ table. λ text. done_ordinary old.rack _) says.told.works says.told.ends

@@ -25,7 +25,8 @@ use Rattle.report.proofs.TextLaws.{text_of-nil, text_of-cons, text_of-append}
 use Rattle.data_bus.specs.Racks.{views}
 use Rattle.loader.specs.Games.{Game}
 use Rattle.cart_checker.specs.Verdicts.{verdict_word}
-use Rattle.channel_f.specs.Answers.{Answer, Due, Plain, Judged, Reading, status_of, refusal, ref_run, game_run, game_chain, run_answer, judged_run}
+use Rattle.channel_f.specs.Answers.{Answer, Due, Plain, Judged, Proved, Reading, status_of, refusal, ref_run, game_run, game_chain, run_answer}
+use Rattle.channel_f.specs.Answers.{judged_run}
 use Rattle.channel_f.specs.Manners.{detail_of, run_by, run_fitted, opening_lines, closing_lines, lines_by, told_summary}
 use Rattle.channel_f.specs.Manners.{summary_lines}
 use Rattle.channel_f.specs.Manners.{ending_told, summary_told, closing_told}
@@ -151,6 +152,7 @@ answers_wanting now due = record {
 pub due_wanting : (now : Output) (due : Due) → AnswersDue now now status.Memory due
 due_wanting now (Plain answer) = answers_wanting now answer
 due_wanting now (Judged cart by) = inl (record { status = refl; nothing = adds_none now })
+due_wanting now (Proved cart by) = inl (record { status = refl; nothing = adds_none now })
 due_wanting now (Reading table) = inl (record { status = refl; nothing = adds_none now })
 
 pub answers_stayed : (old new : Output) (due : Answer) → new ≡ old → Answers old new status.Memory due

@@ -12,4 +12,7 @@ mod Outcomes
 mod Completeness
 mod SureCalls
 mod CheckedCertificates
+mod ConfirmedLists
+mod ProvedCarts
 mod WorkedWords
+mod WorkedCaseLines

@@ -5,18 +5,18 @@ use Rattle.std.specs.Prelude.{IsTrue, is_some, option_and_then}
 use Rattle.outside.specs.SinkRules.{Output}
 use Rattle.outside.specs.StoreRules.{Input}
 use Rattle.outside.proofs.SinkLaws.{adds_none}
-use Rattle.command_line.specs.CommandLine.{Command, Play, Check, Verify, Migrate, Ref, Debug, Audit, Asm, Link, Dis, Gen, command_of, has_command}
-use Rattle.command_line.specs.CommandLine.{CommandWord, command_word}
+use Rattle.command_line.specs.CommandLine.{Command, Play, Check, Verify, Prove, Confirm, Migrate, Ref, Debug, Audit, Asm, Link, Dis, Gen}
+use Rattle.command_line.specs.CommandLine.{CommandWord, command_of, command_word, has_command}
 use Rattle.loader.specs.declared.refusals.Stop.{Stop}
 use Rattle.loader.specs.declared.refusals.Stop.TheVariants.{Memory}
 use Rattle.loader.specs.declared.games.Debugging.{Debugging}
 use Rattle.loader.specs.Games.{Auditing, Game, game_of, cart_of, table_by, claim_of, debugging_of, auditing_of, image_by, linked_by}
-use Rattle.loader.specs.Games.{bytes_by}
+use Rattle.loader.specs.Games.{bytes_by, confirming_of}
 use Rattle.loader.specs.Work.{Work}
 use Rattle.loader.specs.Works.{Works}
 use Rattle.loader.proofs.WorkLaws.{works_memory}
 use Rattle.channel_f.specs.Answers.{Due, Plain, generated_game, gen_due, play_due, check_due, ref_answer, asm_answer, dis_answer}
-use Rattle.channel_f.specs.Answers.{audit_due, debug_due, migrate_due, verify_answer, words_answer}
+use Rattle.channel_f.specs.Answers.{audit_due, confirm_answer, debug_due, migrate_due, prove_due, verify_answer, words_answer}
 use Rattle.channel_f.specs.Commands.{Around, Told, Tells, TellsAudit, TellsDebugging, TellsGame, Says}
 use Rattle.channel_f.specs.RackAfter.{PlaysGame, RackAfter}
 use Rattle.channel_f.specs.ExactAudits.{AnswersExactly}
@@ -105,6 +105,16 @@ module _ (old new : Around) (said : Status) where
       new.rack ≡ old.rack → new.asked ≡ old.asked → Says old new said command
   says_verify cart cert command is told same none = rw (← is) (record { told = told; same = same; unasked = none })
 
+  pub says_prove : (cart : List ℕ) (listed : Bool) (command : Option Command) → Some (Prove cart listed) ≡ command →
+      Told old.output new.output old.input new.input said (cart_of cart) (prove_due listed) → new.rack ≡ old.rack →
+      new.asked ≡ old.asked → Says old new said command
+  says_prove cart listed command is told same none = rw (← is) (record { told = told; same = same; unasked = none })
+
+  pub says_confirm : (cart cases : List ℕ) (command : Option Command) → Some (Confirm cart cases) ≡ command →
+      Told old.output new.output old.input new.input said (confirming_of cart cases) (λ asked. Plain (confirm_answer asked)) →
+      new.rack ≡ old.rack → new.asked ≡ old.asked → Says old new said command
+  says_confirm cart cases command is told same none = rw (← is) (record { told = told; same = same; unasked = none })
+
   pub says_migrate : (cart : List ℕ) (command : Option Command) → Some (Migrate cart) ≡ command →
       Told old.output new.output old.input new.input said (table_by cart) migrate_due → new.rack ≡ old.rack →
       new.asked ≡ old.asked → Says old new said command
@@ -171,6 +181,8 @@ module _ (now : Around) where
       wanting refl refl
   says_wanting (Some (Check cart certified)) = tells_wanting (cart_of cart) (check_due certified)
   says_wanting (Some (Verify cart cert)) = tells_wanting (claim_of cart cert) (λ claim. Plain (verify_answer claim))
+  says_wanting (Some (Prove cart listed)) = tells_wanting (cart_of cart) (prove_due listed)
+  says_wanting (Some (Confirm cart cases)) = tells_wanting (confirming_of cart cases) (λ asked. Plain (confirm_answer asked))
   says_wanting (Some (Migrate cart)) = tells_wanting (table_by cart) migrate_due
   says_wanting (Some (Ref cart script)) = tells_wanting (game_of cart script) (λ game. Plain (ref_answer game))
   says_wanting (Some (Debug cart commands)) =

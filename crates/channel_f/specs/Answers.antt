@@ -11,6 +11,12 @@ use Rattle.console_spec.specs.declared.End.TheVariants.{Frames}
 use Rattle.console_spec.specs.declared.VerdictWord.{VerdictWord}
 use Rattle.generator.specs.GeneratedChips.{chips_of_seed}
 use Rattle.memory_map.specs.MapOf.{views_of}
+use Rattle.abs_step.specs.MapView.{chips_view}
+use Rattle.case_step.specs.CaseLists.{judged}
+use Rattle.case_step.specs.declared.answer.CasesAnswer.{CasesAnswer}
+use Rattle.case_step.specs.declared.answer.CasesAnswer.TheVariants as confirmed
+use Rattle.case_search.specs.declared.proving.ProveAnswer.{ProveAnswer}
+use Rattle.case_search.specs.declared.proving.ProveAnswer.TheVariants as proved
 use Rattle.rack_run.specs.Seating.{kinds_of, fitted_views}
 use Rattle.rack_run.specs.Sockets.{chain_of, shortage_of}
 use Rattle.rack_run.specs.declared.sockets.Shortage.{Shortage}
@@ -36,14 +42,15 @@ use Rattle.bus_audit.specs.declared.answers.AuditAnswer.TheVariants.{Accept, Rej
 use Rattle.chip_face.specs.declared.specification.ChipSpec.{ChipSpec}
 use Rattle.chip_debug.specs.Carried.{first_scene, told_by}
 use Rattle.chip_debug.specs.Scenes.{Scene}
-use Rattle.command_line.specs.CommandLine.{Command, Play, Check, Verify, Migrate, Ref, Debug, Audit, Asm, Link, Dis, Gen}
+use Rattle.command_line.specs.CommandLine.{Command, Play, Check, Verify, Prove, Confirm, Migrate, Ref, Debug, Audit, Asm, Link, Dis, Gen}
 use Rattle.loader.specs.declared.purposes.Purpose.{Purpose}
 use Rattle.loader.specs.declared.refusals.Refusal.{Refusal}
 use Rattle.loader.specs.declared.games.Debugging.{Debugging}
 use Rattle.loader.specs.Games.{Game, Claim, Auditing, game_of, cart_of, table_by, claim_of, debugging_of, auditing_of, image_by, linked_by}
-use Rattle.loader.specs.Games.{bytes_by}
+use Rattle.loader.specs.Games.{Confirming, bytes_by, confirming_of}
 use Rattle.loader.specs.Work.{Work, gives, ◌>>=◌}
 use Rattle.channel_f.specs.AuditLines.{accept_line, reject_line}
+use Rattle.channel_f.specs.CaseLines.{list_notclosed_line, list_unsafe_line, unproved_line}
 use Rattle.channel_f.specs.Manners.{run_by, lines_by}
 use Rattle.channel_f.specs.ErrorLines.{refusal_line, missing_line}
 use Rattle.channel_f.specs.declared.manner.Manner.{Manner}
@@ -56,11 +63,12 @@ pub record Answer : Type 0 where
   pub status : Status
   pub lines : List (List ℕ)
 
--- What is due: an answer; or for each verdict on a cartridge one, of which that of a right verdict is due; or any document that reads as a
--- table.
+-- What is due: an answer; or for each verdict on a cartridge one, of which that of a right verdict is due; or for each answer of a search one,
+-- of which that of an answer is due which shows what it says; or any document that reads as a table.
 pub data Due : Type 0 where
   Plain : (answer : Answer) → Due
   Judged : (cart : Cart) (by : Verdict → Answer) → Due
+  Proved : (cart : Cart) (by : ProveAnswer → Answer) → Due
   Reading : (table : Members) → Due
 
 -- ---- racks
@@ -188,6 +196,33 @@ found_answer tracked points (found.Unsafe point reason) = record { status = stat
 abbrev pub verify_answer : Claim → Answer
 verify_answer claim = found_answer claim.cart.split (length claim.notes) (examined (analysis_of claim.cart) claim.notes)
 
+-- done where a list of so many entries is closed and safe, and else no verdict
+abbrev pub confirmed_answer : ℕ → CasesAnswer → Answer
+confirmed_answer entries confirmed.Whole = record { status = status.Done; lines = whole_line entries ∷ [] }
+confirmed_answer entries confirmed.Agreed = record { status = status.Done; lines = agreed_line entries ∷ [] }
+confirmed_answer entries (confirmed.NotClosed from to) = record { status = status.NoVerdict; lines = list_notclosed_line from to ∷ [] }
+confirmed_answer entries (confirmed.Unsafe place reason) = record { status = status.NoVerdict; lines = list_unsafe_line place reason ∷ [] }
+
+-- what is found of a list of entries of a cartridge
+abbrev pub confirm_answer : Confirming → Answer
+confirm_answer asked = confirmed_answer (length asked.list) (judged (chips_view asked.cart.chips) asked.list)
+
+-- done where a list is found, with how many entries it has, and else no verdict
+abbrev pub prove_answer : ProveAnswer → Answer
+prove_answer (proved.Whole shown) = record { status = status.Done; lines = whole_line shown.entries ∷ [] }
+prove_answer (proved.Agreed shown) = record { status = status.Done; lines = agreed_line shown.entries ∷ [] }
+prove_answer (proved.Unproved point reason) = record { status = status.NoVerdict; lines = unproved_line point reason ∷ [] }
+
+-- where a list is found, its text in place of its line
+abbrev pub listed_answer : ProveAnswer → Answer
+listed_answer (proved.Whole shown) = text_answer shown.text.items
+listed_answer (proved.Agreed shown) = text_answer shown.text.items
+listed_answer (proved.Unproved point reason) = prove_answer (proved.Unproved point reason)
+
+abbrev pub prove_due : Bool → Cart → Due
+prove_due true cart = Proved cart listed_answer
+prove_due false cart = Proved cart prove_answer
+
 -- the same description in the newest format
 abbrev pub migrate_due : Members → Due
 migrate_due table = Reading (migrated_table table)
@@ -217,6 +252,8 @@ due_of rack (Some (Play cart script traced)) =
     game_of cart script >>= λ game. gives (play_due traced rack game)
 due_of rack (Some (Check cart certified)) = cart_of cart >>= λ cartridge. gives (check_due certified cartridge)
 due_of rack (Some (Verify cart cert)) = claim_of cart cert >>= λ claim. gives (Plain (verify_answer claim))
+due_of rack (Some (Prove cart listed)) = cart_of cart >>= λ cartridge. gives (prove_due listed cartridge)
+due_of rack (Some (Confirm cart cases)) = confirming_of cart cases >>= λ asked. gives (Plain (confirm_answer asked))
 due_of rack (Some (Migrate cart)) = table_by cart >>= λ table. gives (migrate_due table)
 due_of rack (Some (Ref cart script)) = game_of cart script >>= λ game. gives (Plain (ref_answer game))
 due_of rack (Some (Debug cart commands)) = debugging_of cart commands >>= λ asked. gives (debug_due rack asked)

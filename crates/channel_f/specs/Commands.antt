@@ -3,15 +3,15 @@ use Rattle.std.specs.Prelude.{◌≡◌, ℕ, Bool, List, Option, Some, None, Re
 use Rattle.f8_spec.specs.ChipState.{ChipState}
 use Rattle.outside.specs.SinkRules.{Output}
 use Rattle.outside.specs.StoreRules.{Input}
-use Rattle.command_line.specs.CommandLine.{Command, Play, Check, Verify, Migrate, Ref, Debug, Audit, Asm, Link, Dis, Gen}
+use Rattle.command_line.specs.CommandLine.{Command, Play, Check, Verify, Prove, Confirm, Migrate, Ref, Debug, Audit, Asm, Link, Dis, Gen}
 use Rattle.loader.specs.declared.refusals.Stop.{Stop}
 use Rattle.loader.specs.declared.games.Debugging.{Debugging}
 use Rattle.loader.specs.Games.{Auditing, Game, game_of, cart_of, table_by, claim_of, debugging_of, auditing_of, image_by, linked_by}
-use Rattle.loader.specs.Games.{bytes_by}
+use Rattle.loader.specs.Games.{bytes_by, confirming_of}
 use Rattle.loader.specs.Work.{Work}
 use Rattle.loader.specs.Works.{Works, outcome_as}
 use Rattle.channel_f.specs.Answers.{Due, Plain, generated_game, gen_due, play_due, check_due, ref_answer, asm_answer, dis_answer}
-use Rattle.channel_f.specs.Answers.{audit_due, debug_due, migrate_due, verify_answer, words_answer}
+use Rattle.channel_f.specs.Answers.{audit_due, confirm_answer, debug_due, migrate_due, prove_due, verify_answer, words_answer}
 use Rattle.channel_f.specs.ExactAudits.{IsExactAudit}
 use Rattle.channel_f.specs.RackAfter.{PlaysGame, RackAfter}
 use Rattle.channel_f.specs.RackAudited.{RackAudited}
@@ -90,6 +90,8 @@ abbrev pub Says : Around → Around → Status → Option Command → Type 0
 Says old new said (Some (Play cart script traced)) = TellsGame old new said traced (game_of cart script)
 Says old new said (Some (Check cart certified)) = Tells old new said (cart_of cart) (check_due certified)
 Says old new said (Some (Verify cart cert)) = Tells old new said (claim_of cart cert) (λ claim. Plain (verify_answer claim))
+Says old new said (Some (Prove cart listed)) = Tells old new said (cart_of cart) (prove_due listed)
+Says old new said (Some (Confirm cart cases)) = Tells old new said (confirming_of cart cases) (λ asked. Plain (confirm_answer asked))
 Says old new said (Some (Migrate cart)) = Tells old new said (table_by cart) migrate_due
 Says old new said (Some (Ref cart script)) = Tells old new said (game_of cart script) (λ game. Plain (ref_answer game))
 Says old new said (Some (Debug cart commands)) = TellsDebugging old new said (debugging_of cart commands)

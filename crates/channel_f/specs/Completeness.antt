@@ -13,7 +13,9 @@ use Rattle.loader.specs.Works.{AsksFew, HasFiles, Misses, order_of, file_of}
 use Rattle.cartridge.specs.declared.finish.Cart.{Cart}
 use Rattle.cart_checker.specs.Verdicts.{RightVerdict}
 use Rattle.cart_checker.specs.declared.verdict.Verdict.{Verdict}
-use Rattle.channel_f.specs.Answers.{Answer, Due, Plain, Judged, Reading, refusal, refusal_answer, text_answer}
+use Rattle.case_search.specs.ProvedLists.{IsNoLess, Shows}
+use Rattle.case_search.specs.declared.proving.ProveAnswer.{ProveAnswer}
+use Rattle.channel_f.specs.Answers.{Answer, Due, Plain, Judged, Proved, Reading, refusal, refusal_answer, text_answer}
 use Rattle.channel_f.specs.Commands.{Around}
 use Rattle.channel_f.specs.declared.status.Status.{Status}
 use Rattle.channel_f.specs.declared.status.Status.TheVariants as status
@@ -34,6 +36,13 @@ pub record AnsweredBy (old new : Around) (said : Status) (cart : Cart) (by : Ver
   pub right : RightVerdict cart
   pub answered : Answered old new said (by right.verdict)
 
+-- the same, where it is due by an answer of a search which shows what it says
+pub record AnsweredAs (old new : Around) (said : Status) (cart : Cart) (by : ProveAnswer → Answer) : Type 0 where
+  pub answer : ProveAnswer
+  pub shows : Shows cart.chips answer
+  pub no_less : IsNoLess cart answer
+  pub answered : Answered old new said (by answer)
+
 -- the same, where any document that reads as a table is due
 pub record AnsweredWith (old new : Around) (said : Status) (table : Members) : Type 0 where
   pub text : List ℕ
@@ -43,6 +52,7 @@ pub record AnsweredWith (old new : Around) (said : Status) (table : Members) : T
 abbrev pub AnsweredDue : Around → Around → Status → Due → Type 0
 AnsweredDue old new said (Plain answer) = Answered old new said answer
 AnsweredDue old new said (Judged cart by) = AnsweredBy old new said cart by
+AnsweredDue old new said (Proved cart by) = AnsweredAs old new said cart by
 AnsweredDue old new said (Reading table) = AnsweredWith old new said table
 
 -- the line of a file that is refused was written, and that file or one that is asked for before it is missing

@@ -2,6 +2,7 @@
 use Rattle.std.specs.Prelude.{ℕ, List, codes, Option, Some, None}
 use Rattle.cartridge.specs.Faults.{cause_number as cart_cause}
 use Rattle.cartridge.specs.Keys.{key_word}
+use Rattle.case_text.specs.CasesText.{cause_number as cases_cause}
 use Rattle.certificate.specs.Answers.{cause_number as cert_cause}
 use Rattle.f8_asm.specs.Answers.{cause_number as asm_cause}
 use Rattle.f8_link.specs.Answers.{module_cause_number, link_cause_number}
@@ -11,6 +12,7 @@ use Rattle.chip_debug.specs.Answers.{cause_number as debug_cause}
 use Rattle.report.specs.declared.error_lines.Reader.TheVariants as reader
 use Rattle.report.specs.ErrorLines.{toml_line, cart_line, asm_line, module_line, link_line, reader_line, hex_line, long_line, store_line}
 use Rattle.channel_f.specs.AuditLines.{trace_line}
+use Rattle.channel_f.specs.CaseLines.{cases_line}
 use Rattle.loader.specs.declared.purposes.Purpose.{Purpose}
 use Rattle.loader.specs.declared.purposes.Purpose.TheVariants as purpose
 use Rattle.loader.specs.declared.refusals.Refusal.{Refusal}
@@ -21,6 +23,7 @@ abbrev pub purpose_word : Purpose → List ℕ
 purpose_word purpose.Cart = codes "cart"
 purpose_word purpose.Script = codes "script"
 purpose_word purpose.Cert = codes "cert"
+purpose_word purpose.Cases = codes "cases"
 purpose_word purpose.Commands = codes "commands"
 purpose_word purpose.Trace = codes "trace"
 purpose_word purpose.File = codes "file"
@@ -32,6 +35,7 @@ abbrev pub purpose_number : Purpose → Option ℕ
 purpose_number purpose.Cart = None
 purpose_number purpose.Script = None
 purpose_number purpose.Cert = None
+purpose_number purpose.Cases = None
 purpose_number purpose.Commands = None
 purpose_number purpose.Trace = None
 purpose_number purpose.File = None
@@ -45,6 +49,7 @@ refusal_line (refusal.Cart fault) = cart_line fault.chip (key_word fault.key) (c
 refusal_line (refusal.Assembly source fault) = asm_line source fault.line fault.column (asm_cause fault.cause)
 refusal_line (refusal.Script fault) = reader_line reader.Script fault.line (script_cause fault.cause)
 refusal_line (refusal.Cert fault) = reader_line reader.Cert fault.line (cert_cause fault.cause)
+refusal_line (refusal.Cases fault) = cases_line fault.line (cases_cause fault.cause)
 refusal_line (refusal.Commands fault) = reader_line reader.Debug fault.line (debug_cause fault.cause)
 refusal_line (refusal.Trace fault) = trace_line fault.line
 refusal_line (refusal.Plan fault) = reader_line reader.Plan fault.line (plan_cause fault.cause)

@@ -1,5 +1,6 @@
 pub mod Statuses
 pub mod AuditLines
+pub mod CaseLines
 pub mod ErrorLines
 pub mod Manners
 pub mod Answers
@@ -12,5 +13,6 @@ pub mod RackAudited
 pub mod ExactAudits
 pub mod JudgedRuns
 pub mod CheckedCertificates
+pub mod ProvedCarts
 pub mod Commands
 pub mod Completeness

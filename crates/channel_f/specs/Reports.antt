@@ -7,9 +7,11 @@ use Rattle.loader.specs.declared.refusals.Stop.TheVariants.{Refused, Store, Memo
 use Rattle.cartridge.specs.declared.finish.Cart.{Cart}
 use Rattle.cart_checker.specs.Verdicts.{RightVerdict}
 use Rattle.cart_checker.specs.declared.verdict.Verdict.{Verdict}
+use Rattle.case_search.specs.ProvedLists.{IsNoLess, Shows}
+use Rattle.case_search.specs.declared.proving.ProveAnswer.{ProveAnswer}
 use Rattle.toml.specs.Data.{Members}
 use Rattle.loader.specs.Readings.{table_of}
-use Rattle.channel_f.specs.Answers.{Answer, Due, Plain, Judged, Reading, text_answer, refusal_answer, missing_answer}
+use Rattle.channel_f.specs.Answers.{Answer, Due, Plain, Judged, Proved, Reading, text_answer, refusal_answer, missing_answer}
 use Rattle.channel_f.specs.declared.status.Status.{Status}
 use Rattle.channel_f.specs.declared.status.Status.TheVariants as status
 
@@ -38,6 +40,13 @@ pub record Judges (old new : Output) (said : Status) (cart : Cart) (by : Verdict
   pub right : RightVerdict cart
   pub reports : Reports old new said (by right.verdict).status (by right.verdict).lines
 
+-- the lines and the status are those of an answer which shows what it says, and says no less than the right verdict
+pub record Proves (old new : Output) (said : Status) (cart : Cart) (by : ProveAnswer → Answer) : Type 0 where
+  pub answer : ProveAnswer
+  pub shows : Shows cart.chips answer
+  pub no_less : IsNoLess cart answer
+  pub reports : Reports old new said (by answer).status (by answer).lines
+
 -- a document was written that reads as a table
 pub record Documents (old new : Output) (said : Status) (table : Members) : Type 0 where
   pub text : List ℕ
@@ -53,6 +62,7 @@ pub record Wants (old new : Output) (said : Status) : Type 0 where
 abbrev pub AnswersDue : Output → Output → Status → Due → Type 0
 AnswersDue old new said (Plain answer) = Answers old new said answer
 AnswersDue old new said (Judged cart by) = Wants old new said ⊎ Judges old new said cart by
+AnswersDue old new said (Proved cart by) = Wants old new said ⊎ Proves old new said cart by
 AnswersDue old new said (Reading table) = Wants old new said ⊎ Documents old new said table
 
 -- what a call says that files stopped

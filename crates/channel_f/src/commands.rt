@@ -3,17 +3,19 @@ ghost use Rattle.std.specs.Prelude.{◌≡◌, ◌≤◌, ◌⊎◌, IfOk, IsOk,
 ghost use Rattle.toml.specs.View.{table_view};
 ghost use Rattle.cartridge.specs.Filling.{plan_of};
 ghost use Rattle.certificate.specs.CertificateLaws.{AllFit};
-ghost use Rattle.loader.specs.Games.{game_of, cart_of, table_by, claim_of, debugging_of, auditing_of, image_by, linked_by, bytes_by};
-ghost use Rattle.channel_f.specs.Answers.{Plain, generated_game, gen_due, check_due, ref_answer};
-ghost use Rattle.channel_f.specs.Answers.{asm_answer, cert_answer, dis_answer, migrate_due, verify_answer};
+ghost use Rattle.loader.specs.Games.{game_of, cart_of, table_by, claim_of, confirming_of, debugging_of, auditing_of, image_by, linked_by, bytes_by};
+ghost use Rattle.channel_f.specs.Answers.{Plain, generated_game, gen_due, check_due, prove_due, ref_answer};
+ghost use Rattle.channel_f.specs.Answers.{asm_answer, cert_answer, confirm_answer, dis_answer, listed_answer, migrate_due, verify_answer};
+ghost use Rattle.channel_f.specs.CaseLines.{IsFew};
 ghost use Rattle.channel_f.specs.Commands.{around, Told, TellsAudit, TellsDebugging, TellsGame};
-ghost use Rattle.loader.specs.Seen.{seen_game, seen_claim};
+ghost use Rattle.loader.specs.Seen.{seen_game, seen_claim, seen_confirming};
 ghost use Rattle.pad_script.specs.Limits.{HasLimits};
 ghost use Rattle.channel_f.specs.RackAfter.{PlaysGame};
 ghost use Rattle.channel_f.specs.Reports.{Answers, AnswersDue, Reports, Wants};
 ghost use Rattle.channel_f.specs.SafeGames.{KeepsVerdict};
 
 use super::auditing::audit_trace;
+use super::case_lines::{put_confirmed, put_proved};
 use super::debugging::debug;
 use super::error_lines::put_stop;
 use super::lines_out::{put_document, put_found, put_modules, put_picture, put_text, put_verdict};
@@ -22,16 +24,18 @@ use super::playing::{play_game, refer_game};
 use super::status::Status;
 use cart_checker::{Verdict, check_cart};
 use cartridge::{Cart, Split};
+use case_search::{ProveAnswer, prove};
+use case_text::confirm;
 use certificate::{verify, write_cert};
 use chip_face::{Chip, Powers};
 use console_spec::End;
-use f8_asm::disassemble;
+use f8_asm::{Text, disassemble};
 use f8_machine::Rack;
 use f8_spec::Memory;
 use generator::generated_chips;
 use loader::{
-    Claim, Game, load_audit, load_bytes, load_cart, load_claim, load_debugging, load_game,
-    load_image, load_linked, load_table, migrated_text,
+    Claim, Confirming, Game, load_audit, load_bytes, load_cart, load_claim, load_confirming,
+    load_debugging, load_game, load_image, load_linked, load_table, migrated_text,
 };
 use outside::{Sink, Store};
 use pad_script::{EventList, Script, ShowList};
@@ -139,6 +143,86 @@ pub fn answer_verify<S: Store, K: Sink>(
 {
     match load_claim(alloc, store, cart, cert) {
         Ok(claim) => verify_claim(alloc, &claim, sink),
+        Err(stop) => put_stop(sink, stop),
+    }
+}
+
+/// The text of the list that a search found, or the line of where it gave up.
+fn put_list<K: Sink>(sink: &mut K, found: ProveAnswer) -> Status
+    requires { IsFew found }
+    ensures { let due = listed_answer found in
+        Reports (K.output sink.old) (K.output sink.new) result due.status due.lines }
+{
+    match found {
+        ProveAnswer::Whole(shown) | ProveAnswer::Agreed(shown) => {
+            put_text(sink, &Text::from_vec(shown.text))
+        }
+        ProveAnswer::Unproved { .. } => put_proved(sink, &found),
+    }
+}
+
+/// The line of what a search found for a cartridge, or its list.
+fn search<K: Sink>(alloc: Global, cart: &Cart, listed: bool, sink: &mut K) -> Status
+    ensures { AnswersDue (K.output sink.old) (K.output sink.new) result
+        (prove_due listed cart.now) }
+{
+    match prove(alloc, cart) {
+        Ok(found) => {
+            if listed {
+                put_list(sink, found)
+            } else {
+                put_proved(sink, &found)
+            }
+        }
+        Err(Memory) => Status::Memory,
+    }
+}
+
+/// `prove CART`, with the list where it is asked for.
+#[tactic(auto, using(crate::proofs::Outcomes::told_ok, crate::proofs::Outcomes::told_stop))]
+pub fn answer_prove<S: Store, K: Sink>(
+    alloc: Global,
+    cart: &str,
+    listed: bool,
+    store: &mut S,
+    sink: &mut K,
+) -> Status
+    ensures { Told (K.output sink.old) (K.output sink.new) (S.input store.old) (S.input store.new)
+        result (cart_of cart.now) (prove_due listed) }
+{
+    match load_cart(alloc, store, cart) {
+        Ok(cart) => search(alloc, &cart, listed, sink),
+        Err(stop) => put_stop(sink, stop),
+    }
+}
+
+/// The line of what is found of a list of entries.
+#[tactic(auto, using(crate::proofs::Games::answers_wanting, crate::proofs::ConfirmedLists::judged_places))]
+fn confirm_list<K: Sink>(alloc: Global, asked: &Confirming, sink: &mut K) -> Status
+    requires { length asked.now.list ≤ 65536 }
+    ensures { Answers (K.output sink.old) (K.output sink.new) result
+        (confirm_answer (seen_confirming asked.now)) }
+{
+    match confirm(alloc, &asked.cart, &asked.list) {
+        Ok(found) => put_confirmed(sink, asked.list.len(), &found),
+        Err(Memory) => Status::Memory,
+    }
+}
+
+/// `confirm CART CASES`.
+#[tactic(auto, using(crate::proofs::Outcomes::told_ok, crate::proofs::Outcomes::told_stop))]
+pub fn answer_confirm<S: Store, K: Sink>(
+    alloc: Global,
+    cart: &str,
+    cases: &str,
+    store: &mut S,
+    sink: &mut K,
+) -> Status
+    ensures { Told (K.output sink.old) (K.output sink.new) (S.input store.old) (S.input store.new)
+        result (confirming_of cart.now cases.now) (λ asked. Plain (confirm_answer asked)) }
+{
+    match load_confirming(alloc, store, cart, cases) {
+        Ok(asked) => confirm_list(alloc, &asked, sink),
         Err(stop) => put_stop(sink, stop),
     }
 }

@@ -7,6 +7,7 @@ ghost use Rattle.channel_f.specs.ErrorLines.{refusal_line as spelled_refusal, mi
 ghost use Rattle.channel_f.specs.Reports.{Stops};
 
 use super::audit_lines::error_trace;
+use super::case_lines::error_cases;
 use super::lines_out::put_lines;
 use super::status::Status;
 use loader::{Purpose, Refusal, Stop};
@@ -26,6 +27,7 @@ fn purpose_word(purpose: Purpose) -> &'static str
         Purpose::Cart => "cart",
         Purpose::Script => "script",
         Purpose::Cert => "cert",
+        Purpose::Cases => "cases",
         Purpose::Commands => "commands",
         Purpose::Trace => "trace",
         Purpose::File => "file",
@@ -44,6 +46,7 @@ fn purpose_number(purpose: Purpose) -> Option<u8>
         Purpose::Cart
         | Purpose::Script
         | Purpose::Cert
+        | Purpose::Cases
         | Purpose::Commands
         | Purpose::Trace
         | Purpose::File
@@ -67,6 +70,7 @@ fn refusal_line(refusal: Refusal) -> Line
         ),
         Refusal::Script(fault) => error_reader(Reader::Script, fault.line, fault.cause.number()),
         Refusal::Cert(fault) => error_reader(Reader::Cert, fault.line, fault.cause.number()),
+        Refusal::Cases(fault) => error_cases(fault),
         Refusal::Commands(fault) => error_reader(Reader::Debug, fault.line, fault.cause.number()),
         Refusal::Trace(fault) => error_trace(fault.line),
         Refusal::Plan(fault) => error_reader(Reader::Plan, fault.line, fault.cause.number()),

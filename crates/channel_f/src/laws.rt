@@ -7,6 +7,7 @@ ghost use Rattle.channel_f.specs.Answers.{due_of};
 ghost use Rattle.channel_f.specs.Commands.{around};
 ghost use Rattle.channel_f.specs.Completeness.{IsSurelyComplete};
 ghost use Rattle.channel_f.specs.CheckedCertificates.{CheckedCertificateLaw};
+ghost use Rattle.channel_f.specs.ProvedCarts.{ProvedCartLaw};
 ghost use Rattle.channel_f.specs.SafeRuns.{HasScriptBytes, SafeRunLaw};
 ghost use Rattle.channel_f.specs.Statuses.{exit_code, HasStatus};
 ghost use Rattle.pad_script.specs.Reading.{seen};
@@ -49,6 +50,13 @@ pub fn checked_certificate_law()
 {
     closed_map_law();
 }
+
+/// What `prove --cases` tells isn't longer than a file may be that `confirm` reads, and is read by it; and it finds the same, with as many
+/// entries. This call does nothing; its contract is the law.
+#[tactic(auto, using(crate::proofs::ProvedCarts::proved_carts))]
+pub fn proved_cart_law()
+    ensures { ProvedCartLaw }
+{}
 
 /// Over a store and a sink that never fail, [`console`] doesn't end with the status of a failed store or of a failed sink. Where the store
 /// was asked for none but its own files before, and has each one that is asked for now, what is due comes, with its status, unless memory is

@@ -3,6 +3,7 @@
 
 mod audit_lines;
 mod auditing;
+mod case_lines;
 mod commands;
 mod debugging;
 mod error_lines;
@@ -13,6 +14,6 @@ mod playing;
 mod status;
 mod top;
 
-pub use laws::{checked_certificate_law, sure_console_law};
+pub use laws::{checked_certificate_law, proved_cart_law, sure_console_law};
 pub use status::Status;
 pub use top::console;

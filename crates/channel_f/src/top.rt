@@ -7,8 +7,8 @@ ghost use Rattle.channel_f.specs.Completeness.{IsComplete};
 ghost use Rattle.channel_f.specs.Statuses.{exit_code, HasStatus};
 
 use super::commands::{
-    answer_asm, answer_audit, answer_check, answer_debug, answer_dis, answer_gen, answer_link,
-    answer_migrate, answer_play, answer_ref, answer_verify,
+    answer_asm, answer_audit, answer_check, answer_confirm, answer_debug, answer_dis, answer_gen,
+    answer_link, answer_migrate, answer_play, answer_prove, answer_ref, answer_verify,
 };
 use super::lines_out::put_lines;
 use super::status::Status;
@@ -19,7 +19,7 @@ use f8_spec::Memory;
 use outside::{Sink, Store};
 use std::alloc::Global;
 
-#[tactic(auto, using(crate::proofs::Outcomes::says_play, crate::proofs::Outcomes::says_check, crate::proofs::Outcomes::says_verify, crate::proofs::Outcomes::says_migrate, crate::proofs::Outcomes::says_ref, crate::proofs::Outcomes::says_debug, crate::proofs::Outcomes::says_audit, crate::proofs::Outcomes::says_asm, crate::proofs::Outcomes::says_link, crate::proofs::Outcomes::says_dis, crate::proofs::Outcomes::says_gen, crate::proofs::Outcomes::says_words, crate::proofs::Outcomes::says_wanting, crate::proofs::Outcomes::command_named, crate::proofs::Outcomes::words_not_memory, crate::proofs::Games::answers_of))]
+#[tactic(auto, using(crate::proofs::Outcomes::says_play, crate::proofs::Outcomes::says_check, crate::proofs::Outcomes::says_verify, crate::proofs::Outcomes::says_prove, crate::proofs::Outcomes::says_confirm, crate::proofs::Outcomes::says_migrate, crate::proofs::Outcomes::says_ref, crate::proofs::Outcomes::says_debug, crate::proofs::Outcomes::says_audit, crate::proofs::Outcomes::says_asm, crate::proofs::Outcomes::says_link, crate::proofs::Outcomes::says_dis, crate::proofs::Outcomes::says_gen, crate::proofs::Outcomes::says_words, crate::proofs::Outcomes::says_wanting, crate::proofs::Outcomes::command_named, crate::proofs::Outcomes::words_not_memory, crate::proofs::Games::answers_of))]
 fn answer_words<S: Store, K: Sink>(
     alloc: Global,
     words: &[String],
@@ -49,6 +49,12 @@ fn answer_words<S: Store, K: Sink>(
             answer_check(alloc, cart, certified, store, sink)
         }
         Ok(Some(Command::Verify { cart, cert })) => answer_verify(alloc, cart, cert, store, sink),
+        Ok(Some(Command::Prove { cart, listed })) => {
+            answer_prove(alloc, cart, listed, store, sink)
+        }
+        Ok(Some(Command::Confirm { cart, cases })) => {
+            answer_confirm(alloc, cart, cases, store, sink)
+        }
         Ok(Some(Command::Migrate { cart })) => answer_migrate(alloc, cart, store, sink),
         Ok(Some(Command::Ref { cart, script })) => answer_ref(alloc, cart, script, store, sink),
         Ok(Some(Command::Debug { cart, commands })) => {
@@ -81,6 +87,9 @@ fn answer_words<S: Store, K: Sink>(
 /// - `check CART`: the verdict on the description: that no run of its chips can fail at a bus step, whatever the script, or that this can't be
 ///   shown. With `--cert` what shows it is told in place of the verdict, as a certificate.
 /// - `verify CART CERT`: what is found of a certificate of the description, whoever made it.
+/// - `prove CART`: whether a list of entries was found that shows the same as a check, by a search that keeps sets of values. With `--cases` the
+///   list is told in place of the answer.
+/// - `confirm CART CASES`: what is found of a list of entries of the description, whoever made it.
 /// - `migrate CART`: a description in the newest format that says the same, as one document of many. Its sources aren't asked for.
 /// - `ref CART SCRIPT`: the same bytes run on the flat instruction set alone, and the rack stays as it was.
 /// - `debug CART COMMANDS`: the rack is fitted for the chips described, powered and reset, and carries out the debugger's commands.
@@ -92,8 +101,8 @@ fn answer_words<S: Store, K: Sink>(
 /// - `gen N`: the rack is fitted for a large cartridge that is generated from the number, and runs for 60 frames. Its run is summed up.
 ///
 /// Each file is read before the next is asked for: the description, then the source of each chip that has one, then the script, the
-/// debugger's commands or the certificate, and behind the script of an audit its trace; the plan, and then each of its modules. `play`,
-/// `debug`, `gen` and `audit` look at the rack after all of them, and then its chips are fitted.
+/// debugger's commands, the certificate or the list of entries, and behind the script of an audit its trace; the plan, and then each of its
+/// modules. `play`, `debug`, `gen` and `audit` look at the rack after all of them, and then its chips are fitted.
 /// The first refusal ends the call with its one line. Each line is one put.
 ///
 /// Where the store tells its files and has those that are asked for, neither count of faults rose, and memory wasn't wanting, what is
@@ -110,7 +119,8 @@ fn answer_words<S: Store, K: Sink>(
 /// - 4 where the store failed, as one does that hasn't the file,
 /// - 5 where the sink failed,
 /// - 6 where memory was wanting, and then nothing was written; this comes only where the first word is that of a command,
-/// - 7 where `check` can't show that the cartridge is safe, or `verify` finds that the certificate doesn't, or `audit` rejects the trace,
+/// - 7 where `check` can't show that the cartridge is safe, or `verify` finds that the certificate doesn't, or `prove` finds no list of entries
+///   that does, or `confirm` that the list doesn't, or `audit` rejects the trace,
 /// - 8 at a reserved opcode.
 ///
 /// Where a run of `play` or `gen` began, each chip has heard its bus steps and has taken its key bytes and pulses, and nothing else.

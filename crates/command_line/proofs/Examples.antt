@@ -1,6 +1,6 @@
 -- Words with what they ask for, each worked out from the rules by hand and computed from the definitions.
 use Rattle.std.proofs.Common.{◌≡◌, true, false, [], ◌∷◌, Some, None, codes, refl}
-use Rattle.command_line.specs.CommandLine.{Play, Ref, Debug, Audit, Check, Verify, Migrate, Asm, Dis, Gen, command_of}
+use Rattle.command_line.specs.CommandLine.{Play, Ref, Debug, Audit, Check, Verify, Prove, Confirm, Migrate, Asm, Dis, Gen, command_of}
 
 pub two_words : command_of (codes "play" ∷ (codes "game.toml" ∷ (codes "run.txt" ∷ []))) ≡ Some (Play (codes "game.toml") (codes "run.txt") false)
 two_words = refl
@@ -81,6 +81,30 @@ verified_cart = refl
 
 pub verify_without_cert : command_of (codes "verify" ∷ (codes "a" ∷ (codes "--cert" ∷ []))) ≡ None
 verify_without_cert = refl
+
+pub check_without_cases : command_of (codes "check" ∷ (codes "--cases" ∷ (codes "a" ∷ []))) ≡ None
+check_without_cases = refl
+
+pub proved_cart : command_of (codes "prove" ∷ (codes "game.toml" ∷ [])) ≡ Some (Prove (codes "game.toml") false)
+proved_cart = refl
+
+pub cases_before : command_of (codes "prove" ∷ (codes "--cases" ∷ (codes "game.toml" ∷ []))) ≡ Some (Prove (codes "game.toml") true)
+cases_before = refl
+
+pub cases_behind : command_of (codes "prove" ∷ (codes "game.toml" ∷ (codes "--cases" ∷ []))) ≡ Some (Prove (codes "game.toml") true)
+cases_behind = refl
+
+pub cases_twice : command_of (codes "prove" ∷ (codes "--cases" ∷ (codes "a" ∷ (codes "--cases" ∷ [])))) ≡ None
+cases_twice = refl
+
+pub prove_without_cert : command_of (codes "prove" ∷ (codes "--cert" ∷ (codes "a" ∷ []))) ≡ None
+prove_without_cert = refl
+
+pub confirmed_cart : command_of (codes "confirm" ∷ (codes "game.toml" ∷ (codes "game.cases" ∷ []))) ≡ Some (Confirm (codes "game.toml") (codes "game.cases"))
+confirmed_cart = refl
+
+pub confirm_without_cases : command_of (codes "confirm" ∷ (codes "game.toml" ∷ [])) ≡ None
+confirm_without_cases = refl
 
 pub migrated_cart : command_of (codes "migrate" ∷ (codes "game.toml" ∷ [])) ≡ Some (Migrate (codes "game.toml"))
 migrated_cart = refl

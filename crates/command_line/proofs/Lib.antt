@@ -4,6 +4,6 @@ pub mod OneWord
 pub mod TwoFiles
 pub mod ThreeFiles
 pub mod PlayRun
-pub mod CheckRun
+pub mod FlaggedRun
 pub mod Parsed
 pub mod Examples

@@ -10,7 +10,7 @@ use Rattle.std.proofs.lemmas.Str.{encodes-chars}
 use Rattle.std.proofs.lemmas.Bool.{eqb-true}
 use Rattle.std.proofs.lemmas.Slice.Eq.{bytes_eq-Decides}
 use Rattle.clap.specs.Lexer.{has_byte, long_of, name_and_value, short_of}
-use Rattle.clap.specs.Walk.{Held, Rule, Text, after_flag, arg_by_long, arg_by_short, idle, is_multiple, long_met, next}
+use Rattle.clap.specs.Walk.{Held, Rule, Text, after_flag, arg_by_long, arg_by_short, idle, is_empty, is_multiple, long_met, next}
 use Rattle.clap.specs.Walk.{takes_values, value, word_met}
 use Rattle.clap.specs.Simple.{Shape}
 use Rattle.clap.specs.Kinds.{Kinds}
@@ -29,19 +29,13 @@ pub record IsFlag (flag : Text) : Type 0 where
   pub apart : bytes_eq (flag_word flag) dashes ≡ false
   pub long : long_of (flag_word flag) ≡ Some (flag, None)
 
--- the two flags
+-- the flag of `play`
 
 abbrev pub trace : Text
 trace = codes "trace"
 
 pub trace_is : IsFlag trace
 trace_is = record { apart = refl; long = refl }
-
-abbrev pub cert : Text
-cert = codes "cert"
-
-pub cert_is : IsFlag cert
-cert_is = record { apart = refl; long = refl }
 
 -- some kind of error comes
 abbrev pub is_refusal : Kinds → Bool
@@ -131,6 +125,12 @@ all_name (x ∷ xs) lacks = go (x == 61) refl (all_name xs)
         (name_and_value (x ∷ xs)).0 ≡ x ∷ xs
     go true e rest = absurd (true≢false (rw e at lacks))
     go false e rest = rw e (ap (λ n. take n (x ∷ xs)) (one_more _) ∙ ap (λ text. x ∷ text) (rest (rw e at lacks)))
+
+-- a name that isn't empty and has no `=` makes a word
+pub flag_of_name : (name : Text) → is_empty name ≡ false → has_byte 61 name ≡ false → IsFlag name
+flag_of_name [] some lacks = absurd (true≢false some)
+flag_of_name (x ∷ xs) some lacks =
+    record { apart = refl; long = rw lacks (ap (λ name. Some (name, None)) (all_name (x ∷ xs) lacks)) }
 
 module _ (flag : Text) (is : IsFlag flag) where
   -- ---- the flag

@@ -1,5 +1,5 @@
 -- The words of the program and what they ask for. The first word is the command. A word behind it is plain, or the command's flag.
-use Rattle.std.specs.Prelude.{ℕ, Bool, true, false, ◌==◌, ◌&&◌, if◌then◌else◌, nat_le, List, [], ◌∷◌, length, map}
+use Rattle.std.specs.Prelude.{ℕ, Bool, true, false, ◌==◌, ◌&&◌, if◌then◌else◌, nat_le, List, [], ◌∷◌, ◌++◌, length, map}
 use Rattle.std.specs.Prelude.{codes, bytes_eq, Option, Some, None, option_map, option_and_then, is_some}
 use Rattle.std.specs.List.{find}
 use Rattle.std.specs.Str.{all_ascii_digits}
@@ -12,7 +12,9 @@ pub data Command : Type 0 where
   Debug : (cart commands : List ℕ) → Command
   Audit : (cart script trace : List ℕ) → Command
   Check : (cart : List ℕ) (certified : Bool) → Command
+  Prove : (cart : List ℕ) (listed : Bool) → Command
   Verify : (cart cert : List ℕ) → Command
+  Confirm : (cart cases : List ℕ) → Command
   Migrate : (cart : List ℕ) → Command
   Asm : (file : List ℕ) → Command
   Link : (plan : List ℕ) → Command
@@ -40,11 +42,18 @@ words_of flag (word ∷ rest) =
     else (if is_dashed word then None
     else option_map (λ words. Plain word ∷ words) (words_of flag rest)))
 
+-- the flag of a name
+abbrev pub dashed : List ℕ → List ℕ
+dashed name = codes "--" ++ name
+
 abbrev pub trace_flag : List ℕ
-trace_flag = codes "--trace"
+trace_flag = dashed (codes "trace")
 
 abbrev pub cert_flag : List ℕ
-cert_flag = codes "--cert"
+cert_flag = dashed (codes "cert")
+
+abbrev pub cases_flag : List ℕ
+cases_flag = dashed (codes "cases")
 
 -- one plain word and nothing else, no flag either
 abbrev pub one_in : List Word → Option (List ℕ)
@@ -90,21 +99,24 @@ abbrev pub play_of : Run → Command
 play_of run = Play run.cart run.script run.traced
 
 -- one file, with whether the flag stands beside it, once, on either side
-pub record Checking : Type 0 where
-  pub cart : List ℕ
-  pub certified : Bool
+pub record Flagged : Type 0 where
+  pub file : List ℕ
+  pub flagged : Bool
 
-abbrev pub checking_in : List Word → Option Checking
-checking_in (Plain cart ∷ []) = Some (record { cart = cart; certified = false })
-checking_in (Flag ∷ (Plain cart ∷ [])) = Some (record { cart = cart; certified = true })
-checking_in (Plain cart ∷ (Flag ∷ [])) = Some (record { cart = cart; certified = true })
-checking_in words = None
+abbrev pub flagged_in : List Word → Option Flagged
+flagged_in (Plain file ∷ []) = Some (record { file = file; flagged = false })
+flagged_in (Flag ∷ (Plain file ∷ [])) = Some (record { file = file; flagged = true })
+flagged_in (Plain file ∷ (Flag ∷ [])) = Some (record { file = file; flagged = true })
+flagged_in words = None
 
-abbrev pub checking_of : List (List ℕ) → Option Checking
-checking_of words = option_and_then checking_in (words_of cert_flag words)
+abbrev pub flagged_of : List ℕ → List (List ℕ) → Option Flagged
+flagged_of flag words = option_and_then flagged_in (words_of flag words)
 
-abbrev pub check_of : Checking → Command
-check_of checking = Check checking.cart checking.certified
+abbrev pub check_of : Flagged → Command
+check_of asked = Check asked.file asked.flagged
+
+abbrev pub prove_of : Flagged → Command
+prove_of asked = Prove asked.file asked.flagged
 
 -- one to ten decimal digits, with leading zeros or without, of a number below 2 ^ 32
 abbrev pub is_seed : List ℕ → Bool
@@ -127,8 +139,10 @@ command_words =
     ∷ record { name = codes "ref"; asks = λ words. option_map (λ files. Ref files.0 files.1) (two_of words) }
     ∷ record { name = codes "debug"; asks = λ words. option_map (λ files. Debug files.0 files.1) (two_of words) }
     ∷ record { name = codes "audit"; asks = λ words. option_map (λ files. Audit files.0 files.1 files.2) (three_of words) }
-    ∷ record { name = codes "check"; asks = λ words. option_map check_of (checking_of words) }
+    ∷ record { name = codes "check"; asks = λ words. option_map check_of (flagged_of cert_flag words) }
     ∷ record { name = codes "verify"; asks = λ words. option_map (λ files. Verify files.0 files.1) (two_of words) }
+    ∷ record { name = codes "prove"; asks = λ words. option_map prove_of (flagged_of cases_flag words) }
+    ∷ record { name = codes "confirm"; asks = λ words. option_map (λ files. Confirm files.0 files.1) (two_of words) }
     ∷ record { name = codes "migrate"; asks = λ words. option_map Migrate (one_of words) }
     ∷ record { name = codes "asm"; asks = λ words. option_map Asm (one_of words) }
     ∷ record { name = codes "link"; asks = λ words. option_map Link (one_of words) }

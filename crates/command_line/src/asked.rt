@@ -62,6 +62,24 @@ pub enum Command<'a> {
         cert: &'a str,
     },
 
+    /// What is found of a list of entries of the cartridge.
+    Confirm {
+        /// The description of the cartridge.
+        cart: &'a str,
+
+        /// The list of entries.
+        cases: &'a str,
+    },
+
+    /// The search for a list of entries that shows the cartridge.
+    Prove {
+        /// The description of the cartridge.
+        cart: &'a str,
+
+        /// Whether the list is shown.
+        listed: bool,
+    },
+
     /// The description of the cartridge in the newest format.
     Migrate {
         /// The description of the cartridge.

@@ -5,8 +5,8 @@ ghost use Rattle.command_line.specs.CommandLine.{command_of, has_command};
 ghost use Rattle.command_line.specs.Seen.{seen_command};
 
 use super::asked::Command;
-use super::checking::check;
 use super::files::{one_word, three_files, two_files};
+use super::flagged::file_and_flag;
 use super::play::play;
 use super::seed::seed_of;
 use clap::Error;
@@ -41,8 +41,19 @@ fn asked_for<'a>(alloc: Global, words: &'a [String]) -> Result<Option<Command<'a
                 trace,
             }))
         }
-        "check" => check(alloc, words),
+        "check" => {
+            let asked = file_and_flag(alloc, words, "cert")?;
+            Ok(asked.map(|(cart, certified)| Command::Check { cart, certified }))
+        }
         "verify" => Ok(two_files(alloc, words)?.map(|(cart, cert)| Command::Verify { cart, cert })),
+        "confirm" => {
+            let files = two_files(alloc, words)?;
+            Ok(files.map(|(cart, cases)| Command::Confirm { cart, cases }))
+        }
+        "prove" => {
+            let asked = file_and_flag(alloc, words, "cases")?;
+            Ok(asked.map(|(cart, listed)| Command::Prove { cart, listed }))
+        }
         "migrate" => Ok(one_word(alloc, words)?.map(|cart| Command::Migrate { cart })),
         "asm" => Ok(one_word(alloc, words)?.map(|file| Command::Asm { file })),
         "link" => Ok(one_word(alloc, words)?.map(|plan| Command::Link { plan })),

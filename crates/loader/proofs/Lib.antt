@@ -5,5 +5,6 @@ mod SourcesFilled
 mod ModulesLoaded
 mod GamesLoaded
 mod ClaimsLoaded
+mod ConfirmingsLoaded
 mod DebuggingsLoaded
 mod AuditingsLoaded

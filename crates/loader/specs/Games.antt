@@ -7,6 +7,7 @@ use Rattle.cartridge.specs.Carts.{specification_of}
 use Rattle.cartridge.specs.ChipTables.{DescribedSource}
 use Rattle.cartridge.specs.Filling.{Planned, source_at, filled_plan}
 use Rattle.cartridge.specs.declared.finish.Cart.{Cart}
+use Rattle.case_step.specs.Entries.{EntryView}
 use Rattle.toml.specs.Data.{Members}
 use Rattle.f8_asm.specs.declared.answers.Room.{Room}
 use Rattle.f8_asm.specs.Image.{Picture, everywhere}
@@ -15,10 +16,10 @@ use Rattle.f8_link.specs.Objects.{Object}
 use Rattle.f8_link.specs.Plans.{PlannedModule}
 use Rattle.f8_link.specs.declared.parts.Part.{Part}
 use Rattle.bus_audit.specs.Answers.{Trace}
-use Rattle.loader.specs.declared.purposes.Purpose.TheVariants.{Cart as CartFile, Script, Cert, Commands, Trace as TraceFile, File, Source, Plan, Module}
+use Rattle.loader.specs.declared.purposes.Purpose.TheVariants.{Cart as CartFile, Script, Cert, Cases, Commands, Trace as TraceFile, File, Source, Plan, Module}
 use Rattle.chip_debug.specs.declared.command.Command.{Command}
 use Rattle.loader.specs.declared.games.Debugging.{Debugging}
-use Rattle.loader.specs.Readings.{description_of, described_table, image_in, script_in, notes_in, commands_in, trace_in, bytes_in, modules_in, object_in, linked_in}
+use Rattle.loader.specs.Readings.{description_of, described_table, image_in, script_in, notes_in, list_in, commands_in, trace_in, bytes_in, modules_in, object_in, linked_in}
 use Rattle.loader.specs.Work.{Work, gives, reads, ask, ◌>>=◌}
 
 -- ---- a cartridge
@@ -87,6 +88,21 @@ pub record Claim : Type 0 where
 unfoldable pub claim_of : List ℕ → List ℕ → Work Claim
 claim_of cart cert =
     cart_of cart >>= λ cartridge. notes_by cartridge.split cert >>= λ notes. gives (record { cart = cartridge; notes = notes })
+
+-- ---- a list of entries
+
+-- the list of entries with this name
+unfoldable pub list_by : List ℕ → Work (List EntryView)
+list_by name = ask Cases name 67108864 >>= λ text. reads (list_in text)
+
+-- the cartridge, and a list of entries of it
+pub record Confirming : Type 0 where
+  pub cart : Cart
+  pub list : List EntryView
+
+unfoldable pub confirming_of : List ℕ → List ℕ → Work Confirming
+confirming_of cart cases =
+    cart_of cart >>= λ cartridge. list_by cases >>= λ list. gives (record { cart = cartridge; list = list })
 
 -- ---- a session of the debugger
 

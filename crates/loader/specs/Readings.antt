@@ -7,6 +7,9 @@ use Rattle.abs_domain.specs.AbstractState.{AbstractState}
 use Rattle.abs_domain.specs.declared.points.Point.{Point}
 use Rattle.certificate.specs.CertificateText.{certificate_of}
 use Rattle.certificate.specs.declared.answers.CertFault.{CertFault}
+use Rattle.case_step.specs.Entries.{EntryView}
+use Rattle.case_text.specs.CasesText.{cases_of}
+use Rattle.case_text.specs.declared.cause.CasesFault.{CasesFault}
 use Rattle.cartridge.specs.declared.refusal.CartFault.{CartFault}
 use Rattle.cartridge.specs.Filling.{Planned, plan_of}
 use Rattle.chip_debug.specs.Reading.{commands_of}
@@ -35,7 +38,7 @@ use Rattle.loader.specs.declared.refusals.Refusal.{Refusal}
 use Rattle.loader.specs.declared.refusals.Stop.{Stop}
 use Rattle.loader.specs.declared.refusals.Stop.TheVariants.{Refused, Store, Memory}
 use Rattle.loader.specs.declared.refusals.Refusal.TheVariants.{Document, Cart, Assembly, Script as AtScript, Cert as AtCert}
-use Rattle.loader.specs.declared.refusals.Refusal.TheVariants.{Commands as AtCommands, Trace as AtTrace}
+use Rattle.loader.specs.declared.refusals.Refusal.TheVariants.{Cases as AtCases, Commands as AtCommands, Trace as AtTrace}
 use Rattle.loader.specs.declared.refusals.Refusal.TheVariants.{Plan as AtPlan, Module as AtModule, Link as AtLink}
 use Rattle.loader.specs.declared.refusals.Refusal.TheVariants.{Digits, Long}
 
@@ -129,6 +132,16 @@ notes_told (Err fault) = Err (AtCert fault)
 -- the invariant map of a text, where some registers are tracked
 unfoldable pub notes_in : List ℕ → List ℕ → Result (List (Point × AbstractState)) Refusal
 notes_in tracked text = notes_told (certificate_of tracked text)
+
+-- ---- lists of entries
+
+abbrev pub list_told : Result (List EntryView) CasesFault → Result (List EntryView) Refusal
+list_told (Ok list) = Ok list
+list_told (Err fault) = Err (AtCases fault)
+
+-- the list of entries of a text
+unfoldable pub list_in : List ℕ → Result (List EntryView) Refusal
+list_in text = list_told (cases_of text)
 
 -- ---- the debugger's commands
 

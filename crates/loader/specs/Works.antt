@@ -62,7 +62,8 @@ StoreFails old new (Err Memory) = new.faults ≡ old.faults
 -- ---- refusals
 
 -- The order in which a command asks for its files: a description, the sources of its chips by their numbers, which are bytes, and then a
--- script, a certificate or the debugger's commands, and behind a script a trace; or one file; or a plan, and its modules by their numbers, which are bytes.
+-- script, a certificate, a list of entries or the debugger's commands, and behind a script a trace; or one file; or a plan, and its modules by their
+-- numbers, which are bytes.
 abbrev pub order_of : Purpose → ℕ
 order_of purpose.Cart = 0
 order_of purpose.File = 0
@@ -71,6 +72,7 @@ order_of (purpose.Source chip) = chip + 1
 order_of (purpose.Module number) = number + 1
 order_of purpose.Script = 2 ^ 8 + 1
 order_of purpose.Cert = 2 ^ 8 + 1
+order_of purpose.Cases = 2 ^ 8 + 1
 order_of purpose.Commands = 2 ^ 8 + 1
 order_of purpose.Trace = 2 ^ 8 + 2
 
@@ -85,6 +87,7 @@ file_of (refusal.Cart fault) = purpose.Cart
 file_of (refusal.Assembly source fault) = purpose_of_text source
 file_of (refusal.Script fault) = purpose.Script
 file_of (refusal.Cert fault) = purpose.Cert
+file_of (refusal.Cases fault) = purpose.Cases
 file_of (refusal.Commands fault) = purpose.Commands
 file_of (refusal.Trace fault) = purpose.Trace
 file_of (refusal.Plan fault) = purpose.Plan

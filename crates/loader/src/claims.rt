@@ -1,6 +1,7 @@
-// What a certificate claims.
+// A cartridge with what a certificate claims of it, or with a list of entries of it.
 use abs_step::Annotation;
 use cartridge::Cart;
+use case_step::CaseList;
 
 /// A cartridge with what a certificate claims of it.
 #[derive(Debug, Drop)]
@@ -9,4 +10,13 @@ pub struct Claim {
     pub cart: Cart,
     /// The invariant map of the certificate.
     pub notes: Annotation,
+}
+
+/// A cartridge with a list of entries of it.
+#[derive(Debug, Drop)]
+pub struct Confirming {
+    /// The cartridge: the registers that the checker tracks, and the storage chips in the order of the description.
+    pub cart: Cart,
+    /// The entries.
+    pub list: CaseList,
 }

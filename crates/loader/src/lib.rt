@@ -12,12 +12,12 @@ mod readings;
 mod refusals;
 mod sources;
 
-pub use claims::Claim;
+pub use claims::{Claim, Confirming};
 pub use f8_spec::Memory;
 pub use games::{Auditing, Debugging, Game};
 pub use loading::{
-    load_audit, load_bytes, load_cart, load_claim, load_debugging, load_game, load_image,
-    load_table,
+    load_audit, load_bytes, load_cart, load_claim, load_confirming, load_debugging, load_game,
+    load_image, load_table,
 };
 pub use modules::load_linked;
 pub use purposes::Purpose;

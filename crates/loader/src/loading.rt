@@ -2,26 +2,27 @@
 ghost use Rattle.std.specs.Prelude.{◌≤◌, IfOk, IsOk, length};
 ghost use Rattle.toml.specs.View.{table_view};
 ghost use Rattle.cartridge.specs.Filling.{plan_of};
-ghost use Rattle.loader.specs.Games.{cart_of, table_by, script_by, game_of, notes_by, claim_of, commands_by, debugging_of, trace_by, auditing_of, image_by, bytes_by};
+ghost use Rattle.loader.specs.Games.{cart_of, table_by, script_by, game_of, notes_by, claim_of, list_by, confirming_of, commands_by, debugging_of, trace_by, auditing_of, image_by, bytes_by};
 ghost use Rattle.certificate.specs.CertificateLaws.{AllFit};
 ghost use Rattle.pad_script.specs.Limits.{HasLimits};
 ghost use Rattle.pad_script.specs.Reading.{seen};
-ghost use Rattle.loader.specs.Seen.{seen_game, seen_claim, seen_auditing};
+ghost use Rattle.loader.specs.Seen.{seen_game, seen_claim, seen_confirming, seen_auditing};
 ghost use Rattle.loader.specs.Works.{Works, RefusesFrom, order_of, outcome_as};
 
-use super::claims::Claim;
+use super::claims::{Claim, Confirming};
 use super::fetching::fetch;
 use super::games::{Auditing, Debugging, Game};
 use super::purposes::Purpose;
 use super::readings::{
-    read_bytes, read_described, read_description, read_image, read_notes, read_run, read_session,
-    read_steps,
+    read_bytes, read_described, read_description, read_image, read_list, read_notes, read_run,
+    read_session, read_steps,
 };
 use super::refusals::Stop;
 use super::sources::{ASSEMBLY_LIMIT, load_planned};
 use abs_step::Annotation;
 use bus_audit::TraceList;
 use cartridge::{Cart, Split};
+use case_step::CaseList;
 use chip_debug::CommandList;
 use f8_asm::{Image, Room};
 use outside::Store;
@@ -34,6 +35,9 @@ const TEXT_LIMIT: u32 = 65_536;
 
 /// The most bytes of a certificate.
 const CERT_LIMIT: u32 = 16_777_216;
+
+/// The most bytes of a list of entries.
+const CASES_LIMIT: u32 = 67_108_864;
 
 /// The most bytes of a trace.
 const TRACE_LIMIT: u32 = 16_777_216;
@@ -153,6 +157,43 @@ pub fn load_claim<S: Store>(
     Ok(Claim {
         cart: cartridge,
         notes,
+    })
+}
+
+/// The list of entries of a cartridge.
+#[tactic(auto, using(crate::proofs::ConfirmingsLoaded::list_read, crate::proofs::ConfirmingsLoaded::list_stop, crate::proofs::ConfirmingsLoaded::list_order))]
+fn load_list<S: Store>(alloc: Global, store: &mut S, name: &str) -> Result<CaseList, Stop>
+    ensures works { Works (S.input store.old) (S.input store.new)
+        (list_by name.now) (outcome_as (λ list. list) result) }
+    ensures order { RefusesFrom (order_of Purpose.Cases) result }
+    ensures few { IfOk result (λ list. length list ≤ 65536) }
+{
+    let text = fetch(alloc, store, Purpose::Cases, name, CASES_LIMIT)?;
+    read_list(alloc, text.as_slice())
+}
+
+/// A cartridge with a list of entries of it, by the names of the description and the list: the description, then the source of each chip that
+/// has one, and then the list, each of them fetched and read before the next. The list has at most 67,108,864 bytes, and 65,536 entries.
+///
+/// # Errors
+///
+/// As those of `load_game`.
+#[tactic(auto, using(crate::proofs::ConfirmingsLoaded::confirming_loaded, crate::proofs::ConfirmingsLoaded::confirming_without_cart, crate::proofs::ConfirmingsLoaded::confirming_without_list))]
+pub fn load_confirming<S: Store>(
+    alloc: Global,
+    store: &mut S,
+    cart: &str,
+    cases: &str,
+) -> Result<Confirming, Stop>
+    ensures works { Works (S.input store.old) (S.input store.new)
+        (confirming_of cart.now cases.now) (outcome_as seen_confirming result) }
+    ensures few { IfOk result (λ asked. length asked.list ≤ 65536) }
+{
+    let cartridge = load_cart(alloc, store, cart)?;
+    let list = load_list(alloc, store, cases)?;
+    Ok(Confirming {
+        cart: cartridge,
+        list,
     })
 }
 

@@ -8,6 +8,8 @@ pub enum Purpose {
     Script,
     /// A certificate of a cartridge.
     Cert,
+    /// The list of entries of a cartridge.
+    Cases,
     /// The commands of the debugger.
     Commands,
     /// The trace of an audit.

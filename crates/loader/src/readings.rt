@@ -7,13 +7,15 @@ ghost use Rattle.cartridge.specs.Rooms.{LiesIn};
 ghost use Rattle.certificate.specs.CertificateLaws.{AllFit};
 ghost use Rattle.pad_script.specs.Limits.{HasLimits};
 ghost use Rattle.pad_script.specs.Reading.{seen};
-ghost use Rattle.loader.specs.Readings.{Says, bytes_in, commands_in, trace_in, linked_in, modules_in, object_in, plan_told, table_of, description_of, described_table, image_in, notes_in, script_in};
+ghost use Rattle.loader.specs.Readings.{Says, bytes_in, commands_in, trace_in, linked_in, modules_in, object_in, plan_told, table_of, description_of, described_table, image_in, notes_in, list_in, script_in};
 
 use super::purposes::Purpose;
 use super::refusals::{Refusal, Stop};
 use abs_step::Annotation;
 use bus_audit::{TraceAnswer, TraceList, read_trace};
 use cartridge::{CartAnswer, Plan, Split, migrate, read_cart};
+use case_step::CaseList;
+use case_text::{CasesError, read_cases};
 use certificate::{CertAnswer, read_cert};
 use chip_debug::{CommandList, DebugAnswer, read_commands};
 use f8_asm::{AsmAnswer, Image, Room, assemble};
@@ -157,6 +159,19 @@ pub fn read_notes(alloc: Global, split: &Split, text: &[u8]) -> Result<Annotatio
         Ok(notes) => Ok(notes),
         Err(CertAnswer::Fault(fault)) => Err(Stop::Refused(Refusal::Cert(fault))),
         Err(CertAnswer::Memory) => Err(Stop::Memory),
+    }
+}
+
+/// The list of entries of a text.
+#[tactic(auto, unfolding(crate::specs::Readings::list_in))]
+pub fn read_list(alloc: Global, text: &[u8]) -> Result<CaseList, Stop>
+    ensures says { Says (λ list. list) result (list_in text.now) }
+    ensures few { IfOk result (λ list. length list ≤ 65536) }
+{
+    match read_cases(alloc, text) {
+        Ok(list) => Ok(list),
+        Err(CasesError::Fault(fault)) => Err(Stop::Refused(Refusal::Cases(fault))),
+        Err(CasesError::Memory) => Err(Stop::Memory),
     }
 }
 

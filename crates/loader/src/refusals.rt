@@ -2,6 +2,7 @@
 use super::purposes::Purpose;
 use bus_audit::TraceFault;
 use cartridge::CartFault;
+use case_text::CasesFault;
 use certificate::CertFault;
 use chip_debug::DebugFault;
 use f8_asm::AsmFault;
@@ -27,6 +28,9 @@ pub enum Refusal {
     /// The certificate is at fault.
     #[error("the certificate is at fault")]
     Cert(CertFault),
+    /// The list of entries is at fault.
+    #[error("the list of entries is at fault")]
+    Cases(CasesFault),
     /// The debugger's commands are at fault.
     #[error("the commands are at fault")]
     Commands(DebugFault),

@@ -37,7 +37,7 @@ pub returns-in_default-as_str-clause-asked : goal.returns-in_default-as_str-clau
 returns-in_default-as_str-clause-asked c =
     let first = c.in-Some.ensures.item in
     let it = c.in_default-as_str in
-    let others : NamesNone (drop 6 command_words) c.as_str.result.now =
-    (it.not-migrate, (it.not-asm, (it.not-link, (it.not-dis, (it.not-gen, tt))))) in
+    let others : NamesNone (drop 7 command_words) c.as_str.result.now =
+    (it.not-confirm, (it.not-migrate, (it.not-asm, (it.not-link, (it.not-dis, (it.not-gen, tt)))))) in
     unknown c.args.words.now c.in-Some.name.now c.as_str.result.now first.3.0 first.1 c.as_str.ensures.value
-    (it.not-play, (it.not-ref, (it.not-debug, (it.not-audit, (it.not-check, (it.not-verify, others))))))
+    (it.not-play, (it.not-ref, (it.not-debug, (it.not-audit, (it.not-check, (it.not-verify, (it.not-prove, others)))))))
