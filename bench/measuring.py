@@ -18,7 +18,7 @@ sys.path.insert(0, str(TOP / 'tools'))  # where the package `companion` lies; th
 from companion.crate_list import all_below, crates_listed  # noqa: E402
 from companion.words import Refused, count_of, parser_of, run, status_of, waiting  # noqa: E402
 
-__all__ = ['COUNTED', 'Cost', 'INTERRUPTED', 'INTERRUPTED_POINTS', 'MOST_POINTS', 'NAME', 'OwnProgram', 'Refused', 'Run', 'add_program', 'built', 'cost_of', 'count_of',
+__all__ = ['COUNTED', 'Cost', 'INTERRUPTED', 'INTERRUPTED_POINTS', 'MOST_POINTS', 'NAME', 'OwnProgram', 'Refused', 'Run', 'TOP', 'add_program', 'built', 'cost_of', 'count_of',
            'described', 'files', 'median_of_five', 'parser_of', 'psu', 'run', 'run_of']
 
 NAME = 'bench'  # what errors begin with

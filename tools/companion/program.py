@@ -11,7 +11,7 @@ from typing import IO, Iterator, Sequence
 
 from companion.words import TOP, Refused, program_of, status_of
 
-FLAGS = ('--trace', '--cert')
+FLAGS = ('--trace', '--cert', '--cases')
 BUILT = TOP / 'crates/channel_f_main/out/channel_f_main'
 
 

@@ -6,6 +6,7 @@ import unittest
 from pathlib import Path
 
 import tool
+from test_survey import COUNTED
 from tool import TOP, call, needs_program, needs_toml, tomllib
 
 # A source in a table of one line, which is written anew, and one in a table with a comment.
@@ -44,6 +45,15 @@ class Bundle(unittest.TestCase):
                          {'format': 1, 'split': [3], 'chip': [{'kind': '3851', 'base': 0x400, 'ports': 8, 'interrupt': True, 'vector': 0x180,
                                                                'rom': 'FFFF2B'}]})
         self.assertFalse((self.folder / 'there/cart.cert').exists())
+
+    def test_a_cartridge_travels_with_its_list_of_cases(self):
+        """One that `check` refuses, and for which `prove` finds a list."""
+        (self.folder / 'cart.toml').write_text(COUNTED)
+        done = call('bundle', 'cart.toml', '--to', 'there', cwd=self.folder)
+        lines = done.text.splitlines()
+        self.assertEqual(lines[1], 'no certificate: refused 000A ---- . 4; tools/why cart.toml looks for the cause')
+        self.assertRegex(lines[2], 'there/cart.cases: [0-9,]+ bytes, whole [0-9]+')
+        self.assertEqual(sorted(path.name for path in (self.folder / 'there').iterdir()), ['cart.cases', 'cart.toml'])
 
     def test_format_2(self):
         """All keys of format 2 stay, also where the table is written anew."""

@@ -114,7 +114,7 @@ class Page(unittest.TestCase):
 
     def page(self, *words: object, cwd: Path | None = None) -> str:
         done = call('page', *(words or ('cart.toml', 'script.txt')), cwd=cwd or self.folder)
-        self.assertEqual((done.returncode, re.sub(r'page: (running|following|the verdict).*\n', '', done.told)), (0, ''))
+        self.assertEqual((done.returncode, re.sub(r'page: (running|following|the verdict|a list of cases).*\n', '', done.told)), (0, ''))
         self.assertEqual(Checked(done.text).wrong, [])
         self.assertEqual(outside(done.text), [])
         return done.text

@@ -14,6 +14,8 @@ from tool import call, needs_program
 LOOP = 'format = 1\n[[chip]]\nkind = "3851"\nbase = 0\nports = 4\nrom = "90FF"\n'
 LONGER = LOOP.replace('90FF', '2B90FF')
 REFUSED = LOOP.replace('90FF', 'A8')
+# LIS 3; LR 0,A; DS 0; BNZ to the DS; LR A,0; LR KU,A; LI 10; LR KL,A; PK; at 0010 BR . : after the loop register 0 has 0.
+COUNTED = LOOP.replace('90FF', '7350' '30' '94FE' '4004' '201005' '0C' 'FFFFFFFFFF' '90FF')
 SOURCE = LOOP.replace('rom = "90FF"', 'source = "deep/loop.f8"')
 
 
@@ -65,6 +67,17 @@ class Survey(unittest.TestCase):
         self.assertEqual(lines[0].split(), ['description', 'check', 'points', 'verify', 'seconds', 'why'])
         self.assertRegex(lines[1], r'^b\.toml       whole         1          +\d+\.\d$')
         self.assertEqual((lines[-1], done.returncode), ('2 descriptions: 1 whole, 1 refused', 7))
+
+    def test_what_prove_finds(self):
+        self.write(a_toml=COUNTED, b_toml=LOOP, c_toml=REFUSED)
+        done = call('survey', '--csv', '--prove', '.', cwd=self.folder)
+        rows = [(row['check'], row['prove'], row['entries'].isdigit(), row['why']) for row in csv.DictReader(done.text.splitlines())]
+        self.assertEqual(rows, [('refused', 'whole', True, 'refused 000A ---- . 4'), ('whole', '', False, ''),
+                                ('refused', 'unproved', False, 'refused 0000 ---- . 9; unproved 0000 ---- . 9')])
+        self.assertEqual(done.returncode, 7)
+        done = call('survey', '--prove', 'a.toml', cwd=self.folder)
+        self.assertEqual(done.text.splitlines()[-1], '1 descriptions: 1 refused; `prove` of 1: 1 whole')
+        self.assertEqual(done.returncode, 0)
 
     def test_nothing_to_ask_for(self):
         for words, hint in ((['.'], 'no description'), (['nowhere'], 'no such folder')):

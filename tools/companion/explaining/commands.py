@@ -14,7 +14,7 @@ from companion.program import FLAGS
 def store(files: Files, what: str) -> list[str]:
     name = files.path(what)
     if not name:
-        return ['Name the files to learn more: tools/explain ./channel_f .., or --cart, --script, --commands, --cert, --file, --plan and --trace.']
+        return ['Name the files to learn more: tools/explain ./channel_f .., or --cart, --script, --commands, --cert, --cases, --file, --plan and --trace.']
     path = Path(name)
     if path.is_dir():
         return [f'{name} is a folder.']

@@ -15,10 +15,10 @@ from companion.page_tables import forms_of, mnemonics
 from companion.plans import Planned, planned
 from companion.program import Program
 
-COMMANDS = ('play', 'debug', 'check', 'verify', 'migrate', 'ref', 'asm', 'link', 'dis', 'gen', 'audit')
-NAMES = ('cart', 'script', 'commands', 'cert', 'file', 'plan', 'trace')
+COMMANDS = ('play', 'debug', 'check', 'verify', 'prove', 'confirm', 'migrate', 'ref', 'asm', 'link', 'dis', 'gen', 'audit')
+NAMES = ('cart', 'script', 'commands', 'cert', 'cases', 'file', 'plan', 'trace')
 FILES_OF = {'play': ('cart', 'script'), 'debug': ('cart', 'commands'), 'ref': ('cart', 'script'), 'check': ('cart',), 'verify': ('cart', 'cert'),
-            'migrate': ('cart',), 'link': ('plan',), 'audit': ('cart', 'script', 'trace')}
+            'prove': ('cart',), 'confirm': ('cart', 'cases'), 'migrate': ('cart',), 'link': ('plan',), 'audit': ('cart', 'script', 'trace')}
 FEWEST_DIGITS = 16  # of a file of digits, which a short word like BC would be too
 MOST_OF = 0.7  # of the lines of a script or of commands have a word of theirs in front
 SHOWN = 140  # characters of a line, at most
@@ -27,10 +27,12 @@ SHOWN = 140  # characters of a line, at most
 class Sort(Enum):
     """What a file looks like, with what is said of it in the place of another one."""
     NOTHING = 'This file is empty.'
-    DESCRIPTION = 'This is a description of a cartridge: it is the first file after `play`, `ref`, `debug`, `check`, `verify`, `migrate` and `audit`.'
+    DESCRIPTION = 'This is a description of a cartridge: it is the first file after `play`, `ref`, `debug`, `check`, `verify`, `prove`, `confirm`, ' \
+                  '`migrate` and `audit`.'
     SCRIPT = 'This is a script: it is the second file after `play`, `ref` and `audit`, behind the description.'
     COMMANDS = 'These are commands of the debugger: they are the second file after `debug`, behind the description.'
     CERTIFICATE = 'This is a certificate: it is the second file after `verify`, behind the description.'
+    CASES = 'This is a list of cases: it is the second file after `confirm`, behind the description.'
     TRACE = 'This is a trace, as `play --trace` prints it: it is the third file after `audit`, behind description and script.'
     PLAN = 'This is a plan of modules: it is the file after `link`.'
     ASSEMBLY = 'This is an assembly text. A description names it: `source = "{name}"` below a `[[chip]]` with `kind`, `base` and `ports`.'
@@ -54,6 +56,8 @@ def sort_of(data: bytes) -> Sort:
     """What the bytes of a file look like."""
     if data.startswith(b'F8CERT '):
         return Sort.CERTIFICATE
+    if data.startswith(b'F8CASES '):
+        return Sort.CASES
     if re.search(rb'[\0-\x08\x0e-\x1f]', data):
         return Sort.BINARY
     lines = [line.rstrip() for line in data.decode('utf-8', 'replace').lstrip('\ufeff').splitlines() if line.strip()]
@@ -133,7 +137,7 @@ class Files:
         return Reach.of(self.cartridge)
 
     def path(self, what: str) -> str:
-        """The name of the file that a refusal calls cart, script, commands, cert, file, plan, trace, source I or module I."""
+        """The name of the file that a refusal calls cart, script, commands, cert, cases, file, plan, trace, source I or module I."""
         if what.startswith('module '):
             return next((module.file for module in self.modules if module.number == int(what[7:])), '')
         if what.startswith('source '):

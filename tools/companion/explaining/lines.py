@@ -9,20 +9,22 @@ from companion.explaining.commands import store, too_long, wrong_words
 from companion.explaining.descriptions import KINDS, key, sockets, toml, warnings
 from companion.explaining.files import Files
 from companion.explaining.modules import link, module, plan
-from companion.explaining.runs import agreed, fault, not_closed, refused, reserved, stopped_at, too_many, unsafe
-from companion.explaining.scripts import cert, debug, digits, script
+from companion.explaining.runs import agreed, fault, not_closed, not_covered, refused, reserved, stopped_at, too_many, unproved, unsafe, unsafe_entry
+from companion.explaining.scripts import cases, cert, debug, digits, script
 from companion.explaining.traces import out_of_form, rejected
 from companion.page_tables import row_of_line
 
-TOLD = ('error', 'stop', 'agreed', 'refused', 'toomany', 'notclosed', 'unsafe', 'reject')  # the first words of the lines that are explained
+# the first words of the lines that are explained
+TOLD = ('error', 'stop', 'agreed', 'refused', 'toomany', 'unproved', 'notclosed', 'unsafe', 'reject')
 ADDRESS = '[0-9A-F]{4}'  # as the program writes it
 POINT = rf'({ADDRESS}) ({ADDRESS}|----) (\S+)'
 NUMBER = r'(\d{1,9})'
-WHAT = r'(cart|script|commands|cert|file|plan|trace|(?:source|module) \d{1,9})'
+WHAT = r'(cart|script|commands|cert|cases|file|plan|trace|(?:source|module) \d{1,9})'
 EXPLAINERS: list[tuple[str, Callable[..., list[str]]]] = [
     (rf'error asm (file|source \d{{1,9}}) line {NUMBER} column {NUMBER} cause {NUMBER}', asm), (r'error cart toml', toml),
     (rf'error cart(?: chip {NUMBER})? key (\S+) cause {NUMBER}', key), (rf'error script line {NUMBER} cause {NUMBER}', script),
-    (rf'error cert line {NUMBER} cause {NUMBER}', cert), (rf'error debug line {NUMBER} cause {NUMBER}', debug),
+    (rf'error cert line {NUMBER} cause {NUMBER}', cert), (rf'error cases line {NUMBER} cause {NUMBER}', cases),
+    (rf'error debug line {NUMBER} cause {NUMBER}', debug),
     (rf'error plan line {NUMBER} cause {NUMBER}', plan), (rf'error module {NUMBER} line {NUMBER} column {NUMBER} cause {NUMBER}', module),
     (rf'error link module {NUMBER} cause {NUMBER}', link), (rf'error trace line {NUMBER}', out_of_form), (rf'reject line {NUMBER}', rejected),
     (rf'error store {WHAT}', store), (rf'error long {WHAT}', too_long), (r'error hex', digits), (r'error words', wrong_words),
@@ -30,6 +32,7 @@ EXPLAINERS: list[tuple[str, Callable[..., list[str]]]] = [
     (rf'stop (conflict|undriven|astray) romc (..)((?: socket \d\d? at {ADDRESS}| at {ADDRESS}| reference {ADDRESS})+)', fault),
     (rf'stop reserved (..) at ({ADDRESS})', reserved),
     (rf'refused {POINT} (\d\d?)', refused), (rf'unsafe {POINT} (\d\d?)', unsafe), (r'toomany', too_many), (r'agreed \d{1,5}', agreed),
+    (rf'unproved ({ADDRESS}) (\S+) \. (\d\d?)', unproved), (rf'unsafe {NUMBER} (\d\d?)', unsafe_entry), (rf'notclosed {NUMBER} to ({ADDRESS}) (\S+) \.', not_covered),
     (rf'notclosed (start|{ADDRESS} \S+ \S+) to ({ADDRESS}) (\S+) (\S+)', not_closed),
 ]
 

@@ -82,12 +82,35 @@ def vector_of(files: Files, address: int, number: str) -> list[str]:
 
 
 def not_closed(files: Files, origin: str, *point: str) -> list[str]:
-    """What a certificate lacks, and where."""
-    said = ('The certificate belongs to another description, or was changed.' if origin == 'start' else
+    """What a certificate lacks, and where; of the start also what a list of cases does."""
+    text = 'list of cases' if files.command == 'confirm' else 'certificate'
+    said = (f'The {text} belongs to another description, or was changed.' if origin == 'start' else
             'What holds there after the instruction at the first point is not what the certificate says: some part is claimed that is not known, '
             'or the point is missing. It may belong to another description.')
     first = where(files, int(origin[:4], 16)) if origin != 'start' else []
     return [said, *first, *where(files, int(point[0], 16))]
+
+
+def unsafe_entry(files: Files, line: str, number: str) -> list[str]:
+    """The reason against a case of an entry, and the entry's line."""
+    reason = reason_of(number)
+    told = [f'Reason {number}: {reason.what}; such as {reason.example} (docs/CHECKER.md).', f'What helps: {reason.help}.'] if reason else []
+    return [*told, *files.line('cases', int(line))[0],
+            'An entry may allow values that no run has there. Another list may have several entries in its place (docs/PROVE.md).']
+
+
+def unproved(files: Files, at: str, back: str, number: str) -> list[str]:
+    """Where a search for a list of cases gave up, and why."""
+    reason = reason_of(number)
+    told = ([f'Reason {number}: {reason.what}; such as {reason.example} (docs/CHECKER.md).', f'What helps: {reason.help}.'] if reason else
+            ['There were too many entries or cases, or the list is too long for a file. Counters that are kept apart by their values make many.'])
+    return [*told, *where(files, int(at, 16)), return_of(files, back), 'Another search may find a list (docs/PROVE.md).']
+
+
+def not_covered(files: Files, line: str, at: str, back: str) -> list[str]:
+    """The line of an entry that leads to what no entry covers, and where that is."""
+    return ['Some case of this entry leads to a value, a return or a fact that no entry there allows, or there is no entry there. The list may '
+            'belong to another description.', *files.line('cases', int(line))[0], *where(files, int(at, 16)), return_of(files, back)]
 
 
 def too_many(files: Files) -> list[str]:
@@ -99,7 +122,7 @@ def too_many(files: Files) -> list[str]:
 
 
 def agreed(files: Files) -> list[str]:
-    return [f'tools/why {files.path("cart") or "CART"} names these reads.']
+    return [f'tools/why {files.path("cart") or "CART"} names these reads.'] if files.command not in ('prove', 'confirm') else []
 
 
 def fault(files: Files, sort: str, code: str, rest: str) -> list[str]:

@@ -1,4 +1,4 @@
-"""Faults of scripts, of the debugger's commands, of certificates, and of files of digits."""
+"""Faults of scripts, of the debugger's commands, of certificates, of lists of cases, and of files of digits."""
 from __future__ import annotations
 
 import re
@@ -27,6 +27,11 @@ COMMAND_HINTS = [
 CERTIFICATE_HINTS = {
     1: 'The file is no certificate, or has lines that end with CR LF.', 4: 'Each point is there once, and the lines ascend.',
     5: 'The file was cut off, or its first line has another number of points.',
+}
+CASES_HINTS = {
+    1: 'The file is no list of cases, or has lines that end with CR LF.',
+    3: 'A line has 74 words with one blank between them; the numbers of a list ascend, and stand one right behind another.',
+    4: 'Each line is there once, and the lines ascend.', 5: 'The file was cut off, or its first line has another number of entries.',
 }
 
 
@@ -86,6 +91,12 @@ def cert(files: Files, line: str, cause: str) -> list[str]:
     shown, _ = files.line('cert', int(line))
     hint = files.looks_like('cert', Sort.CERTIFICATE) or [CERTIFICATE_HINTS.get(int(cause), '')]
     return [*shown, cause_of('FORMATS.md', 'Certificate', f'error cert line {line} cause {cause}'), *filter(None, hint)]
+
+
+def cases(files: Files, line: str, cause: str) -> list[str]:
+    shown, _ = files.line('cases', int(line))
+    hint = files.looks_like('cases', Sort.CASES) or [CASES_HINTS.get(int(cause), '')]
+    return [*shown, cause_of('FORMATS.md', 'List of cases', f'error cases line {line} cause {cause}'), *filter(None, hint)]
 
 
 def digits(files: Files) -> list[str]:

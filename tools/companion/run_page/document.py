@@ -32,6 +32,11 @@ VERDICTS = {
     'refused': 'It could not be shown that no run stops at a bus step: at one place something may go wrong.',
     'toomany': 'It could not be shown that no run stops at a bus step: there is too much to keep apart.',
 }
+PROVED = {
+    'whole': 'A list of cases shows that no run can stop at a bus step:',
+    'agreed': 'A list of cases shows that no run can stop at a bus step, or at none but a read that no chip answers:',
+    'unproved': 'No list of cases was found that shows more:',
+}
 STOPS = {
     'done': 'came to its end',
     'conflict': 'stopped at a bus step: several chips answer',
@@ -108,8 +113,10 @@ def verdict_section(subject: Subject) -> Markup | None:
         lines = iter([UNTOLD])
     else:
         lines = told(knowledge.search, subject.names, MOST_PLACES)
+    word = knowledge.proved.partition(' ')[0]
+    proved = element('p', PROVED.get(word, ''), ' ', element('code', f'prove: {knowledge.proved}')) if word in PROVED else None
     title = 'Why there are too many points' if knowledge.word == Verdict.TOO_MANY.value else f'Why it is {knowledge.word}'
-    return section('verdict', title, *map(linked, lines))
+    return section('verdict', title, proved, *map(linked, lines))
 
 
 def power_on(chip: Chip) -> str:

@@ -58,6 +58,7 @@ class Knowledge:
     places: dict[int, At] = field(default_factory=dict)
     refusal: Refusal | None = None
     search: Search | None = None  # where it finds the same verdict
+    proved: str = ''  # the line of `prove`, where `check` does not say whole
     unserved: tuple[int, ...] = ()  # the addresses of reads at D0 that aren't known to be served
     kinds: frozenset[Kind] = frozenset()
 
@@ -76,6 +77,9 @@ class Knowledge:
             answer = program.run('check', '--cert', cart)
             line = answer.last if answer.status else program.on_text('verify', answer.output, cart).last
         found = cls(line, Basis.NONE) if answer.status else shown(line, answer, rules)
+        if found.word != Verdict.WHOLE.value:
+            with progress.during('a list of cases'):
+                found.proved = program.run('prove', cart).last
         search = searched(rules, progress)
         if search and search.line() == found.verdict:
             found.search = search
