@@ -1,7 +1,7 @@
 // What all the words ask for.
-ghost use Rattle.std.specs.Prelude.{◌≡◌, ◌⊎◌, IsTrue, IfErr, IfOk, OnErr, None, map, option_map, string_bytes};
+ghost use Rattle.std.specs.Prelude.{◌≡◌, ◌⊎◌, IsTrue, IfErr, IfOk, OnErr, None, drop, map, option_map, string_bytes};
 ghost use Rattle.clap.specs.Words.{kind_of};
-ghost use Rattle.command_line.specs.CommandLine.{command_of, has_command};
+ghost use Rattle.command_line.specs.CommandLine.{Audit, command_of, has_command, three_of};
 ghost use Rattle.command_line.specs.Seen.{seen_command};
 
 use super::asked::Command;
@@ -13,6 +13,23 @@ use clap::Error;
 use clap::error::ErrorKind;
 use f8_spec::Memory;
 use std::alloc::Global;
+
+/// The audit that the three files behind the first word ask for, and `None` where there aren't just three plain words.
+fn audit<'a>(alloc: Global, words: &'a [String]) -> Result<Option<Command<'a>>, Error>
+    ensures audit { IfOk result (λ audit.
+        option_map seen_command audit ≡ option_map (λ files. Audit files.0 files.1 files.2)
+        (three_of (drop 1 (map string_bytes words.now)))) }
+    ensures refused { IfErr result (λ error.
+        (kind_of error ≡ ErrorKind.OutOfMemory)
+        ⊎ (three_of (drop 1 (map string_bytes words.now)) ≡ None)) }
+{
+    let files = three_files(alloc, words)?;
+    Ok(files.map(|(cart, script, trace)| Command::Audit {
+        cart,
+        script,
+        trace,
+    }))
+}
 
 /// What the words ask for, and `None` or an error of clap's where they are none of the program's.
 fn asked_for<'a>(alloc: Global, words: &'a [String]) -> Result<Option<Command<'a>>, Error>
@@ -33,14 +50,7 @@ fn asked_for<'a>(alloc: Global, words: &'a [String]) -> Result<Option<Command<'a
             let files = two_files(alloc, words)?;
             Ok(files.map(|(cart, commands)| Command::Debug { cart, commands }))
         }
-        "audit" => {
-            let files = three_files(alloc, words)?;
-            Ok(files.map(|(cart, script, trace)| Command::Audit {
-                cart,
-                script,
-                trace,
-            }))
-        }
+        "audit" => audit(alloc, words),
         "check" => {
             let asked = file_and_flag(alloc, words, "cert")?;
             Ok(asked.map(|(cart, certified)| Command::Check { cart, certified }))

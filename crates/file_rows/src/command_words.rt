@@ -167,6 +167,39 @@ fn checks(rt: HostRuntime) -> Result<(), Fail> {
 }
 
 #[test]
+fn lists_of_cases(rt: HostRuntime) -> Result<(), Fail> {
+    let lines = [
+        ("prove c.toml", "c.toml", false),
+        ("prove --cases c.toml", "c.toml", true),
+        ("prove c --cases --", "c", true),
+        ("prove -- --cases", "--cases", false),
+    ];
+    for (line, cart, listed) in lines {
+        let wanted = Some(Command::Prove { cart, listed });
+        assert!(rt; asks(rt.alloc(), line, wanted)?, "{line}");
+    }
+    let (cart, cases) = ("c.toml", "-");
+    let wanted = Some(Command::Confirm { cart, cases });
+    assert!(rt; asks(rt.alloc(), "confirm c.toml -- -", wanted)?);
+    Ok(())
+}
+
+#[test]
+fn sessions_and_audits(rt: HostRuntime) -> Result<(), Fail> {
+    let (cart, commands) = ("c.toml", "-");
+    let wanted = Some(Command::Debug { cart, commands });
+    assert!(rt; asks(rt.alloc(), "debug c.toml -- -", wanted)?);
+    let (script, trace) = ("s", "--trace");
+    let wanted = Some(Command::Audit {
+        cart,
+        script,
+        trace,
+    });
+    assert!(rt; asks(rt.alloc(), "audit c.toml s -- --trace", wanted)?);
+    Ok(())
+}
+
+#[test]
 fn numbers_refused(rt: HostRuntime) -> Result<(), Fail> {
     let lines = [
         "",
@@ -179,6 +212,12 @@ fn numbers_refused(rt: HostRuntime) -> Result<(), Fail> {
         "ref a b ",
         "check --cert",
         "verify c",
+        "prove",
+        "prove a b",
+        "confirm c",
+        "debug c",
+        "audit a b",
+        "audit a b c d",
         "migrate",
         "migrate a b",
         "asm",
@@ -197,7 +236,7 @@ fn numbers_refused(rt: HostRuntime) -> Result<(), Fail> {
 }
 
 /// Lines of words that ask for nothing.
-const REFUSED: [&str; 39] = [
+const REFUSED: [&str; 43] = [
     "help",
     "--help",
     "-h",
@@ -229,6 +268,10 @@ const REFUSED: [&str; 39] = [
     "check --cert c --cert",
     "check --cert=x c",
     "verify c --cert",
+    "check --cases c",
+    "prove --cert c",
+    "prove --cases c --cases",
+    "confirm --cases a b",
     "dis a --trace",
     "play --help",
     "ref -h a b",

@@ -36,8 +36,18 @@ fn answer_to_chip(alloc: Global, keys: &str) -> Result<String, Fail> {
 fn tops_have_faults(rt: HostRuntime) -> Result<(), Fail> {
     for (text, want) in [
         ("", "top format 1"),
+        ("\u{feff}format = 1", "plan"),
         ("format = 3", "top format 4"),
+        ("format = 1.0", "top format 3"),
+        ("format = '1'", "top format 3"),
+        ("format = 1\nsplit = 5", "top split 3"),
         ("format = 1\nsplit = [1, 1]", "top split 4"),
+        ("format = 1\nsplit = [64]", "top split 4"),
+        (
+            "format = 1\nsplit = [0, 1, 2, 3, 4, 5, 6, 7, 64]",
+            "top split 6",
+        ),
+        ("format = 1\n[chip]\nkind = '3851'", "top chip 3"),
         ("format = 1\nchip = 5", "top chip 3"),
         ("format = 1\nchip = [1]", "top chip 3"),
     ] {
@@ -54,7 +64,23 @@ fn chips_have_faults(rt: HostRuntime) -> Result<(), Fail> {
             "kind = '3851'\nbase = 0x200\nports = 4\nrom = '71'",
             "0 base 5",
         ),
+        (
+            "kind = '3851'\nbase = 65535\nports = 4\nrom = '71'",
+            "0 base 4",
+        ),
         ("kind = '3851'\nbase = 0\nrom = '712B90FE'", "0 ports 1"),
+        (
+            "kind = '3851'\nbase = 0\nports = 4.0\nrom = '71'",
+            "0 ports 3",
+        ),
+        (
+            "kind = '3851'\nbase = 0\nports = 0\nrom = '71'",
+            "0 ports 4",
+        ),
+        (
+            "kind = '3851'\nbase = 0\nports = 254\nrom = '71'",
+            "0 ports 4",
+        ),
         (
             "kind = '3851'\nbase = 0\nports = '4'\nrom = '71'",
             "0 ports 3",
@@ -69,6 +95,18 @@ fn chips_have_faults(rt: HostRuntime) -> Result<(), Fail> {
             "kind = '3853'\nram_page = 0xFA\nram_pages = 10",
             "0 ram_pages 5",
         ),
+        (
+            "kind = '3853'\nram_page = 1\nram_pages = 256",
+            "0 ram_pages 5",
+        ),
+        ("kind = '3853'\nram_page = 0\nram_pages = 256", "plan"),
+        (
+            "kind = '3853'\nrom_page = 5\nrom_pages = 2\nram_page = 5\nram_pages = 0",
+            "plan",
+        ),
+        ("kind = '3853'\nrom = ''", "plan"),
+        ("kind = '3853'\nrom = '71'", "0 rom 7"),
+        ("kind = '3853'\nsource = 'a'", "0 source 4"),
         ("kind = '3851'\nbase = 0\nports = 4\nrom = '712'", "0 rom 7"),
         ("kind = '3851'\nbase = 0\nports = 4\nrom = 7", "0 rom 3"),
         ("kind = '3851'\nbase = 0\nports = 4", "0 rom 1"),
@@ -79,6 +117,18 @@ fn chips_have_faults(rt: HostRuntime) -> Result<(), Fail> {
         (
             "kind = '3851'\nbase = 0\nports = 4\nrom = '71'\nsource = 'a'",
             "0 source 8",
+        ),
+        (
+            "kind = '3851'\nbase = 0\nports = 4\nrom = '712'\nsource = 'a'",
+            "0 rom 7",
+        ),
+        (
+            "kind = '3851'\nbase = 0\nports = 4\nrom = '71'\nsource = 7",
+            "0 source 3",
+        ),
+        (
+            "kind = '3851'\nbase = 0\nports = 4\nrom = '71'\nsource = ''",
+            "0 source 4",
         ),
     ] {
         let got = answer_to_chip(rt.alloc(), keys)?;

@@ -72,6 +72,8 @@ fn faults(rt: HostRuntime) {
     assert_eq!(rt; fault_of(alloc, b"steps 1\r"), (1, 1));
     assert_eq!(rt; fault_of(alloc, b"power 0\n"), (1, 2));
     assert_eq!(rt; fault_of(alloc, b"steps 00000001\n"), (1, 2));
+    assert_eq!(rt; fault_of(alloc, b"steps \n"), (1, 2));
+    assert_eq!(rt; fault_of(alloc, b"at 2 keys  2D\n"), (1, 2));
     assert_eq!(rt; fault_of(alloc, b"frames 0\n"), (1, 3));
     assert_eq!(rt; fault_of(alloc, b"frames 601\n"), (1, 3));
     assert_eq!(rt; fault_of(alloc, b"at 600 keys 04 00\n"), (1, 3));
