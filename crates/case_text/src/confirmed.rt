@@ -21,7 +21,7 @@ use std::alloc::Global;
 ///
 /// # Errors
 ///
-/// Memory is missing for what is told of the chips, 65,536 bytes, or for the cases of an entry.
+/// Memory is missing for what is told of the chips, 65,536 bytes and their vectors, or for the cases of an entry.
 pub fn confirm(alloc: Global, cart: &Cart, list: &CaseList) -> Result<CasesAnswer, Memory>
     ensures answer { IfOk result (λ answer. answer ≡ judged (chips_view cart.now.chips) list.now) }
     ensures whole { let m = chips_view cart.now.chips in

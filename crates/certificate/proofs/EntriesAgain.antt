@@ -9,9 +9,11 @@ use Rattle.abs_domain.specs.declared.points.Point.{Point}
 use Rattle.abs_step.specs.RegisterWrites.{known_register}
 use Rattle.abs_step.specs.Successors.{tracked_byte, tracked_bytes}
 use Rattle.abs_step.specs.CartridgeAnalysis.{FitsPoint}
-use Rattle.certificate.specs.Parts.{behind, bytes_at, values_at, known_byte_text, known_address_text, known_octal_text, known_bit_text, bit_text}
+use Rattle.certificate.specs.Parts.{behind, bytes_at, values_at, known_byte_text, known_address_text, known_octal_text, known_bit_text}
+use Rattle.certificate.specs.Parts.{bit_text}
 use Rattle.certificate.specs.Parts.{bytes_text, values_text}
-use Rattle.certificate.specs.Entries.{point_at, isar_at, status_at, counters_at, entry_of, point_text, status_text, counters_text, entry_text}
+use Rattle.certificate.specs.Entries.{point_at, isar_at, status_at, counters_at, entry_of, point_text, status_text, counters_text}
+use Rattle.certificate.specs.Entries.{entry_text}
 use Rattle.certificate.proofs.PartsAgain.{AreKnownBytes, address_again, bit_again, known_bit_again, known_octal_again, known_byte_again}
 use Rattle.certificate.proofs.PartsAgain.{known_address_again, bytes_again, values_again}
 

@@ -12,7 +12,8 @@ use Rattle.std.proofs.lemmas.Str.Parse.{digit_from_value}
 use Rattle.f8_spec.specs.Spelling.{hex_digit, hex2, hex4}
 use Rattle.abs_domain.specs.AbstractState.{KnownStatus, KnownCounters, AbstractState}
 use Rattle.abs_domain.specs.declared.points.Point.{Point}
-use Rattle.certificate.specs.Parts.{bit_text, known_byte_text, known_address_text, known_octal_text, known_bit_text, bytes_text, values_text}
+use Rattle.certificate.specs.Parts.{bit_text, known_byte_text, known_address_text, known_octal_text, known_bit_text, bytes_text}
+use Rattle.certificate.specs.Parts.{values_text}
 use Rattle.certificate.specs.Entries.{point_text, status_text, counters_text, entry_text}
 use Rattle.certificate.specs.CertificateText.{first_line, line_text, header_text}
 

@@ -1,6 +1,7 @@
 -- States as the program holds them, read as those of an analysis: what a look-up finds, what the checker's step tells, and whether all are
 -- free of faults.
-use Rattle.std.proofs.Common.{◌≡◌, ◌≤◌, ◌+◌, ℕ, zero, suc, Bool, true, false, ◌&&◌, List, [], ◌∷◌, drop, length, map, refl, sym, ap, ◌∙◌, arith}
+use Rattle.std.proofs.Common.{◌≡◌, ◌≤◌, ◌+◌, ℕ, zero, suc, Bool, true, false, ◌&&◌, List, [], ◌∷◌, drop, length, map, refl, sym, ap, ◌∙◌}
+use Rattle.std.proofs.Common.{arith}
 use Rattle.std.specs.Prelude.{Option, Some, None, option_map, slice_get, Ok, Err}
 use Rattle.std.specs.List.{list_all}
 use Rattle.std.specs.Map.{lookup}

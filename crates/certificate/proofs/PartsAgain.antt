@@ -5,8 +5,10 @@ use Rattle.std.specs.Prelude.{Option, Some, None, codes}
 use Rattle.std.specs.Option.{ForSome}
 use Rattle.std.proofs.lemmas.Bool.Decides.{nat_tests}
 use Rattle.f8_spec.specs.Spelling.{hex_digit, hex2, hex4}
-use Rattle.certificate.specs.Parts.{behind, digit_in, digit_at, byte_at, address_at, bit_at, known_byte_at, known_address_at, known_octal_at}
-use Rattle.certificate.specs.Parts.{known_bit_at, bytes_at, values_at, bit_text, known_byte_text, known_address_text, known_octal_text, known_bit_text}
+use Rattle.certificate.specs.Parts.{behind, digit_in, digit_at, byte_at, address_at, bit_at, known_byte_at, known_address_at}
+use Rattle.certificate.specs.Parts.{known_octal_at}
+use Rattle.certificate.specs.Parts.{known_bit_at, bytes_at, values_at, bit_text, known_byte_text, known_address_text, known_octal_text}
+use Rattle.certificate.specs.Parts.{known_bit_text}
 use Rattle.certificate.specs.Parts.{bytes_text, values_text}
 pub use Rattle.certificate.specs.CertificateLaws.{AreKnownBytes}
 use Rattle.certificate.proofs.Marks.{behind_again}

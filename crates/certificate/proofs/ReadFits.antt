@@ -14,7 +14,8 @@ use Rattle.certificate.specs.declared.answers.CertFault.{CertFault}
 use Rattle.certificate.specs.Parts.{behind, address_at, known_byte_at, known_address_at, known_octal_at, bit_at, bytes_at, values_at}
 use Rattle.certificate.specs.Entries.{field, point_at, isar_at, status_at, counters_at, entry_of}
 use Rattle.text_lines.specs.Steps.{◌>>=◌ as ◌>>!◌}
-use Rattle.certificate.specs.CertificateText.{line_at, at_line, header_at, end_at, has_place, has_split, entry_in, entries_at, certificate_of}
+use Rattle.certificate.specs.CertificateText.{line_at, at_line, header_at, end_at, has_place, has_split, entry_in, entries_at}
+use Rattle.certificate.specs.CertificateText.{certificate_of}
 use Rattle.certificate.specs.CertificateLaws.{AllFit}
 use Rattle.certificate.proofs.Within.{only_within, none_within, all_within, then_within}
 use Rattle.certificate.proofs.PartRanges.{AreBytes, IsKnownBelow, address_range, known_byte_range, known_address_range, known_octal_range}

@@ -7,7 +7,8 @@ use Rattle.std.proofs.lemmas.List.{length-take}
 use Rattle.abs_domain.specs.AbstractState.{KnownStatus, KnownCounters, AbstractState, HasScratchpad}
 use Rattle.abs_domain.specs.declared.points.Point.{Point}
 use Rattle.f8_spec.specs.Spelling.{hex4}
-use Rattle.certificate.specs.Parts.{bit_text, known_byte_text, known_address_text, known_octal_text, known_bit_text, bytes_text, values_text}
+use Rattle.certificate.specs.Parts.{bit_text, known_byte_text, known_address_text, known_octal_text, known_bit_text, bytes_text}
+use Rattle.certificate.specs.Parts.{values_text}
 use Rattle.certificate.specs.Entries.{point_text, status_text, counters_text, entry_text}
 use Rattle.certificate.specs.CertificateText.{header_text, entries_text, certificate_text}
 use Rattle.certificate.specs.CertificateLaws.{AllFit, AllInRange}

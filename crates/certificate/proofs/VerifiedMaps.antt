@@ -42,7 +42,7 @@ module _ (chips : List ChipSpec) (tracked : List ℕ) (notes : List (Point × Ab
             soundness.fault_free (chips_view chips) seats tracked notes (safe_map chips seats tracked notes view found.0) found.1 n here reached;
       }
 
-  agreed_goes_on : examined (analysis (chips_view chips) tracked) notes ≡ Agreed →
+  pub agreed_goes_on : examined (analysis (chips_view chips) tracked) notes ≡ Agreed →
       GoesOnAlways (λ here fault. OnlyUndriven here.flat.state.flow.d0 fault) chips
   agreed_goes_on is =
       let found = (agreed_exactly (analysis (chips_view chips) tracked) point_laws.total point_laws.exact notes is_map).0 is in

@@ -6,10 +6,13 @@ use Rattle.abs_domain.specs.AbstractState.{AbstractState}
 use Rattle.abs_domain.specs.declared.points.Point.{Point}
 use Rattle.abs_step.specs.Successors.{start_point, start_state}
 use Rattle.line_words.specs.Numbers.{decimal_on}
-use Rattle.certificate.specs.Parts.{behind, digit_in, digit_at, byte_at, address_at, bit_at, known_byte_at, known_address_at, known_octal_at}
+use Rattle.certificate.specs.Parts.{behind, digit_in, digit_at, byte_at, address_at, bit_at, known_byte_at, known_address_at}
+use Rattle.certificate.specs.Parts.{known_octal_at}
 use Rattle.certificate.specs.Parts.{known_bit_at, bytes_at, values_at}
-use Rattle.certificate.specs.Entries.{point_at, isar_at, status_at, counters_at, entry_of, point_text, status_text, counters_text, entry_text}
-use Rattle.certificate.specs.CertificateText.{first_line, count_of, header_at, entry_in, entries_at, certificate_of, header_text, certificate_text}
+use Rattle.certificate.specs.Entries.{point_at, isar_at, status_at, counters_at, entry_of, point_text, status_text, counters_text}
+use Rattle.certificate.specs.Entries.{entry_text}
+use Rattle.certificate.specs.CertificateText.{first_line, count_of, header_at, entry_in, entries_at, certificate_of, header_text}
+use Rattle.certificate.specs.CertificateText.{certificate_text}
 use Rattle.certificate.specs.declared.answers.CertFault.{CertFault}
 use Rattle.certificate.specs.declared.answers.CertCause.{CertCause}
 use Rattle.certificate.specs.declared.answers.CertCause.TheVariants.{Header, Count, Field, Order, End, SplitField}

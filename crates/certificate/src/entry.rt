@@ -4,8 +4,10 @@ ghost use Rattle.std.specs.Option.{ForSome};
 ghost use Rattle.abs_domain.specs.KnownParts.{known_byte, known_digit};
 ghost use Rattle.abs_domain.specs.StateView.{status_of, state_of};
 ghost use Rattle.certificate.specs.Answers.{Gives};
-ghost use Rattle.certificate.specs.Parts.{behind as spelled_behind, bytes_at as spelled_bytes, values_at as spelled_values};
-ghost use Rattle.certificate.specs.Entries.{point_at as spelled_point, isar_at as spelled_isar, status_at as spelled_status};
+ghost use Rattle.certificate.specs.Parts.{behind as spelled_behind, bytes_at as spelled_bytes};
+ghost use Rattle.certificate.specs.Parts.{values_at as spelled_values};
+ghost use Rattle.certificate.specs.Entries.{point_at as spelled_point, isar_at as spelled_isar};
+ghost use Rattle.certificate.specs.Entries.{status_at as spelled_status};
 ghost use Rattle.certificate.specs.Entries.{counters_at as spelled_counters, entry_of as spelled_entry};
 ghost use Rattle.certificate.specs.EntryView.{counters_view};
 

@@ -11,9 +11,12 @@ ghost use Rattle.abs_step.specs.StatesAtPoints.{states_of};
 ghost use Rattle.abs_step.specs.Successors.{HasTrackedBytes, start_point, start_state};
 ghost use Rattle.abs_step.specs.CartridgeAnalysis.{analysis, entry_of};
 ghost use Rattle.abs_step.specs.ReachedStates.{IsSafelyClosed, HoldsFaultFreeStates};
+ghost use Rattle.abs_step.specs.Soundness.{OnlyUndriven};
 ghost use Rattle.certificate.specs.CertificateLaws.{HaveSplit, AllInRange};
-ghost use Rattle.certificate.specs.Examination.{covers as spelled_cover, first_open as spelled_open, failure_at as spelled_failure};
+ghost use Rattle.certificate.specs.Examination.{covers as spelled_cover, first_open as spelled_open};
+ghost use Rattle.certificate.specs.Examination.{failure_at as spelled_failure};
 ghost use Rattle.certificate.specs.Examination.{first_failure as spelled_first, examined as spelled_answer};
+ghost use Rattle.certificate.specs.VerifiedMaps.{GoesOnAlways};
 ghost use Rattle.certificate.specs.declared.examined.VerifyAnswer.TheVariants.{Whole, Agreed};
 
 use super::ranges::entry_law;
@@ -155,11 +158,12 @@ fn examined(notes: &BTreeMap<Point, Abs>, split: &Split, map: &Map) -> VerifyAns
 /// What is found of an invariant map of a cartridge, whoever made it (this project's own): whether it is closed and safe, and free of faults
 /// besides; or the first failure, which is that of the start or else that of the first point, and there a state that isn't safe before what
 /// holds next, in its order. Of the checker nothing is needed. The points have the bytes that their states know of the tracked registers, as
-/// `read_cert` and `check_cart` give them.
+/// `read_cert` and `check_cart` give them. Where the map is whole every bus access of every run is served, and where it is agreed every one
+/// is but for reads that no chip answers at D0, whatever the chips hold at power-on and whatever comes by the keys and from outside.
 ///
 /// # Errors
 ///
-/// Memory is missing for what is told of the chips, 65,536 bytes. No more is taken.
+/// Memory is missing for what is told of the chips: 65,536 bytes, and their vectors. No more is taken.
 pub fn verify(alloc: Global, cart: &Cart, notes: &Annotation) -> Result<VerifyAnswer, Memory>
     requires { HaveSplit cart.now.split notes.now }
     ensures answer { IfOk result (λ answer. answer
@@ -170,6 +174,10 @@ pub fn verify(alloc: Global, cart: &Cart, notes: &Annotation) -> Result<VerifyAn
     ensures agreed { let an = analysis (chips_view cart.now.chips) cart.now.split in
         IfOk result (λ answer. (answer ≡ Agreed)
         ↔ (IsSafelyClosed an notes.now × (HoldsFaultFreeStates an notes.now → ⊥))) }
+    ensures served { IfOk result (λ answer. answer ≡ Whole
+        → GoesOnAlways (λ here fault. fault ≡ None) cart.now.chips) }
+    ensures undriven { IfOk result (λ answer. answer ≡ Agreed
+        → GoesOnAlways (λ here fault. OnlyUndriven here.flat.state.flow.d0 fault) cart.now.chips) }
 {
     map_view_law();
     analysis_law();

@@ -2,9 +2,12 @@
 ghost use Rattle.std.specs.Prelude.{◌≡◌, ◌<◌, ◌≤◌, IfSome, length};
 ghost use Rattle.std.specs.Option.{ForSome};
 ghost use Rattle.certificate.specs.Answers.{Gives};
-ghost use Rattle.certificate.specs.Parts.{behind as spelled_behind, digit_in as spelled_digit, digit_at as spelled_digit_at};
-ghost use Rattle.certificate.specs.Parts.{byte_at as spelled_byte, address_at as spelled_address, bit_at as spelled_bit};
-ghost use Rattle.certificate.specs.Parts.{known_byte_at as spelled_known_byte, known_address_at as spelled_known_address};
+ghost use Rattle.certificate.specs.Parts.{behind as spelled_behind, digit_in as spelled_digit};
+ghost use Rattle.certificate.specs.Parts.{digit_at as spelled_digit_at};
+ghost use Rattle.certificate.specs.Parts.{byte_at as spelled_byte, address_at as spelled_address};
+ghost use Rattle.certificate.specs.Parts.{bit_at as spelled_bit};
+ghost use Rattle.certificate.specs.Parts.{known_byte_at as spelled_known_byte};
+ghost use Rattle.certificate.specs.Parts.{known_address_at as spelled_known_address};
 ghost use Rattle.certificate.specs.Parts.{known_octal_at as spelled_known_octal, known_bit_at as spelled_known_bit};
 ghost use Rattle.certificate.specs.Parts.{bytes_at as spelled_bytes};
 

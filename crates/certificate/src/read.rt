@@ -7,7 +7,8 @@ ghost use Rattle.certificate.specs.Answers.{Gives, ReadsAs, entry_as};
 ghost use Rattle.text_lines.specs.ReadErrors.{SaysSeen, OnMemory};
 ghost use Rattle.certificate.specs.CertificateLaws.{AllFit, HaveSplit};
 ghost use Rattle.certificate.specs.CertificateText.{first_line as spelled_first, line_at as spelled_line};
-ghost use Rattle.certificate.specs.CertificateText.{count_of as spelled_count, has_split as spelled_split, is_behind as spelled_behind};
+ghost use Rattle.certificate.specs.CertificateText.{count_of as spelled_count, has_split as spelled_split};
+ghost use Rattle.certificate.specs.CertificateText.{is_behind as spelled_behind};
 ghost use Rattle.certificate.specs.CertificateText.{at_line, header_at as spelled_header, end_at as spelled_end};
 ghost use Rattle.certificate.specs.CertificateText.{entry_in as spelled_entry, entries_at, certificate_of};
 

@@ -5,10 +5,12 @@ ghost use Rattle.abs_domain.specs.KnownParts.{known_byte};
 ghost use Rattle.abs_domain.specs.StateView.{status_of, counters_of, state_of};
 ghost use Rattle.abs_step.specs.StatesAtPoints.{states_of};
 ghost use Rattle.f8_spec.specs.Spelling.{hex2, hex4};
-ghost use Rattle.certificate.specs.Parts.{bit_text, known_byte_text, known_address_text, known_octal_text, known_bit_text};
+ghost use Rattle.certificate.specs.Parts.{bit_text, known_byte_text, known_address_text, known_octal_text};
+ghost use Rattle.certificate.specs.Parts.{known_bit_text};
 ghost use Rattle.certificate.specs.Parts.{bytes_text, values_text};
 ghost use Rattle.certificate.specs.Entries.{point_text, status_text, counters_text, entry_text};
-ghost use Rattle.certificate.specs.CertificateText.{header_text, line_text, entries_text, certificate_text, certificate_of};
+ghost use Rattle.certificate.specs.CertificateText.{header_text, line_text, entries_text, certificate_text};
+ghost use Rattle.certificate.specs.CertificateText.{certificate_of};
 ghost use Rattle.certificate.specs.CertificateLaws.{HaveSplit, IsInRange, AllInRange};
 
 use super::ranges::entry_law;

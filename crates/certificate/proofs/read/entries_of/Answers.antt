@@ -5,7 +5,8 @@ use Rattle.abs_domain.specs.StateView.{state_of}
 use Rattle.abs_domain.specs.declared.points.Point.{Point}
 use Rattle.abs_domain.specs.declared.state.Abs.{Abs}
 use Rattle.certificate.specs.CertificateText.{entry_in}
-use Rattle.certificate.proofs.EntriesRead.{no_line, no_entry, one_entry, is_read, at_line_of, put_last, last_again, fails, goes_on, all_read, over, left}
+use Rattle.certificate.proofs.EntriesRead.{no_line, no_entry, one_entry, is_read, at_line_of, put_last, last_again, fails, goes_on}
+use Rattle.certificate.proofs.EntriesRead.{all_read, over, left}
 use Rattle.certificate.proofs.read.entries_of.Goals as goal
 
 pub returns-in_err-line-clause-entries : goal.returns-in_err-line-clause-entries
