@@ -103,7 +103,7 @@ goes_at m states r turn y goes shows running represents =
 
 -- or the machine is stopped
 pub stops_at : (m : MachineState) (states : List ChipState) (r : Reached) (turn : Turn) (stop : Stop) →
-    turn ≡ Stops stop → Shows m states r → StopsAt m r.position → HasReached m states (led_by turn r)
+    turn ≡ Stops stop → Shows m states r → StopsAt stop m r.position → HasReached m states (led_by turn r)
 stops_at m states r turn stop stops shows machine =
     let stopped : HasReached m states (led_by (Stops stop) r) =
     record {

@@ -1,14 +1,17 @@
 -- Where power-on and reset lead.
-use Rattle.std.proofs.Common.{◌≡◌, ℕ, ◌+◌, ◌*◌, ◌<◌, ◌≤◌, List, [], ◌++◌, length, refl, sym, ap, subst, ◌∙◌, arith}
+use Rattle.std.proofs.Common.{◌≡◌, ℕ, Bool, false, ◌+◌, ◌*◌, ◌<◌, ◌≤◌, List, [], ◌++◌, length, refl, sym, ap, subst, ◌∙◌, arith}
 use Rattle.std.proofs.lemmas.List.{length-map}
-use Rattle.std.specs.Prelude.{None}
+use Rattle.std.specs.Prelude.{Option, Some, None}
 use Rattle.f8_spec.specs.ChipState.{ChipView, ChipState, powered}
+use Rattle.f8_spec.specs.BusArbitration.{Ruling, Served, Conflict as ConflictRuling, Undriven as UndrivenRuling, Astray as AstrayRuling}
 use Rattle.f8_spec.specs.Powers.{ArePowers}
 use Rattle.f8_spec.specs.declared.chips.PowerOn.{PowerOn}
+use Rattle.console_spec.specs.BusTrace.{Course}
 use Rattle.console_spec.specs.Powering.{fill_in, start_in}
 use Rattle.console_spec.specs.Processor.{with_write}
 use Rattle.console_spec.specs.Run.{Turn, Unserved, goes_unless, position_after_reset}
-use Rattle.console_spec.specs.Run.{reset_course, reset_fault}
+use Rattle.console_spec.specs.Run.{reset_access, reset_course, reset_fault}
+use Rattle.console_spec.specs.Services.{Fault, access_ruling}
 use Rattle.data_bus.specs.KnownAgreement.{no_marks}
 use Rattle.data_bus.specs.Racks.{views}
 use Rattle.data_bus.specs.declared.index.Index.{Index}
@@ -28,8 +31,8 @@ use Rattle.rack_run.proofs.MachineTurns.{reads_kept}
 use Rattle.rack_run.proofs.Outcomes.{reset_heard}
 use Rattle.rack_run.proofs.PlayLaws.{powered_reads}
 use Rattle.rewind.specs.Reached.{Reached, hearing, led_by, powered_on, reset_of, served_steps, started}
-use Rattle.rewind.specs.Standing.{HasFollowed, HasReached, IsReady, IsStopped}
-use Rattle.rewind.specs.Tape.{IsStartOf, stop_in, writes_with}
+use Rattle.rewind.specs.Standing.{HasFollowed, HasReached, IsReady, IsStoppedBy}
+use Rattle.rewind.specs.Tape.{IsStartOf, is_long_fault, stop_in, writes_with}
 use Rattle.rewind.proofs.KeptChips.{powers_keeps}
 use Rattle.rewind.proofs.KeptHearing.{powers_heard}
 use Rattle.rewind.proofs.KeptRacks.{views_by, ready_stays}
@@ -64,6 +67,11 @@ from_power p q r n rooms all power begun size = omega arith
 
 -- ---- reset
 
+-- the step that wasn't served is a long one
+abbrev long_in : Option (Fault × Bool) → Bool
+long_in None = false
+long_in (Some fault) = fault.1
+
 module _ (r : Reached) (m after : MachineState) (mids news : List ChipState) (shows : Shows m mids r) (running : r.stop ≡ None)
     (begins : IsPowered m mids r.position) where
   abbrev turn : Turn
@@ -80,7 +88,7 @@ module _ (r : Reached) (m after : MachineState) (mids news : List ChipState) (sh
       (record {
         reads = reads_kept m after (ap (λ (n : MachineState). n.flow) faulted.kept) (ap (λ (n : MachineState). n.cpu) faulted.kept)
             (ap (λ (n : MachineState). n.phi) faulted.kept) ∙ powered_reads m mids r.position begins;
-        stopped = subst (λ (n : MachineState). IsStopped n.mode) (sym faulted.kept) tt;
+        stopped = subst (λ (n : MachineState). IsStoppedBy (Unserved (fault_of fault)) n.mode) (sym faulted.kept) refl;
       })
   reset_by (Reserved at code) refines heard = absurd refines
 
@@ -110,6 +118,21 @@ module _ (r : Reached) (m after : MachineState) (mids news : List ChipState) (sh
       faulted.turns)
   reset_writes (Reserved at code) refines = absurd refines
 
+  -- the one step that may not be served is short
+  short_course : (ruling : Ruling) → access_ruling r.position.flat.state.flow r.position.copies reset_access ≡ ruling →
+      long_in (reset_course r.position).fault ≡ false
+  short_course (Served socket) is = rw is refl
+  short_course (ConflictRuling parties) is = rw is refl
+  short_course (UndrivenRuling at) is = rw is refl
+  short_course (AstrayRuling socket at reference) is = rw is refl
+
+  reset_short : (outcome : Outcome) → ResetRefines outcome m after news r.position → is_long_fault outcome ≡ false
+  reset_short (Done wrote steps) done = refl
+  reset_short (FaultOutcome fault long steps) faulted =
+      sym (ap (λ (c : Course). long_in c.fault) faulted.trace)
+      ∙ short_course (access_ruling r.position.flat.state.flow r.position.copies reset_access) refl
+  reset_short (Reserved at code) refines = absurd refines
+
   -- the outcome is that of power-on and reset
   pub reset_outcome : (outcome : Outcome) → ResetRefines outcome m after news r.position → r.heard ≡ [] →
       IsStartOf outcome (reset_of r)
@@ -118,6 +141,7 @@ module _ (r : Reached) (m after : MachineState) (mids news : List ChipState) (sh
         ∙ sym (led_heard turn (hearing (served_steps (reset_course r.position)) r)
         ∙ ap (λ (l : List Heard). l ++ served_steps (reset_course r.position)) none);
     stop = reset_stop outcome refines;
+    short = reset_short outcome refines;
     wrote = reset_writes outcome refines;
   }
 

@@ -25,7 +25,7 @@ use Rattle.rewind.specs.Asking.{AsksBetween, allowed_since_power}
 use Rattle.rewind.specs.LogEntries.{LogState, instructions_in}
 use Rattle.rewind.specs.PowerAlike.{PowerAlike}
 use Rattle.rewind.specs.Reached.{Reached, happened, happening, reached_by, turned}
-use Rattle.rewind.specs.Standing.{HasReached, IsStopped, MachineAt}
+use Rattle.rewind.specs.Standing.{HasReached, IsStoppedBy, MachineAt}
 use Rattle.rewind.specs.Tape.{TapeState, AreDone, Instructs, IsInTime, IsOutcomeOf, IsTaped, begin, come, come_by, entries_of}
 use Rattle.rewind.specs.Tape.{log_with, log_with_event, mode_faulted, mode_with, played_from, stop_in, tape_after}
 use Rattle.rewind.specs.declared.entry.Entry.{Entry}
@@ -74,17 +74,17 @@ pub record Halted (mode : Mode) : Type 0 where
   pub why : StoppedBy
   pub is : mode ≡ Stopped why
 
-halted_by : (mode : Mode) → IsStopped mode → Halted mode
-halted_by Powered stopped = absurd stopped
-halted_by Running stopped = absurd stopped
-halted_by (Stopped why) stopped = record { why = why; is = refl }
+halted_by : (stop : Stop) (mode : Mode) → IsStoppedBy stop mode → Halted mode
+halted_by stop Powered stopped = absurd stopped
+halted_by stop Running stopped = absurd stopped
+halted_by stop (Stopped why) stopped = record { why = why; is = refl }
 
 halted_at : (m : MachineState) (states : List ChipState) (r : Reached) → HasReached m states r → is_some r.stop ≡ true → Halted m.mode
 halted_at m states r at stops = by r.stop at.machine stops
   where
     by : (stop : Option Stop) → MachineAt stop m states r.position → is_some stop ≡ true → Halted m.mode
     by None represents stopped = cc
-    by (Some stop) told stopped = halted_by m.mode told.stopped
+    by (Some stop) told stopped = halted_by stop m.mode told.stopped
 
 -- the outcome of a machine that was stopped adds nothing to a log, and leaves a mode in which a fault changes nothing
 pub record Rests (outcome : Outcome) (mode : TapeMode) (log : LogState) : Type 0 where

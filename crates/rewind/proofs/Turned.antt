@@ -1,11 +1,11 @@
 -- Where an instruction leads.
-use Rattle.std.proofs.Common.{◌≡◌, ℕ, ◌+◌, ◌≤◌, ◌++◌, [], List, length, sym, ap, subst, ◌∙◌}
+use Rattle.std.proofs.Common.{refl, ◌≡◌, ℕ, ◌+◌, ◌≤◌, ◌++◌, [], List, length, sym, ap, subst, ◌∙◌}
 use Rattle.std.specs.Prelude.{Option, Some, None}
 use Rattle.f8_spec.specs.ChipState.{ChipState}
 use Rattle.f8_spec.specs.Instructions.{decoded}
 use Rattle.f8_spec.specs.declared.instructions.Op.{Op}
 use Rattle.console_spec.specs.BusTrace.{Course}
-use Rattle.console_spec.specs.Run.{Position, Turn, Goes, Unserved, Reserved as ReservedStop, decided, goes_unless}
+use Rattle.console_spec.specs.Run.{Position, Stop, Turn, Goes, Unserved, Reserved as ReservedStop, decided, goes_unless}
 use Rattle.console_spec.specs.Run.{instruction_fault, next, opcode_at, position_after, turn_course}
 use Rattle.console_spec.specs.Services.{Fault}
 use Rattle.f8_machine.specs.Advancing.{Follows}
@@ -23,7 +23,7 @@ use Rattle.rack_run.proofs.Outcomes.{outcome_heard, reserved_course}
 use Rattle.rack_run.specs.Machines.{machine_reads}
 use Rattle.rewind.specs.Asking.{allowed_since_power}
 use Rattle.rewind.specs.Reached.{Reached, hearing, led_by, next_steps, served_steps, turned}
-use Rattle.rewind.specs.Standing.{HasReached, IsStopped, StopsAt}
+use Rattle.rewind.specs.Standing.{HasReached, IsStoppedBy, StopsAt}
 use Rattle.rewind.specs.Tape.{IsOutcomeOf, stop_in, writes_with}
 use Rattle.rewind.proofs.AskingLaws.{steps_ask}
 use Rattle.rewind.proofs.ReachedLaws.{Shows, goes_at, hearing_none, led_chain, led_heard, represents_at, shows_at, shows_heard, stops_at}
@@ -52,8 +52,9 @@ turned_chain r = led_chain (next r.position) (hearing (next_steps r) r) (next_ch
 -- the turn of an outcome that stops the machine
 module _ (m after : MachineState) (olds news : List ChipState) (r : Reached) (at : HasReached m olds r) (running : r.stop ≡ None) where
   -- a machine that is stopped with its registers, counters and clocks kept tells the position
-  kept_at : after.flow ≡ m.flow → after.cpu ≡ m.cpu → after.phi ≡ m.phi → IsStopped after.mode → StopsAt after r.position
-  kept_at flow cpu phi stopped = record {
+  kept_at : (stop : Stop) → after.flow ≡ m.flow → after.cpu ≡ m.cpu → after.phi ≡ m.phi → IsStoppedBy stop after.mode →
+      StopsAt stop after r.position
+  kept_at stop flow cpu phi stopped = record {
     reads = reads_kept m after flow cpu phi ∙ machine_reads m olds r.position (represents_at m olds r at running);
     stopped = stopped;
   }
@@ -64,12 +65,14 @@ module _ (m after : MachineState) (olds news : List ChipState) (r : Reached) (at
       goes_at after news (hearing (next_steps r) r) (next r.position) done.after done.turns heard running done.represents
   turned_by (FaultOutcome fault long steps) faulted heard =
       stops_at after news (hearing (next_steps r) r) (next r.position) (Unserved (fault_of fault)) faulted.turns heard
-      (kept_at (ap (λ (n : MachineState). n.flow) faulted.kept) (ap (λ (n : MachineState). n.cpu) faulted.kept)
-      (ap (λ (n : MachineState). n.phi) faulted.kept) (subst (λ (n : MachineState). IsStopped n.mode) (sym faulted.kept) tt))
+      (kept_at (Unserved (fault_of fault)) (ap (λ (n : MachineState). n.flow) faulted.kept) (ap (λ (n : MachineState). n.cpu) faulted.kept)
+      (ap (λ (n : MachineState). n.phi) faulted.kept)
+      (subst (λ (n : MachineState). IsStoppedBy (Unserved (fault_of fault)) n.mode) (sym faulted.kept) refl))
   turned_by (Reserved address code) halted heard =
       stops_at after news (hearing (next_steps r) r) (next r.position) (ReservedStop address code) halted.turns heard
-      (kept_at (ap (λ (n : MachineState). n.flow) halted.kept) (ap (λ (n : MachineState). n.cpu) halted.kept)
-      (ap (λ (n : MachineState). n.phi) halted.kept) (subst (λ (n : MachineState). IsStopped n.mode) (sym halted.kept) tt))
+      (kept_at (ReservedStop address code) (ap (λ (n : MachineState). n.flow) halted.kept) (ap (λ (n : MachineState). n.cpu) halted.kept)
+      (ap (λ (n : MachineState). n.phi) halted.kept)
+      (subst (λ (n : MachineState). IsStoppedBy (ReservedStop address code) n.mode) (sym halted.kept) refl))
 
   module _ (outcome : Outcome) (refines : Refines outcome m after news r.position) (follows : Follows outcome m after olds news)
       (bytes : HaveBytes (steps_in outcome)) where

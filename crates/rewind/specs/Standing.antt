@@ -2,11 +2,12 @@
 use Rattle.std.specs.Prelude.{ℕ, ◌≡◌, ◌+◌, List, [], ◌∷◌, map, Option, Some, None}
 use Rattle.f8_spec.specs.ChipState.{ChipState, HeardStep, told_step}
 use Rattle.f8_spec.specs.BusArbitration.{seat_of}
-use Rattle.console_spec.specs.Run.{Position, Stop}
+use Rattle.console_spec.specs.Run.{Position, Stop, Unserved, Reserved}
 use Rattle.cpu3850.specs.OwnWrites.{LeaveOwnPorts}
 use Rattle.data_bus.specs.KnownAgreement.{no_marks}
 use Rattle.data_bus.specs.Racks.{views}
 use Rattle.data_bus.specs.declared.index.Index.{Index}
+use Rattle.f8_machine.specs.Faults.{fault_of}
 use Rattle.f8_machine.specs.Questions.{codes_of, followed_all}
 use Rattle.f8_machine.specs.MachineState.{MachineState}
 use Rattle.f8_machine.specs.Refinement.{Represents, AreWhole}
@@ -14,6 +15,8 @@ use Rattle.f8_machine.specs.Rounds.{heard_in}
 use Rattle.f8_machine.specs.declared.heard.Heard.{Heard}
 use Rattle.f8_machine.specs.declared.outcome.Mode.{Mode}
 use Rattle.f8_machine.specs.declared.outcome.Mode.TheVariants.{Powered, Running, Stopped}
+use Rattle.f8_machine.specs.declared.outcome.StoppedBy.{StoppedBy}
+use Rattle.f8_machine.specs.declared.outcome.StoppedBy.TheVariants.{Fault as ByFault, Reserved as ByOpcode}
 use Rattle.rack_run.specs.Machines.{machine_readout}
 use Rattle.rack_run.specs.Turns.{readout_of}
 use Rattle.rewind.specs.Reached.{Reached}
@@ -28,20 +31,25 @@ pub record HasFollowed (steps : List Heard) (index : Index) : Type 0 where
   pub unknown : first.marks ≡ no_marks
   pub is : index ≡ followed_all (codes_of steps) first
 
-abbrev pub IsStopped : Mode → Type 0
-IsStopped Powered = ⊥
-IsStopped Running = ⊥
-IsStopped (Stopped why) = Unit {0}
+-- what a machine is stopped by, as it is told of a run
+abbrev pub stop_by : StoppedBy → Stop
+stop_by (ByFault fault long) = Unserved (fault_of fault)
+stop_by (ByOpcode at code) = Reserved at code
 
--- a machine is stopped, and tells the state of a position
-pub record StopsAt (m : MachineState) (x : Position) : Type 0 where
+abbrev pub IsStoppedBy : Stop → Mode → Type 0
+IsStoppedBy stop Powered = ⊥
+IsStoppedBy stop Running = ⊥
+IsStoppedBy stop (Stopped why) = stop_by why ≡ stop
+
+-- a machine is stopped by this, and tells the state of a position
+pub record StopsAt (stop : Stop) (m : MachineState) (x : Position) : Type 0 where
   pub reads : machine_readout m ≡ readout_of x.flat.state
-  pub stopped : IsStopped m.mode
+  pub stopped : IsStoppedBy stop m.mode
 
 -- The machine represents the position as long as nothing stopped it, and then it tells the state before.
 abbrev pub MachineAt : Option Stop → MachineState → List ChipState → Position → Type 0
 MachineAt None m states x = Represents m states x
-MachineAt (Some stop) m states x = StopsAt m x
+MachineAt (Some stop) m states x = StopsAt stop m x
 
 -- every chip has 256 bytes for each of its pages, and none has the port 0 or 1
 pub record IsReady (states : List ChipState) : Type 0 where

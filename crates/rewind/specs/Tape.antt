@@ -56,10 +56,17 @@ writes_with (Done wrote steps) writes = with_write wrote writes
 writes_with (Fault fault long steps) writes = writes
 writes_with (Reserved at code) writes = writes
 
--- an outcome is that of power-on and reset: its served bus steps, what it stops by, and no write
+-- an outcome is of a long step that wasn't served
+abbrev pub is_long_fault : Outcome → Bool
+is_long_fault (Done wrote steps) = false
+is_long_fault (Fault fault long steps) = long
+is_long_fault (Reserved at code) = false
+
+-- an outcome is that of power-on and reset: its served bus steps, what it stops by, which can only be the short fetch, and no write
 pub record IsStartOf (outcome : Outcome) (r : Reached) : Type 0 where
   pub steps : steps_in outcome ≡ r.heard
   pub stop : stop_in outcome ≡ r.stop
+  pub short : is_long_fault outcome ≡ false
   pub wrote : writes_with outcome [] ≡ r.position.flat.state.writes
 
 -- an outcome is that of the next instruction: its served bus steps, what it stops by, and its write

@@ -84,7 +84,8 @@ impl Model for Tape {
 }
 
 impl Tape {
-    ghost use Rattle.std.specs.Prelude.{◌≡◌, ◌≤◌, ◌<◌, ◌+◌, ◌∷◌, ◌++◌, [], List, length, map, sum_by, IfOk, IfSome, IfNone, OnErr, slice_get};
+    ghost use Rattle.std.specs.Prelude.{◌≡◌, ◌≤◌, ◌<◌, ◌+◌, ◌∷◌, ◌++◌, [], List, length, map, sum_by, IfOk, IfSome};
+    ghost use Rattle.std.specs.Prelude.{IfNone, OnErr, slice_get};
     ghost use Rattle.f8_spec.specs.BusArbitration.{seat_of};
     ghost use Rattle.f8_spec.specs.ChipState.{ChipState, ChipView};
     ghost use Rattle.cpu3850.specs.OwnWrites.{LeaveOwnPorts};
