@@ -1,5 +1,6 @@
 -- Entries in the order of their addresses: one more at the end keeps it, and those at one address stand together, where one searches.
-use Rattle.std.proofs.Common.{◌≡◌, ◌<◌, ◌≤◌, ◌+◌, ◌-◌, ℕ, zero, suc, Bool, true, false, cond, ltb, eqb, ◌||◌, List, [], ◌∷◌, ◌++◌, length, map, take}
+use Rattle.std.proofs.Common.{◌≡◌, ◌<◌, ◌≤◌, ◌+◌, ◌-◌, ℕ, zero, suc, Bool, true, false, cond, ltb, eqb, ◌||◌, List, [], ◌∷◌, ◌++◌, length}
+use Rattle.std.proofs.Common.{map, take}
 use Rattle.std.proofs.Common.{drop, get_or, refl, ap, sym, ◌∙◌, one-add, take_all, length-drop, arith}
 use Rattle.std.specs.List.{AllByRecursion, AllWithin, list_any, prefix_len}
 use Rattle.std.specs.List.Sorted.{IsNonDecreasingBy, IsPartitionPoint, IsPartitionedBy}

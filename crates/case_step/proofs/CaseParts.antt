@@ -17,7 +17,8 @@ use Rattle.abs_step.proofs.Members.{SomeOf, all_map}
 use Rattle.value_sets.specs.ValueSets.{has, only, single}
 use Rattle.case_step.specs.Entries.{EntryView, Allows, CopyAllowed, HasValue, facts_of, register_values}
 use Rattle.case_step.specs.Cases.{at_entry, plain_case, with_accumulator, with_isar, with_status, with_register, with_data_counter}
-use Rattle.case_step.specs.Cases.{byte_spread, flag_spread, each_case, byte_cases, same_register_byte, same_accumulator, register_cases, part_cases}
+use Rattle.case_step.specs.Cases.{byte_spread, flag_spread, each_case, byte_cases, same_register_byte, same_accumulator, register_cases}
+use Rattle.case_step.specs.Cases.{part_cases}
 use Rattle.case_step.specs.Cases.{pointed_register}
 use Rattle.case_step.specs.declared.part.Part.{Part}
 use Rattle.case_step.specs.declared.part.Part.TheVariants.{Accumulator, Isar, Sign, Carry, Zero, Overflow, Icb}

@@ -29,7 +29,8 @@ use Rattle.value_sets.specs.ValueSets.{has}
 use Rattle.case_step.specs.Entries.{EntryView, Allows, CopyAllowed, register_values}
 use Rattle.case_step.specs.Effects.{writes_accumulator, writes_flags, writes_isar, copied}
 use Rattle.case_step.specs.Cases.{at_entry}
-use Rattle.case_step.specs.Results.{is_register_written, copied_register, register_after, result, same_after, same_kept, same_or, status_after}
+use Rattle.case_step.specs.Results.{is_register_written, copied_register, register_after, result, same_after, same_kept, same_or}
+use Rattle.case_step.specs.Results.{status_after}
 use Rattle.case_step.proofs.CounterFrames.{copy_stands, d0_has, d1_has}
 use Rattle.case_step.proofs.Frames.{accumulator_frame, copied_frame, flags_frame, flags_of, isar_frame, pointed_is, register_frame}
 use Rattle.case_step.proofs.Frames.{both_clear}

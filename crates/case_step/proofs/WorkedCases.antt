@@ -1,10 +1,10 @@
 -- Cases of entries, what they lead to, and what is found of small lists of entries, worked out by hand and computed from the definitions.
 use Rattle.std.proofs.Common.{◌≡◌, ℕ, ◌-◌, Bool, true, false, List, [], ◌∷◌, ◌++◌, length, map, replicate, set, refl}
 use Rattle.std.specs.Prelude.{flat_map, Option, Some, None}
-use Rattle.std.specs.List.{list_all}
+use Rattle.std.specs.List.{list_all, range_with_len}
 use Rattle.f8_spec.specs.Instructions.{decoded}
 use Rattle.f8_spec.specs.declared.instructions.Op.{Op}
-use Rattle.f8_spec.specs.declared.instructions.Op.TheVariants.{Inc, LrPK, Xdc, Ds, LrAR, As}
+use Rattle.f8_spec.specs.declared.instructions.Op.TheVariants.{Inc, LrPK, Pk, Xdc, Ds, LrAR, LrRA, As, Ci}
 use Rattle.chip_face.specs.declared.specification.ChipSpec.TheVariants.{Psu}
 use Rattle.abs_domain.specs.AbstractState.{AbstractState}
 use Rattle.abs_domain.specs.declared.points.Point.{Point}
@@ -15,7 +15,7 @@ use Rattle.abs_step.specs.KnownResults.{known_effect, register_writes}
 use Rattle.abs_step.specs.MapView.{MapView, chips_view}
 use Rattle.abs_step.specs.Successors.{start_point, start_state, successors}
 use Rattle.abs_step.specs.Safety.{unsafe_reason, reasons, is_fault_free}
-use Rattle.case_step.specs.Entries.{EntryView, start_entry}
+use Rattle.case_step.specs.Entries.{EntryView, register_values, start_entry}
 use Rattle.case_step.specs.Effects.{parts_read, writes_accumulator, writes_flags, writes_isar, registers_written, copied}
 use Rattle.case_step.specs.Cases.{plain_case, with_accumulator, with_register, spread_cases, cases_of}
 use Rattle.case_step.specs.Results.{result, is_covered_by}
@@ -72,6 +72,18 @@ cases_of_doubled = refl
 all_doubled : list_all is_doubled (cases_of (As 3) doubled) ≡ true
 unfolding cases_of spread_cases parts_read
 all_doubled = refl
+
+-- 16 values and any byte make the most cases that there may be; with 17 the bytes of a list alone are tried
+abbrev of_values : ℕ → EntryView
+of_values count = record start_entry { accumulator = Some (range_with_len 0 count) }
+
+most_cases : length (cases_of (As 3) (of_values 16)) ≡ 4096
+unfolding cases_of spread_cases parts_read
+most_cases = refl
+
+one_value_more : length (cases_of (As 3) (of_values 17)) ≡ 17
+unfolding cases_of spread_cases parts_read
+one_value_more = refl
 
 -- and none where their values are apart
 abbrev apart : EntryView
@@ -154,6 +166,36 @@ unfolding cases_of spread_cases parts_read successors chips_view known_effect re
     result writes_accumulator writes_flags writes_isar registers_written copied
 after_return = refl
 
+-- both callers are called, and each call returns behind it
+after_call : map {B = ℕ × Option ℕ} (λ e. (e.at, e.ret)) (results_in Pk (program (0x0C ∷ [])) callers)
+    ≡ (0x0110, Some 1) ∷ (0x0120, Some 1) ∷ []
+unfolding cases_of spread_cases parts_read successors chips_view known_effect register_writes
+    result writes_accumulator writes_flags writes_isar registers_written copied
+after_call = refl
+
+-- LR S,A writes the register of which ISAR is the number: one of two, and the other one keeps its byte
+abbrev pointed : EntryView
+pointed = record few {
+  accumulator = Some (7 ∷ []);
+  isar = 3 ∷ 5 ∷ [];
+  scratchpad = set (set (replicate 64 None) 3 (Some (1 ∷ []))) 5 (Some (2 ∷ []));
+}
+
+after_store : map {B = List ℕ × (Option (List ℕ) × Option (List ℕ))} (λ e. (e.isar, (register_values 3 e, register_values 5 e)))
+    (results_in (LrRA 12) (program (0x5C ∷ [])) pointed)
+    ≡ (3 ∷ [], (Some (7 ∷ []), Some (2 ∷ []))) ∷ (5 ∷ [], (Some (1 ∷ []), Some (7 ∷ []))) ∷ []
+unfolding cases_of spread_cases parts_read successors chips_view known_effect register_writes
+    result writes_accumulator writes_flags writes_isar registers_written copied
+after_store = refl
+
+-- behind CI 9 the value is known where it was compared, with the flag that says so
+after_compare : map {B = Option (List ℕ) × Option Bool} (λ e. (e.accumulator, e.status.zero))
+    (results_in Ci (program (0x25 ∷ 0x09 ∷ [])) (record few { accumulator = Some (8 ∷ 9 ∷ []) }))
+    ≡ (Some (8 ∷ []), Some false) ∷ (Some (9 ∷ []), Some true) ∷ []
+unfolding cases_of spread_cases parts_read successors chips_view known_effect register_writes
+    result writes_accumulator writes_flags writes_isar registers_written copied
+after_compare = refl
+
 -- ---- covers
 
 -- an entry that says that register 3 holds the accumulator's byte covers one that gives both the same one value, and not one with more
@@ -203,6 +245,15 @@ target_is_reserved : judged strayed (start_entry ∷ cleared ∷ record cleared 
 unfolding judged decoded chips_view cases_of spread_cases parts_read unsafe_reason reasons is_fault_free successors known_effect
     register_writes result writes_accumulator writes_flags writes_isar registers_written copied is_covered_by
 target_is_reserved = refl
+
+-- a branch to itself at 0, and apart from it INC at 2 of 3 or 5, of which the entry behind it has lost one
+value_is_taken : judged (program (0x90 ∷ 0xFF ∷ 0x1F ∷ []))
+    (start_entry ∷ record few { at = 2 }
+    ∷ record few { at = 3; accumulator = Some (4 ∷ []); status = record start_entry.status { sign = Some true } } ∷ [])
+    ≡ NotClosed (Some 1) (point 3)
+unfolding judged decoded chips_view cases_of spread_cases parts_read unsafe_reason reasons is_fault_free successors known_effect
+    register_writes result writes_accumulator writes_flags writes_isar registers_written copied is_covered_by
+value_is_taken = refl
 
 -- no chip holds the start
 nothing_held : judged (chips_view []) (start_entry ∷ []) ≡ Unsafe 0 CodeNotHeldOnce

@@ -9,9 +9,12 @@ ghost use Rattle.abs_domain.specs.declared.values.Bit.TheVariants.{Any, Known};
 ghost use Rattle.value_sets.specs.SetViews.{byte_values, word_values};
 ghost use Rattle.value_sets.specs.ValueSets.{single as spelled_single};
 ghost use Rattle.case_step.specs.Cases.{byte_cases, byte_spread as spelled_spread, cases_at, each_case, flag_spread};
-ghost use Rattle.case_step.specs.Cases.{part_cases as spelled_part, plain_case as spelled_plain, register_cases, spread_cases as spelled_spread_cases};
-ghost use Rattle.case_step.specs.Cases.{same_accumulator as spelled_same_accumulator, same_register_byte as spelled_same_byte};
-ghost use Rattle.case_step.specs.Cases.{with_accumulator as spelled_accumulator, with_data_counter as spelled_data_counter};
+ghost use Rattle.case_step.specs.Cases.{part_cases as spelled_part, plain_case as spelled_plain, register_cases};
+ghost use Rattle.case_step.specs.Cases.{spread_cases as spelled_spread_cases};
+ghost use Rattle.case_step.specs.Cases.{same_accumulator as spelled_same_accumulator};
+ghost use Rattle.case_step.specs.Cases.{same_register_byte as spelled_same_byte};
+ghost use Rattle.case_step.specs.Cases.{with_accumulator as spelled_accumulator};
+ghost use Rattle.case_step.specs.Cases.{with_data_counter as spelled_data_counter};
 ghost use Rattle.case_step.specs.Cases.{with_isar as spelled_isar, with_register as spelled_register, with_status};
 ghost use Rattle.case_step.specs.EntryViews.{entry_view, states_of};
 ghost use Rattle.case_step.specs.declared.part.Part.TheVariants.{Accumulator, Register};
@@ -155,7 +158,8 @@ fn with_isar(number: u8, mut case: Abs) -> Abs
 fn with_flag(place: usize, flag: bool, mut case: Abs) -> Abs
     requires { place < 5 }
     ensures { state_of result
-        ≡ with_status (status_of (map (λ k. if k == place then Known flag else slice_index_or case.w k Any) (range_with_len 0 5)))
+        ≡ with_status (status_of (map (λ k. if k == place then Known flag else slice_index_or case.w k Any)
+        (range_with_len 0 5)))
         (state_of case) }
 {
     case.w[place] = Bit::Known(flag);
@@ -257,7 +261,8 @@ fn add_flag_cases(
     requires { place < 5 }
     ensures { OnOk result (states_of out.new.items ≡ states_of out.old.items
         ++ each_case (λ flag. with_status (status_of
-        (map (λ k. if k == place then Known flag else slice_index_or case.now.w k Any) (range_with_len 0 5))) (state_of case.now))
+        (map (λ k. if k == place then Known flag else slice_index_or case.now.w k Any) (range_with_len 0 5)))
+        (state_of case.now))
         (state_of case.now) (flag_spread (known_bit (slice_index_or entry.now.w place Any)))) }
 {
     if entry.w[place] != Bit::Any {
@@ -272,7 +277,8 @@ fn add_flag_cases(
 /// Adds a case for each address that D0 may have.
 fn add_data_cases(out: &mut Vec<Abs>, entry: &Entry, case: &Abs) -> Result<(), AllocError>
     ensures { OnOk result (states_of out.new.items ≡ states_of out.old.items
-        ++ each_case (λ at. spelled_data_counter at (state_of case.now)) (state_of case.now) (word_values entry.now.d0)) }
+        ++ each_case (λ at. spelled_data_counter at (state_of case.now)) (state_of case.now)
+        (word_values entry.now.d0)) }
 {
     let WordSet::Among(words) = &entry.d0 else {
         out.push(*case)?;

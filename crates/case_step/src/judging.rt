@@ -3,7 +3,8 @@ ghost use Rattle.std.specs.Prelude.{◌≡◌, IfOk, None, replicate};
 ghost use Rattle.std.specs.List.{list_all};
 ghost use Rattle.abs_domain.specs.StateView.{state_of};
 ghost use Rattle.abs_step.specs.MapView.{view_of};
-ghost use Rattle.case_step.specs.CaseLists.{op_of, cases_failure, case_failure, first_open as spelled_open, is_case_fault_free, judged};
+ghost use Rattle.case_step.specs.CaseLists.{op_of, cases_failure, case_failure, first_open as spelled_open};
+ghost use Rattle.case_step.specs.CaseLists.{is_case_fault_free, judged};
 ghost use Rattle.case_step.specs.EntryViews.{entry_view, states_of};
 
 use super::answer::CasesAnswer;

@@ -13,11 +13,11 @@ ghost use Rattle.case_step.specs.EntryViews.{entry_view};
 ghost use Rattle.case_step.specs.Results.{is_covered, is_covered_by, is_same_below, result as spelled_result};
 
 use super::entry::Entry;
-use super::outcome::Outcome;
+use super::outcome::{Outcome, are_all_among};
 use abs_domain::Bit;
 use std::alloc::{AllocError, Global};
 use std::marker::Model;
-use value_sets::{ByteSet, WordSet, is_among};
+use value_sets::{ByteSet, WordSet};
 
 /// A list of entries in the order of their addresses, of which several may stand at one (this project's own). Contracts see the list.
 #[derive(Debug, Drop)]
@@ -104,13 +104,6 @@ fn is_at_start(upper: &Entry) -> bool
     upper.at == 0 && upper.ret.is_none()
 }
 
-/// Every number of a register is in a list.
-fn has_every_number(numbers: &[u8]) -> bool
-    ensures { result ≡ are_among numbers.now start_entry.isar }
-{
-    (0..64).all(|number| is_among(numbers, number))
-}
-
 /// Each bit of the status word may be clear.
 fn may_be_clear(bits: &[Bit; 5]) -> bool
     ensures { result ≡ is_status_below start_entry.status (status_of bits.now) }
@@ -125,7 +118,7 @@ fn are_registers_free(upper: &Entry) -> bool
         && is_status_below start_entry.status (status_of upper.now.w)) }
 {
     ByteSet::Any.is_within(&upper.a)
-        && has_every_number(upper.isar.as_slice())
+        && are_all_among(upper.isar.as_slice())
         && may_be_clear(&upper.w)
 }
 

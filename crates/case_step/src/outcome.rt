@@ -19,7 +19,8 @@ ghost use Rattle.case_step.specs.EntryViews.{entry_view};
 ghost use Rattle.case_step.specs.Results.{result as spelled_result, is_covered_by as spelled_cover, values_after, kept};
 ghost use Rattle.case_step.specs.Results.{d0_after, d1_after, isar_after, register_after, status_after};
 ghost use Rattle.case_step.specs.Results.{is_register, is_register_written, is_same_below};
-ghost use Rattle.case_step.specs.Results.{copied_register as spelled_copy, same_after as spelled_same, same_kept as spelled_kept};
+ghost use Rattle.case_step.specs.Results.{copied_register as spelled_copy, same_after as spelled_same};
+ghost use Rattle.case_step.specs.Results.{same_kept as spelled_kept};
 
 use super::entry::Entry;
 use super::pointed::{pointed_register, register_in};
@@ -106,13 +107,14 @@ fn are_flags_below(lower: &[Bit; 5], upper: &[Bit; 5]) -> bool
 
 /// The status word after an instruction says no less than the upper one.
 fn is_status_within(written: bool, after: &[Bit; 5], before: &[Bit; 5], upper: &[Bit; 5]) -> bool
-    ensures { result ≡ is_status_below (status_after written (status_of after.now) (status_of before.now)) (status_of upper.now) }
+    ensures { result ≡ is_status_below (status_after written (status_of after.now) (status_of before.now))
+        (status_of upper.now) }
 {
     are_flags_below(if written { after } else { before }, upper) && after[4].below(upper[4])
 }
 
 /// Each number below 64 is in a list.
-fn are_all_among(numbers: &[u8]) -> bool
+pub fn are_all_among(numbers: &[u8]) -> bool
     ensures { result ≡ spelled_among numbers.now (range_with_len 0 64) }
 {
     (0..64).all(|number| is_among(numbers, number))
@@ -120,7 +122,8 @@ fn are_all_among(numbers: &[u8]) -> bool
 
 /// A register is one of those written, or may be.
 fn is_among_written(written: &Written, case: &Abs, number: u8) -> bool
-    ensures { result ≡ list_any (λ part. is_register (spelled_register part (state_of case.now)) number) written.now.items }
+    ensures { result
+        ≡ list_any (λ part. is_register (spelled_register part (state_of case.now)) number) written.now.items }
 {
     written.iter().any(|part| register_in(*part, case).is_none_or(|register| register == number))
 }
@@ -129,8 +132,8 @@ impl<'a> Outcome<'a> {
     /// The entry covers the result: it is at the same address and return, and allows all that the result does.
     #[tactic(auto, unfolding(crate::specs::Results::result, crate::specs::Results::is_covered_by))]
     pub fn is_covered_by(&self, upper: &Entry) -> bool
-        ensures { result ≡ spelled_cover (spelled_result self.now.op (entry_view self.now.entry.now) (state_of self.now.before.now)
-            (invariant_at self.now.point self.now.after.now)) (entry_view upper.now) }
+        ensures { result ≡ spelled_cover (spelled_result self.now.op (entry_view self.now.entry.now)
+            (state_of self.now.before.now) (invariant_at self.now.point self.now.after.now)) (entry_view upper.now) }
     {
         self.point.at == upper.at
             && self.point.ret == upper.ret
@@ -160,7 +163,8 @@ impl<'a> Outcome<'a> {
     /// The numbers that ISAR may have are.
     fn is_isar_covered(&self, upper: &Entry) -> bool
         ensures { result ≡ spelled_among upper.now.isar.items (isar_after (spelled_isar self.now.op)
-            (spelled_pointed (state_of self.now.after.now)) (spelled_pointed (state_of self.now.before.now)) self.now.entry.now.isar.items) }
+            (spelled_pointed (state_of self.now.after.now)) (spelled_pointed (state_of self.now.before.now))
+            self.now.entry.now.isar.items) }
     {
         let written = writes_isar(self.op);
         let numbers = upper.isar.as_slice();
@@ -182,10 +186,10 @@ impl<'a> Outcome<'a> {
 
     /// The data counters are, and the facts about them.
     fn are_counters_covered(&self, upper: &Entry) -> bool
-        ensures { result ≡ (is_within (d0_after (spelled_row self.now.op) (entry_view self.now.entry.now) (state_of self.now.before.now)
-            (state_of self.now.after.now)) (word_values upper.now.d0)
-            && is_within (d1_after (spelled_row self.now.op) (entry_view self.now.entry.now) (state_of self.now.before.now))
-            (word_values upper.now.d1)
+        ensures { result ≡ (is_within (d0_after (spelled_row self.now.op) (entry_view self.now.entry.now)
+            (state_of self.now.before.now) (state_of self.now.after.now)) (word_values upper.now.d0)
+            && is_within (d1_after (spelled_row self.now.op) (entry_view self.now.entry.now)
+            (state_of self.now.before.now)) (word_values upper.now.d1)
             && is_within (values_after (spelled_data (spelled_row self.now.op)) (known_word self.now.after.now.c)
             (known_word self.now.before.now.c) (word_values self.now.entry.now.c)) (word_values upper.now.c)
             && is_fact_below self.now.after.now.s0 upper.now.s0 && is_fact_below self.now.after.now.s1 upper.now.s1
@@ -202,8 +206,8 @@ impl<'a> Outcome<'a> {
 
     /// D0 is, which an exchange has from D1.
     fn is_d0_covered(&self, upper: &Entry) -> bool
-        ensures { result ≡ is_within (d0_after (spelled_row self.now.op) (entry_view self.now.entry.now) (state_of self.now.before.now)
-            (state_of self.now.after.now)) (word_values upper.now.d0) }
+        ensures { result ≡ is_within (d0_after (spelled_row self.now.op) (entry_view self.now.entry.now)
+            (state_of self.now.before.now) (state_of self.now.after.now)) (word_values upper.now.d0) }
     {
         let (before, entry) = (self.before, self.entry);
         match row_of(self.op) {
@@ -220,8 +224,8 @@ impl<'a> Outcome<'a> {
 
     /// D1 is, which an exchange has from D0.
     fn is_d1_covered(&self, upper: &Entry) -> bool
-        ensures { result ≡ is_within (d1_after (spelled_row self.now.op) (entry_view self.now.entry.now) (state_of self.now.before.now))
-            (word_values upper.now.d1) }
+        ensures { result ≡ is_within (d1_after (spelled_row self.now.op) (entry_view self.now.entry.now)
+            (state_of self.now.before.now)) (word_values upper.now.d1) }
     {
         let (before, entry) = (self.before, self.entry);
         match row_of(self.op) {
@@ -232,8 +236,9 @@ impl<'a> Outcome<'a> {
 
     /// The DC0 of every 3851 is.
     fn is_c_covered(&self, upper: &Entry) -> bool
-        ensures { result ≡ is_within (values_after (spelled_data (spelled_row self.now.op)) (known_word self.now.after.now.c)
-            (known_word self.now.before.now.c) (word_values self.now.entry.now.c)) (word_values upper.now.c) }
+        ensures { result ≡ is_within (values_after (spelled_data (spelled_row self.now.op))
+            (known_word self.now.after.now.c) (known_word self.now.before.now.c) (word_values self.now.entry.now.c))
+            (word_values upper.now.c) }
     {
         let written = writes_data(row_of(self.op));
         is_word_within(
@@ -247,7 +252,8 @@ impl<'a> Outcome<'a> {
 
     /// A register that held the accumulator's byte need no longer: one of the two is written, or may be.
     fn is_lost(&self, number: u8) -> bool
-        ensures { result ≡ (spelled_accumulator self.now.op || is_register_written self.now.op (state_of self.now.before.now) number) }
+        ensures { result ≡ (spelled_accumulator self.now.op
+            || is_register_written self.now.op (state_of self.now.before.now) number) }
     {
         writes_accumulator(self.op)
             || is_among_written(&registers_written(self.op), self.before, number)
@@ -284,8 +290,8 @@ impl<'a> Outcome<'a> {
 
     /// The register that the upper entry names holds the accumulator's byte.
     fn is_same_covered(&self, upper: &Entry) -> bool
-        ensures { result ≡ is_same_below (spelled_result self.now.op (entry_view self.now.entry.now) (state_of self.now.before.now)
-            (invariant_at self.now.point self.now.after.now)) upper.now.same }
+        ensures { result ≡ is_same_below (spelled_result self.now.op (entry_view self.now.entry.now)
+            (state_of self.now.before.now) (invariant_at self.now.point self.now.after.now)) upper.now.same }
     {
         match upper.same {
             None => true,
@@ -296,9 +302,10 @@ impl<'a> Outcome<'a> {
     /// The accumulator and a register have one value each, and it is the same.
     fn holds_accumulator(&self, number: u8) -> bool
         requires { number < 64 }
-        ensures { result ≡ agree (single (values_after (spelled_accumulator self.now.op) (known_byte self.now.after.now.a)
-            (known_byte self.now.before.now.a) (byte_values self.now.entry.now.a))) (single (register_after self.now.op
-            (entry_view self.now.entry.now) (state_of self.now.before.now) (state_of self.now.after.now) number)) }
+        ensures { result ≡ agree (single (values_after (spelled_accumulator self.now.op)
+            (known_byte self.now.after.now.a) (known_byte self.now.before.now.a) (byte_values self.now.entry.now.a)))
+            (single (register_after self.now.op (entry_view self.now.entry.now) (state_of self.now.before.now)
+            (state_of self.now.after.now) number)) }
     {
         let written = writes_accumulator(self.op);
         match single_after(written, self.after.a, self.before.a, &self.entry.a) {
@@ -310,8 +317,8 @@ impl<'a> Outcome<'a> {
     /// The one value of a register after the instruction.
     fn single_in(&self, number: u8) -> Option<u8>
         requires { number < 64 }
-        ensures { result ≡ single (register_after self.now.op (entry_view self.now.entry.now) (state_of self.now.before.now)
-            (state_of self.now.after.now) number) }
+        ensures { result ≡ single (register_after self.now.op (entry_view self.now.entry.now)
+            (state_of self.now.before.now) (state_of self.now.after.now) number) }
     {
         let place = usize::from(number);
         let values = &self.entry.regs[..];
@@ -326,8 +333,9 @@ impl<'a> Outcome<'a> {
 
     /// The values of each register are.
     fn is_scratchpad_covered(&self, upper: &Entry) -> bool
-        ensures { result ≡ is_each_within (map (register_after self.now.op (entry_view self.now.entry.now) (state_of self.now.before.now)
-            (state_of self.now.after.now)) (range_with_len 0 64)) (map byte_values upper.now.regs) }
+        ensures { result ≡ is_each_within (map (register_after self.now.op (entry_view self.now.entry.now)
+            (state_of self.now.before.now) (state_of self.now.after.now))
+            (range_with_len 0 64)) (map byte_values upper.now.regs) }
     {
         let written = registers_written(self.op);
         for number in 0..64 {
@@ -342,8 +350,9 @@ impl<'a> Outcome<'a> {
     fn is_register_covered(&self, written: &Written, upper: &Entry, number: u8) -> bool
         requires within { number < 64 }
         requires all { written.now.items ≡ spelled_registers self.now.op }
-        ensures { result ≡ is_within (register_after self.now.op (entry_view self.now.entry.now) (state_of self.now.before.now)
-            (state_of self.now.after.now) number) (register_values number (entry_view upper.now)) }
+        ensures { result ≡ is_within (register_after self.now.op (entry_view self.now.entry.now)
+            (state_of self.now.before.now) (state_of self.now.after.now) number)
+            (register_values number (entry_view upper.now)) }
     {
         let place = usize::from(number);
         let (values, allowed) = (&self.entry.regs[..], &upper.regs[..]);

@@ -1,6 +1,7 @@
 // What an instruction reads, part by part.
 ghost use Rattle.std.specs.Prelude.{◌≡◌, ◌≤◌, ◌<◌, ◌+◌, ◌++◌, ◌∷◌, [], length};
-ghost use Rattle.case_step.specs.Effects.{chosen_flags as spelled_chosen, field_reads as spelled_field, named as spelled_named};
+ghost use Rattle.case_step.specs.Effects.{chosen_flags as spelled_chosen, field_reads as spelled_field};
+ghost use Rattle.case_step.specs.Effects.{named as spelled_named};
 ghost use Rattle.case_step.specs.Effects.{pair as spelled_pair, parts_read as spelled_reads, pointer};
 ghost use Rattle.case_step.specs.declared.part.Part.TheVariants.{Accumulator};
 

@@ -1,8 +1,10 @@
 // What an instruction writes, part by part.
 ghost use Rattle.std.specs.Prelude.{◌≡◌, ◌<◌, ◌+◌, ◌∷◌, []};
 ghost use Rattle.case_step.specs.Effects.{writes_accumulator as spelled_accumulator, writes_flags as spelled_flags};
-ghost use Rattle.case_step.specs.Effects.{writes_isar as spelled_isar, writes_data as spelled_data, steps_isar as spelled_steps};
-ghost use Rattle.case_step.specs.Effects.{registers_written as spelled_registers, copied as spelled_copied, pair as spelled_pair};
+ghost use Rattle.case_step.specs.Effects.{writes_isar as spelled_isar, writes_data as spelled_data};
+ghost use Rattle.case_step.specs.Effects.{steps_isar as spelled_steps};
+ghost use Rattle.case_step.specs.Effects.{registers_written as spelled_registers, copied as spelled_copied};
+ghost use Rattle.case_step.specs.Effects.{pair as spelled_pair};
 
 use super::part::Part;
 use super::reads::named;

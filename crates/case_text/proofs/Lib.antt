@@ -18,5 +18,6 @@ mod InsertedKeys
 mod LineOrder
 mod SortedEntries
 pub mod WrittenAgain
+pub mod WorkedTexts
 mod LinePut
 mod LineSets

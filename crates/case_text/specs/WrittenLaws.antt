@@ -5,7 +5,7 @@ use Rattle.case_step.specs.Entries.{EntryView}
 use Rattle.case_text.specs.CasesText.{cases_of}
 use Rattle.case_text.specs.WrittenCases.{IsInForm, written}
 
--- a text is read as a list of some entries, in its order and each once
+-- a text is read as a list of some entries, in its order, and of no others
 pub record IsReadAs (text : List ℕ) (entries : List EntryView) : Type 0 where
   pub list : List EntryView
   pub read : cases_of text ≡ Ok list

@@ -1,7 +1,8 @@
 // The numbers of a word: bytes as pairs of hexadecimal digits, words as fours of them, and the numbers of registers as pairs of octal digits.
 ghost use Rattle.std.specs.Prelude.{◌≡◌, ◌<◌, ◌≤◌, IfOk, IfSome, MatchOption, length, option_map};
 ghost use Rattle.std.specs.List.{All};
-ghost use Rattle.case_text.specs.EntryWords.{bytes_of as spelled_bytes, in_pairs, octal_of as spelled_octal, octals_of as spelled_octals};
+ghost use Rattle.case_text.specs.EntryWords.{bytes_of as spelled_bytes, in_pairs, octal_of as spelled_octal};
+ghost use Rattle.case_text.specs.EntryWords.{octals_of as spelled_octals};
 
 use arrayvec::ArrayVec;
 use case_step::IsarSet;

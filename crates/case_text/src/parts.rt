@@ -3,8 +3,10 @@ ghost use Rattle.std.specs.Prelude.{◌≡◌, ◌<◌, IfSome, option_map};
 ghost use Rattle.std.specs.Option.{ForSome};
 ghost use Rattle.abs_domain.specs.KnownParts.{known_bit};
 ghost use Rattle.abs_domain.specs.StateView.{status_of as status_view};
-ghost use Rattle.case_text.specs.EntryWords.{fact_of as spelled_fact, facts_of as spelled_facts, flag_of as spelled_flag};
-ghost use Rattle.case_text.specs.EntryWords.{return_of as spelled_return, same_of as spelled_same, status_of as spelled_status};
+ghost use Rattle.case_text.specs.EntryWords.{fact_of as spelled_fact, facts_of as spelled_facts};
+ghost use Rattle.case_text.specs.EntryWords.{flag_of as spelled_flag};
+ghost use Rattle.case_text.specs.EntryWords.{return_of as spelled_return, same_of as spelled_same};
+ghost use Rattle.case_text.specs.EntryWords.{status_of as spelled_status};
 
 use super::numbers::octals_of;
 use abs_domain::Bit;

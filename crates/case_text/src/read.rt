@@ -5,9 +5,12 @@ ghost use Rattle.text_lines.specs.ReadErrors.{SaysSeen, OnMemory};
 ghost use Rattle.certificate.specs.Answers.{Gives};
 ghost use Rattle.certificate.specs.Parts.{behind};
 ghost use Rattle.case_step.specs.EntryViews.{entry_view};
-ghost use Rattle.case_text.specs.CasesText.{at_line, line_at as spelled_line, end_at as spelled_end, header_at as spelled_header};
-ghost use Rattle.case_text.specs.CasesText.{count_of as spelled_count, capital as spelled_capital, is_text_behind as spelled_text_behind};
-ghost use Rattle.case_text.specs.CasesText.{is_behind as spelled_behind, entry_in as spelled_entry, entries_at, cases_of};
+ghost use Rattle.case_text.specs.CasesText.{at_line, line_at as spelled_line, end_at as spelled_end};
+ghost use Rattle.case_text.specs.CasesText.{header_at as spelled_header};
+ghost use Rattle.case_text.specs.CasesText.{count_of as spelled_count, capital as spelled_capital};
+ghost use Rattle.case_text.specs.CasesText.{is_text_behind as spelled_text_behind};
+ghost use Rattle.case_text.specs.CasesText.{is_behind as spelled_behind, entry_in as spelled_entry, entries_at};
+ghost use Rattle.case_text.specs.CasesText.{cases_of};
 
 use super::cause::{CasesCause, CasesError, CasesFault};
 use super::entry_line::entry_of;

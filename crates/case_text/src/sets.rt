@@ -2,7 +2,8 @@
 ghost use Rattle.std.specs.Prelude.{◌≡◌, ◌<◌, ◌&&◌, nat_le, IfOk, IfSome, length, option_map};
 ghost use Rattle.std.specs.List.{All, range_with_len};
 ghost use Rattle.value_sets.specs.SetViews.{byte_values, word_values};
-ghost use Rattle.case_text.specs.EntryWords.{is_ascending, byte_set_of as spelled_byte_set, word_set_of as spelled_word_set};
+ghost use Rattle.case_text.specs.EntryWords.{is_ascending, byte_set_of as spelled_byte_set};
+ghost use Rattle.case_text.specs.EntryWords.{word_set_of as spelled_word_set};
 ghost use Rattle.case_text.specs.EntryWords.{numbers_of as spelled_numbers};
 
 use super::numbers::{bytes_of, octals_of, words_of};

@@ -6,8 +6,10 @@ ghost use Rattle.line_words.specs.Words.{words};
 ghost use Rattle.line_words.specs.Numbers.{address_of as spelled_address};
 ghost use Rattle.abs_domain.specs.StateView.{status_of as status_view};
 ghost use Rattle.value_sets.specs.SetViews.{byte_values, word_values};
-ghost use Rattle.case_text.specs.EntryWords.{part, byte_set_of as spelled_byte_set, facts_of as spelled_facts, numbers_of as spelled_numbers};
-ghost use Rattle.case_text.specs.EntryWords.{registers_of as spelled_registers, return_of as spelled_return, same_of as spelled_same};
+ghost use Rattle.case_text.specs.EntryWords.{part, byte_set_of as spelled_byte_set, facts_of as spelled_facts};
+ghost use Rattle.case_text.specs.EntryWords.{numbers_of as spelled_numbers};
+ghost use Rattle.case_text.specs.EntryWords.{registers_of as spelled_registers, return_of as spelled_return};
+ghost use Rattle.case_text.specs.EntryWords.{same_of as spelled_same};
 ghost use Rattle.case_text.specs.EntryWords.{status_of as spelled_status, word_set_of as spelled_word_set};
 
 use super::parts::{Facts, facts_of, return_of, same_of, status_of};
@@ -90,7 +92,8 @@ impl<'a> LineWords<'a> {
 
     /// A set of words. Memory is taken for a list alone.
     pub fn word_set(&mut self, alloc: Global) -> Result<Option<WordSet>, AllocError>
-        ensures { IfOk result (λ set. option_map (λ set. (word_values set, self.new)) set ≡ part spelled_word_set self.old) }
+        ensures { IfOk result (λ set. option_map (λ set. (word_values set, self.new)) set
+            ≡ part spelled_word_set self.old) }
     {
         let Some(word) = self.next() else {
             return Ok(None);
@@ -100,7 +103,15 @@ impl<'a> LineWords<'a> {
 
     /// The four facts.
     pub fn facts(&mut self) -> Option<Facts>
-        ensures { option_map (λ facts. (record { s0 = facts.s0; s1 = facts.s1; p0 = facts.p0; p1 = facts.p1 }, self.new)) result
+        ensures { option_map (λ facts. (
+          record {
+            s0 = facts.s0;
+            s1 = facts.s1;
+            p0 = facts.p0;
+            p1 = facts.p1;
+          },
+          self.new,
+        )) result
             ≡ part spelled_facts self.old }
     {
         facts_of(self.next()?)
@@ -116,7 +127,8 @@ impl<'a> LineWords<'a> {
 
     /// The scratchpad, a word for each register.
     pub fn scratchpad(&mut self) -> Option<[ByteSet; SCRATCHPAD_SIZE]>
-        ensures { option_map (λ registers. (map byte_values registers, self.new)) result ≡ spelled_registers 64 self.old }
+        ensures { option_map (λ registers. (map byte_values registers, self.new)) result
+            ≡ spelled_registers 64 self.old }
     {
         let mut registers = array::from_fn(|_| ByteSet::Any);
         for register in registers.iter_mut() {

@@ -1,9 +1,11 @@
 // The text of some entries.
-ghost use Rattle.std.specs.Prelude.{◌≡◌, ◌++◌, ◌≤◌, ◌&&◌, nat_le, false, if◌then◌else◌, Some, None, IfOk, IfSome, IfNone, OnOk, codes};
+ghost use Rattle.std.specs.Prelude.{◌≡◌, ◌++◌, ◌≤◌, ◌&&◌, nat_le, false, if◌then◌else◌, Some, None, IfOk, IfSome};
+ghost use Rattle.std.specs.Prelude.{IfNone, OnOk, codes};
 ghost use Rattle.std.specs.Prelude.{decimal, flat_map, length, map, option_map};
 ghost use Rattle.case_step.specs.EntryViews.{entry_view};
 ghost use Rattle.certificate.specs.CertificateText.{line_text};
-ghost use Rattle.case_text.specs.WrittenCases.{is_writable, lines_of as spelled_lines, text_of as spelled_text, written};
+ghost use Rattle.case_text.specs.WrittenCases.{is_writable, lines_of as spelled_lines, text_of as spelled_text};
+ghost use Rattle.case_text.specs.WrittenCases.{written};
 
 use super::written_entry::line_of;
 use case_step::Entry;
@@ -57,7 +59,8 @@ impl Lines {
 
 /// The lines of some entries, and none where they are too many or too long.
 fn lines_of(alloc: Global, entries: &[Entry]) -> Result<Option<Lines>, AllocError>
-    ensures none { IfOk result (λ lines. IfNone lines (is_writable (spelled_lines (map entry_view entries.now)) ≡ false)) }
+    ensures none { IfOk result (λ lines. IfNone lines
+        (is_writable (spelled_lines (map entry_view entries.now)) ≡ false)) }
     ensures lines { IfOk result (λ lines. IfSome lines (λ lines.
         map (λ line. line.items) lines.lines.keys ≡ spelled_lines (map entry_view entries.now))) }
     ensures short { IfOk result (λ lines. IfSome lines (λ lines. lines.size ≤ 67108864)) }
@@ -123,8 +126,8 @@ fn text_with(alloc: Global, entries: &[Entry]) -> Result<Option<Vec<u8>>, AllocE
 }
 
 /// The text of some entries: the line of each once, in their order, behind a first line with the number of them; and none where there are
-/// no entries, more than 65,536 lines, or more than 67,108,864 bytes. Where each set ascends and none is empty, it is read as these
-/// entries.
+/// no entries, more than 65,536 lines, or more than 67,108,864 bytes. Where each set ascends and none is empty or too long for a line, it
+/// is read as these entries.
 ///
 /// # Errors
 ///

@@ -7,7 +7,8 @@ ghost use Rattle.certificate.specs.Parts.{bit_text, known_bit_text, known_addres
 ghost use Rattle.certificate.specs.Entries.{status_text};
 ghost use Rattle.value_sets.specs.SetViews.{byte_values, word_values};
 ghost use Rattle.case_step.specs.EntryViews.{entry_view};
-ghost use Rattle.case_text.specs.WrittenCases.{byte_set_text, word_set_text, numbers_text, same_text, facts_text, behind_blank};
+ghost use Rattle.case_text.specs.WrittenCases.{byte_set_text, word_set_text, numbers_text, same_text, facts_text};
+ghost use Rattle.case_text.specs.WrittenCases.{behind_blank};
 ghost use Rattle.case_text.specs.WrittenCases.{entry_text};
 
 use abs_domain::{Bit, SCRATCHPAD_SIZE};

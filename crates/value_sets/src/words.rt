@@ -67,7 +67,8 @@ fn add_word(words: &mut Vec<u16>, word: u16) -> Result<(), AllocError>
 
 /// A list that ascends with the words of another one, or none where these are more than a list may have.
 fn union_of(mut words: Vec<u16>, more: &[u16]) -> Result<Option<Vec<u16>>, AllocError>
-    ensures { IfOk result (λ union. option_map (λ union. union.items) union ≡ listed_union MOST_WORDS words.items more.now) }
+    ensures { IfOk result (λ union. option_map (λ union. union.items) union
+        ≡ listed_union MOST_WORDS words.items more.now) }
 {
     if words.len() > MOST_WORDS {
         return Ok(None);

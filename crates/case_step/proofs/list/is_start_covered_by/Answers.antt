@@ -5,7 +5,8 @@ use Rattle.case_step.specs.EntryViews.{entry_view}
 use Rattle.case_step.proofs.Conjunctions.{first_failed, second_found}
 use Rattle.case_step.proofs.StartCover.{are_counters_met, are_registers_met, is_point_met, start_covered}
 use Rattle.case_step.proofs.list.is_start_covered_by.Goals as goal
-use Rattle.case_step.proofs.list.is_start_covered_by.Goals.{then-is_at_start, else-is_at_start, then-are_registers_free, else-are_registers_free}
+use Rattle.case_step.proofs.list.is_start_covered_by.Goals.{then-is_at_start, else-is_at_start, then-are_registers_free}
+use Rattle.case_step.proofs.list.is_start_covered_by.Goals.{else-are_registers_free}
 
 pub returns-then-are_counters_free : goal.returns-then-are_counters_free
 returns-then-are_counters_free c =

@@ -3,7 +3,8 @@ use Rattle.std.proofs.Common.{◌≡◌, ◌+◌, [], ◌∷◌, ◌++◌, lengt
 use Rattle.std.proofs.lemmas.Result.{err_from_is_err_and}
 use Rattle.case_step.specs.Ascending.{AreBefore}
 use Rattle.case_step.specs.EntryViews.{entry_view}
-use Rattle.case_text.proofs.LinesInOrder.{all_read, entry_fails, fails, goes_on, is_ahead, last_again, last_of, left, no_line, one_entry, over}
+use Rattle.case_text.proofs.LinesInOrder.{all_read, entry_fails, fails, goes_on, is_ahead, last_again, last_of, left, no_line, one_entry}
+use Rattle.case_text.proofs.LinesInOrder.{over}
 use Rattle.case_text.proofs.read.entries_of.Goals as goal
 
 pub returns-in_err-line-clause-entries : goal.returns-in_err-line-clause-entries
