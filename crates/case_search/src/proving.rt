@@ -4,7 +4,8 @@ ghost use Rattle.std.specs.Option.{ForSome, option_or};
 ghost use Rattle.abs_step.specs.MapView.{chips_view};
 ghost use Rattle.cart_checker.specs.Verdicts.{IsFaultFreeCart, IsSafeCart};
 ghost use Rattle.case_step.specs.EntryViews.{entry_view};
-ghost use Rattle.case_search.specs.ProvedLists.{found_of, IsNoLess, is_shown, is_whole, is_whole_found, judged_entries, Shows};
+ghost use Rattle.case_search.specs.ProvedLists.{found_of, IsNoLess, is_shown, is_whole, is_whole_found, judged_entries};
+ghost use Rattle.case_search.specs.ProvedLists.{Shows};
 
 use super::round::untracked;
 use super::searching::{Found, search};
@@ -115,16 +116,16 @@ fn better(first: Option<ProveAnswer>, second: Option<ProveAnswer>) -> Option<Pro
     }
 }
 
-/// Where a search gave up that found no list.
+/// Where a search gave up that found no list; and the start, where it found one that is too long for a text.
 fn unproved(found: &Found) -> ProveAnswer
     ensures { is_shown result ≡ false }
 {
     match found.gave_up {
-        Some(gave_up) => ProveAnswer::Unproved {
+        Some(gave_up) if found.entries.is_none() => ProveAnswer::Unproved {
             point: gave_up.point,
             reason: gave_up.reason,
         },
-        None => ProveAnswer::Unproved {
+        _ => ProveAnswer::Unproved {
             point: untracked(0, None),
             reason: None,
         },

@@ -36,6 +36,9 @@ pub struct Ground<'a> {
 /// The most results that are looked at.
 const MOST_WORK: usize = 8_000_000;
 
+/// The most results that are still looked at once a list is found.
+const MOST_AFTER: usize = 250_000;
+
 impl<'a> Ground<'a> {
     /// That of a cartridge.
     pub fn new(alloc: Global, map: &'a Map) -> Result<Ground<'a>, AllocError> {
@@ -48,9 +51,9 @@ impl<'a> Ground<'a> {
         })
     }
 
-    /// No more results are looked at than were so far, since a list is found.
+    /// A list is found, so not much more is looked at.
     pub fn look_on(&mut self) {
-        self.left = self.left.min(MOST_WORK.saturating_sub(self.left));
+        self.left = self.left.min(MOST_AFTER);
     }
 }
 
