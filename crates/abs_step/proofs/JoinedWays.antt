@@ -7,7 +7,8 @@ use Rattle.abs_domain.specs.AbstractState.{AbstractState, KnownCounters, KnownRe
 use Rattle.abs_domain.specs.Joins.{joined_state}
 use Rattle.abs_domain.specs.Lattice.{common, common_each, same_bool, same_number}
 use Rattle.abs_domain.specs.declared.points.Point.{Point}
-use Rattle.abs_step.specs.Successors.{Invariant, along, at_exit, at_vector, is_equal, same_point, tracked_bytes, with_invariant, with_invariants}
+use Rattle.abs_step.specs.Successors.{Invariant, along, at_exit, at_vector, is_equal, same_point, tracked_bytes, with_invariant}
+use Rattle.abs_step.specs.Successors.{with_invariants}
 use Rattle.abs_step.specs.StepView.{joined_along}
 use Rattle.abs_step.specs.Vectors.{with_icb}
 use Rattle.abs_step.specs.WaysOn.{at_way, same_exit, vector_ways, ways_along, ways_of, with_way, with_ways}

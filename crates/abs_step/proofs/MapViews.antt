@@ -22,7 +22,8 @@ use Rattle.memory_map.specs.MapKinds.{is_held_once, is_written, kind_holds, some
 use Rattle.memory_map.specs.MapOf.{MapTable, mapped_sort, mapped_byte, mapped_held, mapped_readers, mapped_takers, mapped_overlaps}
 use Rattle.memory_map.specs.MapOf.{views_of, seats_of, IsMapOf, IsWholeMap, sort_by, entry_at, kind_pages}
 use Rattle.memory_map.specs.declared.entry.Entry.TheVariants.{Nothing as NoChip}
-use Rattle.abs_step.specs.MapView.{IsViewOf, HasOwnRam, HasVectorAmong, HoldsByCounters, is_seat_written, view_of, has_shared_page, chips_view, MapViewLaw}
+use Rattle.abs_step.specs.MapView.{IsViewOf, HasOwnRam, HasVectorAmong, HoldsByCounters, is_seat_written, view_of, has_shared_page}
+use Rattle.abs_step.specs.MapView.{chips_view, MapViewLaw}
 use Rattle.abs_step.proofs.ChipPages.{byte_of_one, page_of_shared, shared_of_page}
 use Rattle.abs_step.proofs.Members.{IsIn, contains_of_in, same_tests}
 

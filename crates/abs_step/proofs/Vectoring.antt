@@ -8,7 +8,8 @@ use Rattle.f8_spec.specs.Instructions.{is_shielding}
 use Rattle.f8_spec.specs.Words.{word}
 use Rattle.f8_spec.specs.declared.instructions.Op.{Op}
 use Rattle.console_spec.specs.FlatStep.{chosen_at}
-use Rattle.console_spec.specs.InterruptChoice.{control_of, first_asking, has_request_by, is_asking_in, seat_vector, vector_in, vector_of, written_vector}
+use Rattle.console_spec.specs.InterruptChoice.{control_of, first_asking, has_request_by, is_asking_in, seat_vector, vector_in, vector_of}
+use Rattle.console_spec.specs.InterruptChoice.{written_vector}
 use Rattle.console_spec.specs.InterruptRequests.{History}
 use Rattle.console_spec.specs.declared.PortWrite.{PortWrite}
 use Rattle.abs_domain.specs.AbstractState.{AbstractState}

@@ -20,7 +20,8 @@ use Rattle.abs_step.specs.CartridgeAnalysis.{analysis, answer_at, as_invariant, 
 use Rattle.abs_step.specs.WithoutVectors.{WithoutVectorsLaw, has_vectors, without_vectors}
 use Rattle.abs_step.specs.MapView.{MapView, chips_view, holds_every_address}
 use Rattle.abs_step.specs.ReachedStates.{IsSafelyClosed}
-use Rattle.abs_step.specs.Safety.{goes_by_data, is_answered, is_fault_free, is_op_fault_free, may_be_held_by_psu, may_be_shared, may_part, op_at}
+use Rattle.abs_step.specs.Safety.{goes_by_data, is_answered, is_fault_free, is_op_fault_free, may_be_held_by_psu, may_be_shared, may_part}
+use Rattle.abs_step.specs.Safety.{op_at}
 use Rattle.abs_step.specs.Safety.{port_is_bad, reads_at_data, return_is_unheld, unsafe_reason, vector_is_lost}
 use Rattle.abs_step.specs.Successors.{Invariant, along, exits_of, state_after, successors, with_invariants}
 use Rattle.abs_step.specs.Vectors.{keeps_interrupts_out, vectors_let_in}

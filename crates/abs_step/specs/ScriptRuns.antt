@@ -35,13 +35,15 @@ pub record ScriptRunLaw : Type 0 where
   pub start : (bytes : ℕ → Option ℕ) (vs : List ChipView) (chain : List ℕ) (powers : List PowerOn) (script : Script) → ArePowers powers →
       IsScriptFor bytes vs script → IsFreeStart bytes (map seat_of vs) (position_after_reset (begun vs chain powers script))
   -- where the map is safe, nothing stops a run but a read at D0 that no chip answers
-  pub sound : (m : MapView) (tracked : List ℕ) (notes : List (Point × AbstractState)) (vs : List ChipView) (chain : List ℕ) (powers : List PowerOn)
-      (traced : Bool) (script : Script) → IsSafeMap m (map seat_of vs) tracked notes → ArePowers powers → IsScriptFor m.byte vs script →
+  pub sound : (m : MapView) (tracked : List ℕ) (notes : List (Point × AbstractState)) (vs : List ChipView)
+      (chain : List ℕ) (powers : List PowerOn) (traced : Bool) (script : Script) →
+      IsSafeMap m (map seat_of vs) tracked notes → ArePowers powers → IsScriptFor m.byte vs script →
       EndsBy (λ here fault. OnlyUndriven here.flat.state.flow.d0 fault) (played_by vs chain powers traced script).ending
   -- where it is free of faults too, nothing does
-  pub fault_free : (m : MapView) (tracked : List ℕ) (notes : List (Point × AbstractState)) (vs : List ChipView) (chain : List ℕ) (powers : List PowerOn)
-      (traced : Bool) (script : Script) → IsSafeMap m (map seat_of vs) tracked notes → HoldsFaultFreeStates (analysis m tracked) notes → ArePowers powers →
-      IsScriptFor m.byte vs script → (played_by vs chain powers traced script).ending.stop ≡ Done
+  pub fault_free : (m : MapView) (tracked : List ℕ) (notes : List (Point × AbstractState)) (vs : List ChipView)
+      (chain : List ℕ) (powers : List PowerOn) (traced : Bool) (script : Script) →
+      IsSafeMap m (map seat_of vs) tracked notes → HoldsFaultFreeStates (analysis m tracked) notes →
+      ArePowers powers → IsScriptFor m.byte vs script → (played_by vs chain powers traced script).ending.stop ≡ Done
 
 pub record FreeRunLaw : Type 0 where
   -- What is shown of every run with free inputs on the chips holds of a run by a script: where reset is served and each instruction goes on

@@ -14,7 +14,8 @@ use Rattle.f8_machine.specs.MachineState.{MachineState}
 use Rattle.f8_machine.specs.Refinement.{Represents}
 use Rattle.bus_audit.specs.Answers.{Trace, steps_of, line_at, answer_by, answer_in}
 use Rattle.bus_audit.specs.PlainSteps.{HaveBytes, plain, plain_course}
-use Rattle.bus_audit.specs.FreeRuns.{Setup, own_fallen, own_behind, own_begun, BeginsFreely, GoesFreely, IsFreelyAt, IsRecord, broken_off, reset_cut, cut}
+use Rattle.bus_audit.specs.FreeRuns.{Setup, own_fallen, own_behind, own_begun, BeginsFreely, GoesFreely, IsFreelyAt, IsRecord, broken_off}
+use Rattle.bus_audit.specs.FreeRuns.{reset_cut, cut}
 use Rattle.bus_audit.specs.DictatedRuns.{DictatedEnd, dictated}
 use Rattle.bus_audit.specs.Determinacy.{DeterminacyLaw}
 use Rattle.bus_audit.specs.Inputs.{Comes, frame_between}

@@ -1,5 +1,6 @@
 -- The dictated run stays beside every free run whose record stands first in the trace.
-use Rattle.std.proofs.Common.{◌≡◌, ℕ, zero, suc, ◌<◌, Bool, List, [], ◌++◌, length, map, drop, Option, Some, None, refl, ◌∙◌, ap, sym, subst}
+use Rattle.std.proofs.Common.{◌≡◌, ℕ, zero, suc, ◌<◌, Bool, List, [], ◌++◌, length, map, drop, Option, Some, None, refl, ◌∙◌, ap, sym}
+use Rattle.std.proofs.Common.{subst}
 use Rattle.std.proofs.Common.{arith, append_assoc, append-nil, drop_at}
 use Rattle.std.proofs.lemmas.List.{length-map, map-append}
 use Rattle.f8_spec.specs.Instructions.{decoded}
@@ -19,7 +20,8 @@ use Rattle.bus_audit.specs.FreeRuns.{Setup, own_events, own_fallen, own_behind, 
 use Rattle.bus_audit.specs.Choices.{key_choice, pulse_choice, choice_for, choice, with_choice}
 use Rattle.bus_audit.specs.DictatedRuns.{Onward, next_by, next_for, next_dictated, dictated_begun, start_dictated, IsDictatedAt}
 use Rattle.bus_audit.specs.Determinacy.{with_free, DiffersInInputs}
-use Rattle.bus_audit.proofs.FreeInputs.{keys_after, pulses_after, events_with, events_on, length-keys_after, free_leaves, events_alike, own_unpulsed}
+use Rattle.bus_audit.proofs.FreeInputs.{keys_after, pulses_after, events_with, events_on, length-keys_after, free_leaves, events_alike}
+use Rattle.bus_audit.proofs.FreeInputs.{own_unpulsed}
 use Rattle.bus_audit.proofs.Courses.{none_in, instruction_faults, reset_faults, reset_tells}
 use Rattle.bus_audit.proofs.FreeChoices.{choice-with_free, choice-after_reset, no_first_pulse, choice_free}
 use Rattle.bus_audit.proofs.Shadows.{IsSteady, Shadow, steps_same, fault_same, after_same, shadow_after}

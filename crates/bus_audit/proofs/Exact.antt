@@ -1,5 +1,6 @@
 -- The dictated run leaves nothing of a trace just where that is the whole record of a free run.
-use Rattle.std.proofs.Common.{◌≡◌, ℕ, zero, suc, ◌+◌, ◌<◌, ◌≤◌, Bool, true, false, List, [], ◌∷◌, ◌++◌, length, map, drop, refl, ◌∙◌, ap, sym, subst}
+use Rattle.std.proofs.Common.{◌≡◌, ℕ, zero, suc, ◌+◌, ◌<◌, ◌≤◌, Bool, true, false, List, [], ◌∷◌, ◌++◌, length, map, drop, refl, ◌∙◌, ap}
+use Rattle.std.proofs.Common.{sym, subst}
 use Rattle.std.proofs.Common.{Option, Some, None, arith, append_assoc, append-nil, add-one, length-append}
 use Rattle.std.proofs.lemmas.List.{map-append}
 use Rattle.std.specs.Prelude.{if◌then◌else◌}
@@ -20,7 +21,8 @@ use Rattle.console_spec.specs.Telling.{with_events}
 use Rattle.console_spec.specs.declared.Event.{Event}
 use Rattle.bus_audit.specs.PlainSteps.{HaveBytes, plain, plain_course, behind}
 use Rattle.bus_audit.specs.declared.step.TraceStep.{TraceStep}
-use Rattle.bus_audit.specs.FreeRuns.{Setup, AreFree, own_behind, own_begun, BeginsFreely, GoesFreely, IsFreelyAt, IsRecord, broken_off, reset_cut, cut}
+use Rattle.bus_audit.specs.FreeRuns.{Setup, AreFree, own_behind, own_begun, BeginsFreely, GoesFreely, IsFreelyAt, IsRecord, broken_off}
+use Rattle.bus_audit.specs.FreeRuns.{reset_cut, cut}
 use Rattle.bus_audit.specs.Choices.{choice, with_choice}
 use Rattle.bus_audit.specs.DictatedRuns.{Next, Onward, Over, next_by, next_for, next_dictated, dictated_begun, start_dictated, IsDictatedAt}
 use Rattle.bus_audit.specs.DictatedRuns.{DictatedEnd, end_by, dictated_from, dictated}

@@ -1,5 +1,6 @@
 -- With the key byte that a trace dictates a port reads as the trace says.
-use Rattle.std.proofs.Common.{◌≡◌, ℕ, ◌+◌, ◌<◌, ◌==◌, ◌&&◌, Bool, true, false, List, [], ◌∷◌, ◌++◌, length, Option, Some, None, refl, ◌∙◌, ap, sym}
+use Rattle.std.proofs.Common.{◌≡◌, ℕ, ◌+◌, ◌<◌, ◌==◌, ◌&&◌, Bool, true, false, List, [], ◌∷◌, ◌++◌, length, Option, Some, None, refl, ◌∙◌}
+use Rattle.std.proofs.Common.{ap, sym}
 use Rattle.std.proofs.Common.{inl, inr, arith, get_or-set_same, eq-eqb}
 use Rattle.std.proofs.lemmas.Bool.{cases_eq, lt-ltb, ne_eqb, ltb-true}
 use Rattle.std.proofs.lemmas.Nat.{and_comm, or_comm, and_or_self}

@@ -22,7 +22,8 @@ use Rattle.console_spec.specs.CounterCopies.{Copy, copies_after}
 use Rattle.console_spec.specs.FlatMachine.{memory_after}
 use Rattle.console_spec.specs.FlatStep.{chosen_at, with_chosen, clocks_by, with_acknowledged}
 use Rattle.console_spec.specs.InterruptRequests.{Mark, History}
-use Rattle.console_spec.specs.Processor.{Flow, Inputs, own_inputs, read_port, result_of, registers_after, counters_after, byte_of, history_of}
+use Rattle.console_spec.specs.Processor.{Flow, Inputs, own_inputs, read_port, result_of, registers_after, counters_after, byte_of}
+use Rattle.console_spec.specs.Processor.{history_of}
 use Rattle.console_spec.specs.Processor.{write_of, with_write}
 use Rattle.console_spec.specs.Run.{Position, seats_of, gets_at, gets_all_at, instruction_course, instruction_fault, position_after}
 use Rattle.console_spec.specs.Services.{Fault, access_ruling}

@@ -1,5 +1,5 @@
--- What an audit answers: a trace is accepted where the run that it dictates leaves nothing of it, and else it is rejected at the line of the
--- first step that is left. This project's own.
+-- What an audit answers: a trace that has a step is accepted where the run that it dictates leaves nothing of it, and else it is rejected
+-- at the line of the first step that is left. This project's own.
 use Rattle.std.specs.Prelude.{ℕ, zero, suc, ◌-◌, List, [], ◌∷◌, length, map}
 use Rattle.f8_spec.specs.ChipState.{ChipView}
 use Rattle.f8_spec.specs.declared.chips.PowerOn.{PowerOn}

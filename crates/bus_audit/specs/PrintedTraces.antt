@@ -66,6 +66,6 @@ pub record PrintedLaw : Type 0 where
   pub exact : (line : List ℕ) (s : TraceStep) → (read_in line ≡ Some (Some s)) ↔ (FitsStep s × (line ++ codes "\n" ≡ printed s))
   -- the line of a step that a run tells, whichever chip took its byte
   pub traced : (s : TracedStep) → bus_line s ≡ printed (plain s)
-  -- the whole text of a run is a trace, of all steps that it tells
+  -- the whole text of a run is a trace, of all steps that it tells, where these are ones that there are
   pub whole : (verdict : VerdictWord) (t : Telling) → AllByRecursion FitsStep (told_steps t) →
       IsTraceOf (told_steps t) (trace_of (text_of (telling_lines verdict t)))

@@ -22,7 +22,7 @@ use f8_machine::{Chain, Machine, Rack};
 use f8_ops::{MOST_INTERRUPTED_PHI, RESET_PHI};
 use pad_script::Script;
 
-/// How many bus steps reset has (Fairchild F8 User's Guide).
+/// How many bus steps reset has (this project's own, after the Fairchild F8 User's Guide).
 const RESET_STEPS: usize = 3;
 
 /// What stands behind the steps of reset.

@@ -1,8 +1,10 @@
 // The bus step that the words of a line spell.
 ghost use Rattle.std.specs.Prelude.{◌≡◌};
 ghost use Rattle.line_words.specs.Words.{words};
-ghost use Rattle.bus_audit.specs.TraceText.{byte_of as spelled_byte, code_of as spelled_code, digit_of as spelled_digit};
-ghost use Rattle.bus_audit.specs.TraceText.{is_long as spelled_length, socket_of as spelled_socket, who_of as spelled_who};
+ghost use Rattle.bus_audit.specs.TraceText.{byte_of as spelled_byte, code_of as spelled_code};
+ghost use Rattle.bus_audit.specs.TraceText.{digit_of as spelled_digit};
+ghost use Rattle.bus_audit.specs.TraceText.{is_long as spelled_length, socket_of as spelled_socket};
+ghost use Rattle.bus_audit.specs.TraceText.{who_of as spelled_who};
 ghost use Rattle.bus_audit.specs.TraceText.{what_of as spelled_what, step_of as spelled_step};
 
 use super::step::{TraceStep, TraceWhat};

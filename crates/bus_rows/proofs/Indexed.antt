@@ -1,5 +1,6 @@
 -- An index stands for a rack that is just powered on, and goes on doing so when a chip takes a pulse.
-use Rattle.std.proofs.Common.{◌≡◌, ℕ, zero, suc, ◌+◌, ◌<◌, Bool, true, false, List, [], ◌∷◌, length, get_or, map, refl, sym, ap, subst, ◌∙◌, arith}
+use Rattle.std.proofs.Common.{◌≡◌, ℕ, zero, suc, ◌+◌, ◌<◌, Bool, true, false, List, [], ◌∷◌, length, get_or, map, refl, sym, ap, subst, ◌∙◌}
+use Rattle.std.proofs.Common.{arith}
 use Rattle.std.specs.Prelude.{if◌then◌else◌, Option, Some, None}
 use Rattle.std.proofs.Math.ListN.{set, get_or-map}
 use Rattle.std.proofs.lemmas.List.{map-set, length-map}
@@ -9,7 +10,8 @@ use Rattle.f8_spec.specs.ChipState.{ChipView, ChipState, PowersOn, TakesPulse, a
 use Rattle.probe.specs.ProbeState.{ProbeState}
 use Rattle.data_bus.specs.declared.index.Index.{Index}
 use Rattle.data_bus.specs.declared.marks.Marks.{Marks}
-use Rattle.data_bus.specs.KnownAgreement.{AllAddresses, AllAgree, AreAddresses, ChipAgrees, CountAgrees, HalvesAgree, IsCounted, no_halves, no_marks}
+use Rattle.data_bus.specs.KnownAgreement.{AllAddresses, AllAgree, AreAddresses, ChipAgrees, CountAgrees, HalvesAgree, IsCounted, no_halves}
+use Rattle.data_bus.specs.KnownAgreement.{no_marks}
 use Rattle.data_bus.specs.PageIndex.{IsIndexOf, StandsFor, seats}
 use Rattle.data_bus.specs.Racks.{NumberedZip, views}
 use Rattle.bus_rows.specs.Indexed.{FitsIndexed, HasAddresses}

@@ -1,5 +1,6 @@
 -- Bytes that are put one after another stand at their addresses.
-use Rattle.std.proofs.Common.{◌≡◌, ℕ, zero, suc, ◌+◌, ◌-◌, ◌<◌, ◌≤◌, Bool, true, false, cond, List, [], ◌∷◌, length, set, Option, Some, None, refl, ◌∙◌, arith}
+use Rattle.std.proofs.Common.{◌≡◌, ℕ, zero, suc, ◌+◌, ◌-◌, ◌<◌, ◌≤◌, Bool, true, false, cond, List, [], ◌∷◌, length, set, Option, Some}
+use Rattle.std.proofs.Common.{None, refl, ◌∙◌, arith}
 use Rattle.std.specs.Prelude.{◌≢◌, ◌==◌, option_map, option_and_then, slice_get, slice_index, unwrap_or, IsSomeAnd}
 use Rattle.std.proofs.lemmas.Bool.Decides.{nat_tests}
 use Rattle.std.proofs.lemmas.List.{length-set, get_or-set_other}
@@ -7,7 +8,8 @@ use Rattle.std.proofs.lemmas.Grind.{get_or-set_at}
 use Rattle.std.proofs.lemmas.List.Elements.{All-head, All-tail}
 use Rattle.f8_asm.specs.declared.answers.Room.{Room}
 use Rattle.cartridge.specs.Filled.{or_else, image_byte, HasImage, IsFilledChip, IsFilled}
-use Rattle.cartridge.specs.Filling.{PlannedSource, PlannedChip, Planned, HasRoomFor, rom_with, filled_source, filled_chip, with_change_at, filled_plan}
+use Rattle.cartridge.specs.Filling.{PlannedSource, PlannedChip, Planned, HasRoomFor, rom_with, filled_source, filled_chip, with_change_at}
+use Rattle.cartridge.specs.Filling.{filled_plan}
 use Rattle.cartridge.specs.Rooms.{LiesIn}
 
 -- ---- the bytes of a ROM

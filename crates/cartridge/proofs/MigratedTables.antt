@@ -16,7 +16,8 @@ use Rattle.cartridge.specs.Values.{each, optional, value_needed, usually, value_
 use Rattle.cartridge.specs.ChipTables.{DescribedChip, chip_of}
 use Rattle.cartridge.specs.Description.{Described, Top, format_in, top_of, chips_from, description_in}
 use Rattle.cartridge.specs.Filling.{Planned, plan_of, plan_without_images}
-use Rattle.cartridge.specs.Migrated.{with_value, migrated_chip, migrated_entries, migrated_chips, with_chips, migrated_from, migrated_table, KeepsPlan}
+use Rattle.cartridge.specs.Migrated.{with_value, migrated_chip, migrated_entries, migrated_chips, with_chips, migrated_from, migrated_table}
+use Rattle.cartridge.specs.Migrated.{KeepsPlan}
 use Rattle.cartridge.proofs.Answered.{bind-ok, if-ok, at_key-ok}
 use Rattle.cartridge.proofs.MemberLookups.{put_found, put_other, known_put}
 use Rattle.cartridge.proofs.MigratedChips.{known-ok, known-yes, chip_migrated}

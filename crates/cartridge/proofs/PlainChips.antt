@@ -1,5 +1,6 @@
 -- What a described table holds at each key is plain: a number, a text or a truth value, or a list of numbers, of texts or of such tables.
-use Rattle.std.proofs.Common.{◌≡◌, ℕ, ◌+◌, ◌≤◌, Bool, true, false, ◌||◌, List, [], ◌∷◌, length, Option, Some, None, Result, Ok, Err, refl, ap, ◌∙◌}
+use Rattle.std.proofs.Common.{◌≡◌, ℕ, ◌+◌, ◌≤◌, Bool, true, false, ◌||◌, List, [], ◌∷◌, length, Option, Some, None, Result, Ok, Err, refl}
+use Rattle.std.proofs.Common.{ap, ◌∙◌}
 use Rattle.std.specs.Prelude.{IsOk, if◌then◌else◌, is_some, nat_le, option_map, option_and_then}
 use Rattle.std.specs.Result.{result_ok}
 use Rattle.std.proofs.lemmas.Bool.{and_parts}
@@ -24,7 +25,8 @@ use Rattle.cartridge.specs.declared.refusal.CartCause.TheVariants.{TooMany}
 use Rattle.cartridge.specs.declared.refusal.CartFault.{CartFault}
 use Rattle.cartridge.specs.Faults.{◌>>=◌, of_chip}
 use Rattle.cartridge.specs.Keys.{value_at, known, top_keys, psu_keys, smi_keys, pio_keys, run_keys}
-use Rattle.cartridge.specs.Values.{each, value_needed, usually, value_of_type, text, truth, within, number_in, multiple_of, multiple_in, maybe_number}
+use Rattle.cartridge.specs.Values.{each, value_needed, usually, value_of_type, text, truth, within, number_in, multiple_of, multiple_in}
+use Rattle.cartridge.specs.Values.{maybe_number}
 use Rattle.cartridge.specs.Values.{kind_named, kind_in, fitting, rom_in, source_named, source_in, filled, count_of, registers, register}
 use Rattle.cartridge.specs.Values.{split_of, split_in, few_tables, tables_in}
 use Rattle.cartridge.specs.Pages.{run_at, pages_of, rom_room, rom_size_of}

@@ -11,7 +11,8 @@ use Rattle.toml.specs.Data.{Items, item, string, as_str}
 use Rattle.f8_spec.specs.declared.chips.PageSort.{PageSort}
 use Rattle.f8_spec.specs.declared.chips.PageSort.TheVariants.{Rom, Ram, Void}
 use Rattle.cartridge.specs.declared.page_run.PageRun.{PageRun}
-use Rattle.cartridge.specs.PageTexts.{blank, hyphen, sort_word, parted, only_byte, page_number, run_between, range_of, run_of_parts, run_of_text, each_run}
+use Rattle.cartridge.specs.PageTexts.{blank, hyphen, sort_word, parted, only_byte, page_number, run_between, range_of, run_of_parts}
+use Rattle.cartridge.specs.PageTexts.{run_of_text, each_run}
 use Rattle.cartridge.specs.Migrated.{page_digits, range_text, run_text, run_texts}
 use Rattle.cartridge.specs.Values.{each}
 

@@ -31,7 +31,8 @@ use Rattle.cartridge.specs.Values.{required_value, optional, value_needed, usual
 use Rattle.cartridge.specs.Values.{multiple_in, maybe_number, kind_in, filled, fitting, rom_in, is_file_name, source_named, source_in}
 use Rattle.cartridge.specs.Rooms.{room_size, psu_room}
 use Rattle.cartridge.specs.Filling.{HasRom, IsPlannedChip, planned_chip, without_image}
-use Rattle.cartridge.specs.ChipTables.{DescribedSource, DescribedChip, named_source, source_with, rom_of, mask_of, source_of, wired_of, start_of}
+use Rattle.cartridge.specs.ChipTables.{DescribedSource, DescribedChip, named_source, source_with, rom_of, mask_of, source_of, wired_of}
+use Rattle.cartridge.specs.ChipTables.{start_of}
 use Rattle.cartridge.specs.ChipTables.{psu_of, runs_of, smi_with, smi_of, pio_of, known_pio, chip_of_kind, chip_of}
 use Rattle.cartridge.proofs.Answered.{bind-ok, if-ok, at_key-ok}
 use Rattle.cartridge.proofs.PageNumbers.{pages_of-ascends}

@@ -3,7 +3,10 @@ ghost use Rattle.std.specs.Prelude.{◌≡◌, ◌≤◌, length, option_map, st
 ghost use Rattle.toml.specs.View.{table_view};
 ghost use Rattle.text_lines.specs.ReadErrors.{SaysSeen};
 ghost use Rattle.cartridge.specs.Keys.{known as known_told, psu_keys, smi_keys};
-ghost use Rattle.cartridge.specs.ChipTables.{psu_of as psu_told, three_runs as three_told, runs_of as runs_told, smi_with as smi_given, smi_of as smi_told, pio_of as pio_told, known_pio, chip_of as chip_told, named_source as source_told, source_with as source_given};
+ghost use Rattle.cartridge.specs.ChipTables.{psu_of as psu_told, three_runs as three_told, runs_of as runs_told};
+ghost use Rattle.cartridge.specs.ChipTables.{smi_with as smi_given, smi_of as smi_told, pio_of as pio_told, known_pio};
+ghost use Rattle.cartridge.specs.ChipTables.{chip_of as chip_told, named_source as source_told};
+ghost use Rattle.cartridge.specs.ChipTables.{source_with as source_given};
 ghost use Rattle.cartridge.specs.Rooms.{psu_room as room_told};
 ghost use Rattle.cartridge.specs.Plans.{seen_chip, seen_source};
 

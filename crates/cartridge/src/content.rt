@@ -6,7 +6,8 @@ ghost use Rattle.toml.specs.View.{view, table_view};
 ghost use Rattle.cartridge.specs.declared.keys.Key.TheVariants.{Rom, Source};
 ghost use Rattle.cartridge.specs.Faults.{at_key};
 ghost use Rattle.text_lines.specs.ReadErrors.{SaysSeen};
-ghost use Rattle.cartridge.specs.Values.{filled as filled_to, fitting, rom_in as rom_told, is_file_name as names_file, source_named as source_judged, source_in as source_told};
+ghost use Rattle.cartridge.specs.Values.{filled as filled_to, fitting, rom_in as rom_told, is_file_name as names_file};
+ghost use Rattle.cartridge.specs.Values.{source_named as source_judged, source_in as source_told};
 ghost use Rattle.cartridge.specs.ChipTables.{rom_of, mask_of, source_of};
 
 use super::keys::Key;

@@ -3,7 +3,8 @@ ghost use Rattle.toml.specs.Data.{as_table};
 ghost use Rattle.cartridge.specs.Plans.{seen_table};
 ghost use Rattle.std.specs.Prelude.{IfOk, map, option_map, ◌≡◌, ◌≤◌, length, []};
 ghost use Rattle.toml.specs.View.{view, items_view, table_view};
-ghost use Rattle.cartridge.specs.Values.{each, register, registers, split_of as split_listed, split_in as split_told, usually};
+ghost use Rattle.cartridge.specs.Values.{each, register, registers, split_of as split_listed, split_in as split_told};
+ghost use Rattle.cartridge.specs.Values.{usually};
 ghost use Rattle.cartridge.specs.declared.keys.Key.TheVariants.{Split as SplitKey};
 
 use super::keys::Key;

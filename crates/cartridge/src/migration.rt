@@ -6,7 +6,10 @@ ghost use Rattle.cartridge.specs.declared.keys.Key.TheVariants.{Chip as ChipKey}
 ghost use Rattle.cartridge.specs.Keys.{key_word, run_keys, value_at as found_at};
 ghost use Rattle.cartridge.specs.ChipTables.{three_runs as runs_told};
 ghost use Rattle.cartridge.specs.Filling.{plan_of};
-ghost use Rattle.cartridge.specs.Migrated.{with_value, with_pages, without_keys, migrated_chip as chip_told, migrated_entry as entry_told, migrated_entries as entries_told, migrated_chips as chips_told, with_chips, migrated_table as table_told, KeepsPlan};
+ghost use Rattle.cartridge.specs.Migrated.{with_value, with_pages, without_keys, migrated_chip as chip_told};
+ghost use Rattle.cartridge.specs.Migrated.{migrated_entry as entry_told, migrated_entries as entries_told};
+ghost use Rattle.cartridge.specs.Migrated.{migrated_chips as chips_told, with_chips, migrated_table as table_told};
+ghost use Rattle.cartridge.specs.Migrated.{KeepsPlan};
 
 use super::chip_table::three_runs;
 use super::document::document;

@@ -2,7 +2,9 @@
 ghost use Rattle.std.specs.Prelude.{◌≡◌, ◌≤◌, IfOk, length};
 ghost use Rattle.std.specs.List.{list_all};
 ghost use Rattle.toml.specs.View.{table_view};
-ghost use Rattle.cartridge.specs.Pages.{lies_within as within, lies_before as before, lie_apart as apart, run_apart as placed_after, run_at as run_told, has_page as includes, page_at as found_at, pages_of as all_pages};
+ghost use Rattle.cartridge.specs.Pages.{lies_within as within, lies_before as before, lie_apart as apart};
+ghost use Rattle.cartridge.specs.Pages.{run_apart as placed_after, run_at as run_told, has_page as includes};
+ghost use Rattle.cartridge.specs.Pages.{page_at as found_at, pages_of as all_pages};
 
 use super::keys::Key;
 use super::refusal::{CartCause, KeyFault};

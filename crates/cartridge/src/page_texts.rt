@@ -7,7 +7,10 @@ ghost use Rattle.cartridge.specs.declared.keys.Key.TheVariants.{Pages};
 ghost use Rattle.text_lines.specs.ReadErrors.{SaysSeen};
 ghost use Rattle.cartridge.specs.Plans.{str_seen};
 ghost use Rattle.cartridge.specs.Values.{each, usually};
-ghost use Rattle.cartridge.specs.PageTexts.{sort_named as sort_told, page_number as number_told, run_between as between_told, range_of as range_told, parted, hyphen, run_of_text as run_told, each_run, runs_apart as apart_told, runs_in as runs_told};
+ghost use Rattle.cartridge.specs.PageTexts.{sort_named as sort_told, page_number as number_told};
+ghost use Rattle.cartridge.specs.PageTexts.{run_between as between_told, range_of as range_told, parted, hyphen};
+ghost use Rattle.cartridge.specs.PageTexts.{run_of_text as run_told, each_run, runs_apart as apart_told};
+ghost use Rattle.cartridge.specs.PageTexts.{runs_in as runs_told};
 
 use super::keys::Key;
 use super::page_run::PageRun;

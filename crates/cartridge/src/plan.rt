@@ -2,7 +2,8 @@
 ghost use Rattle.std.specs.Prelude.{◌≡◌, ◌≤◌, IfOk, length, map, option_map};
 ghost use Rattle.toml.specs.View.{table_view};
 ghost use Rattle.text_lines.specs.ReadErrors.{SaysSeen};
-ghost use Rattle.cartridge.specs.Filling.{plan_without_images, plan_of as plan_told, source_at, HasRoomFor, filled_plan, power_of, IsWholePlan};
+ghost use Rattle.cartridge.specs.Filling.{plan_without_images, plan_of as plan_told, source_at, HasRoomFor};
+ghost use Rattle.cartridge.specs.Filling.{filled_plan, power_of, IsWholePlan};
 ghost use Rattle.cartridge.specs.Filled.{IsFilled};
 ghost use Rattle.cartridge.specs.Carts.{cart_of, IsCart};
 ghost use Rattle.cartridge.specs.Plans.{seen_cart, seen_chip, seen_source, str_seen};

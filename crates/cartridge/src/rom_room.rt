@@ -1,7 +1,8 @@
 // The ROM pages among the pages of a 3853, and the addresses of their bytes.
 ghost use Rattle.std.specs.Prelude.{◌≡◌, ◌≤◌, find, length, reverse};
 ghost use Rattle.cartridge.specs.Rooms.{room_size as size_told};
-ghost use Rattle.cartridge.specs.Pages.{is_rom_page as is_rom_told, rom_size_of, room_between as between, rom_span as span_told, rom_room as room_told};
+ghost use Rattle.cartridge.specs.Pages.{is_rom_page as is_rom_told, rom_size_of, room_between as between};
+ghost use Rattle.cartridge.specs.Pages.{rom_span as span_told, rom_room as room_told};
 
 use chip_face::{PAGE_SIZE, Page, PageList, PageSort};
 use f8_asm::Room;

@@ -1,7 +1,8 @@
 // The texts of runs of pages.
 ghost use Rattle.std.specs.Prelude.{◌≡◌, ◌+◌, ◌≤◌, ◌<◌, All, IfOk, string_bytes};
 ghost use Rattle.toml.specs.View.{items_view};
-ghost use Rattle.cartridge.specs.Migrated.{page_digits as digits_told, range_text as range_told, run_text as text_told, run_texts as texts_told};
+ghost use Rattle.cartridge.specs.Migrated.{page_digits as digits_told, range_text as range_told, run_text as text_told};
+ghost use Rattle.cartridge.specs.Migrated.{run_texts as texts_told};
 ghost use Rattle.cartridge.specs.PageTexts.{sort_word as word_told};
 
 use super::page_run::PageRun;

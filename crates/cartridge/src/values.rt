@@ -3,7 +3,10 @@ ghost use Rattle.std.specs.Prelude.{◌≡◌, ◌<◌, option_map, false};
 ghost use Rattle.toml.specs.View.{view, table_view};
 ghost use Rattle.cartridge.specs.declared.keys.Key.TheVariants.{Kind};
 ghost use Rattle.cartridge.specs.Keys.{value_at as found_at};
-ghost use Rattle.cartridge.specs.Values.{value_needed, usually, within as lies_within, number_in as number_between, multiple_of as multiple_by, multiple_in as multiple_between, maybe_number as maybe_told, truth as truth_told, kind_named as kind_spelled, kind_in as kind_told};
+ghost use Rattle.cartridge.specs.Values.{value_needed, usually, within as lies_within, number_in as number_between};
+ghost use Rattle.cartridge.specs.Values.{multiple_of as multiple_by, multiple_in as multiple_between};
+ghost use Rattle.cartridge.specs.Values.{maybe_number as maybe_told, truth as truth_told, kind_named as kind_spelled};
+ghost use Rattle.cartridge.specs.Values.{kind_in as kind_told};
 
 use super::keys::Key;
 use super::refusal::{CartCause, KeyFault};

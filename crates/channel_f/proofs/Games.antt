@@ -25,7 +25,8 @@ use Rattle.report.proofs.TextLaws.{text_of-nil, text_of-cons, text_of-append}
 use Rattle.data_bus.specs.Racks.{views}
 use Rattle.loader.specs.Games.{Game}
 use Rattle.cart_checker.specs.Verdicts.{verdict_word}
-use Rattle.channel_f.specs.Answers.{Answer, Due, Plain, Judged, Proved, Reading, status_of, refusal, ref_run, game_run, game_chain, run_answer}
+use Rattle.channel_f.specs.Answers.{Answer, Due, Plain, Judged, Proved, Reading, status_of, refusal, ref_run, game_run, game_chain}
+use Rattle.channel_f.specs.Answers.{run_answer}
 use Rattle.channel_f.specs.Answers.{judged_run}
 use Rattle.channel_f.specs.Manners.{detail_of, run_by, run_fitted, opening_lines, closing_lines, lines_by, told_summary}
 use Rattle.channel_f.specs.Manners.{summary_lines}

@@ -1,5 +1,6 @@
 -- The chips of a description sit in the sockets of a rack that has enough of each kind: no chip is left, and no other is there.
-use Rattle.std.proofs.Common.{◌≡◌, ℕ, zero, suc, ◌+◌, ◌≤◌, Bool, true, false, List, [], ◌∷◌, ◌++◌, length, map, refl, ap, sym, subst, ◌∙◌, arith}
+use Rattle.std.proofs.Common.{◌≡◌, ℕ, zero, suc, ◌+◌, ◌≤◌, Bool, true, false, List, [], ◌∷◌, ◌++◌, length, map, refl, ap, sym, subst, ◌∙◌}
+use Rattle.std.proofs.Common.{arith}
 use Rattle.std.specs.Prelude.{Option, Some, None, drop, filter, slice_get, if◌then◌else◌}
 use Rattle.std.proofs.lemmas.List.Sums.{length-filter}
 use Rattle.f8_spec.specs.ChipState.{ChipState, same_kind}

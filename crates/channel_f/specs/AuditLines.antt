@@ -9,7 +9,7 @@ numbered_line words number = words ++ codes " " ++ decimal number ++ codes "\n"
 abbrev pub accept_line : ℕ → List ℕ
 accept_line instructions = numbered_line (codes "accept") instructions
 
--- it is the record of none: no free run goes on with the step at this line
+-- it is the record of none: no free run goes on with the steps that begin at this line
 abbrev pub reject_line : ℕ → List ℕ
 reject_line line = numbered_line (codes "reject line") line
 

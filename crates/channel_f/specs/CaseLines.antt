@@ -1,5 +1,5 @@
--- The lines of what is found of a list of entries, of a search that found none, and of a text of entries at fault. Every line ends with a line feed, and numbers are
--- decimal.
+-- The lines of what is found of a list of entries, of a search that found none, and of a text of entries at fault. Every line ends with a
+-- line feed, and numbers are decimal.
 use Rattle.std.specs.Prelude.{ℕ, ◌+◌, ◌<◌, ◌≤◌, List, [], ◌++◌, codes, decimal, Option, Some, None, option_map, unwrap_or}
 use Rattle.std.specs.Option.{ForSome}
 use Rattle.abs_domain.specs.Reasons.{reason_number}
@@ -43,7 +43,7 @@ list_notclosed_line from to = codes "notclosed " ++ origin_text from ++ codes " 
 unfoldable pub list_unsafe_line : ℕ → Reason → List ℕ
 list_unsafe_line place reason = codes "unsafe " ++ decimal (entry_line place) ++ codes " " ++ decimal (reason_number reason) ++ codes "\n"
 
--- a search gave up at a point, where no register is tracked, for a reason, which is told by its number, or for want of entries, which is 0
+-- a search gave up at a point, where no register is tracked, for a reason, which is told by its number, or for want of room, which is 0
 abbrev pub given_up_number : Option Reason → ℕ
 given_up_number reason = unwrap_or (option_map reason_number reason) 0
 

@@ -61,7 +61,7 @@ pub record RefusesBehind (old new : Around) (files : List NamedBytes) (asks : Li
   pub lines : Adds old.output new.output (text_of (refusal_answer refusal).lines)
   pub misses : Misses files asks (order_of (file_of refusal))
 
--- the line of a rack that has no place for the chips of a description was written
+-- the line of a rack that has no place for some chips was written
 pub record RefusesRack (old new : Around) : Type 0 where
   pub chips : List ChipSpec
   pub line : List ℕ

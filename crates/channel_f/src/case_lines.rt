@@ -85,14 +85,14 @@ fn unsafe_line(place: usize, reason: Reason) -> Line
     line
 }
 
-/// The number of the reason for which a search gave up, and 0 for want of entries.
+/// The number of the reason for which a search gave up, and 0 for want of room.
 fn given_up_number(reason: Option<Reason>) -> u8
     ensures { result ≡ spelled_number reason }
 {
     reason.map_or(0, Reason::number)
 }
 
-/// `unproved`: a search found no list, and gave up at this point, for this reason or for want of entries.
+/// `unproved`: a search found no list, and gave up at this point, for this reason or for want of room.
 #[tactic(auto, unfolding(crate::specs::CaseLines::unproved_line))]
 fn unproved_line(point: &Point, reason: Option<Reason>) -> Line
     ensures { result ≡ spelled_unproved point.now reason }

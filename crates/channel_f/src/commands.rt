@@ -3,9 +3,11 @@ ghost use Rattle.std.specs.Prelude.{◌≡◌, ◌≤◌, ◌⊎◌, IfOk, IsOk,
 ghost use Rattle.toml.specs.View.{table_view};
 ghost use Rattle.cartridge.specs.Filling.{plan_of};
 ghost use Rattle.certificate.specs.CertificateLaws.{AllFit};
-ghost use Rattle.loader.specs.Games.{game_of, cart_of, table_by, claim_of, confirming_of, debugging_of, auditing_of, image_by, linked_by, bytes_by};
+ghost use Rattle.loader.specs.Games.{game_of, cart_of, table_by, claim_of, confirming_of, debugging_of, auditing_of};
+ghost use Rattle.loader.specs.Games.{image_by, linked_by, bytes_by};
 ghost use Rattle.channel_f.specs.Answers.{Plain, generated_game, gen_due, check_due, prove_due, ref_answer};
-ghost use Rattle.channel_f.specs.Answers.{asm_answer, cert_answer, confirm_answer, dis_answer, listed_answer, migrate_due, verify_answer};
+ghost use Rattle.channel_f.specs.Answers.{asm_answer, cert_answer, confirm_answer, dis_answer, listed_answer};
+ghost use Rattle.channel_f.specs.Answers.{migrate_due, verify_answer};
 ghost use Rattle.channel_f.specs.CaseLines.{IsFew};
 ghost use Rattle.channel_f.specs.Commands.{around, Told, TellsAudit, TellsDebugging, TellsGame};
 ghost use Rattle.loader.specs.Seen.{seen_game, seen_claim, seen_confirming};

@@ -1,5 +1,6 @@
 -- What holds of some chip described: by the sockets of the chain, as it does by the rack's.
-use Rattle.std.proofs.Common.{◌≡◌, ℕ, zero, suc, ◌+◌, ◌<◌, ◌≤◌, Bool, true, false, List, [], ◌∷◌, length, take, refl, sym, ap, ap₂, ◌∙◌, arith, zero-add}
+use Rattle.std.proofs.Common.{◌≡◌, ℕ, zero, suc, ◌+◌, ◌<◌, ◌≤◌, Bool, true, false, List, [], ◌∷◌, length, take, refl, sym, ap, ap₂, ◌∙◌}
+use Rattle.std.proofs.Common.{arith, zero-add}
 use Rattle.std.specs.Prelude.{◌==◌, ◌||◌, ◌&&◌, slice_get, Option, Some, None}
 use Rattle.std.specs.List.{enumerate_from, filter, list_any}
 use Rattle.std.proofs.lemmas.Bool.Decides.{nat_tests}

@@ -1,5 +1,6 @@
 -- A session that has gone back is at the scene of the entries that stay.
-use Rattle.std.proofs.Common.{◌≡◌, ℕ, zero, suc, ◌+◌, ◌*◌, ◌≤◌, Bool, true, false, List, [], ◌∷◌, ◌++◌, refl, sym, ap, ap₂, subst, ◌∙◌, arith}
+use Rattle.std.proofs.Common.{◌≡◌, ℕ, zero, suc, ◌+◌, ◌*◌, ◌≤◌, Bool, true, false, List, [], ◌∷◌, ◌++◌, refl, sym, ap, ap₂, subst, ◌∙◌}
+use Rattle.std.proofs.Common.{arith}
 use Rattle.std.proofs.lemmas.List.{append-nil}
 use Rattle.std.specs.Prelude.{◌-◌, ◌&&◌, nat_le, if◌then◌else◌, Option, Some, None, is_some, option_map, slice_get}
 use Rattle.std.specs.Option.{unwrap_or}
@@ -21,7 +22,8 @@ use Rattle.chip_debug.specs.Asking.{behind_allowed, replay_allowed, search_allow
 use Rattle.chip_debug.specs.Scenes.{Scene, begun, done_in, entered, meets_break, reached}
 use Rattle.chip_debug.specs.Searching.{is_sought, last_sought}
 use Rattle.chip_debug.specs.Standing.{SessionState, IsAt, IsPlayed}
-use Rattle.chip_debug.specs.Stepping.{back_by, back_to_break, found_or, gone_to, is_so, latest, met_before, passes, places, stored_by, stores_at, upto}
+use Rattle.chip_debug.specs.Stepping.{back_by, back_to_break, found_or, gone_to, is_so, latest, met_before, passes, places, stored_by}
+use Rattle.chip_debug.specs.Stepping.{stores_at, upto}
 use Rattle.chip_debug.specs.declared.breaks.Breaks.{Breaks}
 use Rattle.chip_debug.specs.declared.replaying.Sought.{Sought}
 use Rattle.chip_debug.specs.declared.replaying.Sought.TheVariants.{Break, Store}

@@ -2,7 +2,15 @@
 ghost use Rattle.std.specs.Prelude.{◌≡◌, ◌∷◌, IfOk, IfSome};
 ghost use Rattle.line_words.specs.Words.{words};
 ghost use Rattle.chip_debug.specs.Limits.{IsCommand};
-ghost use Rattle.chip_debug.specs.Commands.{power_of as spelled_power, pulse_of as spelled_pulse, step_of as spelled_step, run_of as spelled_run, bare_break as spelled_bare, shown_of as spelled_shown, keys_of as spelled_keys, break_at as spelled_at, break_romc as spelled_romc, break_chip as spelled_chip, break_of as spelled_break, mem_of as spelled_mem, alone as spelled_alone, back_run as spelled_back_run, back_of as spelled_back, stored_of as spelled_stored, back_with as spelled_back_with, with_one as spelled_one, with_two as spelled_two, command_of as spelled_command, line_of as spelled_line};
+ghost use Rattle.chip_debug.specs.Commands.{power_of as spelled_power, pulse_of as spelled_pulse};
+ghost use Rattle.chip_debug.specs.Commands.{step_of as spelled_step, run_of as spelled_run, bare_break as spelled_bare};
+ghost use Rattle.chip_debug.specs.Commands.{shown_of as spelled_shown, keys_of as spelled_keys, break_at as spelled_at};
+ghost use Rattle.chip_debug.specs.Commands.{break_romc as spelled_romc, break_chip as spelled_chip};
+ghost use Rattle.chip_debug.specs.Commands.{break_of as spelled_break, mem_of as spelled_mem, alone as spelled_alone};
+ghost use Rattle.chip_debug.specs.Commands.{back_run as spelled_back_run, back_of as spelled_back};
+ghost use Rattle.chip_debug.specs.Commands.{stored_of as spelled_stored, back_with as spelled_back_with};
+ghost use Rattle.chip_debug.specs.Commands.{with_one as spelled_one, with_two as spelled_two};
+ghost use Rattle.chip_debug.specs.Commands.{command_of as spelled_command, line_of as spelled_line};
 
 use super::answers::DebugCause;
 use super::command::Command;

@@ -95,7 +95,8 @@ fn halt_of(outcome: &Outcome) -> Option<Halt>
 }
 
 impl Session {
-    ghost use Rattle.std.specs.Prelude.{◌≡◌, ◌≤◌, ◌<◌, ◌+◌, ◌-◌, ◌^◌, IfOk, OnErr, length, map, sum_by, is_some, Option, None};
+    ghost use Rattle.std.specs.Prelude.{◌≡◌, ◌≤◌, ◌<◌, ◌+◌, ◌-◌, ◌^◌, IfOk, OnErr, length, map, sum_by, is_some};
+    ghost use Rattle.std.specs.Prelude.{Option, None};
     ghost use Rattle.f8_spec.specs.BusArbitration.{seat_of};
     ghost use Rattle.console_spec.specs.declared.Event.{Event};
     ghost use Rattle.console_spec.specs.RunText.{text_of};

@@ -2,7 +2,11 @@
 ghost use Rattle.std.specs.Prelude.{◌≡◌, ◌≤◌, ◌+◌, ◌*◌, ◌++◌, length, map, sum_by};
 ghost use Rattle.data_bus.specs.Racks.{views};
 ghost use Rattle.chip_debug.specs.Carried.{bytes_held};
-ghost use Rattle.chip_debug.specs.DebugText.{ready_line as spelled_ready, ran_line as spelled_ran, break_line as spelled_break, at_line as spelled_at, stored_text, stored_line as spelled_stored, second_text, counters_text, own_text, chip_line as spelled_chip, probe_line as spelled_probe, byte_text, mem_line as spelled_mem};
+ghost use Rattle.chip_debug.specs.DebugText.{ready_line as spelled_ready, ran_line as spelled_ran};
+ghost use Rattle.chip_debug.specs.DebugText.{break_line as spelled_break, at_line as spelled_at, stored_text};
+ghost use Rattle.chip_debug.specs.DebugText.{stored_line as spelled_stored, second_text, counters_text, own_text};
+ghost use Rattle.chip_debug.specs.DebugText.{chip_line as spelled_chip, probe_line as spelled_probe, byte_text};
+ghost use Rattle.chip_debug.specs.DebugText.{mem_line as spelled_mem};
 
 use super::sockets::byte_held;
 use chip_face::{Chip, ChipKind, Counters, MOST_CHIPS};

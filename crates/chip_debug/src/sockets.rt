@@ -2,7 +2,8 @@
 ghost use Rattle.std.specs.Prelude.{◌≡◌, ◌<◌, ◌≤◌, ◌+◌, length, map, slice_get, sum_by, Some};
 ghost use Rattle.f8_spec.specs.ChipState.{ChipState, held_byte};
 ghost use Rattle.data_bus.specs.Racks.{views};
-ghost use Rattle.chip_debug.specs.Breaks.{own_counters, seconds_differ as differ_second, is_parted as parted_from, are_apart as apart_from};
+ghost use Rattle.chip_debug.specs.Breaks.{own_counters, seconds_differ as differ_second, is_parted as parted_from};
+ghost use Rattle.chip_debug.specs.Breaks.{are_apart as apart_from};
 ghost use Rattle.chip_debug.specs.Carried.{byte_held as held_by_one};
 
 use chip_face::{Chip, ChipKind, Counters, MOST_CHIPS};

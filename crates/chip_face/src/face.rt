@@ -14,7 +14,8 @@ use std::alloc::Global;
 /// call changes it. A chip that is made has 0. The count is this project's own.
 pub trait Chip: Drop {
     ghost use Rattle.std.specs.Prelude.{◌≡◌, ◌≢◌, ◌↔◌, OnOk, OnErr, IsErrOf};
-    ghost use Rattle.f8_spec.specs.ChipState.{ChipState, IsWhole, MayHear, PowersOn, Settles, TakesKeys, TakesPulse, has_ram_at, held_byte, is_asking, latch_at, offered, told_counters};
+    ghost use Rattle.f8_spec.specs.ChipState.{ChipState, IsWhole, MayHear, PowersOn, Settles, TakesKeys, TakesPulse};
+    ghost use Rattle.f8_spec.specs.ChipState.{has_ram_at, held_byte, is_asking, latch_at, offered, told_counters};
     ghost use Rattle.chip_face.specs.Fitting.{FitsAs, IsSpec, kind_of};
     ghost use Rattle.chip_face.specs.Queries.{one_more};
     ghost use Rattle.chip_face.specs.Steps.{IsStepLength};

@@ -10,7 +10,8 @@ use Rattle.f8_spec.specs.declared.chips.Page.{Page}
 use Rattle.console_spec.specs.FlatMemory.{first_memory}
 use Rattle.console_spec.specs.Services.{Conflict, Undriven, Astray}
 use Rattle.console_spec.proofs.Played.{played, played_record, running}
-use Rattle.console_spec.specs.Run.{Done, Unserved, Reserved, power_position, position_after_reset, instruction_course, reset_course, chain_in_order}
+use Rattle.console_spec.specs.Run.{Done, Unserved, Reserved, power_position, position_after_reset, instruction_course, reset_course}
+use Rattle.console_spec.specs.Run.{chain_in_order}
 use Rattle.console_spec.specs.declared.Who.TheVariants.{Cpu, Socket, Nobody}
 
 abbrev pub rom_page : ℕ → Page

@@ -3,10 +3,12 @@
 use Rattle.std.specs.Prelude.{ℕ, Bool, true, false, ◌==◌, if◌then◌else◌, List, [], ◌∷◌, ◌++◌, Option, Some, None}
 use Rattle.f8_spec.specs.BusCodes.{driver_of}
 use Rattle.f8_spec.specs.MicroSteps.{Source, PortNumber, Step, steps_before_fetch, last_fetch, interrupt_steps}
-use Rattle.f8_spec.specs.BusArbitration.{Ruling, Served, Conflict as ConflictRuling, Undriven as UndrivenRuling, Astray as AstrayRuling, rule_of}
+use Rattle.f8_spec.specs.BusArbitration.{Ruling, Served, Conflict as ConflictRuling, Undriven as UndrivenRuling, Astray as AstrayRuling}
+use Rattle.f8_spec.specs.BusArbitration.{rule_of}
 use Rattle.f8_spec.specs.declared.bus.Driver.{Driver}
 use Rattle.f8_spec.specs.declared.instructions.Row.{Row}
-use Rattle.f8_spec.specs.declared.bus.Driver.TheVariants.{Memory, CounterByte, Vector as VectorDriver, Port, Cpu as CpuDriver, Nobody as NobodyDriver}
+use Rattle.f8_spec.specs.declared.bus.Driver.TheVariants.{Memory, CounterByte, Vector as VectorDriver, Port, Cpu as CpuDriver}
+use Rattle.f8_spec.specs.declared.bus.Driver.TheVariants.{Nobody as NobodyDriver}
 use Rattle.f8_spec.specs.declared.bus.BusRule.{BusRule}
 use Rattle.f8_spec.specs.declared.bus.BusRule.TheVariants.{Read, Store, PortRead, PortWrite, Vector, NoChip}
 use Rattle.console_spec.specs.Processor.{Flow, Inputs, byte_of}

@@ -6,7 +6,8 @@ use Rattle.std.specs.Prelude.{Option, Some, None}
 use Rattle.f8_spec.specs.Words.{word, places_on, displaced, sum_value, decimal_value}
 use Rattle.f8_spec.specs.Flags.{Status, clear_status, status_byte, status_of, after_result, after_sum}
 use Rattle.f8_spec.specs.Instructions.{row_of, row_length}
-use Rattle.f8_spec.specs.RegisterNumbers.{register_j, register_hu, register_hl, register_ku, register_kl, register_qu, register_ql, pointed_field, up_field, down_field}
+use Rattle.f8_spec.specs.RegisterNumbers.{register_j, register_hu, register_hl, register_ku, register_kl, register_qu, register_ql}
+use Rattle.f8_spec.specs.RegisterNumbers.{pointed_field, up_field, down_field}
 use Rattle.f8_spec.specs.MicroSteps.{Source, Opcode, Operand, SecondOperand, KeptOperand, DataByte, DataHigh, DataLow}
 use Rattle.f8_spec.specs.MicroSteps.{StackHigh, StackLow, KHigh, KLow, QHigh, QLow, HHigh, HLow, Accumulator}
 use Rattle.f8_spec.specs.MicroSteps.{PortNumber, PortByte, VectorHigh, VectorLow, NoByte, clocks_along, reset_steps}

@@ -1,6 +1,7 @@
 -- A run by a script: what it tells as it goes, and where it ends. At the end of an instruction come, in this order, its bus steps where they
 -- are traced, its write, its frame where one falls and is shown, the end of the run, and the events of that frame.
-use Rattle.std.specs.Prelude.{ℕ, zero, suc, false, ◌==◌, nat_le, Bool, if◌then◌else◌, List, [], ◌∷◌, ◌++◌, length, take, map, flat_map, Option, Some, None}
+use Rattle.std.specs.Prelude.{ℕ, zero, suc, false, ◌==◌, nat_le, Bool, if◌then◌else◌, List, [], ◌∷◌, ◌++◌, length, take, map, flat_map}
+use Rattle.std.specs.Prelude.{Option, Some, None}
 use Rattle.std.specs.List.{list_any}
 use Rattle.f8_spec.specs.ChipState.{ChipView}
 use Rattle.f8_spec.specs.declared.chips.PowerOn.{PowerOn}

@@ -23,9 +23,31 @@ impl Model for Kept {
 
     ghost Value = { KeptRegisters };
 
-    ghost view = { λ k. record { accumulator = k.accumulator; isar = k.isar; status = status_of_flags k.flags; pair = k.pair; high = k.high; low = k.low; latches = k.latches } };
+    ghost view = { λ k. record {
+      accumulator = k.accumulator;
+      isar = k.isar;
+      status = status_of_flags k.flags;
+      pair = k.pair;
+      high = k.high;
+      low = k.low;
+      latches = k.latches;
+    } };
 
     ghost invariant = { λ k. (k.isar < 64) × (k.pair < 63) × (length k.latches ≡ 2) };
 
-    ghost inverse = { λ k. record { accumulator = k.accumulator; isar = k.isar; flags = record { sign = k.status.sign; carry = k.status.carry; zero = k.status.zero; overflow = k.status.overflow; icb = k.status.icb }; pair = k.pair; high = k.high; low = k.low; latches = k.latches } };
+    ghost inverse = { λ k. record {
+      accumulator = k.accumulator;
+      isar = k.isar;
+      flags = record {
+        sign = k.status.sign;
+        carry = k.status.carry;
+        zero = k.status.zero;
+        overflow = k.status.overflow;
+        icb = k.status.icb;
+      };
+      pair = k.pair;
+      high = k.high;
+      low = k.low;
+      latches = k.latches;
+    } };
 }

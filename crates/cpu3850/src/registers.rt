@@ -22,7 +22,12 @@ impl Model for RegisterFile {
 
     ghost Value = { Registers };
 
-    ghost view = { λ r. record { accumulator = r.accumulator; isar = r.isar; status = status_of_flags r.flags; scratchpad = r.scratchpad } };
+    ghost view = { λ r. record {
+      accumulator = r.accumulator;
+      isar = r.isar;
+      status = status_of_flags r.flags;
+      scratchpad = r.scratchpad;
+    } };
 
     ghost invariant = { λ r. (r.isar < 64) × (length r.scratchpad ≡ 64) };
 }
@@ -34,7 +39,9 @@ impl RegisterFile {
     ghost use Rattle.f8_spec.specs.Flags.{after_sum};
     ghost use Rattle.cpu3850.specs.CpuSteps.{AreInRange, driven_in};
     ghost use Rattle.cpu3850.specs.Keeping.{kept_with, restored_registers};
-    ghost use Rattle.console_spec.specs.Processor.{at_power, scratch_byte, with_scratch, register_of, field_byte, with_isar_stepped, with_result, with_sum, with_decimal_sum, compared, decremented, effect, any_chosen, is_taken, told_regs};
+    ghost use Rattle.console_spec.specs.Processor.{at_power, scratch_byte, with_scratch, register_of, field_byte};
+    ghost use Rattle.console_spec.specs.Processor.{with_isar_stepped, with_result, with_sum, with_decimal_sum};
+    ghost use Rattle.console_spec.specs.Processor.{compared, decremented, effect, any_chosen, is_taken, told_regs};
 
     pub(crate) fn power(fill: u8) -> RegisterFile
         ensures { result ≡ (at_power fill).registers }

@@ -1,5 +1,6 @@
 // The bus steps of each instruction.
-ghost use Rattle.std.specs.Prelude.{◌≡◌, ◌==◌, ◌<◌, ◌≤◌, ◌++◌, [], ◌∷◌, ◌-◌, ◌*◌, true, false, if◌then◌else◌, map, sum_by, length, take, slice_get};
+ghost use Rattle.std.specs.Prelude.{◌≡◌, ◌==◌, ◌<◌, ◌≤◌, ◌++◌, [], ◌∷◌, ◌-◌, ◌*◌, true, false, if◌then◌else◌, map};
+ghost use Rattle.std.specs.Prelude.{sum_by, length, take, slice_get};
 ghost use Rattle.f8_spec.specs.MicroSteps.{steps_before_fetch};
 ghost use Rattle.f8_spec.specs.BusCodes.{driver_of as driver_by_table};
 ghost use Rattle.f8_spec.specs.Instructions.{clocks_of, step_clocks};

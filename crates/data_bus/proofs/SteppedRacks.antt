@@ -10,7 +10,8 @@ use Rattle.f8_spec.specs.BusArbitration.{Seat, seat_of}
 use Rattle.probe.specs.ProbeState.{ProbeState, probe_after}
 use Rattle.data_bus.specs.declared.marks.Marks.{Marks}
 use Rattle.data_bus.specs.Racks.{NumberedZip, SettlesStep, RackSettles, views}
-use Rattle.data_bus.specs.KnownAgreement.{marks_after, CountAgrees, ChipAgrees, AllAgree, AreAddresses, AllAddresses, IsCounted, has_page, parts}
+use Rattle.data_bus.specs.KnownAgreement.{marks_after, CountAgrees, ChipAgrees, AllAgree, AreAddresses, AllAddresses, IsCounted, has_page}
+use Rattle.data_bus.specs.KnownAgreement.{parts}
 use Rattle.data_bus.proofs.Agreements.{keeps}
 use Rattle.data_bus.proofs.CounterRanges.{moved_small}
 use Rattle.data_bus.proofs.SteppedChips.{StepsAlong, own_moved, steps_along}

@@ -2,7 +2,8 @@
 use Rattle.std.specs.Prelude.{ℕ, List, Option, Some, None, Result, Ok, Err}
 use Rattle.f8_spec.specs.BusCodes.{driver_of}
 use Rattle.f8_spec.specs.ChipState.{ChipState}
-use Rattle.f8_spec.specs.BusArbitration.{Ruling, Served as ServedBy, Conflict, Undriven, Astray, place_in, judged, byte_by, bus_byte, view_ruling}
+use Rattle.f8_spec.specs.BusArbitration.{Ruling, Served as ServedBy, Conflict, Undriven, Astray, place_in, judged, byte_by, bus_byte}
+use Rattle.f8_spec.specs.BusArbitration.{view_ruling}
 use Rattle.f8_spec.specs.declared.bus.BusRule.{BusRule}
 use Rattle.f8_spec.specs.declared.bus.Party.{Party}
 use Rattle.probe.specs.ProbeState.{ProbeState}

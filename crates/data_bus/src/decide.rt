@@ -1,7 +1,8 @@
 // The bus rule: whether a step is served, by what the chips answered.
 ghost use Rattle.std.specs.Prelude.{◌≡◌, ◌≤◌, ℕ, List, length};
 ghost use Rattle.f8_spec.specs.BusCodes.{driver_of as driver_by_table};
-ghost use Rattle.f8_spec.specs.BusArbitration.{byte_by, judged, one_party, port_read_ruling, port_write_ruling, read_ruling, store_ruling, unless_bystander};
+ghost use Rattle.f8_spec.specs.BusArbitration.{byte_by, judged, one_party, port_read_ruling, port_write_ruling};
+ghost use Rattle.f8_spec.specs.BusArbitration.{read_ruling, store_ruling, unless_bystander};
 ghost use Rattle.data_bus.specs.Steps.{poll_answer, ruled, served_of};
 
 use super::{BusFault, Cycle, Parties, Served};

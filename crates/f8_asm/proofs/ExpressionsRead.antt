@@ -1,12 +1,14 @@
 -- Expressions are read whole.
-use Rattle.std.proofs.Common.{◌≡◌, ℕ, zero, suc, ◌<◌, false, List, [], ◌∷◌, ◌++◌, length, Ok, refl, sym, ◌∙◌, arith, append_assoc, length-append, le_refl}
+use Rattle.std.proofs.Common.{◌≡◌, ℕ, zero, suc, ◌<◌, false, List, [], ◌∷◌, ◌++◌, length, Ok, refl, sym, ◌∙◌, arith, append_assoc}
+use Rattle.std.proofs.Common.{length-append, le_refl}
 use Rattle.asm_text.specs.declared.answers.Token.{Token}
 use Rattle.asm_text.specs.declared.answers.TokenKind.TheVariants as kind
 use Rattle.f8_asm.specs.declared.values.Operator.{Operator}
 use Rattle.f8_asm.specs.declared.values.Prefix.{Prefix}
 use Rattle.f8_asm.specs.declared.values.Prefix.TheVariants.{Negative, LowByte, HighByte}
 use Rattle.f8_asm.specs.ExpressionForms.{operator_mark, strength_of, prefix_mark, Forms, BeginsWithExpression}
-use Rattle.f8_asm.specs.Grammar.{Actions, Read, level, parenthesis_expression, behind_prefix, mark_operand, operand_of, operand, deeper, expression}
+use Rattle.f8_asm.specs.Grammar.{Actions, Read, level, parenthesis_expression, behind_prefix, mark_operand, operand_of, operand, deeper}
+use Rattle.f8_asm.specs.Grammar.{expression}
 use Rattle.f8_asm.specs.Words.{is_reserved}
 use Rattle.f8_asm.proofs.Chain.{ChainOn, chain_goes, chain_stops, chain_ends}
 use Rattle.f8_asm.proofs.Depth.{operand_mark}

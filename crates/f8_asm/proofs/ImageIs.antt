@@ -23,7 +23,8 @@ use Rattle.f8_asm.specs.Judging.{operand_value, unsigned_value}
 use Rattle.text_lines.specs.Lines.{lines}
 use Rattle.f8_asm.specs.Marks.{no_marks, marks_with, is_free}
 use Rattle.f8_asm.specs.Names.{value_of, with_name}
-use Rattle.f8_asm.specs.PassOne.{in_line, tokens_in, line_tokens, statement_checked, check_with, check, Reading, read_line, read_lines, no_reading}
+use Rattle.f8_asm.specs.PassOne.{in_line, tokens_in, line_tokens, statement_checked, check_with, check, Reading, read_line, read_lines}
+use Rattle.f8_asm.specs.PassOne.{no_reading}
 use Rattle.f8_asm.specs.PassTwo.{Layout, no_layout, is_inside, with_label, moved_to, layout_filled as filled_from, fits}
 use Rattle.f8_asm.specs.PassTwo.{layout_after, settle, with_placed, place, place_lines}
 use Rattle.f8_asm.specs.PassThree.{no_bytes, table_with, line_bytes, emit, emit_lines}

@@ -1,5 +1,6 @@
 -- Each statement of a listing is read as the bytes that it was written for.
-use Rattle.std.proofs.Common.{◌≡◌, ℕ, ◌+◌, ◌/◌, ◌%◌, ◌*◌, ◌<◌, arith, pos, ◌-ℤ◌, Option, true, false, List, [], ◌∷◌, ◌++◌, length, None, Some, Ok, Err, refl}
+use Rattle.std.proofs.Common.{◌≡◌, ℕ, ◌+◌, ◌/◌, ◌%◌, ◌*◌, ◌<◌, arith, pos, ◌-ℤ◌, Option, true, false, List, [], ◌∷◌, ◌++◌, length, None}
+use Rattle.std.proofs.Common.{Some, Ok, Err, refl}
 use Rattle.text_lines.specs.Printable.{is_printable}
 use Rattle.std.specs.Prelude.{nat_lt}
 use Rattle.std.specs.List.{list_all}

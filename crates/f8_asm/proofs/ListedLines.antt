@@ -1,5 +1,6 @@
 -- A listing as lines, and what it is for a line to be read as bytes.
-use Rattle.std.proofs.Common.{◌≡◌, ℕ, ◌*◌, ◌<◌, true, false, List, [], ◌∷◌, ◌++◌, length, None, Ok, refl, sym, ◌∙◌, ap, arith, append_assoc, append-nil}
+use Rattle.std.proofs.Common.{◌≡◌, ℕ, ◌*◌, ◌<◌, true, false, List, [], ◌∷◌, ◌++◌, length, None, Ok, refl, sym, ◌∙◌, ap, arith, append_assoc}
+use Rattle.std.proofs.Common.{append-nil}
 use Rattle.text_lines.specs.Printable.{is_printable}
 use Rattle.std.specs.Prelude.{codes}
 use Rattle.std.specs.List.{list_all}

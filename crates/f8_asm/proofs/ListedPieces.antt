@@ -13,7 +13,8 @@ use Rattle.f8_asm.specs.declared.pieces.Tail.TheVariants as tail
 use Rattle.f8_asm.specs.declared.spelling.Entry.{Entry}
 use Rattle.f8_asm.specs.declared.spelling.Entry.TheVariants as entry
 use Rattle.f8_asm.specs.Fields.{octet}
-use Rattle.f8_asm.specs.Listing.{target, data_piece, byte_piece, reaching, place_piece, word_piece, tail_piece, tail_of, op_piece, piece, entries}
+use Rattle.f8_asm.specs.Listing.{target, data_piece, byte_piece, reaching, place_piece, word_piece, tail_piece, tail_of, op_piece, piece}
+use Rattle.f8_asm.specs.Listing.{entries}
 use Rattle.f8_asm.proofs.ListedLines.{line_of, Says}
 use Rattle.f8_asm.proofs.ListedBytes.{found, says_alone, says_data, says_byte, says_word, says_mask, says_branch}
 

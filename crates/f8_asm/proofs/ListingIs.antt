@@ -11,7 +11,8 @@ use Rattle.f8_asm.specs.declared.pieces.Piece.{Piece}
 use Rattle.f8_asm.specs.declared.pieces.Tail.{Tail}
 use Rattle.f8_asm.specs.declared.pieces.Tail.TheVariants as tail
 use Rattle.f8_asm.specs.declared.spelling.Entry.{Entry}
-use Rattle.f8_asm.specs.Listing.{target, data_piece, byte_piece, reaching, place_piece, word_piece, tail_piece, tail_of, op_piece, piece, entries, listing}
+use Rattle.f8_asm.specs.Listing.{target, data_piece, byte_piece, reaching, place_piece, word_piece, tail_piece, tail_of, op_piece, piece}
+use Rattle.f8_asm.specs.Listing.{entries, listing}
 use Rattle.f8_asm.specs.ListingLaw.{is_branch_row, is_branch, LeadsTo, IsListing, nothing_left, instruction_alone}
 use Rattle.f8_asm.specs.ListingLaw.{instruction_with_byte, instruction_with_word, branch, branch_astray, reserved}
 use Rattle.f8_asm.specs.ListingLaw.{cut_instruction, IsListingText}

@@ -47,12 +47,14 @@ names_with false e es more v all rest = grind (arith, common_steps)
 names_behind : {A : Type 0} (e : List ℕ × A) (es : List (List ℕ × A)) → IsTrue (are_names (e ∷ es)) → IsTrue (are_names es)
 names_behind e es all = grind (arith, common_steps)
 
-pub names_kept : {A : Type 0} (es : List (List ℕ × A)) (name : List ℕ) (v : A) → IsTrue (are_names es) → IsTrue (is_name name) → IsTrue (are_names (with_name es name v))
+pub names_kept : {A : Type 0} (es : List (List ℕ × A)) (name : List ℕ) (v : A) → IsTrue (are_names es) → IsTrue (is_name name) →
+    IsTrue (are_names (with_name es name v))
 names_kept [] name v all one = grind (arith, common_steps)
 names_kept (e ∷ es) name v all one = names_with (bytes_eq name e.0) e es (with_name es name v) v all (names_kept es name v (names_behind e es all) one)
 
 -- each of some names is one
-pub name_at : {A : Type 0} (es : List (List ℕ × A)) (k : ℕ) (name : List ℕ) (v : A) → IsTrue (are_names es) → Some (name, v) ≡ slice_get es k → IsTrue (is_name name)
+pub name_at : {A : Type 0} (es : List (List ℕ × A)) (k : ℕ) (name : List ℕ) (v : A) → IsTrue (are_names es) →
+    Some (name, v) ≡ slice_get es k → IsTrue (is_name name)
 name_at [] k name v all here = cc
 name_at (e ∷ es) zero name v all here = grind (arith, common_steps)
 name_at (e ∷ es) (suc k) name v all here = name_at es k name v (names_behind e es all) here

@@ -1,5 +1,6 @@
 -- The passes over lines of which each was read once give what the passes over tokens give.
-use Rattle.std.proofs.Common.{◌≡◌, ℕ, ◌+◌, ℤ, pos, Bool, true, false, List, [], ◌∷◌, ◌++◌, length, drop, Option, Some, None, is_some, Result, Ok, Err}
+use Rattle.std.proofs.Common.{◌≡◌, ℕ, ◌+◌, ℤ, pos, Bool, true, false, List, [], ◌∷◌, ◌++◌, length, drop, Option, Some, None, is_some}
+use Rattle.std.proofs.Common.{Result, Ok, Err}
 use Rattle.std.proofs.Common.{refl, sym, ap, ◌∙◌, subst, length-append}
 use Rattle.std.specs.Prelude.{if◌then◌else◌}
 use Rattle.asm_text.specs.declared.answers.Token.{Token}
@@ -24,9 +25,12 @@ use Rattle.f8_asm.specs.Grammar.{column_of}
 use Rattle.f8_asm.specs.Image.{Picture, ascending, image_in, image_of}
 use Rattle.f8_asm.specs.Judging.{operand_value, unsigned_value}
 use Rattle.f8_asm.specs.Names.{value_of, with_name}
-use Rattle.f8_asm.specs.ParsedLines.{line_of, parsed, names_after, Parsing, parse_tokens, parse_numbered, parse_line, parse_lines, no_parsing}
-use Rattle.f8_asm.specs.ParsedLines.{settle_parsed, place_parsed, place_all_parsed, parsed_bytes, emit_parsed, emit_all_parsed, image_parsed}
-use Rattle.f8_asm.specs.PassOne.{end_of, in_line, in_line_to, line_tokens, check_with, check, Reading, read_numbered, read_line, read_lines, no_reading}
+use Rattle.f8_asm.specs.ParsedLines.{line_of, parsed, names_after, Parsing, parse_tokens, parse_numbered, parse_line, parse_lines}
+use Rattle.f8_asm.specs.ParsedLines.{no_parsing}
+use Rattle.f8_asm.specs.ParsedLines.{settle_parsed, place_parsed, place_all_parsed, parsed_bytes, emit_parsed, emit_all_parsed}
+use Rattle.f8_asm.specs.ParsedLines.{image_parsed}
+use Rattle.f8_asm.specs.PassOne.{end_of, in_line, in_line_to, line_tokens, check_with, check, Reading, read_numbered, read_line, read_lines}
+use Rattle.f8_asm.specs.PassOne.{no_reading}
 use Rattle.f8_asm.specs.PassThree.{no_bytes, line_bytes, emit}
 use Rattle.f8_asm.specs.PassTwo.{Layout, no_layout, with_label, fits, layout_after, settle, place}
 use Rattle.f8_asm.specs.Statements.{statement, statement_valued, label_of, behind_label, effect_of, twice}

@@ -35,7 +35,8 @@ use Rattle.f8_asm.specs.Statements.{effect_of, operand_valued, statement_valued}
 use Rattle.f8_asm.specs.Words.{shape_of}
 use Rattle.f8_spec.specs.Instructions.{encoded}
 use Rattle.f8_spec.specs.declared.instructions.Op.{Op}
-use Rattle.f8_asm.proofs.Alike.{Alike, alike_ok, alike_err, alike_self, alike_then, alike_if, alike_both, read-ok, AllAlike, none_alike, more_alike}
+use Rattle.f8_asm.proofs.Alike.{Alike, alike_ok, alike_err, alike_self, alike_then, alike_if, alike_both, read-ok, AllAlike, none_alike}
+use Rattle.f8_asm.proofs.Alike.{more_alike}
 use Rattle.f8_asm.proofs.Alike.{alike_length}
 use Rattle.f8_asm.proofs.ExpressionsAlike.{Actalike, expression_alike}
 

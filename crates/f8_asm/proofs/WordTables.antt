@@ -1,5 +1,6 @@
 -- Tables of words: a word longer than all of a table isn't in it, and what a table has at a word is of one kind if all in it is.
-use Rattle.std.proofs.Common.{◌≡◌, ℕ, ◌<◌, ◌≤◌, Bool, true, false, List, [], ◌∷◌, length, get_or, map, Option, None, Some, refl, sym, ap, ◌∙◌, arith, rules}
+use Rattle.std.proofs.Common.{◌≡◌, ℕ, ◌<◌, ◌≤◌, Bool, true, false, List, [], ◌∷◌, length, get_or, map, Option, None, Some, refl, sym, ap}
+use Rattle.std.proofs.Common.{◌∙◌, arith, rules}
 use Rattle.std.specs.Borrow.{Bor}
 use Rattle.std.specs.Prelude.{IfSome, cond, ◌==◌, filter}
 use Rattle.std.specs.Char.{to_ascii_lowercase}
@@ -15,7 +16,8 @@ use Rattle.f8_spec.proofs.ValuesBelow.{values_below, same_below}
 use Rattle.f8_asm.specs.declared.words.Shape.{Shape}
 use Rattle.f8_asm.specs.declared.words.TheConstants.{PLAIN_OPS, FIELD_WORDS}
 use Rattle.f8_asm.specs.Registers.{same_word, at_word, register_words, register_of}
-use Rattle.f8_asm.specs.Words.{plain_ops, aliases, field_words, directives, own_word, field_word, initial_from, initial_of, op_of, shape_of, HasRoom}
+use Rattle.f8_asm.specs.Words.{plain_ops, aliases, field_words, directives, own_word, field_word, initial_from, initial_of, op_of, shape_of}
+use Rattle.f8_asm.specs.Words.{HasRoom}
 
 -- words of different lengths differ
 unlike : (a b : List ℕ) → length b < length a → same_word a b ≡ false

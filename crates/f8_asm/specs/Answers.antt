@@ -3,7 +3,8 @@ use Rattle.std.specs.Prelude.{ℕ, List, Vec, Option, Result}
 use Rattle.std.specs.Borrow.{Bor}
 use Rattle.std.specs.Global.{Global}
 use Rattle.f8_asm.specs.declared.answers.AsmCause.{AsmCause}
-use Rattle.f8_asm.specs.declared.answers.AsmCause.TheVariants.{Utf8, Token, Unknown, Twice, Undefined, Range, BranchRange, Outside, Overlap, Form}
+use Rattle.f8_asm.specs.declared.answers.AsmCause.TheVariants.{Utf8, Token, Unknown, Twice, Undefined, Range, BranchRange, Outside, Overlap}
+use Rattle.f8_asm.specs.declared.answers.AsmCause.TheVariants.{Form}
 use Rattle.text_lines.specs.declared.read_error.ReadError.{ReadError}
 use Rattle.f8_asm.specs.declared.faults.LineFault.{LineFault}
 use Rattle.text_lines.specs.ReadErrors.{SaysSeen}

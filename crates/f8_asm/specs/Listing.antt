@@ -1,6 +1,7 @@
 -- The one text of bytes: a statement a line, with no alias.
 use Rattle.std.specs.Borrow.{Bor}
-use Rattle.std.specs.Prelude.{ℕ, zero, suc, ◌+◌, ◌-◌, ◌*◌, ◌<◌, ◌==◌, nat_lt, nat_le, List, [], ◌∷◌, ◌++◌, codes, unwrap_or, Option, Some, None, if◌then◌else◌}
+use Rattle.std.specs.Prelude.{ℕ, zero, suc, ◌+◌, ◌-◌, ◌*◌, ◌<◌, ◌==◌, nat_lt, nat_le, List, [], ◌∷◌, ◌++◌, codes, unwrap_or, Option, Some}
+use Rattle.std.specs.Prelude.{None, if◌then◌else◌}
 use Rattle.f8_spec.specs.RegisterNumbers.{pointed_field, up_field, down_field}
 use Rattle.f8_spec.specs.Spelling.{hex2, hex4}
 use Rattle.f8_spec.specs.Instructions.{decoded, row_of, mnemonic_of}

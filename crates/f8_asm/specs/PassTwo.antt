@@ -1,5 +1,6 @@
 -- The second pass: the address of each line, the values of names, and which addresses are filled.
-use Rattle.std.specs.Prelude.{ℕ, ℤ, pos, ◌+◌, Bool, ◌||◌, ◌&&◌, ◌==◌, nat_le, List, [], ◌∷◌, ◌++◌, Option, Some, None, is_some, Result, Ok, Err, if◌then◌else◌}
+use Rattle.std.specs.Prelude.{ℕ, ℤ, pos, ◌+◌, Bool, ◌||◌, ◌&&◌, ◌==◌, nat_le, List, [], ◌∷◌, ◌++◌, Option, Some, None, is_some, Result, Ok}
+use Rattle.std.specs.Prelude.{Err, if◌then◌else◌}
 use Rattle.asm_text.specs.declared.answers.Token.{Token}
 use Rattle.f8_asm.specs.declared.answers.AsmCause.TheVariants as cause
 use Rattle.f8_asm.specs.declared.answers.AsmFault.{AsmFault}

@@ -1,5 +1,6 @@
 -- Mnemonics and directives: which words there are, and what operands go behind each.
-use Rattle.std.specs.Prelude.{ℕ, ◌-◌, nat_lt, if◌then◌else◌, ◌≤◌, Bool, ◌||◌, List, [], ◌∷◌, codes, map, get_or, Option, is_some, option_map}
+use Rattle.std.specs.Prelude.{ℕ, ◌-◌, nat_lt, if◌then◌else◌, ◌≤◌, Bool, ◌||◌, List, [], ◌∷◌, codes, map, get_or, Option, is_some}
+use Rattle.std.specs.Prelude.{option_map}
 use Rattle.std.specs.Char.{to_ascii_lowercase}
 use Rattle.std.specs.Option.{option_or}
 use Rattle.f8_spec.specs.Instructions.{encoded, row_of, mnemonic_of}

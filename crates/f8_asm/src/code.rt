@@ -117,7 +117,8 @@ fn list_bytes(
     operands: &[Operand<Formula>],
 ) -> Result<Vec<u8>, LineStop>
     ensures { let acts = values scope.now.symbols.now scope.now.address in
-        SaysOfBytes result (list_bytes size (map (operand_valued (formula_value Outcome.OutOfRange acts)) operands.now)) }
+        SaysOfBytes result (list_bytes size (map (operand_valued
+        (formula_value Outcome.OutOfRange acts)) operands.now)) }
 {
     let mut bytes = Vec::new(alloc);
     for operand in operands {

@@ -2,7 +2,8 @@
 ghost use Rattle.std.specs.Prelude.{◌≡◌, ◌+◌, ◌≤◌, length, IfOk};
 ghost use Rattle.f8_asm.specs.Answers.{SaysOfRead};
 ghost use Rattle.f8_asm.specs.Formulas.{formulas};
-ghost use Rattle.f8_asm.specs.Grammar.{column_of, mark_operator, operator_at, parenthesis_end, parenthesis_expression, mark_operand, deeper, behind_prefix, operand, level, expression, ReadsSome};
+ghost use Rattle.f8_asm.specs.Grammar.{column_of, mark_operator, operator_at, parenthesis_end, parenthesis_expression};
+ghost use Rattle.f8_asm.specs.Grammar.{mark_operand, deeper, behind_prefix, operand, level, expression, ReadsSome};
 
 use crate::faults::{LineStop, form};
 use crate::formulas::{Formula, Step};

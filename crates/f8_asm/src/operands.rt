@@ -2,7 +2,8 @@
 ghost use Rattle.std.specs.Prelude.{◌≡◌, ◌≤◌, IfOk};
 ghost use Rattle.f8_asm.specs.Evaluation.{values};
 ghost use Rattle.f8_asm.specs.Formulas.{formula_value};
-ghost use Rattle.f8_asm.specs.Statements.{item_size, single_size, statement_size, operand_valued, statement_valued, single_effect, effect_of};
+ghost use Rattle.f8_asm.specs.Statements.{item_size, single_size, statement_size, operand_valued, statement_valued};
+ghost use Rattle.f8_asm.specs.Statements.{single_effect, effect_of};
 
 use crate::fields::Field;
 use crate::formulas::{Formula, Scope, formula_value};
@@ -137,7 +138,8 @@ fn single_effect(
     operand: &Operand<Formula>,
 ) -> Result<Effect, AllocError>
     ensures { let acts = values scope.now.symbols.now scope.now.address in
-        IfOk result (λ e. e ≡ single_effect single (operand_valued (formula_value Outcome.OutOfRange acts) operand.now)) }
+        IfOk result (λ e. e ≡ single_effect single (operand_valued
+        (formula_value Outcome.OutOfRange acts) operand.now)) }
 {
     match single {
         Single::Equ => Ok(Effect::Names(valued(alloc, scope, operand)?)),

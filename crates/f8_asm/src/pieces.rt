@@ -1,6 +1,7 @@
 // Which statements bytes are listed as.
 ghost use Rattle.std.specs.Prelude.{◌≡◌, ◌<◌, ◌≤◌, ◌+◌, length};
-ghost use Rattle.f8_asm.specs.Listing.{EntryFits, FieldFits, field_of, tail_of, target, data_piece, byte_piece, place_piece, word_piece, op_piece, piece};
+ghost use Rattle.f8_asm.specs.Listing.{EntryFits, FieldFits, field_of, tail_of, target, data_piece, byte_piece};
+ghost use Rattle.f8_asm.specs.Listing.{place_piece, word_piece, op_piece, piece};
 ghost use Rattle.f8_spec.specs.Instructions.{decoded};
 
 use crate::spelling::Entry;

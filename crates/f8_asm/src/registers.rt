@@ -1,7 +1,8 @@
 // Register words, and the instruction LR between two of them.
 ghost use Rattle.std.specs.Prelude.{◌≡◌, ◌<◌, map, IfSome};
 ghost use Rattle.f8_spec.specs.Instructions.{InRange};
-ghost use Rattle.f8_asm.specs.Registers.{same_word, at_word, register_of, register_number, is_accumulator, load_op, store_op, move_op, pair_op};
+ghost use Rattle.f8_asm.specs.Registers.{same_word, at_word, register_of, register_number, is_accumulator, load_op};
+ghost use Rattle.f8_asm.specs.Registers.{store_op, move_op, pair_op};
 
 use asm_text::Name;
 use f8_spec::Op;

@@ -1,7 +1,8 @@
 // How a listing writes statements.
 ghost use Rattle.std.specs.Prelude.{◌≡◌, ◌<◌, ◌++◌, OnOk};
 ghost use Rattle.f8_spec.specs.Spelling.{hex2, hex4};
-ghost use Rattle.f8_asm.specs.Listing.{small_decimal, register_text, pair_text, seen_text, gap_of, front_of, field_of, FieldFits, EntryFits, field_text, back_of, with_head, with_entry};
+ghost use Rattle.f8_asm.specs.Listing.{small_decimal, register_text, pair_text, seen_text, gap_of, front_of, field_of};
+ghost use Rattle.f8_asm.specs.Listing.{FieldFits, EntryFits, field_text, back_of, with_head, with_entry};
 
 use f8_ops::name;
 use f8_spec::Op;

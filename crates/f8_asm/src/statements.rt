@@ -6,7 +6,10 @@ ghost use Rattle.text_lines.specs.ReadErrors.{Says};
 ghost use Rattle.f8_asm.specs.Fields.{limit_of};
 ghost use Rattle.f8_asm.specs.Formulas.{formulas};
 ghost use Rattle.f8_asm.specs.Grammar.{ReadsSome};
-ghost use Rattle.f8_asm.specs.Statements.{operand_at, comma, seen_rest, done, register_at, instruction_of, one, two, register_number_at, register_operand, accumulator, load_from, load, items, item_list, operands, wants_label, no_mnemonic, statement_of, statement, begins_colon, label_of, behind_label};
+ghost use Rattle.f8_asm.specs.Statements.{operand_at, comma, seen_rest, done, register_at, instruction_of, one, two};
+ghost use Rattle.f8_asm.specs.Statements.{register_number_at, register_operand, accumulator, load_from, load, items};
+ghost use Rattle.f8_asm.specs.Statements.{item_list, operands, wants_label, no_mnemonic, statement_of, statement};
+ghost use Rattle.f8_asm.specs.Statements.{begins_colon, label_of, behind_label};
 ghost use Rattle.f8_asm.specs.Words.{HasRoom, shape_of};
 
 use crate::answers::AsmCause;

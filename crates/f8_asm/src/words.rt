@@ -3,7 +3,8 @@ ghost use Rattle.std.specs.Prelude.{◌≡◌, ◌<◌, length, map, IfSome};
 ghost use Rattle.std.specs.Option.{option_or};
 ghost use Rattle.f8_spec.specs.Instructions.{InRange};
 ghost use Rattle.f8_asm.specs.Registers.{at_word};
-ghost use Rattle.f8_asm.specs.Words.{initial_of, row_at, plain_ops, own_word, field_word, field_words, directives, op_of, op_shape, shape_of_op, shape_of, is_reserved, HasRoom};
+ghost use Rattle.f8_asm.specs.Words.{initial_of, row_at, plain_ops, own_word, field_word, field_words, directives};
+ghost use Rattle.f8_asm.specs.Words.{op_of, op_shape, shape_of_op, shape_of, is_reserved, HasRoom};
 
 use crate::fields::Field;
 use crate::registers::{at_word, is_word, register_of};

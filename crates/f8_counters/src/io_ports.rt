@@ -1,6 +1,7 @@
 // The four ports of a chip that has two data ports.
 ghost use Rattle.std.specs.Prelude.{◌≡◌, [], ◌∷◌, false, is_some, option_and_then, option_map};
-ghost use Rattle.f8_spec.specs.ChipState.{data_port, keyed, latch_at, offset_from, port_role, port_written_if, read_port, vector_under};
+ghost use Rattle.f8_spec.specs.ChipState.{data_port, keyed, latch_at, offset_from, port_role, port_written_if};
+ghost use Rattle.f8_spec.specs.ChipState.{read_port, vector_under};
 ghost use Rattle.f8_spec.specs.ShiftTimer.{idle_timer};
 
 use super::interrupts::Interrupts;

@@ -1,6 +1,8 @@
 -- The chip that is chosen is the flat machine's, and so is its vector.
-use Rattle.std.proofs.Common.{◌≡◌, ℕ, suc, ◌+◌, ◌-◌, ◌<◌, ◌≤◌, Bool, true, false, inl, inr, List, [], ◌∷◌, length, map, refl, ap, ◌∙◌, arith}
-use Rattle.std.specs.Prelude.{not, ◌||◌, if◌then◌else◌, nat_lt, nat_le, ◌⊎◌, position, slice_get, slice_index, Option, Some, None, option_map, is_some, cond}
+use Rattle.std.proofs.Common.{◌≡◌, ℕ, suc, ◌+◌, ◌-◌, ◌<◌, ◌≤◌, Bool, true, false, inl, inr, List, [], ◌∷◌, length, map, refl, ap, ◌∙◌}
+use Rattle.std.proofs.Common.{arith}
+use Rattle.std.specs.Prelude.{not, ◌||◌, if◌then◌else◌, nat_lt, nat_le, ◌⊎◌, position, slice_get, slice_index, Option, Some, None}
+use Rattle.std.specs.Prelude.{option_map, is_some, cond}
 use Rattle.std.specs.List.{position_or_len}
 use Rattle.std.proofs.lemmas.Bool.Decides.{nat_tests}
 use Rattle.std.proofs.lemmas.Bool.{ne_eqb}

@@ -1,5 +1,6 @@
 -- What is kept of the requests of all chips described stays as the history says.
-use Rattle.std.proofs.Common.{◌≡◌, ◌≢◌, ◌==◌, ℕ, zero, suc, ◌+◌, ◌-◌, ◌<◌, ◌≤◌, Bool, true, false, List, [], ◌∷◌, length, map, refl, sym, subst, ◌∙◌, arith}
+use Rattle.std.proofs.Common.{◌≡◌, ◌≢◌, ◌==◌, ℕ, zero, suc, ◌+◌, ◌-◌, ◌<◌, ◌≤◌, Bool, true, false, List, [], ◌∷◌, length, map, refl, sym}
+use Rattle.std.proofs.Common.{subst, ◌∙◌, arith}
 use Rattle.std.specs.Prelude.{if◌then◌else◌, AllPairs, slice_get, Option, Some, None}
 use Rattle.std.specs.List.{range_with_len}
 use Rattle.std.proofs.lemmas.Option.{get_or_from_slice_get, slice_get_within}
@@ -11,7 +12,8 @@ use Rattle.console_spec.specs.Processor.{write_at, with_write}
 use Rattle.console_spec.specs.declared.PortWrite.{PortWrite}
 use Rattle.console_spec.proofs.RequestLaws.{past-later, past-written, past-acknowledged, past-pulsed}
 use Rattle.console_spec.proofs.RequestLaws.{after_write, after_acknowledgement, after_pulse}
-use Rattle.f8_isa.specs.Requests.{KnowsRequests, FitsSeat, KnowsEach, KnowsChain, after_port_write, all_after_write, pulse_from, pulse_at_place}
+use Rattle.f8_isa.specs.Requests.{KnowsRequests, FitsSeat, KnowsEach, KnowsChain, after_port_write, all_after_write, pulse_from}
+use Rattle.f8_isa.specs.Requests.{pulse_at_place}
 use Rattle.f8_isa.specs.Requests.{ended_from, ended_at, acknowledged_at_place}
 use Rattle.chip_face.specs.Fitting.{IsChipList, is_blank, fitted}
 use Rattle.chip_face.specs.declared.specification.ChipSpec.{ChipSpec}
@@ -20,7 +22,8 @@ use Rattle.memory_map.specs.MapOf.{views_of}
 use Rattle.console_spec.specs.Run.{chain_in_order}
 use Rattle.f8_isa.specs.Requests.{with_pulse, after_control, after_load, first_requests}
 use Rattle.f8_isa.specs.declared.requests.ChipRequests.{ChipRequests}
-use Rattle.f8_isa.proofs.RequestKeeping.{knows-later, knows-written, knows-acknowledged, knows-kept, knows-pulsed, knows-unpulsed, knows-early}
+use Rattle.f8_isa.proofs.RequestKeeping.{knows-later, knows-written, knows-acknowledged, knows-kept, knows-pulsed, knows-unpulsed}
+use Rattle.f8_isa.proofs.RequestKeeping.{knows-early}
 
 -- ---- the histories that an instruction and a pulse leave
 

@@ -1,7 +1,8 @@
 -- The instruction set beside the flat machine.
 use Rattle.std.proofs.Common.{◌≡◌, ◌≢◌, ℕ, ◌+◌, ◌-◌, ◌/◌, ◌%◌, ◌<◌, ◌≤◌, List, [], ◌∷◌, length, map, refl, sym, ap, subst, ◌∙◌, get_or}
 use Rattle.std.proofs.Common.{arith, inl, inr, get_or-set_other, get_or-set_same, eq-eqb}
-use Rattle.std.specs.Prelude.{Bool, true, false, Option, Some, None, ◌⊎◌, ◌==◌, if◌then◌else◌, filter_map, is_some, slice_index, slice_set, unwrap_or}
+use Rattle.std.specs.Prelude.{Bool, true, false, Option, Some, None, ◌⊎◌, ◌==◌, if◌then◌else◌, filter_map, is_some, slice_index, slice_set}
+use Rattle.std.specs.Prelude.{unwrap_or}
 use Rattle.std.specs.List.{AllByRecursion, cons_option, enumerate_from, position_or_len, range_with_len}
 use Rattle.std.proofs.lemmas.List.FromFn.{get_or-range_with_len, length-range_with_len}
 use Rattle.std.proofs.lemmas.List.Sums.{position_or_len_is}
@@ -24,7 +25,8 @@ use Rattle.console_spec.specs.Writes.{latch_of, port_value, chip_port_byte}
 use Rattle.console_spec.specs.InterruptRequests.{History, IsPast}
 use Rattle.console_spec.proofs.RequestLaws.{past-later, past-written}
 use Rattle.console_spec.specs.Processor.{history_of}
-use Rattle.console_spec.specs.Processor.{Flow, Inputs, State, at_power, own_inputs, read_port, if_taken, written_port, write_at, write_of, with_write}
+use Rattle.console_spec.specs.Processor.{Flow, Inputs, State, at_power, own_inputs, read_port, if_taken, written_port, write_at, write_of}
+use Rattle.console_spec.specs.Processor.{with_write}
 use Rattle.console_spec.specs.Processor.{counters_after, registers_after}
 use Rattle.console_spec.specs.FlatStep.{after_instruction, chosen_at, chosen_in, clocks_by, inputs_of, with_acknowledged, with_chosen}
 use Rattle.console_spec.specs.InterruptChoice.{vector_of}
@@ -37,13 +39,15 @@ use Rattle.console_spec.specs.declared.PortWrite.{PortWrite}
 use Rattle.chip_face.specs.declared.specification.ChipSpec.{ChipSpec}
 use Rattle.memory_map.specs.MapOf.{MapTable, IsMapOf, views_of, seats_of as seats_of_chips}
 use Rattle.f8_isa.specs.Ports.{PortState, AreLatches, KnowsPorts, kept_value, chip_value, value_read, if_writable, port_taking, ports_after}
-use Rattle.f8_isa.specs.IsaState.{IsaState, KnowsRam, StandsAt, LeadsTo, GoesTo, InReach, state_of, flat_of, memory_by, kept_inputs, kept_write}
+use Rattle.f8_isa.specs.IsaState.{IsaState, KnowsRam, StandsAt, LeadsTo, GoesTo, InReach, state_of, flat_of, memory_by, kept_inputs}
+use Rattle.f8_isa.specs.IsaState.{kept_write}
 use Rattle.f8_isa.specs.IsaState.{phi_after, isa_after}
 use Rattle.f8_isa.specs.IsaState.{sample_time, chosen_place, with_interrupt, finished, VectorFits, TellsInterrupt}
 use Rattle.f8_isa.specs.Requests.{KnowsChain, first_requests, asking_place, place_vector}
 use Rattle.chip_face.specs.Fitting.{IsChipList}
 use Rattle.f8_isa.proofs.RequestChains.{chain-written, chain-acknowledged, chain-first}
-use Rattle.f8_isa.proofs.Choices.{IsChosen, AreChosen, some_alike, first_alike, chosen_alike, open_end, vector_alike, requests_left, latch_left}
+use Rattle.f8_isa.proofs.Choices.{IsChosen, AreChosen, some_alike, first_alike, chosen_alike, open_end, vector_alike, requests_left}
+use Rattle.f8_isa.proofs.Choices.{latch_left}
 use Rattle.f8_isa.proofs.Choices.{sample_alike}
 use Rattle.f8_ops.proofs.ClockBounds.{most_before_fetch}
 use Rattle.f8_isa.specs.KeptMemory.{KeptMemory, IsFirstMemory, placed_fill}

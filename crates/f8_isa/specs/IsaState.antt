@@ -14,7 +14,8 @@ use Rattle.console_spec.specs.Processor.{Flow, Registers, Inputs, State, own_inp
 use Rattle.console_spec.specs.Processor.{history_of}
 use Rattle.console_spec.specs.FlatMachine.{FlatState}
 use Rattle.console_spec.specs.FlatMemory.{sort_of, is_ram_sort}
-use Rattle.console_spec.specs.Run.{Position, Stop, Goes, Stops, flat_next, gets_at, opcode_at, seats_of, position_after_reset, with_pulse_at}
+use Rattle.console_spec.specs.Run.{Position, Stop, Goes, Stops, flat_next, gets_at, opcode_at, seats_of, position_after_reset}
+use Rattle.console_spec.specs.Run.{with_pulse_at}
 use Rattle.console_spec.specs.declared.PortWrite.{PortWrite}
 use Rattle.f8_isa.specs.Requests.{KnowsChain, all_after_write, asking_place, place_vector, acknowledged_at_place}
 use Rattle.f8_isa.specs.declared.requests.ChipRequests.{ChipRequests}

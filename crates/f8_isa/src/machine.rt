@@ -47,7 +47,15 @@ impl Model for Isa {
 
     ghost Value = { IsaState };
 
-    ghost view = { λ m. record { flow = flow_of m.flow; registers = m.registers; phi = m.phi; memory = m.memory.bytes; ram_pages = m.memory.ram_pages; ports = m.ports; requests = m.requests } };
+    ghost view = { λ m. record {
+      flow = flow_of m.flow;
+      registers = m.registers;
+      phi = m.phi;
+      memory = m.memory.bytes;
+      ram_pages = m.memory.ram_pages;
+      ports = m.ports;
+      requests = m.requests;
+    } };
 }
 
 impl Isa {
@@ -58,7 +66,8 @@ impl Isa {
     ghost use Rattle.console_spec.specs.AddressSpace.{byte_at};
     ghost use Rattle.console_spec.specs.InterruptRequests.{no_history};
     ghost use Rattle.console_spec.specs.Processor.{used_byte, result_of, is_taken, flow_after, told_regs};
-    ghost use Rattle.console_spec.specs.Run.{Reserved as StopReserved, power_position, chain_in_order, position_after_reset};
+    ghost use Rattle.console_spec.specs.Run.{Reserved as StopReserved, power_position, chain_in_order};
+    ghost use Rattle.console_spec.specs.Run.{position_after_reset};
     ghost use Rattle.memory_map.specs.MapOf.{IsMapOf, views_of};
     ghost use Rattle.f8_isa.specs.Counters.{flow_of};
     ghost use Rattle.f8_isa.specs.InstructionRows.{IsInstruction};
@@ -66,7 +75,8 @@ impl Isa {
     ghost use Rattle.f8_isa.specs.Requests.{asking_place, pulse_at_place};
     ghost use Rattle.f8_isa.specs.IsaState.{state_of, kept_inputs, kept_write, isa_after};
     ghost use Rattle.f8_isa.specs.IsaState.{sample_time, chosen_place, with_interrupt, finished, VectorFits};
-    ghost use Rattle.f8_isa.specs.IsaState.{GoesTo, TellsInterrupt, StopsBy, StandsAt, InReach, TakesKey, TakesPulse, TakesEarlyPulse};
+    ghost use Rattle.f8_isa.specs.IsaState.{GoesTo, TellsInterrupt, StopsBy, StandsAt, InReach, TakesKey, TakesPulse};
+    ghost use Rattle.f8_isa.specs.IsaState.{TakesEarlyPulse};
 
     /// A program on some chips, after power-on with a byte and reset, or want of memory. The map is that of the chips; what it tells is
     /// copied. How each chip is powered on is said in the order of the chips; where the list ends before a chip, nothing is said of it.

@@ -21,7 +21,12 @@ impl Model for RegisterFile {
 
     ghost Value = { Registers };
 
-    ghost view = { λ m. record { accumulator = m.accumulator; isar = m.isar; status = status_of_flags m.status; scratchpad = m.scratchpad } };
+    ghost view = { λ m. record {
+      accumulator = m.accumulator;
+      isar = m.isar;
+      status = status_of_flags m.status;
+      scratchpad = m.scratchpad;
+    } };
 
     ghost invariant = { λ m. m.isar < 64 };
 }
@@ -32,7 +37,10 @@ impl RegisterFile {
     ghost use Rattle.f8_spec.specs.Flags.{status_byte, is_positive, is_zero};
     ghost use Rattle.f8_spec.specs.Instructions.{InRange};
     ghost use Rattle.f8_words.specs.StatusWord.{status_of_flags};
-    ghost use Rattle.console_spec.specs.Processor.{at_power, scratch_byte, with_scratch, with_pair, field_byte, register_of, with_isar_stepped, with_result, with_sum, with_decimal_sum, compared, decremented, effect, any_chosen, is_taken};
+    ghost use Rattle.console_spec.specs.Processor.{at_power, scratch_byte, with_scratch, with_pair, field_byte};
+    ghost use Rattle.console_spec.specs.Processor.{register_of, with_isar_stepped, with_result, with_sum};
+    ghost use Rattle.console_spec.specs.Processor.{with_decimal_sum, compared, decremented, effect, any_chosen};
+    ghost use Rattle.console_spec.specs.Processor.{is_taken};
 
     /// The registers after power-on with a byte.
     pub fn at_power(fill: u8) -> RegisterFile

@@ -53,7 +53,8 @@ names_length (e ∷ es) = ap suc (names_length es)
 -- a name that isn't known
 module _ {seen : List (List ℕ)} {s : Reading} (so : Known seen s) (name : List ℕ) (new : value_of s.known name ≡ None) where
   pub not_imported : value_of s.imports name ≡ None
-  not_imported = none_from (value_of s.imports name) (not_true (is_some (value_of s.imports name)) (λ is. some_none (value_of s.known name) (so.imported name is) new))
+  not_imported = none_from (value_of s.imports name)
+      (not_true (is_some (value_of s.imports name)) (λ is. some_none (value_of s.known name) (so.imported name is) new))
 
   pub not_seen : has seen name ≡ false
   not_seen = not_true (has seen name) (λ is. some_none (value_of s.known name) (so.label name is) new)

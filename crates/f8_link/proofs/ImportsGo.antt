@@ -1,5 +1,6 @@
 -- What modules export and import: each exported name is new, and each import has the value of its export.
-use Rattle.std.proofs.Common.{◌≡◌, ℕ, ◌+◌, ℤ, Bool, true, false, ◌||◌, List, [], ◌∷◌, ◌++◌, map, Option, Some, None, is_some, All, zero, suc}
+use Rattle.std.proofs.Common.{◌≡◌, ℕ, ◌+◌, ℤ, Bool, true, false, ◌||◌, List, [], ◌∷◌, ◌++◌, map, Option, Some, None, is_some, All, zero}
+use Rattle.std.proofs.Common.{suc}
 use Rattle.std.proofs.Common.{Result, Ok, Err, refl, sym, ap, ◌∙◌, subst, append_assoc, append-nil, bytes_eq, option_map}
 use Rattle.std.specs.Prelude.{if◌then◌else◌, slice_get}
 use Rattle.std.specs.Option.{option_or}
@@ -10,10 +11,12 @@ use Rattle.f8_asm.proofs.Alike.{read-ok}
 use Rattle.f8_link.specs.declared.answers.LinkCause.{LinkCause}
 use Rattle.f8_link.specs.declared.parts.Part.{Part}
 use Rattle.f8_link.specs.declared.values.Named.{Named}
-use Rattle.f8_link.specs.Linking.{at_module, each_part, named_value, export_given, exports_given, all_exports, import_found, import_given, imports_given}
+use Rattle.f8_link.specs.Linking.{at_module, each_part, named_value, export_given, exports_given, all_exports, import_found, import_given}
+use Rattle.f8_link.specs.Linking.{imports_given}
 use Rattle.f8_link.specs.Linking.{imports_added, all_imports}
 use Rattle.f8_link.specs.OneSource.{has}
-use Rattle.f8_link.proofs.NameFacts.{names_of, same_name, name_itself, not_both, value_of-append, value_in_front, value_behind, given, renamed_value}
+use Rattle.f8_link.proofs.NameFacts.{names_of, same_name, name_itself, not_both, value_of-append, value_in_front, value_behind, given}
+use Rattle.f8_link.proofs.NameFacts.{renamed_value}
 
 pub at_module-ok : {A : Type 0} (number : ℕ) (r : Result A LinkCause) (x : A) → at_module number r ≡ Ok x → r ≡ Ok x
 at_module-ok number (Ok y) x h = cc h

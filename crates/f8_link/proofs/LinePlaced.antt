@@ -19,7 +19,8 @@ use Rattle.f8_asm.proofs.Alike.{read-ok}
 use Rattle.f8_link.specs.Answers.{in_line_to}
 use Rattle.f8_link.specs.Evaluation.{formula_found, names_import}
 use Rattle.f8_link.specs.Pieces.{constant_of}
-use Rattle.f8_link.specs.SecondPass.{Layout, with_label, moved_by, with_placed, constant_at, filled, statement_settled, settle, place, line_size}
+use Rattle.f8_link.specs.SecondPass.{Layout, with_label, moved_by, with_placed, constant_at, filled, statement_settled, settle, place}
+use Rattle.f8_link.specs.SecondPass.{line_size}
 use Rattle.f8_link.specs.declared.faults.ModuleLineFault.{ModuleLineFault}
 use Rattle.f8_link.specs.declared.lines.LineTask.{LineTask}
 use Rattle.f8_link.specs.declared.lines.LineTask.TheVariants as line

@@ -11,7 +11,8 @@ use Rattle.f8_asm.specs.Judging.{operand_value}
 use Rattle.f8_asm.specs.Marks.{marks_with, is_free}
 use Rattle.f8_asm.specs.Names.{value_of}
 use Rattle.f8_asm.specs.ParsedLines.{parsed}
-use Rattle.f8_asm.specs.PassTwo.{Layout as SourceLayout, with_label as source_label, with_placed as source_with, layout_filled, layout_after, is_inside, fits}
+use Rattle.f8_asm.specs.PassTwo.{Layout as SourceLayout, with_label as source_label, with_placed as source_with, layout_filled}
+use Rattle.f8_asm.specs.PassTwo.{layout_after, is_inside, fits}
 use Rattle.f8_asm.specs.Statements.{statement, statement_size, statement_valued, operand_valued, label_of, behind_label, effect_of}
 use Rattle.f8_asm.specs.declared.faults.LineFault.{LineFault}
 use Rattle.f8_asm.specs.declared.formulas.Step.{Step}
@@ -38,7 +39,8 @@ use Rattle.f8_link.proofs.LinePlaced.{line_from, in_line-read, when_read, Named_
 use Rattle.f8_link.proofs.MarkRuns.{free_behind, marks_joined, inside_part}
 use Rattle.f8_link.proofs.ModuleLines.{seen_after, NewLabel}
 use Rattle.f8_link.proofs.NoOrigin.{StandsStill, stands_still}
-use Rattle.f8_link.proofs.PlacedNames.{placed_names, KeepsApart, given, placed_append, FreshLabel, NamesStand, names_more, names_go, label_fresh}
+use Rattle.f8_link.proofs.PlacedNames.{placed_names, KeepsApart, given, placed_append, FreshLabel, NamesStand, names_more, names_go}
+use Rattle.f8_link.proofs.PlacedNames.{label_fresh}
 
 -- ---- where a module stands
 

@@ -233,7 +233,8 @@ module _ (first : ℕ) (values : List ℤ) (rename : List ℕ → List ℕ) (nam
 
 -- ---- the table of the one source
 
-pub table_append : (table : List (Option ℕ)) (at : ℕ) (bs cs : List ℕ) → table_with (table_with table at bs) (at + length bs) cs ≡ table_with table at (bs ++ cs)
+pub table_append : (table : List (Option ℕ)) (at : ℕ) (bs cs : List ℕ) →
+    table_with (table_with table at bs) (at + length bs) cs ≡ table_with table at (bs ++ cs)
 table_append table at [] cs = ap (λ (n : ℕ). table_with table n cs) (omega arith)
 table_append table at (b ∷ bs) cs =
     let next : at + length (b ∷ bs) ≡ at + 1 + length bs = omega arith in

@@ -20,7 +20,8 @@ use Rattle.f8_link.specs.declared.directives.Directive.TheVariants.{Export, Impo
 use Rattle.f8_link.specs.declared.lines.LineTask.{LineTask}
 use Rattle.f8_link.specs.declared.lines.LineTask.TheVariants as line
 use Rattle.f8_link.specs.Directives.{directive_of, name_in, names_taken, stray, unless_stray}
-use Rattle.f8_link.specs.FirstPass.{Reading, no_reading, name_taken, statement_taken, line_taken, tokens_taken, counted, with_export, with_import, with_statement}
+use Rattle.f8_link.specs.FirstPass.{Reading, no_reading, name_taken, statement_taken, line_taken, tokens_taken, counted, with_export}
+use Rattle.f8_link.specs.FirstPass.{with_import, with_statement}
 use Rattle.f8_link.specs.FirstPass.{read_line, read_lines}
 use Rattle.f8_link.specs.OneSource.{tokens_in, is_statement, statement_lines}
 use Rattle.text_lines.specs.Lines.{lines}

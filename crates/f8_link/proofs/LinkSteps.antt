@@ -1,5 +1,6 @@
 -- Loops over steps that may want memory: where one begins, goes on, ends and stops.
-use Rattle.std.proofs.Common.{◌≡◌, ℕ, ◌+◌, ◌<◌, ◌≤◌, List, ◌∷◌, ◌++◌, length, get_or, take, drop, Ok, Err, Result, refl, sym, ◌∙◌, ap, suc, add-one}
+use Rattle.std.proofs.Common.{◌≡◌, ℕ, ◌+◌, ◌<◌, ◌≤◌, List, ◌∷◌, ◌++◌, length, get_or, take, drop, Ok, Err, Result, refl, sym, ◌∙◌, ap, suc}
+use Rattle.std.proofs.Common.{add-one}
 use Rattle.std.proofs.Math.Seq.{drop-cons, take-append_seam}
 use Rattle.std.proofs.lemmas.List.{drop_all, get_or_default}
 use Rattle.text_lines.specs.declared.read_error.ReadError.{ReadError}

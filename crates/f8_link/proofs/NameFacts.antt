@@ -28,7 +28,8 @@ not_both b is other = absurd (true≢false (sym is ∙ other))
 
 -- names that are told apart one way are so the other way
 pub apart_turned : (x y : List ℕ) → bytes_eq x y ≡ false → bytes_eq y x ≡ false
-apart_turned x y other = not_true (bytes_eq y x) (λ is. not_both (bytes_eq x y) (subst (λ z. bytes_eq x z ≡ true) (sym (same_name y x is)) (name_itself x)) other)
+apart_turned x y other = not_true (bytes_eq y x)
+    (λ is. not_both (bytes_eq x y) (subst (λ z. bytes_eq x z ≡ true) (sym (same_name y x is)) (name_itself x)) other)
 
 -- ---- values
 

@@ -10,7 +10,8 @@ use Rattle.f8_link.specs.declared.values.Named.{Named}
 use Rattle.f8_link.specs.Linking.{named_value, base_value, all_exports, all_imports}
 use Rattle.f8_link.specs.OneSource.{has, shared_names, spelled, IsCompiled}
 use Rattle.f8_link.proofs.NameFacts.{has-names_of, value_of-append, value_in_front, value_behind}
-use Rattle.f8_link.proofs.SpelledApart.{spelled_apart, spelled_shared, spelled_own, module_names, all_names, NamesStand, own_value, other_value, shared_import}
+use Rattle.f8_link.proofs.SpelledApart.{spelled_apart, spelled_shared, spelled_own, module_names, all_names, NamesStand, own_value}
+use Rattle.f8_link.proofs.SpelledApart.{other_value, shared_import}
 use Rattle.f8_link.proofs.SpelledApart.{shared_is_export, shared_value}
 use Rattle.f8_link.proofs.ImportsGo.{given_names, all_given, ExportsNew, ExportsApart, all_exported, exports_found, given_value}
 use Rattle.f8_link.proofs.ImportsGo.{AreFound, AllFound, all_found}

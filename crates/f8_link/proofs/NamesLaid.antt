@@ -23,7 +23,8 @@ use Rattle.f8_link.specs.declared.values.Named.{Named}
 use Rattle.f8_link.specs.declared.values.Named.TheVariants.{Offset}
 use Rattle.f8_link.specs.Answers.{in_line_to}
 use Rattle.f8_link.specs.OneSource.{has, label_list}
-use Rattle.f8_link.specs.SecondPass.{Layout, with_label, moved_by, with_placed, constant_at, filled, statement_settled, settle, place, place_lines}
+use Rattle.f8_link.specs.SecondPass.{Layout, with_label, moved_by, with_placed, constant_at, filled, statement_settled, settle, place}
+use Rattle.f8_link.specs.SecondPass.{place_lines}
 use Rattle.f8_link.specs.ThirdPass.{Code, no_code, with_piece, with_value, line_piece, exported, line_emitted, emit, emit_lines}
 use Rattle.f8_link.proofs.ModuleLines.{LinesPair, no_line, export_line, statement_line, seen_after, NewLabel, LabelsNew}
 use Rattle.f8_link.proofs.NameFacts.{names_of, value_behind, given, not_both}

@@ -1,5 +1,6 @@
 -- A line without ORG, EXPORT or IMPORT makes no statement that moves.
-use Rattle.std.proofs.Common.{◌≡◌, ℕ, zero, suc, Bool, true, false, List, [], ◌∷◌, length, drop, map, Option, Some, None, is_some, Result, Ok, Err, refl}
+use Rattle.std.proofs.Common.{◌≡◌, ℕ, zero, suc, Bool, true, false, List, [], ◌∷◌, length, drop, map, Option, Some, None, is_some, Result}
+use Rattle.std.proofs.Common.{Ok, Err, refl}
 use Rattle.std.specs.Prelude.{if◌then◌else◌, codes, option_map, IfSome, IfOk, not, ◌&&◌, ◌||◌}
 use Rattle.std.specs.List.{AllByRecursion}
 use Rattle.std.specs.Option.{option_or}

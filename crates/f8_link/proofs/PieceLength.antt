@@ -19,7 +19,8 @@ use Rattle.f8_link.specs.declared.values.Found.{Found}
 use Rattle.f8_link.specs.declared.values.Found.TheVariants as found
 use Rattle.f8_link.specs.declared.values.Value.TheVariants.{Constant, Placed}
 use Rattle.f8_link.specs.Answers.{line_told}
-use Rattle.f8_link.specs.Pieces.{Piece, whole, behind, joined, constant_operand, byte_in, word_in, displaced, branch_in, byte_of, word_of, branch_of}
+use Rattle.f8_link.specs.Pieces.{Piece, whole, behind, joined, constant_operand, byte_in, word_in, displaced, branch_in, byte_of, word_of}
+use Rattle.f8_link.specs.Pieces.{branch_of}
 use Rattle.f8_link.specs.Pieces.{number_of, field_of, single_piece, item_piece, list_piece, piece_of}
 
 abbrev piece_told : Piece → Result Piece ModuleLineFault

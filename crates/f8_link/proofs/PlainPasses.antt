@@ -22,7 +22,8 @@ use Rattle.f8_asm.specs.declared.operands.Effect.{Effect}
 use Rattle.f8_asm.specs.declared.operands.Effect.TheVariants.{Names, Moves, Fills}
 use Rattle.f8_asm.proofs.Alike.{Alike, alike_ok, alike_err, alike_then, alike_same, AllAlike, none_alike, more_alike, alike_push}
 use Rattle.f8_asm.proofs.Steps.{steps_alike}
-use Rattle.f8_link.specs.OneSource.{SourceLine, PlacedSource, numbered, label_read, statement_read, source_read, source_settled, source_placed}
+use Rattle.f8_link.specs.OneSource.{SourceLine, PlacedSource, numbered, label_read, statement_read, source_read, source_settled}
+use Rattle.f8_link.specs.OneSource.{source_placed}
 use Rattle.f8_link.specs.OneSource.{source_emitted, source_image_in, source_image}
 use Rattle.text_lines.specs.Lines.{lines}
 

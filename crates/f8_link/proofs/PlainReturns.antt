@@ -1,5 +1,6 @@
 -- A CR at the end of a line that has tokens stands in a comment: without it the line has the same tokens.
-use Rattle.std.proofs.Common.{◌≡◌, ℕ, zero, suc, ◌+◌, Bool, true, false, List, [], ◌∷◌, ◌++◌, length, take, Result, Ok, Err, refl, sym, ◌∙◌, ap, subst, arith}
+use Rattle.std.proofs.Common.{◌≡◌, ℕ, zero, suc, ◌+◌, Bool, true, false, List, [], ◌∷◌, ◌++◌, length, take, Result, Ok, Err, refl, sym, ◌∙◌}
+use Rattle.std.proofs.Common.{ap, subst, arith}
 use Rattle.std.proofs.Common.{lit<}
 use Rattle.std.specs.Prelude.{◌==◌, nat_le, if◌then◌else◌}
 use Rattle.std.specs.List.{prefix_len}

@@ -13,7 +13,8 @@ use Rattle.f8_asm.proofs.ListedBytes.{all_open}
 use Rattle.f8_asm.proofs.ListedLines.{line_first}
 use Rattle.f8_asm.proofs.ListedPasses.{printable_ascii}
 use Rattle.f8_link.specs.declared.parts.Part.{Part}
-use Rattle.f8_link.specs.OneSource.{SourceLine, numbered, source_image, tokens_in, statement_lines, is_statement, origin_tokens, origin_line, ended}
+use Rattle.f8_link.specs.OneSource.{SourceLine, numbered, source_image, tokens_in, statement_lines, is_statement, origin_tokens}
+use Rattle.f8_link.specs.OneSource.{origin_line, ended}
 use Rattle.f8_link.specs.OneSource.{module_text, joined, IsCompiled}
 use Rattle.f8_link.proofs.PlainLines.{Each, each_none, each_more, each_filtered, HasNoFeed, lines_no_feed, HasTokens, compiled_tokens}
 use Rattle.f8_link.proofs.PlainPasses.{plain_line, TextLines, no_lines, more_lines, image_same}

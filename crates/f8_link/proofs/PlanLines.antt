@@ -1,5 +1,6 @@
 -- The words of a printable line are printable, and what is printable is UTF-8.
-use Rattle.std.proofs.Common.{◌≡◌, ℕ, ◌+◌, ◌<◌, lit<, Bool, true, false, cond, List, [], ◌∷◌, ◌++◌, length, map, suc, zero, Ok, Err, refl, sym, ap, ◌∙◌, arith, IsUtf8}
+use Rattle.std.proofs.Common.{◌≡◌, ℕ, ◌+◌, ◌<◌, lit<, Bool, true, false, cond, List, [], ◌∷◌, ◌++◌, length, map, suc, zero, Ok, Err, refl}
+use Rattle.std.proofs.Common.{sym, ap, ◌∙◌, arith, IsUtf8}
 use Rattle.std.specs.Prelude.{◌==◌, IsTrue}
 use Rattle.std.specs.List.{list_all}
 use Rattle.std.specs.Str.{IsAscii}

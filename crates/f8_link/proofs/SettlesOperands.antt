@@ -1,5 +1,6 @@
 -- An operand in a module, and the same in the one source: its bytes are those that linking leaves.
-use Rattle.std.proofs.Common.{◌≡◌, ℕ, ℤ, pos, negsuc, ◌+◌, ◌/◌, ◌%◌, ◌<◌, Bool, true, false, List, [], ◌∷◌, length, Option, Some, None, Result, Ok, Err}
+use Rattle.std.proofs.Common.{◌≡◌, ℕ, ℤ, pos, negsuc, ◌+◌, ◌/◌, ◌%◌, ◌<◌, Bool, true, false, List, [], ◌∷◌, length, Option, Some, None}
+use Rattle.std.proofs.Common.{Result, Ok, Err}
 use Rattle.std.proofs.Common.{refl, sym, ap, ◌∙◌, arith}
 use Rattle.std.specs.Prelude.{◌+ℤ◌, ◌-ℤ◌, int_le, int_div, int_rem, option_map, nat_le, unsigned_abs, if◌then◌else◌}
 use Rattle.std.proofs.lemmas.Bool.Decides.{nat_tests}
@@ -30,7 +31,8 @@ use Rattle.f8_link.specs.declared.values.Half.TheVariants.{Low, High}
 use Rattle.f8_link.specs.declared.values.Value.TheVariants.{Constant, Placed}
 use Rattle.f8_link.specs.Answers.{line_told}
 use Rattle.f8_link.specs.Linking.{half_byte, one_byte, fixed_value, fixed}
-use Rattle.f8_link.specs.Pieces.{Piece, whole, open_at, kind_of, constant_operand, constant_in, byte_in, word_in, reached, displaced, branch_in}
+use Rattle.f8_link.specs.Pieces.{Piece, whole, open_at, kind_of, constant_operand, constant_in, byte_in, word_in, reached, displaced}
+use Rattle.f8_link.specs.Pieces.{branch_in}
 use Rattle.f8_link.proofs.Goes.{at_base, prefix_of, Goes}
 use Rattle.f8_link.proofs.Settles.{Settles, settles_same, settles_whole, settles_open, settles_behind}
 

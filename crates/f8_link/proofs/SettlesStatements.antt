@@ -19,7 +19,8 @@ use Rattle.f8_asm.proofs.Alike.{read-ok, AllAlike, none_alike, more_alike}
 use Rattle.f8_asm.proofs.StatementsAlike.{OperandAlike, StatementAlike, nothing_alike, fixed_alike, one_alike, test_alike, items_alike}
 use Rattle.f8_link.specs.declared.faults.ModuleLineFault.{ModuleLineFault}
 use Rattle.f8_link.specs.declared.values.Found.{Found}
-use Rattle.f8_link.specs.Pieces.{Piece, whole, behind, joined, byte_of, word_of, branch_of, number_of, field_of, single_piece, item_piece, list_piece, piece_of}
+use Rattle.f8_link.specs.Pieces.{Piece, whole, behind, joined, byte_of, word_of, branch_of, number_of, field_of, single_piece, item_piece}
+use Rattle.f8_link.specs.Pieces.{list_piece, piece_of}
 use Rattle.f8_link.proofs.Goes.{Goes}
 use Rattle.f8_link.proofs.Settles.{Settles, settles_same, settles_whole, settles_behind, settles_joined}
 use Rattle.f8_link.proofs.SettlesOperands.{byte_settles, word_settles, displacement_bytes, branch_settles, number_goes, field_goes}

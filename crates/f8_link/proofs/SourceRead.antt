@@ -15,7 +15,8 @@ use Rattle.f8_asm.specs.declared.words.Single.TheVariants as single
 use Rattle.f8_asm.proofs.FormulaValues.{statement_with_values}
 use Rattle.f8_asm.proofs.ListedBytes.{all_open}
 use Rattle.f8_link.specs.declared.lines.LineTask.{LineTask}
-use Rattle.f8_link.specs.OneSource.{SourceLine, renamed_values, statement_read, label_read, source_read, has, label_list, origin_tokens, numbered}
+use Rattle.f8_link.specs.OneSource.{SourceLine, renamed_values, statement_read, label_read, source_read, has, label_list, origin_tokens}
+use Rattle.f8_link.specs.OneSource.{numbered}
 use Rattle.f8_link.proofs.ModuleLines.{LinesPair, no_line, export_line, statement_line, seen_after, NewLabel, LabelsNew}
 use Rattle.f8_link.proofs.NameFacts.{value_behind, given, not_both, name_itself}
 use Rattle.f8_link.proofs.LinesTold.{parsed_from}

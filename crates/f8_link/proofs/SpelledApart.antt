@@ -1,5 +1,6 @@
 -- How the one source spells names: a module's names stay apart, and only shared names of two modules meet.
-use Rattle.std.proofs.Common.{◌≡◌, ℕ, ◌+◌, ℤ, Bool, true, false, ◌&&◌, ◌||◌, List, [], ◌∷◌, ◌++◌, map, Option, Some, None, is_some, All, suc}
+use Rattle.std.proofs.Common.{◌≡◌, ℕ, ◌+◌, ℤ, Bool, true, false, ◌&&◌, ◌||◌, List, [], ◌∷◌, ◌++◌, map, Option, Some, None, is_some, All}
+use Rattle.std.proofs.Common.{suc}
 use Rattle.std.proofs.Common.{refl, sym, ap, ◌∙◌, subst, bytes_eq, eq-eqb, ne_eqb, arith, option_map}
 use Rattle.std.specs.Prelude.{if◌then◌else◌}
 use Rattle.std.proofs.lemmas.List.Folds.{list_any-append}

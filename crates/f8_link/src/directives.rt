@@ -2,7 +2,8 @@
 ghost use Rattle.std.specs.Prelude.{◌≡◌, ◌<◌, length, IfOk};
 ghost use Rattle.text_lines.specs.ReadErrors.{Says};
 ghost use Rattle.f8_asm.specs.ParsedLines.{parsed};
-ghost use Rattle.f8_link.specs.Directives.{directive_word, directive_of, name_at, name_at_seen, is_stray, stray_in, stray, first_fault, unless_stray};
+ghost use Rattle.f8_link.specs.Directives.{directive_word, directive_of, name_at, name_at_seen, is_stray, stray_in};
+ghost use Rattle.f8_link.specs.Directives.{stray, first_fault, unless_stray};
 
 use asm_text::{Name, Token, TokenKind};
 use f8_asm::{LineFault, LineStop, ParsedLine, form, is_reserved, is_word, parsed};

@@ -3,7 +3,8 @@ ghost use Rattle.std.specs.Prelude.{◌≡◌, ◌≤◌, ◌<◌, ◌+◌, ℕ,
 ghost use Rattle.text_lines.specs.Lines.{lines};
 ghost use Rattle.text_lines.specs.ReadErrors.{Says, StepsTo};
 ghost use Rattle.f8_link.specs.Directives.{names_taken};
-ghost use Rattle.f8_link.specs.FirstPass.{no_reading, with_export, with_import, name_taken, statement_taken, tokens_taken, read_line, read_lines};
+ghost use Rattle.f8_link.specs.FirstPass.{no_reading, with_export, with_import, name_taken, statement_taken};
+ghost use Rattle.f8_link.specs.FirstPass.{tokens_taken, read_line, read_lines};
 
 use crate::directives::{Directive, directive_of, name_at, statement_line};
 use crate::lines::LineTask;

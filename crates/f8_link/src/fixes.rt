@@ -3,7 +3,8 @@ ghost use Rattle.std.specs.Prelude.{◌≡◌, ◌≤◌, ◌<◌, ◌+◌, ◌^
 ghost use Rattle.std.specs.List.{list_all};
 ghost use Rattle.text_lines.specs.ReadErrors.{SaysSeen};
 ghost use Rattle.f8_asm.specs.Values.{prefix_value};
-ghost use Rattle.f8_link.specs.Linking.{base_value, half_byte, fixed_bytes, bytes_of_filling, fixed_value, fixed, put, fixup_put, caused, in_reach, bytes_fixed};
+ghost use Rattle.f8_link.specs.Linking.{base_value, half_byte, fixed_bytes, bytes_of_filling, fixed_value, fixed, put};
+ghost use Rattle.f8_link.specs.Linking.{fixup_put, caused, in_reach, bytes_fixed};
 
 use crate::answers::LinkCause;
 use crate::objects::{Fixup, FixupKind};

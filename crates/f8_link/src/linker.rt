@@ -5,8 +5,10 @@ ghost use Rattle.text_lines.specs.ReadErrors.{Says, SaysSeen, StepsTo};
 ghost use Rattle.f8_asm.specs.Image.{Ascends, everywhere, image_of};
 ghost use Rattle.f8_asm.specs.Marks.{marks_with, is_free};
 ghost use Rattle.f8_asm.specs.PassTwo.{is_inside};
-ghost use Rattle.f8_link.specs.Linking.{IsLow, caused, stop_in, exports_given, imports_given, all_exports, all_imports, all_inside, all_marked, all_written, values_of, named_value, linked_of};
-ghost use Rattle.f8_link.specs.OneSource.{IsCompiled, IsOneSource, one_source, source_image, NoNameTwice, HasBytes, joined};
+ghost use Rattle.f8_link.specs.Linking.{IsLow, caused, stop_in, exports_given, imports_given, all_exports, all_imports};
+ghost use Rattle.f8_link.specs.Linking.{all_inside, all_marked, all_written, values_of, named_value, linked_of};
+ghost use Rattle.f8_link.specs.OneSource.{IsCompiled, IsOneSource, one_source, source_image, NoNameTwice, HasBytes};
+ghost use Rattle.f8_link.specs.OneSource.{joined};
 
 use crate::answers::{LinkAnswer, LinkCause, LinkFault};
 use crate::fixes::{LinkStop, bytes_fixed};

@@ -5,7 +5,9 @@ ghost use Rattle.f8_spec.specs.Instructions.{InRange};
 ghost use Rattle.f8_asm.specs.Bytes.{word_bytes};
 ghost use Rattle.f8_asm.specs.Statements.{item_size, single_size, operand_valued, statement_size, statement_valued};
 ghost use Rattle.f8_link.specs.Evaluation.{formula_found};
-ghost use Rattle.f8_link.specs.Pieces.{whole, open_at, behind, joined, kind_of, no_value, constant_of, constant_operand, number_of, field_of, byte_of, word_of, displaced, branch_of, single_piece, item_piece, list_piece, piece_of};
+ghost use Rattle.f8_link.specs.Pieces.{whole, open_at, behind, joined, kind_of, no_value, constant_of};
+ghost use Rattle.f8_link.specs.Pieces.{constant_operand, number_of, field_of, byte_of, word_of, displaced, branch_of};
+ghost use Rattle.f8_link.specs.Pieces.{single_piece, item_piece, list_piece, piece_of};
 
 use crate::answers::ModCause;
 use crate::faults::{ModuleLineFault, ModuleLineStop, fault_at, line_fault_of};

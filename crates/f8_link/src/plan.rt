@@ -5,7 +5,8 @@ ghost use Rattle.text_lines.specs.Printable.{is_printable};
 ghost use Rattle.text_lines.specs.Lines.{lines};
 ghost use Rattle.text_lines.specs.ReadErrors.{OnMemory, SaysSeen, StepsTo};
 ghost use Rattle.line_words.specs.Words.{words};
-ghost use Rattle.f8_link.specs.Plans.{cause_number, entry, entry_seen, line_seen, said, line_of as spelled_line, no_lines, said_with, read_line, plan_of, TakesMemory};
+ghost use Rattle.f8_link.specs.Plans.{cause_number, entry, entry_seen, line_seen, said, line_of as spelled_line};
+ghost use Rattle.f8_link.specs.Plans.{no_lines, said_with, read_line, plan_of, TakesMemory};
 
 use f8_asm::Room;
 use line_words::{

@@ -2,7 +2,8 @@
 ghost use Rattle.std.specs.Prelude.{◌≡◌, ◌≤◌, ◌+◌, IfOk, OnOk, OnErr, option_copied};
 ghost use Rattle.text_lines.specs.ReadErrors.{Says, StepsTo};
 ghost use Rattle.f8_asm.specs.Statements.{statement_size};
-ghost use Rattle.f8_link.specs.SecondPass.{no_layout, with_label, constant_at, filled, settle, line_settled, place, place_lines, Ends};
+ghost use Rattle.f8_link.specs.SecondPass.{no_layout, with_label, constant_at, filled, settle, line_settled, place};
+ghost use Rattle.f8_link.specs.SecondPass.{place_lines, Ends};
 
 use crate::answers::{ModAnswer, ModCause};
 use crate::faults::{ModuleLineFault, ModuleLineStop, fault_at, fault_by};

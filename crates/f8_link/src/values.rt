@@ -1,6 +1,7 @@
 // The values of a module's expressions, and what operators and prefixes make of them.
 ghost use Rattle.std.specs.Prelude.{◌≡◌, IfSome, IfNone, ◌+ℤ◌, ◌-ℤ◌};
-ghost use Rattle.f8_link.specs.Values.{same_base, near, used, constant_found, placed_moved, moved_placed, placed_joined, values_joined, both, placed_before, value_before, before};
+ghost use Rattle.f8_link.specs.Values.{same_base, near, used, constant_found, placed_moved, moved_placed};
+ghost use Rattle.f8_link.specs.Values.{placed_joined, values_joined, both, placed_before, value_before, before};
 
 use f8_asm::{Operator, Outcome, Prefix, operator_value, prefix_value};
 

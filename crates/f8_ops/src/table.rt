@@ -1,6 +1,7 @@
 // The instruction table: rows, lengths, clocks and shielding.
 ghost use Rattle.std.specs.Prelude.{◌≡◌, ◌+◌, ◌≤◌, Bool, false};
-ghost use Rattle.f8_spec.specs.Instructions.{row_of, row_clocks, length_of, clocks_of, clocks_before_fetch, has_long_fetch, step_clocks, is_shielding};
+ghost use Rattle.f8_spec.specs.Instructions.{row_of, row_clocks, length_of, clocks_of, clocks_before_fetch};
+ghost use Rattle.f8_spec.specs.Instructions.{has_long_fetch, step_clocks, is_shielding};
 ghost use Rattle.f8_spec.specs.MicroSteps.{clocks_along, interrupt_steps, reset_steps};
 ghost use Rattle.f8_spec.specs.declared.instructions.Op.{Op};
 

@@ -1,5 +1,6 @@
 -- The order law of bus arbitration, proved over the definitions.
-use Rattle.std.proofs.Common.{◌≡◌, ℕ, Bool, true, false, not, ◌&&◌, ◌==◌, List, [], ◌∷◌, map, refl, sym, ap, subst, ◌∙◌, inl, inr, arith, eqb-true, eq-eqb}
+use Rattle.std.proofs.Common.{◌≡◌, ℕ, Bool, true, false, not, ◌&&◌, ◌==◌, List, [], ◌∷◌, map, refl, sym, ap, subst, ◌∙◌, inl, inr, arith}
+use Rattle.std.proofs.Common.{eqb-true, eq-eqb}
 use Rattle.std.specs.Prelude.{if◌then◌else◌, Option, Some, None, option_map, filter_map, IsPermutation}
 use Rattle.std.proofs.lemmas.List.Sorted.{IsPermutation-map, length_permutation}
 use Rattle.f8_spec.specs.BusCodes.{driver_of}

@@ -1,6 +1,7 @@
 -- The instruction table (Fairchild F8 User's Guide): opcodes, lengths, clocks and names. The clocks follow from the lists of bus
 -- steps, which are this project's own choice after the manual, and so do the shielding instructions and the reserved opcodes.
-use Rattle.std.specs.Prelude.{◌≡◌, ℕ, ◌+◌, ◌-◌, ◌<◌, ◌≤◌, ◌⊎◌, Bool, true, false, ◌&&◌, nat_lt, nat_le, ◌==◌, if◌then◌else◌, List, codes, Option, Some, None}
+use Rattle.std.specs.Prelude.{◌≡◌, ℕ, ◌+◌, ◌-◌, ◌<◌, ◌≤◌, ◌⊎◌, Bool, true, false, ◌&&◌, nat_lt, nat_le, ◌==◌, if◌then◌else◌, List, codes}
+use Rattle.std.specs.Prelude.{Option, Some, None}
 use Rattle.f8_spec.specs.declared.instructions.Op.{Op}
 use Rattle.f8_spec.specs.declared.instructions.Op.TheVariants.{LrAKu, LrAKl, LrAQu, LrAQl, LrKuA, LrKlA, LrQuA, LrQlA}
 use Rattle.f8_spec.specs.declared.instructions.Op.TheVariants.{LrKP, LrPK, LrAIs, LrIsA, Pk, LrP0Q, LrQDc, LrDcQ, LrDcH}

@@ -2,7 +2,8 @@
 -- of this project's own rule.
 use Rattle.std.specs.Prelude.{ℕ, ◌≡◌, ◌⊎◌, List, ◌∷◌, map, Option, option_map, IsPermutation}
 use Rattle.f8_spec.specs.ChipState.{ChipView}
-use Rattle.f8_spec.specs.BusArbitration.{Ruling, Served, Conflict, Undriven, Astray, rule_of, bystanders, named_placed, view_ruling, bus_byte}
+use Rattle.f8_spec.specs.BusArbitration.{Ruling, Served, Conflict, Undriven, Astray, rule_of, bystanders, named_placed, view_ruling}
+use Rattle.f8_spec.specs.BusArbitration.{bus_byte}
 use Rattle.f8_spec.specs.declared.bus.Party.{Party}
 
 -- a named chip whose socket has another name

@@ -1,6 +1,8 @@
 // A timer that counts down to its expiry.
 ghost use Rattle.std.specs.Prelude.{ℕ, ◌≡◌, ◌<◌, Some};
-ghost use Rattle.f8_spec.specs.ShiftTimer.{shifted_timer, expires_next, idle_timer, timer_loaded, timer_after, expires_within, clocks_to_expiry, ExpiresAsLoaded, KeepsExpiries, TellsNextExpiry};
+ghost use Rattle.f8_spec.specs.ShiftTimer.{shifted_timer, expires_next, idle_timer, timer_loaded, timer_after};
+ghost use Rattle.f8_spec.specs.ShiftTimer.{expires_within, clocks_to_expiry, ExpiresAsLoaded, KeepsExpiries};
+ghost use Rattle.f8_spec.specs.ShiftTimer.{TellsNextExpiry};
 
 use super::cycle::{place_of_state, state_at_place};
 use std::marker::Model;

@@ -1,6 +1,7 @@
 // The lines that sum up the run of a generated cartridge.
 ghost use Rattle.std.specs.Prelude.{◌≡◌};
-ghost use Rattle.generator.specs.SummaryLines.{gen_line as spelled_gen, writes_line as spelled_writes, scratch_sum_line as spelled_scratch_sum};
+ghost use Rattle.generator.specs.SummaryLines.{gen_line as spelled_gen, writes_line as spelled_writes};
+ghost use Rattle.generator.specs.SummaryLines.{scratch_sum_line as spelled_scratch_sum};
 
 use report::Line;
 

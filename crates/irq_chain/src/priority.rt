@@ -1,5 +1,6 @@
 // The choice among the chips that ask.
-ghost use Rattle.std.specs.Prelude.{◌≡◌, ◌≤◌, ◌<◌, true, None, Some, IfSome, if◌then◌else◌, length, position, slice_get};
+ghost use Rattle.std.specs.Prelude.{◌≡◌, ◌≤◌, ◌<◌, true, None, Some, IfSome, if◌then◌else◌, length, position};
+ghost use Rattle.std.specs.Prelude.{slice_get};
 
 /// The least index of the chips that ask, along a chain in which the first comes first; `None` exactly where the processor's interrupt
 /// control bit `icb` is clear or no chip asks (Mostek 3851 data sheet; what clears and sets the bit is the Fairchild F8 User's Guide's).

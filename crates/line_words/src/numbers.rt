@@ -1,6 +1,7 @@
 // Bytes, addresses and numbers that words spell.
 ghost use Rattle.std.specs.Prelude.{◌≡◌, ◌≤◌, IfOk, length};
-ghost use Rattle.line_words.specs.Numbers.{byte_of as spelled_byte, address_of as spelled_address, decimal_on, number_of as spelled_number, within};
+ghost use Rattle.line_words.specs.Numbers.{byte_of as spelled_byte, address_of as spelled_address, decimal_on};
+ghost use Rattle.line_words.specs.Numbers.{number_of as spelled_number, within};
 
 use hex::FromHex;
 use thiserror::Error;

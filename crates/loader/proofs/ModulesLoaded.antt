@@ -22,7 +22,8 @@ use Rattle.loader.specs.Games.{module_for, part_added, part_at, parts_up_to, par
 use Rattle.loader.specs.Readings.{Says, object_told, object_in, modules_in, linked_told, linked_in}
 use Rattle.loader.specs.Work.{Work, ask, gives, reads, ◌>>=◌}
 use Rattle.loader.specs.Works.{order_of, file_of, RefusesFrom, Works, outcome_as}
-use Rattle.loader.proofs.WorkLaws.{works_gives, works_read, works_unsaid, works_memory, works_then, works_done, works_stop, works_text, works_seen}
+use Rattle.loader.proofs.WorkLaws.{works_gives, works_read, works_unsaid, works_memory, works_then, works_done, works_stop, works_text}
+use Rattle.loader.proofs.WorkLaws.{works_seen}
 use Rattle.loader.proofs.WorkLaws.{from_first, IsOrdered, ordered_gives, ordered_reads, ordered_ask, ordered_more, ordered_then}
 
 -- ---- one module

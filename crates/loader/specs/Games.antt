@@ -16,10 +16,12 @@ use Rattle.f8_link.specs.Objects.{Object}
 use Rattle.f8_link.specs.Plans.{PlannedModule}
 use Rattle.f8_link.specs.declared.parts.Part.{Part}
 use Rattle.bus_audit.specs.Answers.{Trace}
-use Rattle.loader.specs.declared.purposes.Purpose.TheVariants.{Cart as CartFile, Script, Cert, Cases, Commands, Trace as TraceFile, File, Source, Plan, Module}
+use Rattle.loader.specs.declared.purposes.Purpose.TheVariants.{Cart as CartFile, Script, Cert, Cases, Commands, Trace as TraceFile, File}
+use Rattle.loader.specs.declared.purposes.Purpose.TheVariants.{Source, Plan, Module}
 use Rattle.chip_debug.specs.declared.command.Command.{Command}
 use Rattle.loader.specs.declared.games.Debugging.{Debugging}
-use Rattle.loader.specs.Readings.{description_of, described_table, image_in, script_in, notes_in, list_in, commands_in, trace_in, bytes_in, modules_in, object_in, linked_in}
+use Rattle.loader.specs.Readings.{description_of, described_table, image_in, script_in, notes_in, list_in, commands_in, trace_in, bytes_in}
+use Rattle.loader.specs.Readings.{modules_in, object_in, linked_in}
 use Rattle.loader.specs.Work.{Work, gives, reads, ask, ◌>>=◌}
 
 -- ---- a cartridge

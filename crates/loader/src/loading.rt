@@ -2,7 +2,8 @@
 ghost use Rattle.std.specs.Prelude.{◌≤◌, IfOk, IsOk, length};
 ghost use Rattle.toml.specs.View.{table_view};
 ghost use Rattle.cartridge.specs.Filling.{plan_of};
-ghost use Rattle.loader.specs.Games.{cart_of, table_by, script_by, game_of, notes_by, claim_of, list_by, confirming_of, commands_by, debugging_of, trace_by, auditing_of, image_by, bytes_by};
+ghost use Rattle.loader.specs.Games.{cart_of, table_by, script_by, game_of, notes_by, claim_of, list_by, confirming_of};
+ghost use Rattle.loader.specs.Games.{commands_by, debugging_of, trace_by, auditing_of, image_by, bytes_by};
 ghost use Rattle.certificate.specs.CertificateLaws.{AllFit};
 ghost use Rattle.pad_script.specs.Limits.{HasLimits};
 ghost use Rattle.pad_script.specs.Reading.{seen};

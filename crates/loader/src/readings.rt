@@ -7,7 +7,9 @@ ghost use Rattle.cartridge.specs.Rooms.{LiesIn};
 ghost use Rattle.certificate.specs.CertificateLaws.{AllFit};
 ghost use Rattle.pad_script.specs.Limits.{HasLimits};
 ghost use Rattle.pad_script.specs.Reading.{seen};
-ghost use Rattle.loader.specs.Readings.{Says, bytes_in, commands_in, trace_in, linked_in, modules_in, object_in, plan_told, table_of, description_of, described_table, image_in, notes_in, list_in, script_in};
+ghost use Rattle.loader.specs.Readings.{Says, bytes_in, commands_in, trace_in, linked_in, modules_in, object_in};
+ghost use Rattle.loader.specs.Readings.{plan_told, table_of, description_of, described_table, image_in, notes_in};
+ghost use Rattle.loader.specs.Readings.{list_in, script_in};
 
 use super::purposes::Purpose;
 use super::refusals::{Refusal, Stop};

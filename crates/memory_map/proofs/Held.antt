@@ -2,7 +2,8 @@
 use Rattle.std.proofs.Common.{◌≡◌, ℕ, ◌+◌, ◌-◌, ◌*◌, ◌/◌, ◌%◌, ◌<◌, ◌≤◌, Bool, true, false, List, [], ◌∷◌, ◌++◌, length}
 use Rattle.std.proofs.Common.{take, drop, refl, ap, ◌∙◌, arith, add-one, length-drop}
 use Rattle.std.specs.Prelude.{if◌then◌else◌, ◌==◌, slice_get, slice_index, is_some, Option, Some, None, option_map, option_and_then}
-use Rattle.std.proofs.lemmas.List.{take_all, take-append-drop, append-nil, length-take-le, get_or_append_left, get_or-append_right, get_or-replicate}
+use Rattle.std.proofs.lemmas.List.{take_all, take-append-drop, append-nil, length-take-le, get_or_append_left, get_or-append_right}
+use Rattle.std.proofs.lemmas.List.{get_or-replicate}
 use Rattle.f8_spec.specs.ChipState.{place_of, sort_at, held_byte}
 use Rattle.f8_spec.specs.declared.chips.Page.{Page}
 use Rattle.f8_spec.specs.declared.chips.PageSort.{PageSort}

@@ -1,7 +1,8 @@
 -- What the chips that hold a page say of an address in it, and a map that is made page by page.
 use Rattle.std.proofs.Common.{◌≡◌, ℕ, suc, ◌+◌, ◌*◌, ◌/◌, ◌%◌, ◌<◌, List, [], ◌∷◌, ◌++◌, length, map, refl, sym, ap}
 use Rattle.std.proofs.Common.{subst, Bool, false, ◌∙◌, arith, length-append, get_or-set_other, get_or-set_same, inl, inr, ◌-◌}
-use Rattle.std.specs.Prelude.{◌↔◌, IsTrue, All, filter_map, is_some, if◌then◌else◌, slice_index, slice_index_or, slice_set, Option, Some, None, option_map}
+use Rattle.std.specs.Prelude.{◌↔◌, IsTrue, All, filter_map, is_some, if◌then◌else◌, slice_index, slice_index_or, slice_set, Option, Some}
+use Rattle.std.specs.Prelude.{None, option_map}
 use Rattle.std.specs.List.{enumerate_from, cons_option, list_any, list_all}
 use Rattle.std.proofs.lemmas.List.{get_or-replicate, length-replicate, get_or_append_left, get_or-append_right, length-set}
 use Rattle.std.proofs.lemmas.Bool.{cases_lt, cases_eq}
@@ -20,7 +21,8 @@ use Rattle.memory_map.specs.MapEntries.{entry_of, bytes_by, page_bytes, is_held_
 use Rattle.memory_map.specs.MapKinds.{kind_holds, kind_has_pages, IsCovered, Overlap, is_written, told_vector}
 use Rattle.memory_map.specs.KindTables.{AreKindPages}
 use Rattle.memory_map.specs.MapOf.{MapTable, Tells, IsMapOf, mapped_sort, mapped_owner, mapped_byte, mapped_readers}
-use Rattle.memory_map.specs.MapOf.{kind_pages, mapped_held, mapped_any, mapped_covered, mapped_overlaps, mapped_wired, mapped_vectors, mapped_written}
+use Rattle.memory_map.specs.MapOf.{kind_pages, mapped_held, mapped_any, mapped_covered, mapped_overlaps, mapped_wired, mapped_vectors}
+use Rattle.memory_map.specs.MapOf.{mapped_written}
 use Rattle.memory_map.specs.MapOf.{mapped_takers, page_sort, sort_by, owner_by, seats_of, views_of}
 use Rattle.memory_map.specs.MapPorts.{AreReaders, AreTakers}
 use Rattle.memory_map.specs.declared.entry.Entry.{Entry}

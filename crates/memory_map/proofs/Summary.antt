@@ -1,5 +1,6 @@
 -- What holds of all addresses together, by the pages of the map; and of some chip, by the chips that are fitted.
-use Rattle.std.proofs.Common.{◌≡◌, ℕ, suc, ◌+◌, ◌*◌, ◌/◌, ◌<◌, Bool, true, false, List, [], ◌∷◌, length, get_or, refl, ap, sym, ◌∙◌, ap₂, arith}
+use Rattle.std.proofs.Common.{◌≡◌, ℕ, suc, ◌+◌, ◌*◌, ◌/◌, ◌<◌, Bool, true, false, List, [], ◌∷◌, length, get_or, refl, ap, sym, ◌∙◌, ap₂}
+use Rattle.std.proofs.Common.{arith}
 use Rattle.std.specs.Prelude.{◌&&◌, ◌||◌, ◌↔◌, IsTrue, filter_map, slice_index_or, Option, None}
 use Rattle.std.specs.List.{cons_option, list_any, list_all, range_with_len}
 use Rattle.std.proofs.lemmas.List.Folds.{list_any_at, list_all_at}

@@ -1,5 +1,6 @@
 -- What a map tells of each address and of each port, and that it is the map of some chips.
-use Rattle.std.specs.Prelude.{◌≡◌, ℕ, ◌*◌, ◌/◌, ◌<◌, ◌↔◌, Bool, false, IsTrue, List, length, map, slice_index, slice_index_or, Option, Some, None}
+use Rattle.std.specs.Prelude.{◌≡◌, ℕ, ◌*◌, ◌/◌, ◌<◌, ◌↔◌, Bool, false, IsTrue, List, length, map, slice_index, slice_index_or, Option, Some}
+use Rattle.std.specs.Prelude.{None}
 use Rattle.std.specs.List.{list_all, range_with_len}
 use Rattle.f8_spec.specs.ChipState.{ChipView}
 use Rattle.f8_spec.specs.BusArbitration.{Seat, seat_of}

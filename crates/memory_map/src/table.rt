@@ -72,8 +72,10 @@ impl Model for Map {
 impl Map {
     ghost use Rattle.std.specs.Prelude.{◌≡◌, ◌≤◌, ◌/◌, ℕ, All, IfOk, length, slice_get};
     ghost use Rattle.chip_face.specs.Fitting.{IsSpec};
-    ghost use Rattle.memory_map.specs.MapOf.{IsMapOf, IsWholeMap, entry_at, mapped_sort, mapped_owner, mapped_byte, mapped_readers, mapped_takers};
-    ghost use Rattle.memory_map.specs.MapOf.{kind_pages, mapped_held, mapped_any, mapped_held_everywhere, mapped_covered, mapped_overlaps, mapped_wired};
+    ghost use Rattle.memory_map.specs.MapOf.{IsMapOf, IsWholeMap, entry_at, mapped_sort, mapped_owner, mapped_byte};
+    ghost use Rattle.memory_map.specs.MapOf.{mapped_readers, mapped_takers};
+    ghost use Rattle.memory_map.specs.MapOf.{kind_pages, mapped_held, mapped_any, mapped_held_everywhere};
+    ghost use Rattle.memory_map.specs.MapOf.{mapped_covered, mapped_overlaps, mapped_wired};
     ghost use Rattle.memory_map.specs.MapOf.{mapped_vectors, mapped_written};
 
     /// The map of some chips, or want of memory. What it tells is copied.

@@ -1,7 +1,8 @@
 -- What the sinks in memory keep, put by put, worked out by hand and computed from the definitions.
 use Rattle.std.proofs.Common.{◌≡◌, true, List, [], ◌∷◌, refl}
 use Rattle.std.specs.Prelude.{codes, Some, None}
-use Rattle.outside.specs.MemorySinks.{KeptBytes, SureBytes, sent_at, most_sent, takes_whole, after_put, output_of, after_sure_put, sure_output_of}
+use Rattle.outside.specs.MemorySinks.{KeptBytes, SureBytes, sent_at, most_sent, takes_whole, after_put, output_of, after_sure_put}
+use Rattle.outside.specs.MemorySinks.{sure_output_of}
 use Rattle.outside.specs.declared.cut_list.Cut.{Cut}
 
 -- ---- which calls fail, and what goes out of them

@@ -1,6 +1,7 @@
 // The store over the system's files.
 ghost use Rattle.std.specs.Prelude.{◌≡◌, ◌≤◌, ◌<◌, length, Err, IfOk, MatchResult};
-ghost use Rattle.outside.specs.Reading.{PieceRead, AllRead, ReadPast, ReadWithoutRoom, WhereWanting, GaveAll, GaveMore, GaveWithoutRoom};
+ghost use Rattle.outside.specs.Reading.{PieceRead, AllRead, ReadPast, ReadWithoutRoom, WhereWanting, GaveAll, GaveMore};
+ghost use Rattle.outside.specs.Reading.{GaveWithoutRoom};
 ghost use Rattle.outside.specs.StoreRules.{CountsFault, WhereLong};
 
 use super::counted_reader::CountedReader;

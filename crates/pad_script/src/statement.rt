@@ -2,7 +2,9 @@
 ghost use Rattle.std.specs.Prelude.{◌≡◌, IfOk, IfSome};
 ghost use Rattle.line_words.specs.Words.{words};
 ghost use Rattle.pad_script.specs.Limits.{IsLimited};
-ghost use Rattle.pad_script.specs.Statements.{keys_at, pulse_at, power, frames, steps, show, event_of as spelled_event, setting as spelled_setting, statement_of as spelled_statement, line_of as spelled_line};
+ghost use Rattle.pad_script.specs.Statements.{keys_at, pulse_at, power, frames, steps, show, event_of as spelled_event};
+ghost use Rattle.pad_script.specs.Statements.{setting as spelled_setting, statement_of as spelled_statement};
+ghost use Rattle.pad_script.specs.Statements.{line_of as spelled_line};
 
 use super::answers::ScriptCause;
 use super::script::{At, End, Event};

@@ -1,4 +1,4 @@
-// Lists of cases: searched for, told, confirmed, and refused with one line.
+// Lists of cases: searched for, told and confirmed; and a search that finds none.
 use super::calls::{LOOP_CART, answered, files_with};
 use f8_machine::Rack;
 use outside::MemSink;

@@ -3,7 +3,8 @@ ghost use Rattle.std.specs.Prelude.{◌≡◌, ◌+◌, ◌≤◌, ◌++◌, Opt
 ghost use Rattle.report.specs.CheckLines.{return_text, value_text, values_text, point_text};
 ghost use Rattle.report.specs.CheckLines.{whole_line as spelled_whole, agreed_line as spelled_agreed};
 ghost use Rattle.report.specs.CheckLines.{refused_line as spelled_refused, toomany_line as spelled_toomany};
-ghost use Rattle.report.specs.CheckLines.{origin_text, point_in, notclosed_line as spelled_notclosed, unsafe_line as spelled_unsafe};
+ghost use Rattle.report.specs.CheckLines.{origin_text, point_in, notclosed_line as spelled_notclosed};
+ghost use Rattle.report.specs.CheckLines.{unsafe_line as spelled_unsafe};
 
 use super::line_buffer::{LINE_ROOM, Line};
 use abs_domain::{Point, Reason};

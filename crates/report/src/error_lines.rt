@@ -2,7 +2,14 @@
 ghost use Rattle.std.specs.Prelude.{◌≡◌, ◌+◌, ◌≤◌, ◌++◌, length, IsTrue};
 ghost use Rattle.std.specs.List.{list_all};
 ghost use Rattle.text_lines.specs.Printable.{is_printable};
-ghost use Rattle.report.specs.ErrorLines.{words_line as spelled_words, toml_line as spelled_toml, hex_line as spelled_hex, long_line as spelled_long, store_line as spelled_store, number_text, chip_text, cart_line as spelled_cart, source_text, asm_line as spelled_asm, module_line as spelled_module, link_line as spelled_link, reader_text as spelled_reader_text, reader_line as spelled_reader, rack_line as spelled_rack, sockets_line as spelled_sockets, kind_text as spelled_kind};
+ghost use Rattle.report.specs.ErrorLines.{words_line as spelled_words, toml_line as spelled_toml};
+ghost use Rattle.report.specs.ErrorLines.{hex_line as spelled_hex, long_line as spelled_long};
+ghost use Rattle.report.specs.ErrorLines.{store_line as spelled_store, number_text, chip_text};
+ghost use Rattle.report.specs.ErrorLines.{cart_line as spelled_cart, source_text, asm_line as spelled_asm};
+ghost use Rattle.report.specs.ErrorLines.{module_line as spelled_module, link_line as spelled_link};
+ghost use Rattle.report.specs.ErrorLines.{reader_text as spelled_reader_text, reader_line as spelled_reader};
+ghost use Rattle.report.specs.ErrorLines.{rack_line as spelled_rack, sockets_line as spelled_sockets};
+ghost use Rattle.report.specs.ErrorLines.{kind_text as spelled_kind};
 
 use super::line_buffer::{LINE_ROOM, Line};
 use f8_spec::ChipKind;

@@ -1,6 +1,9 @@
 // The lines of a run, from its verdict to its total.
 ghost use Rattle.std.specs.Prelude.{◌≡◌, ◌<◌, ◌≤◌, length};
-ghost use Rattle.console_spec.specs.RunText.{verdict_text as spelled_word, verdict_line as spelled_verdict, stop_line as spelled_stop, fault_line as spelled_fault, regs_line as spelled_regs, scratch_line as spelled_scratch, total_line as spelled_total};
+ghost use Rattle.console_spec.specs.RunText.{verdict_text as spelled_word, verdict_line as spelled_verdict};
+ghost use Rattle.console_spec.specs.RunText.{stop_line as spelled_stop, fault_line as spelled_fault};
+ghost use Rattle.console_spec.specs.RunText.{regs_line as spelled_regs, scratch_line as spelled_scratch};
+ghost use Rattle.console_spec.specs.RunText.{total_line as spelled_total};
 ghost use Rattle.console_spec.specs.Run.{Done, Unserved, Reserved};
 ghost use Rattle.console_spec.specs.Services.{Conflict, Undriven, Astray};
 ghost use Rattle.f8_machine.specs.Faults.{fault_of};

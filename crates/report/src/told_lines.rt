@@ -1,6 +1,8 @@
 // The lines that are told as a run goes: bus steps, writes to ports, and frames.
 ghost use Rattle.std.specs.Prelude.{◌≡◌, ◌≤◌, ◌<◌, ◌+◌, ◌++◌, List, codes, length};
-ghost use Rattle.console_spec.specs.RunText.{length_text as spelled_length, who_text as spelled_who, bus_line as spelled_bus, bus_fault_line as spelled_bus_fault, out_line as spelled_out, frame_line as spelled_frame, picture_row};
+ghost use Rattle.console_spec.specs.RunText.{length_text as spelled_length, who_text as spelled_who};
+ghost use Rattle.console_spec.specs.RunText.{bus_line as spelled_bus, bus_fault_line as spelled_bus_fault};
+ghost use Rattle.console_spec.specs.RunText.{out_line as spelled_out, frame_line as spelled_frame, picture_row};
 ghost use Rattle.console_spec.specs.declared.PortWrite.{PortWrite};
 ghost use Rattle.f8_machine.specs.HeardSteps.{step_of};
 ghost use Rattle.video.specs.ScreenState.{pixel_in, digits_in, screen_after};

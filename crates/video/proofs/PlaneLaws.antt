@@ -1,5 +1,6 @@
 -- Rows of pixels by their planes: blank, with a colour set, their palette, and their digits by the bytes of the planes.
-use Rattle.std.proofs.Common.{◌≡◌, ◌≢◌, ℕ, zero, suc, ◌+◌, ◌-◌, ◌*◌, ◌/◌, ◌%◌, ◌^◌, ◌<◌, ◌==◌, List, get_or, set, refl, sym, ap, ◌∙◌, arith, lit<, bit_and}
+use Rattle.std.proofs.Common.{◌≡◌, ◌≢◌, ℕ, zero, suc, ◌+◌, ◌-◌, ◌*◌, ◌/◌, ◌%◌, ◌^◌, ◌<◌, ◌==◌, List, get_or, set, refl, sym, ap, ◌∙◌, arith}
+use Rattle.std.proofs.Common.{lit<, bit_and}
 use Rattle.std.specs.Prelude.{sum, replicate, slice_index, if◌then◌else◌}
 use Rattle.std.specs.Int.{bit_at, byte_at, bytes_low_first, to_le_bytes, w128}
 use Rattle.std.proofs.Math.Nat.{pow-suc}

@@ -1,6 +1,7 @@
 -- A screen as contracts see it: what is shown after the writes that it was given, and what bears on what later writes do. The writes of a
 -- list stand as in console_spec, the last one first.
-use Rattle.std.specs.Prelude.{ℕ, ◌+◌, ◌-◌, ◌*◌, ◌/◌, ◌%◌, Bool, not, ◌&&◌, ◌==◌, if◌then◌else◌, List, [], ◌∷◌, map, slice_index, slice_index_or, slice_set}
+use Rattle.std.specs.Prelude.{ℕ, ◌+◌, ◌-◌, ◌*◌, ◌/◌, ◌%◌, Bool, not, ◌&&◌, ◌==◌, if◌then◌else◌, List, [], ◌∷◌, map, slice_index}
+use Rattle.std.specs.Prelude.{slice_index_or, slice_set}
 use Rattle.std.specs.List.{range_with_len}
 use Rattle.console_spec.specs.Writes.{latch_of}
 use Rattle.console_spec.specs.declared.PortWrite.{PortWrite}

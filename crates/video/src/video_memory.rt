@@ -40,7 +40,8 @@ impl Screen {
     ghost use Rattle.console_spec.specs.Display.{pixel_of, palette_of, tone_of};
     ghost use Rattle.console_spec.specs.RunText.{picture_row};
     ghost use Rattle.video.specs.Planes.{plane_of};
-    ghost use Rattle.video.specs.ScreenState.{row_in, pixel_in, palette_in, digits_in, screen_after, drawn, after_write};
+    ghost use Rattle.video.specs.ScreenState.{row_in, pixel_in, palette_in, digits_in, screen_after, drawn};
+    ghost use Rattle.video.specs.ScreenState.{after_write};
 
     /// A screen at power-on: every pixel and every latch is 0.
     pub fn dark() -> Screen

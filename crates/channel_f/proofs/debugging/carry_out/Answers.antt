@@ -3,7 +3,8 @@ use Rattle.std.proofs.Common.{◌∙◌, ◌≤◌, [], arith, length, refl}
 use Rattle.std.proofs.lemmas.List.{drop_all, drop_more}
 use Rattle.std.proofs.lemmas.Result.{err_from_is_err_and}
 use Rattle.chip_debug.specs.declared.command.Command.TheVariants.{Power}
-use Rattle.channel_f.proofs.Debuggings.{along_first, along_more, along_cut, along_all, asked_all, failed_at, rooms_next, total_next, whole_all}
+use Rattle.channel_f.proofs.Debuggings.{along_first, along_more, along_cut, along_all, asked_all, failed_at, rooms_next, total_next}
+use Rattle.channel_f.proofs.Debuggings.{whole_all}
 use Rattle.channel_f.proofs.debugging.carry_out.Goals as goal
 
 pub loop-command-init : goal.loop-command-init

@@ -1,4 +1,5 @@
-use Rattle.std.proofs.Common.{◌≡◌, ◌+◌, ◌<◌, ℕ, List, take, Ok, Err, All, get_or, length, ◌∷◌, [], ◌++◌, sym, ◌∙◌, ap, subst, add-one, rules}
+use Rattle.std.proofs.Common.{◌≡◌, ◌+◌, ◌<◌, ℕ, List, take, Ok, Err, All, get_or, length, ◌∷◌, [], ◌++◌, sym, ◌∙◌, ap, subst, add-one}
+use Rattle.std.proofs.Common.{rules}
 use Rattle.std.proofs.Math.Seq.{take-suc}
 use Rattle.std.proofs.lemmas.List.{take_all}
 use Rattle.std.proofs.lemmas.List.Elements.{All-push}

@@ -10,7 +10,8 @@ use Rattle.f8_link.proofs.plan.read_plan.Goals as goal
 pub returns-in_err-count : goal.returns-in_err-count
 returns-in_err-count c =
     let told = err_from_is_err_and c.from_residual.result c.from_residual.ensures.1 in
-    rw (told.1, told.2) (plan_told {A = ℕ} c.args.text.now c.in_err-count.field-0.0 (λ count. c.read_lines.new.draft) (λ plan. plan) (rw c.new.ensures at c.in_err-count.ensures.draft))
+    rw (told.1, told.2) (plan_told {A = ℕ} c.args.text.now c.in_err-count.field-0.0
+    (λ count. c.read_lines.new.draft) (λ plan. plan) (rw c.new.ensures at c.in_err-count.ensures.draft))
 
 pub returns-then-is_empty : goal.returns-then-is_empty
 returns-then-is_empty c =

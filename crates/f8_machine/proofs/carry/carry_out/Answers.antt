@@ -1,6 +1,7 @@
 -- A turn takes one step of what is left before the end; then comes the end, with the interrupt that is chosen. At a step that isn't served
 -- the instruction is cut short.
-use Rattle.std.proofs.Common.{◌≡◌, ℕ, ◌+◌, ◌-◌, ◌<◌, ◌≤◌, Bool, true, false, List, take, Option, Some, None, refl, length, ap, sym, subst, ◌∙◌, arith, rules}
+use Rattle.std.proofs.Common.{◌≡◌, ℕ, ◌+◌, ◌-◌, ◌<◌, ◌≤◌, Bool, true, false, List, take, Option, Some, None, refl, length, ap, sym, subst}
+use Rattle.std.proofs.Common.{◌∙◌, arith, rules}
 use Rattle.std.specs.Prelude.{if◌then◌else◌, not, ◌&&◌, IfSome, IsSome, slice_get}
 use Rattle.f8_spec.specs.ChipState.{ChipState}
 use Rattle.f8_machine.specs.Choosing.{chosen_by, first_in}

@@ -41,7 +41,8 @@ returns-in-Some-clause-spare g c =
     ∙ ap (λ (s : SessionState). s.tape.log.spare) c.self.view_is
 
 pub returns-in-Some-clause-count : goal.returns-in-Some-clause-count
-returns-in-Some-clause-count g c = rw (← c.self.view_is) (count_most c.instr-outcome.result c.self.inside.tape c.instr-outcome.new.self c.instr-outcome.ensures.tape)
+returns-in-Some-clause-count g c = rw (← c.self.view_is)
+    (count_most c.instr-outcome.result c.self.inside.tape c.instr-outcome.new.self c.instr-outcome.ensures.tape)
 
 pub invariant_of-self-2 : goal.invariant_of-self-2
 invariant_of-self-2 g c =
