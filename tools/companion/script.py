@@ -101,14 +101,14 @@ class Script:
 
     @classmethod
     def of(cls, data: bytes) -> Script:
-        script, number = cls(), 0
+        script = cls()
         for number, line in lines_of(data):
             try:
                 script.take(line)
             except Bad as bad:
                 script.fault = script.fault or Fault(number, bad.cause)
         if script.end is None and script.fault is None:
-            script.fault = Fault(number + 1, Cause.NO_END)
+            script.fault = Fault(len(text_lines(data)) + 1, Cause.NO_END)
         return script
 
     def take(self, line: bytes) -> None:
@@ -157,7 +157,12 @@ def event_of(words: list[bytes]) -> Event:
 
 def lines_of(data: bytes) -> Iterator[tuple[int, bytes]]:
     """The lines that aren't skipped, with their numbers."""
-    for number, line in enumerate(data.removesuffix(b'\n').split(b'\n') if data else [], 1):
-        line = line.removesuffix(b'\r')
+    for number, line in enumerate(text_lines(data), 1):
         if line.strip(b' \t') and not line.startswith(b'#'):
             yield number, line
+
+
+def text_lines(data: bytes) -> list[bytes]:
+    """All lines of a text: each ends with LF, which the last may lack, and a CR right before an LF is dropped once."""
+    *lines, last = data.split(b'\n')
+    return [line.removesuffix(b'\r') for line in lines] + [last] * bool(last)

@@ -87,6 +87,23 @@ def give(machine: Machine, script: Script, frame: int) -> None:
                 chip.key(event.place, event.byte)
 
 
+def altered(random: Random, lines: list[bytes]) -> tuple[str, list[bytes]]:
+    """Lines of a trace with one change in a step: a byte, a bit, a code, a length, a driver, a fault, or a line left out or doubled."""
+    at = random.choice([number for number, line in enumerate(lines) if line.startswith(b'bus ')])
+    code, length, byte, driver = lines[at].split()[1:]
+    is_served = byte != b'--'
+    digits, flipped = b'%02X' % random.randrange(256), b'%02X' % (int(byte if is_served else b'00', 16) ^ 1 << random.randrange(8))
+    who = random.choice((b'cpu', b'-', b'0', b'1', b'12', b'14'))
+    what, words = random.choice([
+        ('byte', (code, length, digits, driver if is_served else who)), ('bit', (code, length, flipped, driver if is_served else who)),
+        ('code', (b'%02X' % random.randrange(32), length, byte, driver)),
+        ('length', (code, b'L' if length == b'S' else b'S', byte, driver)),
+        ('driver', (code, length, byte if is_served else digits, who)), ('fault', (code, length, b'--', b'fault')),
+        ('out of form', (code, length, digits, b'16')), ('left out', None), ('doubled', (code, length, byte, driver))])
+    found = [] if words is None else [b' '.join((b'bus', *words))]
+    return f'{what} in line {at + 1}', [*lines[:at], *found, *lines[at + (what != 'doubled'):]]
+
+
 def main(words: list[str]) -> int:
     if len(words) != {'audit': 4, 'trace': 3}.get(words[0] if words else '', 0):
         print('error words')

@@ -240,7 +240,8 @@ def outcome(opcode: int, before: Sequence[Known], point: Point, after: State) ->
 
 
 def one_of(state: Sequence[Known], part: int) -> Values:
-    return set_of(pointed(state) if part == ISAR else state[part])
+    is_lost = part == ISAR and any(isinstance(state[digit], Unknown) for digit in (ISAR, LOW))  # behind LR IS,A
+    return None if is_lost else set_of(pointed(state) if part == ISAR else state[part])
 
 
 def result(entry: Entry, found: Outcome) -> Entry:
@@ -326,6 +327,19 @@ class Judge:
                     return f'notclosed {line} to {point_text(open_one)}'
                 is_whole = is_whole and found.is_fault_free
         return f'{"whole" if is_whole else "agreed"} {len(entries)}'
+
+
+class Remembering(Judge):
+    """A judge that works out what becomes of an entry once, for lists that have much in common."""
+
+    def __init__(self, description: Description):
+        super().__init__(description)
+        self.found: dict[Entry, list[Way]] = {}
+
+    def ways(self, entry: Entry) -> Iterable[Way]:
+        if entry not in self.found:
+            self.found[entry] = list(super().ways(entry))
+        return self.found[entry]
 
 
 def point_text(entry: Entry) -> str:

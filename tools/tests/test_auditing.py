@@ -12,7 +12,7 @@ from typing import Iterator
 
 from tool import PROGRAM, TOP, needs_program, needs_toml
 
-from audited import answer, free_run
+from audited import altered, answer, free_run
 from companion.auditing.traces import MOST_BYTES, line_of
 from companion.description import Description
 from companion.program import Program
@@ -79,6 +79,7 @@ class Auditing(unittest.TestCase):
         self.assertEqual(answer(description, STEPS_1, text), ('accept 3', 0))
         self.assertEqual(answer(description, STEPS_1, text.replace(b'\n', b'\r\n') + b'\r\n'), ('accept 3', 0))
         self.assertEqual(answer(description, STEPS_1, text + b'\r\r\n'), ('error trace line 8', 2))
+        self.assertEqual(answer(description, STEPS_1, text + b'\r'), ('error trace line 8', 2))  # no LF comes behind it
         self.assertEqual(answer(description, STEPS_1, b'\xff\0\n' + text), ('accept 3', 0))
         self.assertEqual(answer(description, STEPS_1, text.ljust(MOST_BYTES + 1, b'\n')), ('error long trace', 2))
 
@@ -200,23 +201,6 @@ class RandomRuns(Traces):
 
 CHANGES = 12  # of each cartridge
 MOST_LINES, MOST_CHANGED = 20_000, 4_000  # that the slower of the two goes over, of a trace as it is and of one that is changed
-
-
-def altered(random: Random, lines: list[bytes]) -> tuple[str, list[bytes]]:
-    """Lines of a trace with one change in a step: a byte, a bit, a code, a length, a driver, a fault, or a line left out or doubled."""
-    at = random.choice([number for number, line in enumerate(lines) if line.startswith(b'bus ')])
-    code, length, byte, driver = lines[at].split()[1:]
-    is_served = byte != b'--'
-    digits, flipped = b'%02X' % random.randrange(256), b'%02X' % (int(byte if is_served else b'00', 16) ^ 1 << random.randrange(8))
-    who = random.choice((b'cpu', b'-', b'0', b'1', b'12', b'14'))
-    what, words = random.choice([
-        ('byte', (code, length, digits, driver if is_served else who)), ('bit', (code, length, flipped, driver if is_served else who)),
-        ('code', (b'%02X' % random.randrange(32), length, byte, driver)),
-        ('length', (code, b'L' if length == b'S' else b'S', byte, driver)),
-        ('driver', (code, length, byte if is_served else digits, who)), ('fault', (code, length, b'--', b'fault')),
-        ('out of form', (code, length, digits, b'16')), ('left out', None), ('doubled', (code, length, byte, driver))])
-    found = [] if words is None else [b' '.join((b'bus', *words))]
-    return f'{what} in line {at + 1}', [*lines[:at], *found, *lines[at + (what != 'doubled'):]]
 
 
 @needs_program

@@ -7,14 +7,14 @@ import tempfile
 import unittest
 from pathlib import Path
 from random import Random
-from typing import Iterable, Iterator, Sequence
+from typing import Iterator, Sequence
 
 from tool import PROGRAM, TOP, needs_program, needs_toml
 
 import nested_calls
 from case_lists import AT, BR_SELF, LOOP, OF_LOOP, PROGRAMS, changed, entry, list_of_opcodes, lone, psu, worked
 from case_search import searched
-from cased import Entry, Judge, Way, confirmed, line_of, read_list, status_of, text_of
+from cased import Entry, Judge, Remembering, confirmed, line_of, read_list, status_of, text_of
 from companion.description import Description
 from companion.memory import Memory
 from companion.program import Program
@@ -134,19 +134,6 @@ def texts() -> Iterator[tuple[bytes, str]]:
 
 
 # ---- the judge of the tests, and the search
-
-class Remembering(Judge):
-    """A judge that works out what becomes of an entry once, for lists that have much in common."""
-
-    def __init__(self, description: Description):
-        super().__init__(description)
-        self.found: dict[Entry, list[Way]] = {}
-
-    def ways(self, entry: Entry) -> Iterable[Way]:
-        if entry not in self.found:
-            self.found[entry] = list(super().ways(entry))
-        return self.found[entry]
-
 
 @needs_toml
 class Judging(unittest.TestCase):

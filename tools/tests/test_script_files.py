@@ -62,6 +62,12 @@ class ScriptFiles(unittest.TestCase):
         for line in ('show  1', 'show 1 ', 'STEPS 5', 'at 1 keys 00', '\ufeffframes 1'):
             self.assertEqual(Script.of(line.encode()).fault, Fault(1, Cause.WORD), line)
 
+    def test_the_ends_of_lines(self):
+        """By docs/FORMATS.md: a CR right before an LF is dropped once, and skipped lines count where there is no end."""
+        for text, fault in ((b'steps 5\r\n', None), (b'steps 5', None), (b'steps 5\r', Fault(1, Cause.WORD)), (b'steps 5\r\r\n', Fault(1, Cause.WORD)),
+                            (b'', Fault(1, Cause.NO_END)), (b'\n', Fault(2, Cause.NO_END)), (b'show 1\n\n# more', Fault(4, Cause.NO_END))):
+            self.assertEqual(Script.of(text).fault, fault, text)
+
     @needs_program
     def test_faults_are_those_of_the_program(self):
         """Lines at random, and the line and cause of the first fault."""

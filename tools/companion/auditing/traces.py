@@ -6,6 +6,7 @@ from dataclasses import dataclass
 from functools import lru_cache
 
 from companion.bus import Step
+from companion.script import text_lines
 
 MOST_BYTES = 16_777_216
 BEGINNING = b'bus '
@@ -41,11 +42,6 @@ def line_of(step: Step) -> str:
     """A step as its line."""
     told = '-- fault' if step.byte is None else f'{step.byte:02X} {step.driver}'
     return f'bus {step.code:02X} {"L" if step.is_long else "S"} {told}'
-
-
-def text_lines(data: bytes) -> list[bytes]:
-    """The lines of a text, as a script has them: with LF at the end, which the last may lack, and without a CR before it."""
-    return [line.removesuffix(b'\r') for line in data.removesuffix(b'\n').split(b'\n')] if data else []
 
 
 def fault_in(line: str) -> tuple[int, str]:
