@@ -1,4 +1,4 @@
-"""The pages: every link leads somewhere, lines fit, and what ASSURANCE names as edits is there."""
+"""The pages: every link leads somewhere, lines fit, and what ASSURANCE names as edits and as definitions is there."""
 from __future__ import annotations
 
 import os
@@ -15,6 +15,22 @@ PAGES = sorted([*TOP.glob('*.md'), *TOP.glob('docs/*.md'), *TOP.glob('tools/*.md
 COLUMNS = 140
 LINK = re.compile(r'!?\[[^\]]*\]\(([^)\s]+)\)')
 EDIT = re.compile(r'(\w+) (`[a-z0-9-]+`(?:, `[a-z0-9-]+`)*)')
+
+# A file of definitions, perhaps behind its crate, and names of some that stand in it.
+DEFINITION = re.compile(r'(?:\b([a-z]\w+) )?\b([A-Z]\w+) \(?(`\w+`(?:(?:, | and )`\w+`)*)')
+
+
+def rows_of(text: str, name: str) -> list[str]:
+    """The points of a page that begin with this name, a line each."""
+    return [row.replace('\n ', '') for row in re.findall(rf'^- \*\*{name}\.\*\* ((?:.+\n)+?)(?=- |\n)', text, re.M)]
+
+
+def is_defined(crate: str, file: str, name: str) -> bool:
+    """Whether a line of a file of definitions begins with a name. Without a crate the file is that of any crate, if there is one."""
+    has_crate = bool(crate) and (TOP / 'crates' / crate).is_dir()
+    texts = [path.read_text('utf-8') for path in TOP.glob(f'crates/{crate if has_crate else "*"}/specs/{file}.antt')]
+    line = re.compile(rf'^ *(?:(?:abbrev|unfoldable|opaque) )?(?:pub )?(?:(?:data|record) )?{name}\b', re.M)
+    return any(map(line.search, texts)) or not (texts or has_crate)
 
 
 def prose(page: Path) -> Iterator[tuple[int, str]]:
@@ -81,10 +97,16 @@ class Pages(unittest.TestCase):
 
     def test_edits_that_the_assurance_names_are_there(self) -> None:
         text = (TOP / 'docs/ASSURANCE.md').read_text('utf-8')
-        rows = re.findall(r'^- \*\*Edits\.\*\* ((?:.+\n)+?)(?=- |\n)', text, re.M)
-        named = [(crate, edit) for row in rows for crate, edits in EDIT.findall(row.replace('\n ', '')) for edit in re.findall(r'[a-z0-9-]+', edits)]
+        named = [(crate, edit) for row in rows_of(text, 'Edits') for crate, edits in EDIT.findall(row) for edit in re.findall(r'[a-z0-9-]+', edits)]
         self.assertGreater(len(named), 60)
         self.assertEqual([place for place in named if not (TOP / 'crates' / place[0] / 'must-fail' / f'{place[1]}.edit').is_file()], [])
+
+    def test_definitions_that_the_assurance_names_are_there(self) -> None:
+        text = (TOP / 'docs/ASSURANCE.md').read_text('utf-8')
+        rows = [*rows_of(text, 'Definitions'), *re.findall(r'^\|.*', text, re.M)]
+        named = [(crate, file, name) for row in rows for crate, file, names in DEFINITION.findall(row) for name in re.findall(r'`(\w+)`', names)]
+        self.assertGreater(len(named), 120)
+        self.assertEqual([place for place in named if not is_defined(*place)], [])
 
 
 if __name__ == '__main__':

@@ -18,6 +18,8 @@ from test_cases import CARTRIDGES, Confirming
 
 RANK = {'whole': 2, 'agreed': 1}  # of an answer; 0 of all others
 RANDOM = 40
+OTHERS = {'candle': 'whole', 'signboard': 'whole', 'lighthouse': 'agreed', 'heartbeat': 'unproved', 'parted': 'unproved',
+          'restarted': 'unproved'}  # as they are
 READ_OF_NOTHING = psu({0: '2A1000' '16' '90FB'})  # DCI 1000; LM; BR to the DCI: no chip answers there
 
 
@@ -57,6 +59,11 @@ class Proving(Confirming):
             with self.subTest(cartridge=name):
                 text = (TOP / 'cartridges' / name / 'cart.toml').read_text()
                 self.assertRegex(self.assert_proved(self.file('cart.toml', without_split(text))), f'{verdict} [0-9]+')
+
+    def test_other_cartridges_as_they_are(self) -> None:
+        for name, verdict in OTHERS.items():
+            with self.subTest(cartridge=name):
+                self.assertRegex(self.assert_proved(TOP / 'cartridges' / name / 'cart.toml'), f'{verdict} [0-9A-F]+')
 
     def test_nested_calls_with_their_stack_in_the_scratchpad(self) -> None:
         path = nested_calls.write(self.folder, [])
