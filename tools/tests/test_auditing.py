@@ -21,6 +21,16 @@ from random_cartridges import cartridge
 from traced import (BOTH_SORTS, CARTRIDGES, FIRST_OF_TWO, LOOP, MISSING_PORT, OF_LOOP, OF_MISSING_PORT, OF_NOTHING, OF_OWN_PORT, OF_PIO,
                     OF_RESERVED, OF_TIMER, OWN_PORT, PULSES, SECOND_OF_TWO, STEPS_1, TIMER, changed, chips, played, printed, psu)
 
+OTHER_OWN_PORT, OF_OTHER_OWN_PORT = psu('A1B490FE'), [line.replace(' A0 ', ' A1 ') for line in OF_OWN_PORT]
+# INS 0, OUTS 4 and a branch back, of 8, 16 and 14 clocks: an OUTS ends at 29,830, which is the first frame's, and one at 59,660.
+ECHO, TOLD_ECHO = psu('A0B490FD'), 4709
+
+
+def of_long_read(port: str, byte: str, driver: str) -> list[str]:
+    """IN of a port, with its last step up to the fetch."""
+    return ['bus 1C S 00 -', 'bus 08 L 00 cpu', 'bus 00 S 26 0', f'bus 03 L {port} 0', f'bus 1B L {byte} {driver}']
+
+
 # By hand: description, script, lines of the trace, what is answered.
 ANSWERS = [
     (LOOP, STEPS_1, OF_LOOP, 'accept 3'), (LOOP, b'steps 0\n', OF_LOOP, 'accept 3'),
@@ -46,6 +56,13 @@ ANSWERS = [
     (TIMER, STEPS_1, [*OF_TIMER[:21], 'bus 00 S FF 0'], 'reject line 22'),  # the request is there, so it is taken
     (OWN_PORT, b'at 0 keys 00 05\nsteps 1\n', OF_OWN_PORT, 'accept 3'), (OWN_PORT, STEPS_1, OF_OWN_PORT, 'reject line 6'),
     (OWN_PORT, b'power 05\nsteps 1\n', OF_OWN_PORT, 'reject line 6'),
+    # port 1 by INS, with its own key byte; by IN both ports are nobody's, whatever the script says of them
+    (OTHER_OWN_PORT, b'at 0 keys 01 05\nsteps 1\n', OF_OTHER_OWN_PORT, 'accept 3'),
+    (OTHER_OWN_PORT, b'at 0 keys 00 05\nsteps 1\n', OF_OTHER_OWN_PORT, 'reject line 6'),
+    *((psu('26' + port), f'at 0 keys {port} 05\nsteps 1\n'.encode(), trace, line) for port in ('00', '01') for trace, line in (
+        (of_long_read(port, '--', 'fault'), 'accept 0'), (of_long_read(port, '05', 'cpu'), 'reject line 4'), (of_long_read(port, '05', '0'), 'reject line 4'))),
+    # the script's key byte of a chip's port doesn't count, but the trace's does
+    (MISSING_PORT, b'at 0 keys 04 FF\nsteps 1\n', OF_MISSING_PORT, 'accept 3'),
 ]
 # Lines that are at fault, and others with `bus` in front that are skipped.
 OUT_OF_FORM = ['bus ', 'bus 20 S 00 -', 'bus 1c S 00 -', 'bus 1C s 00 -', 'bus 1C S 0 -', 'bus 1C S 00', 'bus 1C S 00 16', 'bus 1C S 00 00',
@@ -170,6 +187,15 @@ class Programs(Traces):
         self.assertEqual(self.program(*self.files(two, STEPS_1), trace), ('accept 2135', 0))
         unwired = chips(FIRST_OF_TWO, SECOND_OF_TWO.replace('true', 'false'))
         self.assertEqual(self.program(*self.files(unwired, STEPS_1), trace), ('reject line 6408', 7))
+
+    def test_own_keys_of_the_frame_at_which_the_script_ends(self) -> None:
+        """They come in an audit, which goes on behind that end."""
+        trace = played(*self.files(ECHO, b'at 1 keys 00 05\nframes 2\n'))
+        for script in (b'at 1 keys 00 05\nframes 1\n', b'at 1 keys 00 05\nat 2 keys 00 FF\nframes 2\n', b'at 1 keys 00 05\nsteps 0\n'):
+            self.assertEqual(self.program(*self.files(ECHO, script), trace), (f'accept {TOLD_ECHO}', 0), script)
+        # the verdict, reset, 785 turns of 8 steps and a write, and the next INS stand before
+        for script in (STEPS_1, b'at 2 keys 00 05\nframes 2\n', b'at 1 keys 01 05\nframes 2\n'):
+            self.assertEqual(self.program(*self.files(ECHO, script), trace), ('reject line 7072', 7), script)
 
     def test_limits(self) -> None:
         files, text = self.files(LOOP, STEPS_1), '\n'.join(OF_LOOP).encode() + b'\n'

@@ -30,6 +30,10 @@ LINKED = [
     # a label behind the last byte of all
     ([' EXPORT END\n' + ' DW 0\n' * 32_768 + 'END:\n'], 'module 0 0000 FFFF', [f'{at:04X} ' + '00' * 16 for at in range(0, 65_536, 16)] + ['sym END 65536']),
     (['; nothing\n', ' EXPORT HERE\nHERE:\n'], '', ['sym HERE 256']),
+    # an import less itself is a constant, and a sum of one is an import still, up to 65535 away
+    ([' IMPORT X\n DB X-X,1+X,X-65535+65535,X-X-5\n', ' EXPORT X\nX: EQU 6\n'], '', ['0000 000706FB', 'sym X 6']),
+    # imports that are spelled alike but for their case, in modules that import from each other
+    ([' EXPORT X\n IMPORT x\nX: DW x\n', ' EXPORT x\n IMPORT X\nx: DW X\n'], '', ['0000 0100', '0100 0000', 'sym X 0', 'sym x 256']),
 ]
 REFUSED = [
     ([' EXPORT X\nX: NOP\n', ' NOP\n', 'X: NOP\n EXPORT X\n'], '', 'error link module 2 cause 1'),
@@ -52,6 +56,25 @@ REFUSED = [
     ([' DB 1\n EXPORT Y\n'], '', 'error module 0 line 2 column 9 cause 5'),
     (['X: DB 0,<(X+65536)\n'], '', 'error module 0 line 1 column 9 cause 6'),
     ([' DB 0,0-.\n'], '', 'error module 0 line 1 column 7 cause 12'),
+    # of two causes the earlier one
+    ([' EXPORT X\n IMPORT Y\nX: NOP\n', ' EXPORT X\nX: NOP\n'], '', 'error link module 1 cause 1'),
+    ([' BR $200\n', ' NOP\n'], 'module 0 0000 00FF\nmodule 1 0001 0001', 'error link module 1 cause 4'),
+    # how far a branch goes is seen where it is put
+    ([' BR 65536\n'], '', 'error link module 0 cause 5'),
+    # an import in EQU, whichever line imports it
+    (['Y: EQU X\n IMPORT X\n'], '', 'error module 0 line 1 column 8 cause 12'),
+    (['Y: EQU 1/0+X\n IMPORT X\n'], '', 'error module 0 line 1 column 8 cause 12'),
+    ([' IMPORT X\n DB X+65536-65536\n'], '', 'error module 0 line 2 column 5 cause 6'),
+    ([' IMPORT X\n IMPORT X\n'], '', 'error module 0 line 2 column 9 cause 4'),
+    (['X: NOP\n IMPORT X\n'], '', 'error module 0 line 2 column 9 cause 4'),
+    ([' BT 1,X\n IMPORT X\n BR <X\n'], '', 'error module 0 line 3 column 5 cause 12'),
+    # no other sum of places has a shape, nor a half within one
+    *(([f' IMPORT X,Y\n DB {operand}\n'], '', 'error module 0 line 2 column 5 cause 12') for operand in (
+        '-X', 'X*1', '1*X', 'X/1', 'X&1', 'X|0', '1-X', 'X+X', 'X+Y', 'X-Y', '<X+0', '<<X', '<-X', '(>X)-1')),
+    # and a place is no small number, though this one is 0
+    *(([f'X: {statement}\n'], '', f'error module 0 line 1 column {len("X: " + statement[:statement.rindex("X")]) + 1} cause 12') for statement in (
+        'LR A,X', 'LR X,A', 'DS X', 'LISU X', 'LISL X', 'LIS X', 'IN X', 'OUT X', 'INS X', 'OUTS X', 'AS X', 'ASD X', 'XS X', 'NS X', 'SR X', 'SL X',
+        'BT X,.', 'BF X,.')),
 ]
 PLANS = [
     ('', 1, 5), ('# none\n\n', 3, 5), ('module 0 0000 00FF\nmodules 0 0000 00FF\n', 2, 1), ('module 0 0000', 1, 1), ('module 0  0000 00FF', 1, 1),
