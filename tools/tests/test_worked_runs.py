@@ -19,8 +19,6 @@ ANSWERED = ('format = 1\n' + PSU.format(0, 4, '71B61B90FF'.ljust(0x200, 'F') + R
 # A copy of 16 bytes from ROM at 2000 to RAM at 2800 by two data counters of a 3853, counted in r0.
 COPIES = (PSU.format(0, 4, '2A28002C2A2000201050162C172C3094FA90FF')
           + '[[chip]]\nkind = "3853"\nrom_page = 0x20\nrom_pages = 1\nram_page = 0x28\nram_pages = 1\n')
-
-
 # Two 3851s with code at 0180 alone, of the four addresses where their vectors lead.
 TWO_VECTORS = ('format = 1\n' + PSU.format(0, 4, '71B6BA1B90FF'.ljust(0x300, 'F') + '1B1C') + 'vector = 0x0100\ninterrupt = true\n'
                + PSU.format(0x400, 8, '') + 'vector = 0x0200\ninterrupt = true\n')
@@ -76,7 +74,6 @@ ROWS = {
         'play', ANSWERED, 'at 1 pulse 0\nframes 2\n', 0, 'verdict whole\nout 34 06 01\n'
         + ended('done', 'P=0003 P1=0003 D0=0000 D1=0000 A=01 IS=00 W=10', alike('00'), '4261 instructions 59664')),
 }
-
 
 # Addresses that two chips hold, or all: the reasons in their order, and then whether reads are answered.
 OVER, RAM_OVER = ('rom_page = 1\nrom_pages = 1', 'ram_page = 1\nram_pages = 1')
