@@ -72,7 +72,7 @@ REFUSED = [
     *(([f' IMPORT X,Y\n DB {operand}\n'], '', 'error module 0 line 2 column 5 cause 12') for operand in (
         '-X', 'X*1', '1*X', 'X/1', 'X&1', 'X|0', '1-X', 'X+X', 'X+Y', 'X-Y', '<X+0', '<<X', '<-X', '(>X)-1')),
     # and a place is no small number, though this one is 0
-    *(([f'X: {statement}\n'], '', f'error module 0 line 1 column {len("X: " + statement[:statement.rindex("X")]) + 1} cause 12') for statement in (
+    *(([f'X: {statement}\n'], '', f'error module 0 line 1 column {4 + statement.rindex("X")} cause 12') for statement in (
         'LR A,X', 'LR X,A', 'DS X', 'LISU X', 'LISL X', 'LIS X', 'IN X', 'OUT X', 'INS X', 'OUTS X', 'AS X', 'ASD X', 'XS X', 'NS X', 'SR X', 'SL X',
         'BT X,.', 'BF X,.')),
 ]

@@ -127,6 +127,9 @@ SESSIONS = {
         + 'ran 1\n' + shown('P=0180 P1=0006 D0=1234 D1=0000 A=01 IS=00 W=00', '4 instructions 88'))),
     'the last of two key bytes': (KEYED, 'keys 04 FF;keys 04 30;step 3;show regs', (
         'ran 3\n' + shown('P=0004 P1=0000 D0=0000 D1=0000 A=3F IS=00 W=01', '3 instructions 56'))),
+    'ROM in two pages that do not touch, listed from behind': (
+        'format = 2\n' + PSU.format(0, 4, '') + '[[chip]]\nkind = "3853"\npages = ["rom 22", "ram 21", "rom 20"]\nrom = "' + '11' * 256 + '22"\n',
+        'mem 20FF 2;mem 2200 2;mem 21FF 1;mem 2300 1', 'mem 20FF 11 00\nmem 2200 22 FF\nmem 21FF 00\nmem 2300 --\n'),
     'a break at the last of so many instructions': (ALONE.format(0, 4, '712B90FE'), 'break at 0001;run 1;run 1', 'ran 1\nbreak\nran 1\n'),
     'no break at an instruction that was not done, though its step was served': (
         CUT, 'break romc 03;run 9;run 9;show regs', 'ran 1\nbreak\nran 0\nstop undriven romc 0C at 0400\n' + shown(
