@@ -8,7 +8,7 @@ use Rattle.f8_spec.specs.BusCodes.{Count}
 use Rattle.f8_spec.specs.ChipState.{ChipView, ChipState}
 use Rattle.console_spec.specs.Processor.{Flow}
 use Rattle.data_bus.specs.Racks.{views}
-use Rattle.probe.specs.ProbeState.{ProbeState, probe_counters}
+use Rattle.probe.specs.ProbeState.{probe_counters}
 use Rattle.f8_machine.specs.MachineState.{steps_in}
 use Rattle.f8_machine.specs.Refinement.{Represents}
 use Rattle.f8_machine.specs.declared.heard.Heard.{Heard}
@@ -32,6 +32,7 @@ use Rattle.chip_debug.specs.Searching.{IsReplayed, is_sought, is_this, last_soug
 use Rattle.chip_debug.specs.Stepping.{is_store, upto}
 use Rattle.chip_debug.specs.declared.replaying.Sought.{Sought}
 use Rattle.chip_debug.specs.declared.replaying.Sought.TheVariants.{Nothing, Break, Store}
+use Rattle.chip_debug.proofs.MeetLaws.{meets_is}
 use Rattle.chip_debug.proofs.Searches.{events_flow, sought_more, upto_of}
 
 -- ---- the tape
@@ -209,9 +210,6 @@ module _ (done : ℕ) (old now next : TapeState) (again : IsAgain done old now) 
   at_behind = subst (λ (r : Reached). HasReached next.machine nexts r)
       (ap (λ (m : TapeMode). come_by m (played_from next first)) going_next ∙ led) forward.taped.at
 
-  stands_behind : Represents next.machine nexts (turned there).position
-  stands_behind = rw runs_behind at at_behind.machine
-
   -- ---- what is looked for
 
   module _ (steps : List Heard) (told : steps ≡ steps_in outcome) where
@@ -221,17 +219,7 @@ module _ (done : ℕ) (old now next : TapeState) (again : IsAgain done old now) 
     met_is : (breaks : Breaks) →
         are_met breaks steps next.machine.flow.p (probe_counters next.machine.probe) next.machine.chain (views nexts)
         ≡ meets_break breaks old.machine.chain there
-    met_is breaks =
-        let met : List Heard → ℕ → ProbeState → List ℕ → List ChipView → Bool =
-        λ hs p probe l vs. are_met breaks hs p (probe_counters probe) l vs in
-        ap (λ (hs : List Heard). met hs next.machine.flow.p next.machine.probe next.machine.chain (views nexts)) steps_are
-        ∙ ap (λ (c : Flow). met (next_steps there) c.p next.machine.probe next.machine.chain (views nexts)) stands_behind.stands.flow
-        ∙ ap (λ (probe : ProbeState). met (next_steps there) (turned there).position.flat.state.flow.p probe next.machine.chain (views nexts))
-        at_behind.probe
-        ∙ ap (λ (l : List ℕ). met (next_steps there) (turned there).position.flat.state.flow.p (turned there).probe l (views nexts))
-        (chain ∙ again.chain)
-        ∙ ap (λ (vs : List ChipView). met (next_steps there) (turned there).position.flat.state.flow.p (turned there).probe
-        old.machine.chain vs) at_behind.chips
+    met_is breaks = meets_is breaks old.machine.chain there steps next.machine nexts at_behind runs_behind (chain ∙ again.chain) steps_are
 
     -- what was seen of it tells whether it is looked for
     this_is : (sought : Sought) (n at : ℕ) → at ≡ (probe_counters now.machine.probe).dc0 →

@@ -17,9 +17,7 @@ use chip_face::{Chip, MOST_CHIPS};
 use f8_machine::{Heard, Machine, Rack};
 use rack_run::Halt;
 use rewind::Tape;
-
-/// The code of the bus step by which an instruction stores (Fairchild F8 User's Guide).
-const STORE: u8 = 0x05;
+use romc_table::Romc;
 
 /// What is looked for among instructions that are done again.
 #[derive(Clone, Copy, Debug, PartialEq, Eq)]
@@ -37,7 +35,7 @@ pub(crate) enum Sought {
 fn is_store(step: &Heard) -> bool
     ensures { result ≡ is_stored step.now }
 {
-    step.romc.number() == STORE && step.taker.is_some()
+    step.romc.number() == Romc::STORE_DATA.number() && step.taker.is_some()
 }
 
 impl Sought {
