@@ -37,7 +37,9 @@ class Shared:
 
 
 def lines_in(data: bytes) -> list[bytes]:
-    return [line.removesuffix(b'\r') for line in data.split(b'\n')]
+    """The lines of a text. A carriage return belongs to the line's end where a line feed stands behind it, and to the line else."""
+    *ended, last = data.split(b'\n')
+    return [*(line.removesuffix(b'\r') for line in ended), last]
 
 
 def planned(data: bytes) -> list[Planned]:
