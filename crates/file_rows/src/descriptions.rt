@@ -58,7 +58,7 @@ fn tops_have_faults(rt: HostRuntime) -> Result<(), Fail> {
 }
 
 #[test]
-fn chips_have_faults(rt: HostRuntime) -> Result<(), Fail> {
+fn bases_and_ports_have_faults(rt: HostRuntime) -> Result<(), Fail> {
     for (keys, want) in [
         (
             "kind = '3851'\nbase = 0x200\nports = 4\nrom = '71'",
@@ -89,6 +89,16 @@ fn chips_have_faults(rt: HostRuntime) -> Result<(), Fail> {
             "kind = '3851'\nbase = 0\nports = 6\nrom = '71'",
             "0 ports 5",
         ),
+    ] {
+        let got = answer_to_chip(rt.alloc(), keys)?;
+        assert_eq!(rt; got.as_str(), want, "{keys}");
+    }
+    Ok(())
+}
+
+#[test]
+fn kinds_keys_and_pages_have_faults(rt: HostRuntime) -> Result<(), Fail> {
+    for (keys, want) in [
         ("kind = '3850'\nbase = 0\nports = 4\nrom = '71'", "0 kind 4"),
         ("kind = '3851'\nbase = 0\nports = 4\ncolour = 1", "0 ? 2"),
         (
@@ -104,6 +114,16 @@ fn chips_have_faults(rt: HostRuntime) -> Result<(), Fail> {
             "kind = '3853'\nrom_page = 5\nrom_pages = 2\nram_page = 5\nram_pages = 0",
             "plan",
         ),
+    ] {
+        let got = answer_to_chip(rt.alloc(), keys)?;
+        assert_eq!(rt; got.as_str(), want, "{keys}");
+    }
+    Ok(())
+}
+
+#[test]
+fn bytes_of_chips_have_faults(rt: HostRuntime) -> Result<(), Fail> {
+    for (keys, want) in [
         ("kind = '3853'\nrom = ''", "plan"),
         ("kind = '3853'\nrom = '71'", "0 rom 7"),
         ("kind = '3853'\nsource = 'a'", "0 source 4"),
