@@ -61,6 +61,17 @@ fn writes_and_reads_three_points(rt: HostRuntime) -> Result<(), Fail> {
     Ok(())
 }
 
+// the text of no point, which is no certificate
+#[test]
+fn writes_no_point(rt: HostRuntime) -> Result<(), Fail> {
+    let split = Split::new();
+    let notes = Annotation::from_map(BTreeMap::new(rt.alloc()));
+    let text = write_cert(rt.alloc(), &notes, &split)?;
+    assert_eq!(rt; text.as_bytes(), b"F8CERT 1 0\n".as_slice());
+    assert_eq!(rt; fault_of(rt.alloc(), text.as_bytes(), &split), Some((1, 2)));
+    Ok(())
+}
+
 #[test]
 fn tells_the_first_fault(rt: HostRuntime) -> Result<(), Fail> {
     let start: &[u8] = b"0000 ---- . --";

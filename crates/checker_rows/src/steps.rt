@@ -104,3 +104,14 @@ fn reads_within_the_chip_are_whole(rt: HostRuntime) -> Result<(), Fail> {
     }
     Ok(())
 }
+
+// where no chip holds the opcode, and where it would be RAM's
+#[test]
+fn points_without_an_instruction_are_whole(rt: HostRuntime) -> Result<(), Fail> {
+    let map = both(rt.alloc(), &[0x16])?;
+    let (_, state) = start(&Split::new());
+    for at in [0x0400, 0x2800, 0xFFFF] {
+        assert!(rt; whole(&state, &point(at), &map), "at {at:04X}");
+    }
+    Ok(())
+}

@@ -77,6 +77,22 @@ fn plays_the_bytes_of_patched_chips(rt: HostRuntime) -> Result<(), Fail> {
     Ok(())
 }
 
+/// A session that looks at them.
+const LOOKED_AT: [Row; 1] = [(
+    &[("cart", LOOP_CART), ("commands", "mem 0000 4\n")],
+    &["debug", "cart", "commands"],
+    0,
+    "mem 0000 71 1F 90 FE\n",
+)];
+
+/// The debugger too tells the byte that the chip holds.
+#[test]
+fn shows_the_bytes_of_patched_chips(rt: HostRuntime) -> Result<(), Fail> {
+    let mut rack: Rack = Vec::new(rt.alloc());
+    rack.push(Box::new(rt.alloc(), Patched::psu(0x0001, 0x1F))?)?;
+    check_rows(&rt, rt.alloc(), &LOOKED_AT, &mut rack)
+}
+
 const NO_PSU: [Row; 1] = [(
     &[("cart", RAM_CART), ("script", "steps 3\n")],
     &["play", "cart", "script"],

@@ -1,8 +1,9 @@
 // Runs that a bus step ends, at each kind of step, on chips that hear. None of them heard the step that wasn't served.
-use super::calls::{answered, files_of};
+use super::calls::{File, answered, files_of};
 use chip_face::Chip;
 use chip_fakes::Listener;
 use f8_machine::Rack;
+use psu3851::Psu;
 use romc_table::Counters;
 use std::alloc::{AllocError, Global};
 use std::process::Abort;
@@ -149,4 +150,38 @@ fn ends_runs_on_listeners(rt: HostRuntime) -> Result<(), Fail> {
     let pio = Listener::round_pio(rt.alloc(), 10_000)?;
     rack.push(Box::new(rt.alloc(), pio)?)?;
     check_all(&rt, rt.alloc(), &mut rack)
+}
+
+/// A JMP to OUTS 4, which is the last byte of the only chip: it writes what the JMP left in A, and can't fetch what comes next.
+const WRITES_AT_THE_END: [File; 3] = [
+    (
+        "cart",
+        "format = 1\n[[chip]]\nkind = '3851'\nbase = 0\nports = 4\nsource = 'write'\n",
+    ),
+    ("write", " JMP $03FF\n ORG $03FF\n OUTS 4\n"),
+    ("script", "steps 9\n"),
+];
+
+const WRITTEN_AT_THE_END: &[u8] = b"verdict none\n\
+     stop undriven romc 00 at 0400\n\
+     regs P=03FF P1=0000 D0=0000 D1=0000 A=03 IS=00 W=00\n";
+
+/// The write isn't told, as its instruction isn't done, but the chip has its byte.
+#[test]
+fn keeps_what_an_instruction_wrote_before_it_failed(rt: HostRuntime) -> Result<(), Fail> {
+    let mut rack: Rack = Vec::new(rt.alloc());
+    rack.push(Box::new(rt.alloc(), Psu::blank())?)?;
+    let files = files_of(rt.alloc(), &WRITES_AT_THE_END)?;
+    let want = written(
+        rt.alloc(),
+        WRITTEN_AT_THE_END,
+        b"total 1 instructions 36 phi\n",
+    )?;
+    let words = ["play", "cart", "script"];
+    let (status, sink) = answered(rt.alloc(), 1_024, files, &words, &mut rack)?;
+    assert_eq!(rt; status, 3);
+    assert_eq!(rt; sink.bytes(), want.as_slice());
+    let latch = rack.get_mut(0).and_then(|chip| chip.latch(0x04));
+    assert_eq!(rt; latch, Some(0x03));
+    Ok(())
 }
