@@ -1,18 +1,20 @@
 -- What the chips hear in reset and in an instruction, and what they are asked.
 use Rattle.std.proofs.Common.{◌≡◌, ℕ, ◌+◌, ◌≤◌, Bool, true, false, List, [], ◌∷◌, ◌++◌, length, map, drop, refl, ◌∙◌, ap, sym, subst, arith}
 use Rattle.std.proofs.Common.{append-nil}
+use Rattle.std.proofs.lemmas.List.{length-map}
 use Rattle.f8_spec.specs.ChipState.{ChipState}
 use Rattle.console_spec.specs.BusTrace.{TracedStep}
 use Rattle.data_bus.specs.declared.index.Index.{Index}
 use Rattle.f8_machine.specs.Advancing.{Follows}
 use Rattle.f8_machine.specs.Fitting.{tried}
 use Rattle.f8_machine.specs.HeardSteps.{step_of}
-use Rattle.f8_machine.specs.MachineState.{MachineState}
+use Rattle.f8_machine.specs.MachineState.{MachineState, steps_in}
 use Rattle.f8_machine.specs.Questions.{allowances, code_of, codes_of, followed_all}
 use Rattle.f8_machine.specs.Rounds.{RackRuns, heard_of}
 use Rattle.f8_machine.specs.declared.heard.Heard.{Heard}
 use Rattle.f8_machine.specs.declared.outcome.Outcome.{Outcome}
 use Rattle.f8_machine.specs.declared.outcome.Outcome.TheVariants.{Done, Fault, Reserved}
+use Rattle.f8_machine.specs.declared.record.TheConstants.{MOST_HEARD}
 use Rattle.rack_run.specs.Asking.{AsksOn, AsksWithin, served_codes}
 use Rattle.rack_run.proofs.MachineAsking.{allowances-append, tried_most}
 use Rattle.bus_audit.specs.Audits.{Hears}
@@ -38,6 +40,9 @@ codes_again (h ∷ steps) = ap (λ (later : List ℕ). h.romc ∷ later) (codes_
 told_again : (steps : List Heard) → map plain (traced_all steps) ≡ heard_told steps
 told_again [] = refl
 told_again (h ∷ steps) = ap (λ (later : List TraceStep). plain (step_of h) ∷ later) (told_again steps)
+
+short_again : (steps : List Heard) → length steps ≤ MOST_HEARD → length (traced_all steps) ≤ MOST_HEARD
+short_again steps few = subst (λ (n : ℕ). n ≤ MOST_HEARD) (sym (length-map steps step_of)) few
 
 -- ---- an outcome
 
@@ -77,9 +82,9 @@ module _ (chips : ℕ) (old new : MachineState) (olds news : List ChipState) (be
       (found_behind (heard_told steps) trace (length steps) (length_told steps) is))
 
   pub hears_are : (outcome : Outcome) → Follows outcome old new olds news →
-      after ≤ before + allowances chips old.index (tried old.mode outcome) →
+      after ≤ before + allowances chips old.index (tried old.mode outcome) → length (steps_in outcome) ≤ MOST_HEARD →
       Hears (judged outcome (stand_next (outcome_told outcome) trace)) chips old.index new.index olds news before after trace
-  hears_are (Done wrote steps) follows few = by (stand_next (heard_told steps) trace) refl
+  hears_are (Done wrote steps) follows few short = by (stand_next (heard_told steps) trace) refl
     where
       most : after ≤ before + allowances chips old.index (codes_of steps)
       most = tried_most chips before after old.index (Done wrote steps) old.mode few
@@ -88,21 +93,24 @@ module _ (chips : ℕ) (old new : MachineState) (olds news : List ChipState) (be
           Hears (judged (Done wrote steps) stands) chips old.index new.index olds news before after trace
       by true is = record {
         steps = traced_all steps;
+        short = short_again steps short;
         ran = ran_again steps follows.ran;
         begins = begins_all steps is;
         asks = asks_on steps follows.index most;
       }
       by false is = record {
         steps = traced_all steps;
+        short = short_again steps short;
         ran = ran_again steps follows.ran;
         begins = tt;
         asks = ([], omega arith, asks_all steps most);
       }
-  hears_are (Fault fault long steps) follows few = by (stand_next (outcome_told (Fault fault long steps)) trace)
+  hears_are (Fault fault long steps) follows few short = by (stand_next (outcome_told (Fault fault long steps)) trace)
     where
       by : (stands : Bool) → Hears (judged (Fault fault long steps) stands) chips old.index new.index olds news before after trace
       by true = record {
         steps = traced_all steps;
+        short = short_again steps short;
         ran = ran_again steps follows.ran;
         begins = tt;
         asks = (
@@ -113,6 +121,7 @@ module _ (chips : ℕ) (old new : MachineState) (olds news : List ChipState) (be
       }
       by false = record {
         steps = traced_all steps;
+        short = short_again steps short;
         ran = ran_again steps follows.ran;
         begins = tt;
         asks = (
@@ -121,17 +130,19 @@ module _ (chips : ℕ) (old new : MachineState) (olds news : List ChipState) (be
           asks_within steps (code_of fault ∷ []) (tried_most chips before after old.index (Fault fault long steps) old.mode few),
         );
       }
-  hears_are (Reserved at code) follows few = by (stand_next [] trace)
+  hears_are (Reserved at code) follows few short = by (stand_next [] trace)
     where
       by : (stands : Bool) → Hears (judged (Reserved at code) stands) chips old.index new.index olds news before after trace
       by true = record {
         steps = [];
+        short = short;
         ran = follows.ran;
         begins = tt;
         asks = ([], omega arith, tried_most chips before after old.index (Reserved at code) old.mode few);
       }
       by false = record {
         steps = [];
+        short = short;
         ran = follows.ran;
         begins = tt;
         asks = ([], omega arith, tried_most chips before after old.index (Reserved at code) old.mode few);

@@ -15,6 +15,7 @@ use Rattle.data_bus.specs.declared.marks.Marks.{Marks}
 use Rattle.f8_machine.specs.MachineState.{MachineState}
 use Rattle.f8_machine.specs.Questions.{allowances, allowed}
 use Rattle.f8_machine.specs.Rounds.{RackPowers}
+use Rattle.f8_machine.specs.declared.record.TheConstants.{MOST_HEARD}
 use Rattle.f8_machine.proofs.RackLaws.{rack_runs_none}
 use Rattle.rack_run.specs.Asking.{AsksOn, AsksWithin, heard_codes, run_allowed, served_codes}
 use Rattle.rack_run.specs.Lives.{Come, Lives}
@@ -136,6 +137,8 @@ module _ (first : Beginning) (count chips : ℕ) (index : Index) (states : List 
     told = so_far.told;
     tried = [];
     one = omega arith;
+    short = omega arith;
+    still = refl;
     lived = subst (λ (ms : List Moment). Lives first.chain ms so_far.powered states) (sym (append-nil so_far.moments)) so_far.lived;
     unserved = [];
     most = omega arith;
@@ -157,6 +160,8 @@ module _ (first : Beginning) (count chips : ℕ) (index : Index) (states : List 
         told = so_far.told;
         tried = moment ∷ [];
         one = omega arith;
+        short = subst (λ (steps : List TracedStep). length steps ≤ MOST_HEARD) (sym (append-nil hears.steps)) hears.short;
+        still = refl;
         lived =
             lives_then first.chain so_far.moments moment so_far.powered states news so_far.lived
             (record { between = news; heard = hears.ran; came = refl });

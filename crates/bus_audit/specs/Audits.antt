@@ -1,12 +1,14 @@
 -- What becomes of the chips of a rack in an audit, and how many questions have been put to them. All of it is this project's own.
-use Rattle.std.specs.Prelude.{◌≡◌, ℕ, ◌+◌, ◌≤◌, List, ◌++◌, length, map, flat_map, drop}
+use Rattle.std.specs.Prelude.{◌≡◌, ℕ, ◌+◌, ◌≤◌, List, [], ◌++◌, length, map, flat_map, drop}
 use Rattle.f8_spec.specs.ChipState.{ChipState}
 use Rattle.f8_spec.specs.declared.chips.PowerOn.{PowerOn}
 use Rattle.console_spec.specs.BusTrace.{TracedStep}
 use Rattle.console_spec.specs.Telling.{Moment}
+use Rattle.console_spec.specs.declared.Event.{Event}
 use Rattle.data_bus.specs.declared.index.Index.{Index}
 use Rattle.f8_machine.specs.Questions.{allowances}
 use Rattle.f8_machine.specs.Rounds.{RackPowers, RackRuns, heard_of}
+use Rattle.f8_machine.specs.declared.record.TheConstants.{MOST_HEARD}
 use Rattle.rack_run.specs.Asking.{AsksOn, AsksWithin, heard_codes, run_allowed, served_codes}
 use Rattle.rack_run.specs.Lives.{Lives}
 use Rattle.bus_audit.specs.PlainSteps.{plain}
@@ -27,10 +29,11 @@ abbrev pub BeginsBy : Turn → (steps trace : List TraceStep) → Type 0
 BeginsBy (Onward told) steps trace = steps ++ drop told trace ≡ trace
 BeginsBy (Over told) steps trace = Unit {0}
 
--- The chips hear some steps, which stand first in the trace where the run goes on; and they are asked no more than is allowed for these, and for
--- one that is not served.
+-- The chips hear some steps, no more than one instruction has, which stand first in the trace where the run goes on; and they are asked no more
+-- than is allowed for these, and for one that is not served.
 pub record Hears (turn : Turn) (chips : ℕ) (old new : Index) (olds news : List ChipState) (before after : ℕ) (trace : List TraceStep) : Type 0 where
   pub steps : List TracedStep
+  pub short : length steps ≤ MOST_HEARD
   pub ran : RackRuns (map heard_of steps) olds news
   pub begins : BeginsBy turn (map plain steps) trace
   pub asks : AsksBy turn chips old new before after steps
@@ -54,9 +57,13 @@ beginning power chain powers trace fitted asked =
 abbrev pub heard_steps : List Moment → List TracedStep
 heard_steps moments = flat_map (λ m. m.heard) moments
 
+abbrev pub events_taken : List Moment → List Event
+events_taken moments = flat_map (λ m. m.events) moments
+
 -- The chips are powered as the script and the description say. They live through moments whose bus steps stand first in the trace, and through one
--- more at most, whose steps need not. They were put no more than 512 questions each, and the allowances of all these steps and of one that was
--- tried and not served.
+-- more at most, whose steps need not. That one has no more steps than reset or one instruction, and no input comes behind it. The most are 9: DCI has
+-- four before its last fetch, and an interrupt puts five in the place of that. The chips were put no more than 512 questions each, and the allowances
+-- of all these steps and of one that was tried and not served.
 pub record Audits (first : Beginning) (news : List ChipState) (asked : ℕ) : Type 0 where
   pub powered : List ChipState
   pub power_on : RackPowers first.power first.chain first.powers first.fitted powered
@@ -65,6 +72,8 @@ pub record Audits (first : Beginning) (news : List ChipState) (asked : ℕ) : Ty
   pub told : map plain (heard_steps moments) ++ rest ≡ first.trace
   pub tried : List Moment
   pub one : length tried ≤ 1
+  pub short : length (heard_steps tried) ≤ MOST_HEARD
+  pub still : events_taken tried ≡ []
   pub lived : Lives first.chain (moments ++ tried) powered news
   pub unserved : List ℕ
   pub most : length unserved ≤ 1

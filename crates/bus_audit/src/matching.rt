@@ -3,6 +3,7 @@ ghost use Rattle.std.specs.Prelude.{◌≡◌, ◌≤◌, ◌++◌, Some, length
 ghost use Rattle.console_spec.specs.Telling.{code_of as told_code};
 ghost use Rattle.f8_machine.specs.Faults.{fault_of};
 ghost use Rattle.f8_machine.specs.HeardSteps.{step_of};
+ghost use Rattle.f8_machine.specs.MachineState.{steps_in};
 ghost use Rattle.bus_audit.specs.Answers.{steps_of};
 ghost use Rattle.bus_audit.specs.PlainSteps.{plain, plain_fault, same_step};
 ghost use Rattle.bus_audit.specs.Turns.{heard_told, judged, outcome_told, stand_next as are_next, told_by};
@@ -10,7 +11,7 @@ ghost use Rattle.bus_audit.specs.Turns.{heard_told, judged, outcome_told, stand_
 use super::step::{TraceStep, TraceWhat};
 use super::trace::ToldLine;
 use data_bus::BusFault;
-use f8_machine::{Heard, Outcome};
+use f8_machine::{Heard, MOST_HEARD, Outcome};
 use romc_table::Romc;
 
 /// What becomes of reset or of an instruction by the steps that stand next in a trace.
@@ -94,6 +95,7 @@ pub(crate) fn judge(outcome: &Outcome, rest: &[ToldLine]) -> Turn
     ensures turn { result
         ≡ judged outcome.now (are_next (outcome_told outcome.now) (steps_of rest.now)) }
     ensures within { told_by result ≤ length rest.now }
+    ensures few { length (steps_in outcome.now) ≤ MOST_HEARD }
 {
     match outcome {
         Outcome::Done { steps, .. } => {

@@ -21,4 +21,5 @@ returns-clause-hears g c =
     (hears_are (length c.args.rack.now.items) c.args.machine.now c.reset-outcome.new.self olds news
     (sum_by (λ b. (goal.Chip-dyn g (b.vtable, b.value)).queries b.value) c.args.rack.now.items)
     (sum_by (λ b. (goal.Chip-dyn g (b.vtable, b.value)).queries b.value) c.reset-outcome.new.rack.items)
-    (steps_of c.args.rest.now) c.reset-outcome.result c.reset-outcome.ensures.follows c.reset-outcome.ensures.asked)
+    (steps_of c.args.rest.now) c.reset-outcome.result c.reset-outcome.ensures.follows c.reset-outcome.ensures.asked
+    c.judge.ensures.few)
