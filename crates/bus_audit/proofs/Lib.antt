@@ -26,4 +26,5 @@ mod ComingLaws
 mod OutcomeLaws
 mod HeardLaws
 mod AuditLaws
+mod TakenLaws
 mod LivedLaws

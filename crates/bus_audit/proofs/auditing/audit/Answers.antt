@@ -161,4 +161,4 @@ returns-clause-audits g c =
     let before = sum_by (λ b. (goal.Chip-dyn g (b.vtable, b.value)).queries b.value) c.args.rack.now.items in
     let first = beginning c.args.script.now.power c.args.chain c.args.cart.now.powers (steps_of c.args.trace.now.told) olds before in
     audits_all first c.loop-count.count (length c.loop-count.rack.items) c.loop-count.machine.index nows
-    (sum_by (λ b. (goal.Chip-dyn g (b.vtable, b.value)).queries b.value) c.loop-count.rack.items) c.loop-count.invariant.lived
+    (sum_by (λ b. (goal.Chip-dyn g (b.vtable, b.value)).queries b.value) c.loop-count.rack.items) c.loop-count.invariant.lived.0

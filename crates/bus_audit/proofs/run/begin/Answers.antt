@@ -8,7 +8,8 @@ use Rattle.bus_audit.specs.Answers.{steps_of}
 use Rattle.bus_audit.specs.Audits.{beginning}
 use Rattle.bus_audit.specs.FreeRuns.{is_own_key}
 use Rattle.bus_audit.specs.ReadInputs.{read_key}
-use Rattle.bus_audit.proofs.LivedLaws.{lives_begun, lives_turn}
+use Rattle.bus_audit.proofs.LivedLaws.{lives_begun, lives_reset}
+use Rattle.bus_audit.proofs.TakenLaws.{outer_own, outer_key}
 use Rattle.bus_audit.proofs.run.begin.Goals as goal
 
 pub returns-clause-lived : goal.returns-clause-lived
@@ -35,6 +36,7 @@ returns-clause-lived g c =
     (read_key (steps_of c.behind_reset.result.now)) c.power-machine.ensures.powered
     (same ∙ sym (length-map c.args.rack.now.items (λ b. (goal.Chip-dyn g (b.vtable, b.value)).state b.value)))
     c.power-machine.ensures.marks c.power-machine.ensures.parted (ap (λ m. m.chain) c.power-machine.ensures.machine)
-    (omega (arith, none, most, same)) c.come_own.ensures.comes c.come_first.ensures.comes in
-    lives_turn first 0 chips m2.index firsts asked begun c.take_reset-turn.result (length c.take_reset-turn.new.rack.items) later
+    (omega (arith, none, most, same)) c.come_own.ensures.comes c.come_first.ensures.comes (outer_own (events_at 0 c.as_slice.result.now))
+    (outer_key (steps_of c.behind_reset.result.now)) (ap read_key c.behind_reset.ensures) in
+    lives_reset first 0 chips m2.index firsts asked begun.0 begun.1 c.take_reset-turn.result (length c.take_reset-turn.new.rack.items) later
     c.take_reset-turn.new.machine.index news (steps_of c.args.told.now) refl c.take_reset-turn.ensures.chips c.take_reset-turn.ensures.hears

@@ -7,7 +7,8 @@ use Rattle.bus_audit.specs.Answers.{steps_of}
 use Rattle.bus_audit.specs.FreeRuns.{own_fallen}
 use Rattle.bus_audit.specs.Inputs.{frame_between}
 use Rattle.bus_audit.proofs.AuditLaws.{rest_told, goes_reading}
-use Rattle.bus_audit.proofs.LivedLaws.{lives_read, lives_turn}
+use Rattle.bus_audit.proofs.LivedLaws.{lives_read, lives_over}
+use Rattle.bus_audit.proofs.TakenLaws.{outer_fallen}
 use Rattle.bus_audit.proofs.run.go_on.Goals as goal
 
 pub returns-in-Onward-clause-turns : goal.returns-in-Onward-clause-turns
@@ -31,13 +32,15 @@ returns-in-Onward-clause-lived g c = λ first count chain same so_far.
     let later = sum_by (λ b. (goal.Chip-dyn g (b.vtable, b.value)).queries b.value) c.come_read.new.rack.items in
     let m1 = c.take_turn-turn.new.machine in
     let m2 = c.come_behind.new.machine in
-    lives_read first count (length c.args.rack.now.items) c.args.machine.now.index olds now so_far c.in-Onward.told
+    lives_read first count (length c.args.rack.now.items) c.args.machine.now.index olds now so_far.0 so_far.1 c.in-Onward.told
     (length c.come_read.new.rack.items) mid_now later m1 m2 c.come_read.new.machine mids owns news
     (own_fallen (seen c.args.script.now) (frame_between c.phi-before.result m1.phi)) _ (steps_of c.args.rest.now) same
+    (rest_told c.args.rest.now c.args.rest.now c.in-Onward.told refl)
     (c.come_read.ensures.chips ∙ c.come_behind.ensures.chips ∙ c.take_turn-turn.ensures.chips)
     (none_asked (λ b. (goal.Chip-dyn g (b.vtable, b.value)).queries b.value) c.take_turn-turn.new.rack.items c.come_read.new.rack.items
     (c.come_read.ensures.asked ∙ c.come_behind.ensures.asked))
-    (c.take_turn-turn.ensures.chain ∙ chain) c.in-Onward.ensures.hears c.come_behind.ensures.comes c.come_read.ensures.comes
+    (c.take_turn-turn.ensures.chain ∙ chain) (outer_fallen (seen c.args.script.now) (frame_between c.phi-before.result m1.phi))
+    c.in-Onward.ensures.hears c.come_behind.ensures.comes c.come_read.ensures.comes
 
 pub returns-in_default-clause-lived : goal.returns-in_default-clause-lived
 returns-in_default-clause-lived g c = λ first count chain same so_far.
@@ -45,6 +48,6 @@ returns-in_default-clause-lived g c = λ first count chain same so_far.
     let news = map (λ b. (goal.Chip-dyn g (b.vtable, b.value)).state b.value) c.take_turn-turn.new.rack.items in
     let now = sum_by (λ b. (goal.Chip-dyn g (b.vtable, b.value)).queries b.value) c.args.rack.now.items in
     let later = sum_by (λ b. (goal.Chip-dyn g (b.vtable, b.value)).queries b.value) c.take_turn-turn.new.rack.items in
-    lives_turn first count (length c.args.rack.now.items) c.args.machine.now.index olds now so_far c.take_turn-turn.result
-    (length c.take_turn-turn.new.rack.items) later c.take_turn-turn.new.machine.index news (steps_of c.args.rest.now) same
-    c.take_turn-turn.ensures.chips c.take_turn-turn.ensures.hears
+    lives_over first count (length c.args.rack.now.items) c.args.machine.now.index olds now so_far.0 c.take_turn-turn.result
+    c.in_default.not-Onward (length c.take_turn-turn.new.rack.items) later c.take_turn-turn.new.machine.index news (steps_of c.args.rest.now) same
+    c.take_turn-turn.ensures.hears
