@@ -1,6 +1,7 @@
 // The top call of the program.
-ghost use Rattle.std.specs.Prelude.{◌≡◌, IsTrue, map, string_bytes, sum_by};
+ghost use Rattle.std.specs.Prelude.{◌≡◌, IsTrue, Some, map, string_bytes, sum_by};
 ghost use Rattle.command_line.specs.CommandLine.{command_of, has_command};
+ghost use Rattle.command_line.specs.Seen.{seen_command};
 ghost use Rattle.channel_f.specs.Answers.{due_of};
 ghost use Rattle.channel_f.specs.Commands.{around, Says};
 ghost use Rattle.channel_f.specs.Completeness.{IsComplete};
@@ -19,7 +20,49 @@ use f8_spec::Memory;
 use outside::{Sink, Store};
 use std::alloc::Global;
 
-#[tactic(auto, using(crate::proofs::Outcomes::says_play, crate::proofs::Outcomes::says_check, crate::proofs::Outcomes::says_verify, crate::proofs::Outcomes::says_prove, crate::proofs::Outcomes::says_confirm, crate::proofs::Outcomes::says_migrate, crate::proofs::Outcomes::says_ref, crate::proofs::Outcomes::says_debug, crate::proofs::Outcomes::says_audit, crate::proofs::Outcomes::says_asm, crate::proofs::Outcomes::says_link, crate::proofs::Outcomes::says_dis, crate::proofs::Outcomes::says_gen, crate::proofs::Outcomes::says_words, crate::proofs::Outcomes::says_wanting, crate::proofs::Outcomes::command_named, crate::proofs::Outcomes::words_not_memory, crate::proofs::Games::answers_of))]
+/// Carries out a command.
+#[tactic(auto, using(crate::proofs::Outcomes::says_play, crate::proofs::Outcomes::says_check, crate::proofs::Outcomes::says_verify, crate::proofs::Outcomes::says_prove, crate::proofs::Outcomes::says_confirm, crate::proofs::Outcomes::says_migrate, crate::proofs::Outcomes::says_ref, crate::proofs::Outcomes::says_debug, crate::proofs::Outcomes::says_audit, crate::proofs::Outcomes::says_asm, crate::proofs::Outcomes::says_link, crate::proofs::Outcomes::says_dis, crate::proofs::Outcomes::says_gen))]
+fn answer_command<S: Store, K: Sink>(
+    alloc: Global,
+    command: Command,
+    store: &mut S,
+    sink: &mut K,
+    rack: &mut Rack,
+) -> Status
+    ensures says { Says
+        (around (K.output sink.old) (S.input store.old) (map state rack.old.items)
+        (sum_by queries rack.old.items))
+        (around (K.output sink.new) (S.input store.new) (map state rack.new.items)
+        (sum_by queries rack.new.items))
+        result (Some (seen_command command.entry)) }
+{
+    match command {
+        Command::Play {
+            cart,
+            script,
+            traced,
+        } => answer_play(alloc, cart, script, traced, store, sink, rack),
+        Command::Check { cart, certified } => answer_check(alloc, cart, certified, store, sink),
+        Command::Verify { cart, cert } => answer_verify(alloc, cart, cert, store, sink),
+        Command::Prove { cart, listed } => answer_prove(alloc, cart, listed, store, sink),
+        Command::Confirm { cart, cases } => answer_confirm(alloc, cart, cases, store, sink),
+        Command::Migrate { cart } => answer_migrate(alloc, cart, store, sink),
+        Command::Ref { cart, script } => answer_ref(alloc, cart, script, store, sink),
+        Command::Debug { cart, commands } => answer_debug(alloc, cart, commands, store, sink, rack),
+        Command::Audit {
+            cart,
+            script,
+            trace,
+        } => answer_audit(alloc, cart, script, trace, store, sink, rack),
+        Command::Asm { file } => answer_asm(alloc, file, store, sink),
+        Command::Link { plan } => answer_link(alloc, plan, store, sink),
+        Command::Dis { file } => answer_dis(alloc, file, store, sink),
+        Command::Gen { seed } => answer_gen(alloc, seed, sink, rack),
+    }
+}
+
+/// Answers the words of a command line.
+#[tactic(auto, using(crate::proofs::Outcomes::says_words, crate::proofs::Outcomes::says_wanting, crate::proofs::Outcomes::command_named, crate::proofs::Outcomes::words_not_memory, crate::proofs::Games::answers_of))]
 fn answer_words<S: Store, K: Sink>(
     alloc: Global,
     words: &[String],
@@ -36,43 +79,7 @@ fn answer_words<S: Store, K: Sink>(
     ensures memory { result ≡ Status.Memory → IsTrue (has_command (map string_bytes words.now)) }
 {
     match read_words(alloc, words) {
-        Ok(
-            Some(
-                Command::Play {
-                    cart,
-                    script,
-                    traced,
-                },
-            ),
-        ) => answer_play(alloc, cart, script, traced, store, sink, rack),
-        Ok(Some(Command::Check { cart, certified })) => {
-            answer_check(alloc, cart, certified, store, sink)
-        }
-        Ok(Some(Command::Verify { cart, cert })) => answer_verify(alloc, cart, cert, store, sink),
-        Ok(Some(Command::Prove { cart, listed })) => {
-            answer_prove(alloc, cart, listed, store, sink)
-        }
-        Ok(Some(Command::Confirm { cart, cases })) => {
-            answer_confirm(alloc, cart, cases, store, sink)
-        }
-        Ok(Some(Command::Migrate { cart })) => answer_migrate(alloc, cart, store, sink),
-        Ok(Some(Command::Ref { cart, script })) => answer_ref(alloc, cart, script, store, sink),
-        Ok(Some(Command::Debug { cart, commands })) => {
-            answer_debug(alloc, cart, commands, store, sink, rack)
-        }
-        Ok(
-            Some(
-                Command::Audit {
-                    cart,
-                    script,
-                    trace,
-                },
-            ),
-        ) => answer_audit(alloc, cart, script, trace, store, sink, rack),
-        Ok(Some(Command::Asm { file })) => answer_asm(alloc, file, store, sink),
-        Ok(Some(Command::Link { plan })) => answer_link(alloc, plan, store, sink),
-        Ok(Some(Command::Dis { file })) => answer_dis(alloc, file, store, sink),
-        Ok(Some(Command::Gen { seed })) => answer_gen(alloc, seed, sink, rack),
+        Ok(Some(command)) => answer_command(alloc, command, store, sink, rack),
         Ok(None) => put_lines(sink, [report::error_words()].as_slice(), Status::Words),
         Err(Memory) => Status::Memory,
     }
