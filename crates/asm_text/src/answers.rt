@@ -1,39 +1,56 @@
 // The tokens that a line of assembly is read into, and what is wrong with a line that has none.
-ghost use Rattle.std.specs.Prelude.{◌≡◌, IfOk, IsTrue};
+ghost use Rattle.std.specs.Prelude.{◌≡◌, IsTrue};
 ghost use Rattle.asm_text.specs.Bytes.{is_name};
 
-use std::alloc::{AllocError, AllocFailed, Global};
+use arrayvec::ArrayString;
+use std::alloc::{AllocError, AllocFailed};
 use std::marker::Model;
+use std::str;
 use thiserror::Error;
 
+/// The most bytes that a name may have.
+pub(crate) const NAME_LIMIT: usize = 32;
+
 /// A name in assembly text, case kept: a letter or `_`, then letters, digits and `_`, at most 32
-/// bytes in all. A contract sees the list of its bytes.
+/// bytes in all, which lie in the value itself. A contract sees the list of its bytes.
 #[derive(Debug, Drop)]
 pub struct Name {
-    text: String,
+    text: ArrayString<NAME_LIMIT>,
 }
 
 impl Model for Name {
     ghost use Rattle.std.specs.Prelude.{ℕ, List, IsTrue};
-    ghost use Rattle.std.specs.String.{string_bytes};
     ghost use Rattle.asm_text.specs.Bytes.{is_name};
 
     ghost Value = { List ℕ };
 
-    ghost view = { λ n. string_bytes n.text };
+    ghost view = { λ n. n.text.bytes };
 
-    ghost invariant = { λ n. IsTrue (is_name (string_bytes n.text)) };
+    ghost invariant = { λ n. IsTrue (is_name n.text.bytes) };
 }
 
 impl Name {
-    /// The name of these bytes. The one error is want of memory.
-    pub fn of(alloc: Global, bytes: &[u8]) -> Result<Name, AllocError>
+    /// The name of these bytes.
+    #[tactic(auto, using(crate::proofs::Runs::ascii_name), unfolding(crate::specs::Bytes::is_name))]
+    pub fn of(bytes: &[u8]) -> Name
         requires { IsTrue (is_name bytes.now) }
-        ensures { IfOk result (λ name. name ≡ bytes.now) }
+        ensures { result ≡ bytes.now }
     {
-        // A name is ASCII, so nothing is replaced.
-        let text = String::from_utf8_lossy(alloc, bytes)?;
-        Ok(Name { text })
+        // A name is ASCII, and at most as long as there is room.
+        let Ok(text) = str::from_utf8(bytes) else {
+            unreachable!()
+        };
+        let Ok(text) = ArrayString::from(text) else {
+            unreachable!()
+        };
+        Name { text }
+    }
+
+    /// The same name once more.
+    pub fn copy(&self) -> Name
+        ensures { result ≡ self.now }
+    {
+        Name { text: self.text }
     }
 
     /// The name as text.

@@ -1,14 +1,10 @@
 // What stands at the front of the rest of a line.
-ghost use Rattle.std.specs.Prelude.{◌≡◌, ◌≤◌, ◌+◌, length, IfOk, IsTrue};
+ghost use Rattle.std.specs.Prelude.{◌≡◌, ◌≤◌, ◌+◌, length, IsTrue};
 ghost use Rattle.asm_text.specs.Bytes.{begins_name};
 ghost use Rattle.asm_text.specs.Lexemes.{name_lexeme, number_lexeme, quoted_lexeme, lexeme, IsWithin};
 
-use crate::answers::{Name, TokenKind};
+use crate::answers::{NAME_LIMIT, Name, TokenKind};
 use crate::bytes::{digits_length, is_letter, is_mark, name_length, number};
-use std::alloc::{AllocError, Global};
-
-/// The most bytes that a name may have.
-const NAME_LIMIT: usize = 32;
 
 /// What stands at the front of the rest of a line.
 #[derive(Drop)]
@@ -27,20 +23,19 @@ pub enum Lexeme {
 
 /// The longest name at the front of bytes that begin with a letter or `_`.
 #[tactic(auto, using(crate::proofs::Runs::name_run), unfolding(crate::specs::Lexemes::name_lexeme, crate::specs::Lexemes::name_of))]
-fn name_lexeme(alloc: Global, bytes: &[u8]) -> Result<Lexeme, AllocError>
+fn name_lexeme(bytes: &[u8]) -> Lexeme
     requires { IsTrue (begins_name bytes.now) }
-    ensures value { IfOk result (λ l. l ≡ name_lexeme bytes.now) }
-    ensures within { IfOk result (IsWithin (length bytes.now)) }
+    ensures value { result ≡ name_lexeme bytes.now }
+    ensures within { IsWithin (length bytes.now) result }
 {
     let length = name_length(bytes);
     if length > NAME_LIMIT {
-        return Ok(Lexeme::Bad);
+        return Lexeme::Bad;
     }
-    let name = Name::of(alloc, &bytes[..length])?;
-    Ok(Lexeme::Lexed {
-        kind: TokenKind::Name(name),
+    Lexeme::Lexed {
+        kind: TokenKind::Name(Name::of(&bytes[..length])),
         length,
-    })
+    }
 }
 
 /// The longest number at the front of bytes that stand behind `before` bytes which show its base.
@@ -80,27 +75,27 @@ fn quoted_lexeme(bytes: &[u8]) -> Lexeme
     }
 }
 
-/// What stands at the front of the rest of a line. The one error is want of memory.
+/// What stands at the front of the rest of a line.
 #[tactic(auto, unfolding(crate::specs::Lexemes::lexeme))]
-pub fn lexeme_at(alloc: Global, rest: &[u8]) -> Result<Lexeme, AllocError>
-    ensures value { IfOk result (λ l. l ≡ lexeme rest.now) }
-    ensures within { IfOk result (IsWithin (length rest.now)) }
+pub fn lexeme_at(rest: &[u8]) -> Lexeme
+    ensures value { result ≡ lexeme rest.now }
+    ensures within { IsWithin (length rest.now) result }
 {
     let Some((first, behind)) = rest.split_first() else {
-        return Ok(Lexeme::End);
+        return Lexeme::End;
     };
     match *first {
-        b' ' | b'\t' => Ok(Lexeme::Blank),
-        b';' => Ok(Lexeme::End),
-        b'$' => Ok(number_lexeme(16, 1, behind)),
-        b'%' => Ok(number_lexeme(2, 1, behind)),
-        b'\'' => Ok(quoted_lexeme(behind)),
-        b'0'..=b'9' => Ok(number_lexeme(10, 0, rest)),
-        byte if is_letter(byte) => name_lexeme(alloc, rest),
-        byte if is_mark(byte) => Ok(Lexeme::Lexed {
+        b' ' | b'\t' => Lexeme::Blank,
+        b';' => Lexeme::End,
+        b'$' => number_lexeme(16, 1, behind),
+        b'%' => number_lexeme(2, 1, behind),
+        b'\'' => quoted_lexeme(behind),
+        b'0'..=b'9' => number_lexeme(10, 0, rest),
+        byte if is_letter(byte) => name_lexeme(rest),
+        byte if is_mark(byte) => Lexeme::Lexed {
             kind: TokenKind::Mark(byte),
             length: 1,
-        }),
-        _ => Ok(Lexeme::Bad),
+        },
+        _ => Lexeme::Bad,
     }
 }

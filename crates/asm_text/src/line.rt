@@ -28,7 +28,7 @@ pub fn tokens(alloc: Global, line: &str) -> Result<TokenList, TokenFault>
     let mut rest = line.as_bytes();
     let mut column = 1u32;
     loop {
-        match lexeme_at(alloc, rest)? {
+        match lexeme_at(rest) {
             Lexeme::Blank => {
                 rest = &rest[1..];
                 column += 1;
@@ -106,7 +106,7 @@ mod tests {
 
     #[test]
     fn lists_and_names_are_made(rt: HostRuntime) -> Result<(), Fail> {
-        let name = Name::of(rt.alloc(), b"_loop9")?;
+        let name = Name::of(b"_loop9");
         assert_eq!(rt; name.as_str(), "_loop9");
         let kind = TokenKind::Name(name);
         let token = Token {

@@ -58,8 +58,7 @@ fn operator_at(strength: u8, kind: &TokenKind) -> Option<Operator>
 fn name_formula(alloc: Global, column: u32, name: &Name) -> Result<Formula, AllocError>
     ensures { IfOk result (λ f. f ≡ formulas.name column name.now) }
 {
-    let name = Name::of(alloc, name.as_str().as_bytes())?;
-    Formula::of(alloc, Step::Name(column, name))
+    Formula::of(alloc, Step::Name(column, name.copy()))
 }
 
 /// `)` behind an expression.

@@ -1,5 +1,5 @@
 // The first pass: the tokens of each line, the statement that they make, and whether a name is given twice.
-ghost use Rattle.std.specs.Prelude.{◌≡◌, ◌≤◌, ◌<◌, ◌+◌, length, IfOk};
+ghost use Rattle.std.specs.Prelude.{◌≡◌, ◌≤◌, ◌<◌, ◌+◌, length};
 ghost use Rattle.text_lines.specs.ReadErrors.{Says, StepsTo};
 ghost use Rattle.f8_asm.specs.ParsedLines.{names_after, parsed, parse_tokens, parse_line, parse_lines, no_parsing};
 ghost use Rattle.f8_asm.specs.Statements.{label_of};
@@ -13,18 +13,15 @@ use crate::statements::{behind_label, label_of, statement};
 use crate::symbols::Symbols;
 use crate::text::{end_of, fault_by, line_tokens};
 use asm_text::{Name, Token};
-use std::alloc::{AllocError, Global};
+use std::alloc::Global;
 use std::marker::Model;
 use text_lines::first_line;
 
 /// The name of a line's label, if it has one.
-fn label_name(alloc: Global, tokens: &[Token]) -> Result<Option<Name>, AllocError>
-    ensures { IfOk result (λ label. label ≡ label_of tokens.now) }
+fn label_name(tokens: &[Token]) -> Option<Name>
+    ensures { result ≡ label_of tokens.now }
 {
-    match label_of(tokens) {
-        Some(name) => Ok(Some(Name::of(alloc, name.as_str().as_bytes())?)),
-        None => Ok(None),
-    }
+    Some(label_of(tokens)?.copy())
 }
 
 /// A line of these tokens, if they make a statement.
@@ -32,7 +29,7 @@ fn label_name(alloc: Global, tokens: &[Token]) -> Result<Option<Name>, AllocErro
 pub fn parsed(alloc: Global, number: u32, tokens: &[Token]) -> Result<ParsedLine, LineStop>
     ensures { Says result (parsed number tokens.now) }
 {
-    let label = label_name(alloc, tokens)?;
+    let label = label_name(tokens);
     let rest = behind_label(tokens);
     let statement = statement(alloc, label.is_some(), rest)?;
     Ok(ParsedLine {

@@ -50,18 +50,12 @@ impl Reading {
     }
 
     /// Takes a name that line `number` exports at a column.
-    fn take_export(
-        &mut self,
-        alloc: Global,
-        number: u32,
-        column: u32,
-        name: &Name,
-    ) -> Result<(), LineStop>
+    fn take_export(&mut self, number: u32, column: u32, name: &Name) -> Result<(), LineStop>
         ensures steps { StepsTo result self.new (name_taken Directive.Export number self.old column name.now) }
         ensures count { self.new.count ≡ self.old.count }
     {
-        let name = Name::of(alloc, name.as_str().as_bytes())?;
-        self.lines.push(LineTask::Export(number, column, name))?;
+        self.lines
+            .push(LineTask::Export(number, column, name.copy()))?;
         Ok(())
     }
 
@@ -96,7 +90,7 @@ impl Reading {
         ensures count { self.new.count ≡ self.old.count }
     {
         match directive {
-            Directive::Export => self.take_export(alloc, number, column, name),
+            Directive::Export => self.take_export(number, column, name),
             Directive::Import => self.take_import(alloc, column, name),
         }
     }

@@ -52,7 +52,6 @@ impl Code {
     /// Takes a name that is exported, if the module gives it.
     fn export(
         &mut self,
-        alloc: Global,
         names: &Symbols<Named>,
         number: u32,
         column: u32,
@@ -68,8 +67,7 @@ impl Code {
                 cause: ModCause::Asm(AsmCause::Undefined),
             }));
         };
-        let name = Name::of(alloc, name.as_str().as_bytes())?;
-        self.exports.push((name, named))?;
+        self.exports.push((name.copy(), named))?;
         Ok(())
     }
 
@@ -103,9 +101,7 @@ impl Code {
                     Err(ModuleLineStop::Memory) => Err(ModAnswer::Memory),
                 }
             }
-            LineTask::Export(number, column, name) => {
-                self.export(alloc, names, *number, *column, name)
-            }
+            LineTask::Export(number, column, name) => self.export(names, *number, *column, name),
         }
     }
 
@@ -126,7 +122,7 @@ fn names_of(alloc: Global, imports: &Symbols<usize>) -> Result<Vec<Name>, AllocE
     let mut names = Vec::new(alloc);
     for k in 0..imports.len() {
         if let Some((name, _number)) = imports.get(k) {
-            names.push(Name::of(alloc, name.as_bytes())?)?;
+            names.push(Name::of(name.as_bytes()))?;
         }
     }
     Ok(names)

@@ -1,7 +1,7 @@
 use Rattle.std.proofs.Common.{◌≡◌, ℕ, ◌<◌, ◌+◌, List, [], ◌∷◌, ◌++◌, length, map, take, slice_get, Some, None, sym, ap, ◌∙◌, arith}
 use Rattle.std.proofs.lemmas.List.{map_more}
 use Rattle.std.proofs.lemmas.Option.{get_or_from_slice_get, slice_get-get_or}
-use Rattle.f8_link.proofs.third_pass.names_of.Goals.{in-Some+in_ok-of+in_ok-push, in_default}
+use Rattle.f8_link.proofs.third_pass.names_of.Goals.{in-Some+in_ok-push, in_default}
 use Rattle.f8_link.proofs.third_pass.names_of.Goals as goal
 
 -- one name more
@@ -20,9 +20,9 @@ pub loop-k-preserved : goal.loop-k-preserved
 loop-k-preserved c =
     let within : c.loop-k.k < length c.args.imports.now = omega (arith, c.len-k-end.ensures, c.loop-k-test.true) in
     elim c.match-get.branch [
-      | in-Some+in_ok-of+in_ok-push w ↦
+      | in-Some+in_ok-push w ↦
           let next = one_more c.loop-k.names.items c.args.imports.now c.loop-k.k (w.in-Some.name.now, w.in-Some._number) within c.loop-k.invariant
           (sym w.in-Some.ensures.entry) in
-          rw (w.names-is, w.in_ok-push.ensures.items, w.in_ok-of.ensures, w.as_bytes.ensures.value) next
+          rw (w.names-is, w.in_ok-push.ensures.items, w.of.ensures, w.as_bytes.ensures.value) next
       | in_default w ↦ absurd (not_past c.args.imports.now c.loop-k.k within w.in_default.ensures.entry)
     ]
