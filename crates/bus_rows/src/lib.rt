@@ -1,4 +1,5 @@
-//! Worked bus steps on racks of boxed chips. This crate has tests alone: it stands above the chips, on which the bus doesn't.
+//! Worked bus steps on racks of boxed chips, and each kind of chip by itself. This crate has tests alone: it stands above the chips, on
+//! which the bus doesn't.
 #![tactic(auto)]
 
 #[cfg(test)]
@@ -10,13 +11,21 @@ mod cart;
 #[cfg(test)]
 mod carts;
 #[cfg(test)]
+mod fakes;
+#[cfg(test)]
 mod free_steps;
 #[cfg(test)]
+mod pio_chip;
+#[cfg(test)]
 mod ports;
+#[cfg(test)]
+mod psu_chip;
 #[cfg(test)]
 mod reads;
 #[cfg(test)]
 mod seats;
+#[cfg(test)]
+mod smi_chip;
 #[cfg(test)]
 mod stores;
 #[cfg(test)]

@@ -9,6 +9,3 @@ mod round;
 
 pub use listener::Listener;
 pub use patched::Patched;
-
-#[cfg(test)]
-mod tests;

@@ -5,6 +5,3 @@
 mod chip;
 
 pub use chip::Pio;
-
-#[cfg(test)]
-mod tests;

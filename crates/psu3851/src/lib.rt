@@ -5,6 +5,3 @@
 mod chip;
 
 pub use chip::Psu;
-
-#[cfg(test)]
-mod tests;

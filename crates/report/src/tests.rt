@@ -56,6 +56,10 @@ fn refusals_with_a_place(rt: HostRuntime) {
         &source,
         "error asm source 0 line 4294967295 column 1 cause 14\n",
     );
+}
+
+#[test]
+fn refusals_at_a_line(rt: HostRuntime) {
     tells(
         &rt,
         &error_reader(Reader::Script, 1, 6),

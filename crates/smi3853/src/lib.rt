@@ -7,6 +7,3 @@ mod fills;
 mod space;
 
 pub use chip::Smi;
-
-#[cfg(test)]
-mod tests;

@@ -2,8 +2,8 @@
 ghost use Rattle.std.specs.Prelude.{◌≡◌, ◌%◌, IfOk, length};
 ghost use Rattle.chip_face.specs.Fitting.{IsSpec};
 
-use super::*;
 use chip_face::{Bytes, Chip, ChipKind, ChipSpec, Offer};
+use psu3851::Psu;
 use romc_table::{Counters, Romc};
 use std::alloc::Global;
 use std::test::Fail;

@@ -2,8 +2,8 @@
 ghost use Rattle.std.specs.Prelude.{◌≡◌};
 ghost use Rattle.chip_face.specs.Fitting.{IsSpec};
 
-use super::*;
 use chip_face::{Chip, ChipKind, ChipSpec, Offer};
+use pio3861::Pio;
 use romc_table::{Counters, Romc};
 use std::test::Fail;
 

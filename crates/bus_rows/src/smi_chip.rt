@@ -1,7 +1,7 @@
 // A 3853 through the trait.
-use super::*;
 use chip_face::{Bytes, Chip, ChipKind, ChipSpec, Offer, Page, PageList, PageSort};
 use romc_table::{Counters, Romc};
+use smi3853::Smi;
 use std::test::Fail;
 
 fn hear(chip: &mut Box<dyn Chip>, romc: Romc, byte: u8) {

@@ -1,6 +1,6 @@
 // What a listener tells, and what a patch changes.
-use super::*;
 use chip_face::{Bytes, Chip, ChipKind, ChipSpec, PageList};
+use chip_fakes::{Listener, Patched};
 use romc_table::Romc;
 use std::test::Fail;
 
