@@ -111,9 +111,9 @@ impl Psu {
     }
 }
 
-/// What a bus step does but for the counters.
+/// What a bus step does.
 impl Psu {
-    ghost use Rattle.f8_spec.specs.ChipState.{effect, timer_passed};
+    ghost use Rattle.f8_spec.specs.ChipState.{after_step, effect, timer_passed};
     ghost use Rattle.f8_spec.specs.ShiftTimer.{step_period};
     ghost use Rattle.psu3851.specs.PsuState.{psu_view, psu_queries};
 
@@ -138,6 +138,25 @@ impl Psu {
             Romc::WRITE_PORT => self.ports.write(self.last, byte),
             _ => {}
         }
+    }
+
+    /// All of it: the clocks, the effect of the code on ports and request, and what the counters do.
+    #[inline(always)]
+    fn follow(&mut self, romc: Romc, byte: u8, phi: u8, first: bool)
+        requires { phi < step_period }
+        ensures view { psu_view self.new ≡ after_step (record {
+          romc = romc;
+          byte = byte;
+          clocks = phi;
+          first = first;
+        }) (psu_view self.old) }
+        ensures asked { psu_queries self.new ≡ psu_queries self.old }
+    {
+        self.pass(phi);
+        self.act(romc, byte, first);
+        // There is no second data counter, and so nothing to exchange.
+        self.registers.hear(romc, byte, false);
+        self.last = byte;
     }
 }
 
@@ -217,11 +236,12 @@ impl Chip for Psu {
     }
 
     fn settle(&mut self, romc: Romc, byte: u8, phi: u8, first: bool) {
-        self.pass(phi);
-        self.act(romc, byte, first);
-        // There is no second data counter, and so nothing to exchange.
-        self.registers.hear(romc, byte, false);
-        self.last = byte;
+        // By far the most steps are fetches: what they do is worked out by itself as the program is compiled.
+        if romc == Romc::FETCH {
+            self.follow(Romc::FETCH, byte, phi, first);
+        } else {
+            self.follow(romc, byte, phi, first);
+        }
     }
 
     fn asks(&self) -> bool {

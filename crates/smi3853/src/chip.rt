@@ -274,8 +274,13 @@ impl Chip for Smi {
 
     fn settle(&mut self, romc: Romc, byte: u8, phi: u8, first: bool) {
         self.pass(phi);
-        self.act(romc, byte, first);
-        self.registers.hear(romc, byte, true);
+        if romc == Romc::FETCH {
+            // By far the most steps are fetches. They only count, which is cheap where the code is known as the program is compiled.
+            self.registers.hear(Romc::FETCH, byte, true);
+        } else {
+            self.act(romc, byte, first);
+            self.registers.hear(romc, byte, true);
+        }
         self.last = byte;
     }
 
