@@ -35,17 +35,6 @@ NEW = {'format': 2, 'split': [3], 'chip': [{'kind': '3853', 'pages': ['rom 20-28
 # Chips that are powered on each in its own way, the 3853 first.
 POWERS = ('format = 2\n[[chip]]\nkind = "3853"\npages = ["ram 28", "rom 20", "void 30-31"]\nfill = 0x33\nstart = 0x1111\nrom = "AA"\n'
           + PSU.format(0, 4, '2A2800162A2801162B90FE') + 'start = 0x2222\n' + PSU.format(1024, 8, ''))
-SHOWN = [
-    'chip 0 3851 PC0=0001 PC1=2222 DC0=2222',
-    'chip 1 3851 PC0=0001 PC1=0001 DC0=0001',
-    'chip 12 3853 PC0=0001 PC1=1111 DC0=1111 DC1=1111',
-    'probe PC0=0001 PC1=0000 DC0=0000 DC1=0000',
-    'mem 28FF 33 --',
-    'ready',
-    'chip 0 3851 PC0=0001 PC1=2222 DC0=2222',
-    'chip 1 3851 PC0=0001 PC1=5A5B DC0=5A5B',
-    'chip 12 3853 PC0=0001 PC1=1111 DC0=1111 DC1=1111',
-    'probe PC0=0001 PC1=0000 DC0=0000 DC1=0000']
 
 
 def described(text: str) -> Description:
@@ -136,14 +125,6 @@ class Migrate(Room):
             self.put('old', text)
             told = self.program.run('migrate', *words)
             self.assertEqual((told.lines, told.status), ([answer[0]], answer[1]))
-
-    def test_power_on_by_chip(self):
-        self.put('cart', POWERS)
-        told = self.program.on_text('debug', b'show chips\nmem 28FF 2\npower 5A\nshow chips\n', 'cart')
-        self.assertEqual((told.lines, told.status), (SHOWN, 0))
-        run = self.program.on_text('play', b'power 5A\nsteps 4\n', 'cart').lines
-        self.assertEqual((run[0], run[2], run[-1]), ('verdict whole', 'regs P=0008 P1=0000 D0=2802 D1=0000 A=33 IS=32 W=00',
-                                                     'total 4 instructions 82 phi'))
 
 
 if __name__ == '__main__':

@@ -118,33 +118,15 @@ class Played(Room):
         done = self.program.run(*command.split(), *files)
         return [line for line in done.lines if line[:1] != 's' or line.startswith('stop')], done.status
 
-    def test_a_port_that_it_has(self):
-        self.assertEqual(self.lines('play', HAS_THE_PORT, KEYS),
-                         (['verdict whole', 'out 40 08 0F', 'stop done', 'regs P=0004 P1=0000 D0=0000 D1=0000 A=3F IS=00 W=01',
-                           'total 3 instructions 56 phi'], 0))
-
-    def test_a_port_that_it_shares(self):
-        self.assertEqual(self.lines('play', SHARES_THE_PORT, KEYS),
-                         (['verdict none', CONFLICT, 'regs P=0002 P1=0000 D0=0000 D1=0000 A=0F IS=00 W=00',
-                           'total 1 instructions 24 phi'], 3))
-
     def test_its_pulse(self):
         end = ['stop done', 'regs P=0003 P1=0003 D0=0000 D1=0000 A=01 IS=00 W=10', 'total 4261 instructions 59664 phi']
-        self.assertEqual(self.lines('play', CALLED, PULSE), (['verdict whole', 'out 34 0A 01', *end], 0))
         traced = self.lines('play --trace', CALLED, PULSE)[0]
         self.assertEqual([line for line in traced if line.endswith(' 14')], ['bus 0F L 80 14', 'bus 13 L 01 14'])
         self.assertEqual(self.lines('ref', CALLED, PULSE), (['out 34 0A 01', *end], 0))
 
-    def test_verdicts(self):
-        for cart, line, status in ((HAS_THE_PORT, 'whole 4', 0), (SHARES_THE_PORT, 'refused 0002 ---- . 9', 7), (CALLED, 'whole 9', 0)):
-            self.assertEqual(self.lines('check', cart), ([line], status))
-
     def test_the_debugger_shows_it_without_counters(self):
         cart = 'format = 2\n' + PSU.format(4, '2B90FE') + PIO
-        told = self.program.on_text('debug', b'break apart\nrun 4\nshow chips\n', self.put('cart.toml', cart))
-        self.assertEqual((told.lines, told.status), (['ran 4', 'chip 0 3851 PC0=0001 PC1=0000 DC0=0000', 'chip 14 3861',
-                                                      'probe PC0=0001 PC1=0000 DC0=0000 DC1=0000'], 0))
-        self.assertIn('chip 14 3861', list(prompt_of(self.room / 'cart.toml').carry_out('chips')))
+        self.assertIn('chip 14 3861', list(prompt_of(self.room / self.put('cart.toml', cart)).carry_out('chips')))
 
     def test_the_rack_has_two_sockets_for_it(self):
         psus, smis, pios = (chip * (most + 1) for chip, most in ((PSU.format(4, ''), 12), (SMI, 2), (PIO, 2)))

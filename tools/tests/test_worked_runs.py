@@ -5,6 +5,7 @@ import unittest
 
 from tool import needs_program
 from rooms import Room
+from worked import alike, ended
 
 PSU = '[[chip]]\nkind = "3851"\nbase = {}\nports = {}\nrom = "{}"\n'
 ALONE = 'format = 1\n' + PSU
@@ -34,17 +35,6 @@ CUT = ALONE.format(0, 4, '2903FE'.ljust(2044, 'F') + '2908')
 def beside(code: str, pages: str) -> str:
     """A 3851 at 0000, and a 3853 with these pages."""
     return ALONE.format(0, 4, code) + f'[[chip]]\nkind = "3853"\n{pages}\n'
-
-
-def ended(stop: str, registers: str, scratchpad: list[str], total: str) -> str:
-    """The lines behind a run."""
-    rows = ''.join(f's{number}0 {row}\n' for number, row in enumerate(scratchpad))
-    return f'stop {stop}\nregs {registers}\n{rows}total {total} phi\n'
-
-
-def alike(byte: str) -> list[str]:
-    """A scratchpad of one byte."""
-    return [' '.join([byte] * 16)] * 4
 
 
 def with_first(bytes_in_order: str) -> list[str]:
