@@ -24,9 +24,6 @@ pub(crate) const LOOP_PLAY: &str = "verdict whole\n\
 /// A file: its name and its text.
 pub(crate) type File<'a> = (&'a str, &'a str);
 
-/// A long text: pieces, and how often each of them comes.
-pub(crate) type Text<'a> = &'a [(&'a str, usize)];
-
 /// Files, words, the status, and what is written.
 pub(crate) type Row<'a> = (&'a [File<'a>], &'a [&'a str], u8, &'a str);
 
@@ -37,14 +34,6 @@ fn file_of(alloc: Global, file: &File) -> Result<NamedFile, Fail> {
     Ok(NamedFile::new(name, bytes))
 }
 
-fn named_files(alloc: Global, files: &[File]) -> Result<Vec<NamedFile>, Fail> {
-    let mut list = Vec::new(alloc);
-    for file in files {
-        list.push(file_of(alloc, file)?)?;
-    }
-    Ok(list)
-}
-
 pub(crate) fn list_of(files: Vec<NamedFile>) -> Result<FileList, Fail> {
     match FileList::from_vec(files) {
         Some(list) => Ok(list),
@@ -53,47 +42,11 @@ pub(crate) fn list_of(files: Vec<NamedFile>) -> Result<FileList, Fail> {
 }
 
 pub(crate) fn files_of(alloc: Global, files: &[File]) -> Result<FileList, Fail> {
-    list_of(named_files(alloc, files)?)
-}
-
-/// Adds a piece so often.
-fn append(bytes: &mut Vec<u8>, piece: &str, times: usize) -> Result<(), Fail> {
-    for _ in 0..times {
-        bytes.extend_from_slice(piece.as_bytes())?;
+    let mut list = Vec::new(alloc);
+    for file in files {
+        list.push(file_of(alloc, file)?)?;
     }
-    Ok(())
-}
-
-fn bytes_of(alloc: Global, text: Text) -> Result<Vec<u8>, Fail> {
-    let mut bytes = Vec::new(alloc);
-    for (piece, times) in text {
-        append(&mut bytes, piece, *times)?;
-    }
-    Ok(bytes)
-}
-
-/// Files, and behind them one with bytes of its own.
-pub(crate) fn files_with(
-    alloc: Global,
-    files: &[File],
-    name: &str,
-    bytes: Vec<u8>,
-) -> Result<FileList, Fail> {
-    let mut list = named_files(alloc, files)?;
-    let name = name.to_string(alloc)?;
-    list.push(NamedFile::new(name, bytes))?;
     list_of(list)
-}
-
-/// Files, and behind them one with a long text.
-pub(crate) fn files_with_text(
-    alloc: Global,
-    files: &[File],
-    name: &str,
-    text: Text,
-) -> Result<FileList, Fail> {
-    let bytes = bytes_of(alloc, text)?;
-    files_with(alloc, files, name, bytes)
 }
 
 fn words_of(alloc: Global, texts: &[&str]) -> Result<Vec<String>, Fail> {

@@ -8,11 +8,11 @@ use std::process::Abort;
 use std::test::Fail;
 
 /// The timer expires before EI ends, which shields its own end: the NOP behind it is followed by the vector.
-pub(crate) const TIMER_CART: &str = "format = 1\n\
+const TIMER_CART: &str = "format = 1\n\
      [[chip]]\nkind = '3851'\nbase = 0\nports = 4\nvector = 0x0180\ninterrupt = true\n\
      rom = '73B6207FB72B2B2B2B2B2B2B1B2B'\n";
 
-pub(crate) const TIMER_SCRIPT: &str = "steps 13\n";
+const TIMER_SCRIPT: &str = "steps 13\n";
 
 const TIMER_PLAY: &str = "verdict none\n\
      out 34 06 03\n\
@@ -25,7 +25,7 @@ const TIMER_PLAY: &str = "verdict none\n\
      s30 00 00 00 00 00 00 00 00 00 00 00 00 00 00 00 00\n\
      total 13 instructions 122 phi\n";
 
-pub(crate) const TIMER_TRACE: &str = "verdict none\n\
+const TIMER_TRACE: &str = "verdict none\n\
      bus 1C S 00 -\nbus 08 L 00 cpu\nbus 00 S 73 0\n\
      bus 00 S B6 0\n\
      bus 1C L 06 cpu\nbus 1A L 03 cpu\nbus 00 S 20 0\n\
@@ -47,14 +47,14 @@ pub(crate) const TIMER_TRACE: &str = "verdict none\n\
      total 13 instructions 122 phi\n";
 
 /// Both chips ask at one end: the first of the description is taken, and the second behind EI and POP at 0180.
-pub(crate) const PULSES_CART: &str = "format = 1\n\
+const PULSES_CART: &str = "format = 1\n\
      [[chip]]\nkind = '3851'\nbase = 0\nports = 4\nvector = 0x0100\ninterrupt = true\nsource = 'loop.f8'\n\
      [[chip]]\nkind = '3851'\nbase = 0x400\nports = 8\nvector = 0x0200\ninterrupt = true\nrom = ''\n";
 
-pub(crate) const PULSES_SOURCE: &str =
+const PULSES_SOURCE: &str =
     " ORG $0000\n DB $71, $B6, $BA, $1B, $90, $FF\n ORG $0180\n DB $1B, $1C\n";
 
-pub(crate) const PULSES_SCRIPT: &str = "at 1 pulse 1\nat 1 pulse 0\nsteps 2135\n";
+const PULSES_SCRIPT: &str = "at 1 pulse 1\nat 1 pulse 0\nsteps 2135\n";
 
 const PULSES_PLAY: &str = "verdict none\n\
      out 34 06 01\n\
@@ -86,7 +86,7 @@ const PULSES_TRACE_END: &str = "\
 /// The words of a run without and with its trace.
 const PLAIN: &[&str] = &["play", "cart", "script"];
 
-pub(crate) const TRACED: &[&str] = &["play", "--trace", "cart", "script"];
+const TRACED: &[&str] = &["play", "--trace", "cart", "script"];
 
 const TIMER: [File; 2] = [("cart", TIMER_CART), ("script", TIMER_SCRIPT)];
 

@@ -1,10 +1,7 @@
-// The 3861 in whole runs: its ports and its interrupt, the sockets that it needs, and what the debugger shows of it.
+// The 3861 in whole runs, on chips that hear: its ports and its interrupt.
 use super::calls::{File, Row, answered, check_rows, files_of};
 use chip_fakes::Listener;
 use f8_machine::Rack;
-use pio3861::Pio;
-use psu3851::Psu;
-use smi3853::Smi;
 use std::alloc::Global;
 use std::process::Abort;
 use std::test::Fail;
@@ -119,117 +116,22 @@ fn check_trace(rt: &impl Abort, alloc: Global, rack: &mut Rack) -> Result<(), Fa
     Ok(())
 }
 
-/// Each run, and one with its trace.
-fn check_all(rt: &impl Abort, alloc: Global, rack: &mut Rack) -> Result<(), Fail> {
-    check_rows(rt, alloc, &RUNS, rack)?;
-    check_trace(rt, alloc, rack)
-}
-
-/// A rack as the program's, each chip made anew.
-macro_rules! rack_of {
-    ($rt:ident, $psu:expr, $smi:expr, $pio:expr) => {{
-        let mut rack: Rack = Vec::new($rt.alloc());
-        for _ in 0..12 {
-            rack.push(Box::new($rt.alloc(), $psu)?)?;
-        }
-        for _ in 0..2 {
-            rack.push(Box::new($rt.alloc(), $smi)?)?;
-        }
-        for _ in 0..2 {
-            rack.push(Box::new($rt.alloc(), $pio)?)?;
-        }
-        rack
-    }};
-}
-
-const THREE_EACH: &str = "format = 2\n\
-     [[chip]]\nkind = '3861'\nports = 4\n\
-     [[chip]]\nkind = '3861'\nports = 8\n\
-     [[chip]]\nkind = '3861'\nports = 12\n\
-     [[chip]]\nkind = '3853'\n[[chip]]\nkind = '3853'\n[[chip]]\nkind = '3853'\n";
-
-const THREE_ALONE: &str = "format = 2\n\
-     [[chip]]\nkind = '3861'\nports = 4\n\
-     [[chip]]\nkind = '3861'\nports = 8\n\
-     [[chip]]\nkind = '3861'\nports = 12\n";
-
-const ONE_ALONE: &str = "format = 2\n[[chip]]\nkind = '3861'\nports = 8\n";
-
-/// Sockets are missing, the 3853's first; and a fetch that no chip answers, since a 3861 holds no address.
-const WITHOUT_A_PLACE: [Row; 3] = [
-    (
-        &[("cart", THREE_EACH), ("script", "steps 1\n")],
-        &["play", "cart", "script"],
-        2,
-        "error sockets 3853 need 3 have 2\n",
-    ),
-    (
-        &[("cart", THREE_ALONE), ("script", "steps 1\n")],
-        &["play", "cart", "script"],
-        2,
-        "error sockets 3861 need 3 have 2\n",
-    ),
-    (
-        &[("cart", ONE_ALONE), ("script", "steps 1\n")],
-        &["play", "cart", "script"],
-        3,
-        "verdict none\n\
-         stop undriven romc 00 at 0000\n\
-         regs P=0000 P1=0000 D0=0000 D1=0000 A=00 IS=00 W=00\n\
-         s00 00 00 00 00 00 00 00 00 00 00 00 00 00 00 00 00\n\
-         s10 00 00 00 00 00 00 00 00 00 00 00 00 00 00 00 00\n\
-         s20 00 00 00 00 00 00 00 00 00 00 00 00 00 00 00 00\n\
-         s30 00 00 00 00 00 00 00 00 00 00 00 00 00 00 00 00\n\
-         total 0 instructions 0 phi\n",
-    ),
-];
-
-/// NOP, and a branch back to it.
-const LOOP_CART: &str = "format = 2\n\
-     [[chip]]\nkind = '3851'\nbase = 0\nports = 4\nrom = '2B90FE'\n\
-     [[chip]]\nkind = '3861'\nports = 8\n";
-
-/// A 3861 shows no counters, and is never apart. With the power-on byte 04 the 3851 is, in its stack register.
-const SESSIONS: [Row; 2] = [
-    (
-        &[
-            ("cart", LOOP_CART),
-            ("commands", "break apart\nrun 4\nshow chips\n"),
-        ],
-        &["debug", "cart", "commands"],
-        0,
-        "ran 4\n\
-         chip 0 3851 PC0=0001 PC1=0000 DC0=0000\n\
-         chip 14 3861\n\
-         probe PC0=0001 PC1=0000 DC0=0000 DC1=0000\n",
-    ),
-    (
-        &[
-            ("cart", LOOP_CART),
-            ("commands", "power 04\nbreak apart\nrun 4\n"),
-        ],
-        &["debug", "cart", "commands"],
-        0,
-        "ready\nran 1\nbreak\n",
-    ),
-];
-
-#[test]
-fn plays_a_3861(rt: HostRuntime) -> Result<(), Fail> {
-    let mut rack = rack_of!(rt, Psu::blank(), Smi::blank(), Pio::blank());
-    check_all(&rt, rt.alloc(), &mut rack)?;
-    check_rows(&rt, rt.alloc(), &WITHOUT_A_PLACE, &mut rack)?;
-    check_rows(&rt, rt.alloc(), &SESSIONS, &mut rack)
-}
-
-/// On chips that hear each of the steps.
+/// On chips that hear each of the steps, as many of each kind as in the program's rack.
 #[test]
 fn plays_a_3861_on_listeners(rt: HostRuntime) -> Result<(), Fail> {
-    let mut rack = rack_of!(
-        rt,
-        Listener::round_psu(rt.alloc(), 20_000)?,
-        Listener::round_smi(rt.alloc(), 20_000)?,
-        Listener::round_pio(rt.alloc(), 20_000)?
-    );
-    check_all(&rt, rt.alloc(), &mut rack)
+    let mut rack: Rack = Vec::new(rt.alloc());
+    for _ in 0..12 {
+        let psu = Listener::round_psu(rt.alloc(), 20_000)?;
+        rack.push(Box::new(rt.alloc(), psu)?)?;
+    }
+    for _ in 0..2 {
+        let smi = Listener::round_smi(rt.alloc(), 20_000)?;
+        rack.push(Box::new(rt.alloc(), smi)?)?;
+    }
+    for _ in 0..2 {
+        let pio = Listener::round_pio(rt.alloc(), 20_000)?;
+        rack.push(Box::new(rt.alloc(), pio)?)?;
+    }
+    check_rows(&rt, rt.alloc(), &RUNS, &mut rack)?;
+    check_trace(&rt, rt.alloc(), &mut rack)
 }

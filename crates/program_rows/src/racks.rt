@@ -1,5 +1,6 @@
 // Racks of other chips than blank ones, and racks without a place.
-use super::calls::{LOOP_CART, Row, check_rows};
+use super::answers::LOOP_TRACE;
+use super::calls::{LOOP_CART, LOOP_SCRIPT, Row, check_rows};
 use chip_fakes::{Listener, Patched};
 use f8_machine::Rack;
 use psu3851::Psu;
@@ -77,28 +78,70 @@ fn plays_the_bytes_of_patched_chips(rt: HostRuntime) -> Result<(), Fail> {
     Ok(())
 }
 
-/// A session that looks at them.
-const LOOKED_AT: [Row; 1] = [(
-    &[("cart", LOOP_CART), ("commands", "mem 0000 4\n")],
-    &["debug", "cart", "commands"],
-    0,
-    "mem 0000 71 1F 90 FE\n",
-)];
+/// The steps of the loop with INC in the place of NOP.
+const INCREASED_TRACE: &str = "bus 1C S 00 -\nbus 08 L 00 cpu\nbus 00 S 71 0\n\
+     bus 00 S 1F 0\n\
+     bus 00 S 90 0\n\
+     bus 1C S 00 -\nbus 01 L FE 0\nbus 00 S 1F 0\n";
 
-/// The debugger too tells the byte that the chip holds.
+const AUDIT: &[&str] = &["audit", "cart", "script", "trace"];
+
+/// A session that looks at them, and audits of what they drive and of what the description has.
+const LOOKED_AT: [Row; 3] = [
+    (
+        &[("cart", LOOP_CART), ("commands", "mem 0000 4\n")],
+        &["debug", "cart", "commands"],
+        0,
+        "mem 0000 71 1F 90 FE\n",
+    ),
+    (
+        &[
+            ("cart", LOOP_CART),
+            ("script", LOOP_SCRIPT),
+            ("trace", INCREASED_TRACE),
+        ],
+        AUDIT,
+        0,
+        "accept 3\n",
+    ),
+    (
+        &[
+            ("cart", LOOP_CART),
+            ("script", LOOP_SCRIPT),
+            ("trace", LOOP_TRACE),
+        ],
+        AUDIT,
+        7,
+        "reject line 5\n",
+    ),
+];
+
+/// The debugger and the audit too go by the byte that the chip holds.
 #[test]
-fn shows_the_bytes_of_patched_chips(rt: HostRuntime) -> Result<(), Fail> {
+fn looks_at_the_bytes_of_patched_chips(rt: HostRuntime) -> Result<(), Fail> {
     let mut rack: Rack = Vec::new(rt.alloc());
     rack.push(Box::new(rt.alloc(), Patched::psu(0x0001, 0x1F))?)?;
     check_rows(&rt, rt.alloc(), &LOOKED_AT, &mut rack)
 }
 
-const NO_PSU: [Row; 1] = [(
-    &[("cart", RAM_CART), ("script", "steps 3\n")],
-    &["play", "cart", "script"],
-    2,
-    "error sockets 3851 need 1 have 0\n",
-)];
+const NO_PSU: [Row; 2] = [
+    (
+        &[("cart", RAM_CART), ("script", "steps 3\n")],
+        &["play", "cart", "script"],
+        2,
+        "error sockets 3851 need 1 have 0\n",
+    ),
+    (
+        &[
+            ("cart", LOOP_CART),
+            ("script", LOOP_SCRIPT),
+            ("trace", LOOP_TRACE),
+        ],
+        AUDIT,
+        2,
+        "error sockets 3851 need 1 have 0\n",
+    ),
+];
 
 const NO_SMI: [Row; 1] = [(
     &[("cart", RAM_CART), ("script", "steps 3\n")],
@@ -108,10 +151,20 @@ const NO_SMI: [Row; 1] = [(
 )];
 
 /// Seventeen chips are too many. The rack isn't looked at where a file isn't there.
-const SEVENTEEN: [Row; 2] = [
+const SEVENTEEN: [Row; 3] = [
     (
         &[("cart", RAM_CART), ("script", "steps 3\n")],
         &["play", "cart", "script"],
+        2,
+        "error rack 17\n",
+    ),
+    (
+        &[
+            ("cart", LOOP_CART),
+            ("script", LOOP_SCRIPT),
+            ("trace", LOOP_TRACE),
+        ],
+        AUDIT,
         2,
         "error rack 17\n",
     ),
