@@ -1,11 +1,10 @@
-// Modules linked: their pictures, or the first fault.
+// Two modules linked, an object, and the texts of causes.
 use f8_asm::{AsmCause, Room};
 use f8_link::{
-    Base, Fixup, FixupKind, LinkAnswer, LinkCause, LinkFault, ModCause, Named, Object, Part,
-    PartList, compile, link,
+    Base, Fixup, FixupKind, LinkCause, LinkFault, ModCause, Named, Object, Part, PartList, compile,
+    link,
 };
 use std::alloc::Global;
-use std::process::Abort;
 use std::test::Fail;
 
 /// Longer texts are not tried here.
@@ -19,162 +18,26 @@ fn object_of(alloc: Global, text: &str) -> Result<Object, Fail> {
     Ok(compile(alloc, text.as_bytes())?)
 }
 
-/// A text and the first and the last address of its room.
-type Placed = (&'static str, u16, u16);
-
-/// The objects of these texts in their rooms.
-fn parts_of(alloc: Global, modules: &[Placed]) -> Result<PartList, Fail> {
-    let mut parts = Vec::new(alloc);
-    for (text, first, last) in modules {
-        let object = object_of(alloc, text)?;
-        let room = Room {
-            first: *first,
-            last: *last,
-        };
+// a branch to an import as far on as it reaches
+#[test]
+fn modules_are_linked(rt: HostRuntime) -> Result<(), Fail> {
+    let mut parts = Vec::new(rt.alloc());
+    for (text, first) in [(" IMPORT X\n BR X", 0), (" EXPORT X\nX: POP", 128)] {
+        let object = object_of(rt.alloc(), text)?;
+        let room = Room { first, last: 0xFF };
         parts.push(Part { object, room })?;
     }
-    Ok(PartList::from_vec(parts))
-}
-
-/// What `link` answers, as text: bytes, then names with their values, or the module and the number of the fault.
-fn answer(alloc: Global, modules: &[Placed]) -> Result<String, Fail> {
-    let parts = parts_of(alloc, modules)?;
-    if parts.as_slice().len() > 64 {
-        return Err("too many modules".into());
-    }
-    let mut written = String::new(alloc);
-    match link(alloc, &parts) {
-        Ok(linked) => {
-            for (address, byte) in linked.bytes() {
-                write!(written, "{address:X}:{byte:02X} ")?;
-            }
-            for k in 0..linked.symbols().len() {
-                if let Some((name, value)) = linked.symbols().get(k) {
-                    write!(written, "{name}={value} ")?;
-                }
-            }
-        }
-        Err(LinkAnswer::Fault(fault)) => {
-            let cause = fault.cause.number();
-            write!(written, "{} {cause}", fault.module)?
-        }
-        Err(LinkAnswer::Memory) => write!(written, "memory")?,
-    }
-    Ok(written)
-}
-
-/// One module.
-fn assert_alone(
-    rt: &impl Abort,
-    alloc: Global,
-    text: &'static str,
-    first: u16,
-    want: &str,
-) -> Result<(), Fail> {
-    let got = answer(alloc, &[(text, first, 0xFFFF)])?;
-    assert_eq!(rt; got.as_str(), want, "{text} at {first}");
-    Ok(())
-}
-
-/// Two modules.
-fn assert_both(
-    rt: &impl Abort,
-    alloc: Global,
-    one: Placed,
-    other: Placed,
-    want: &str,
-) -> Result<(), Fail> {
-    let got = answer(alloc, &[one, other])?;
-    assert_eq!(rt; got.as_str(), want, "{} and {}", one.0, other.0);
-    Ok(())
-}
-
-#[test]
-fn modules_alone(rt: HostRuntime) -> Result<(), Fail> {
-    for (text, first, want) in [
-        ("", 0, ""),
-        (" BR $410", 0x400, "400:90 401:0F "),
-        (" BR $410", 0x300, "0 5"),
-        ("X: DW X+65535", 0, "0:FF 1:FF "),
-        ("X: DW X+65535", 1, "0 5"),
-        (" EXPORT X\nX: EQU 7", 9, "X=7 "),
-        (" EXPORT X\n NOP\nX:", 9, "9:2B X=10 "),
-        (" EXPORT X,X\nX: EQU 7", 0, "0 1"),
-        (" IMPORT X", 0, "0 2"),
-        (" IMPORT X\n EXPORT Y\nY: DB X", 0, "0 2"),
-        (" NOP\n NOP", 0xFFFF, "0 3"),
-    ] {
-        assert_alone(&rt, rt.alloc(), text, first, want)?;
-    }
-    Ok(())
-}
-
-#[test]
-fn branches_to_imports(rt: HostRuntime) -> Result<(), Fail> {
-    let one = (" IMPORT X\n BR X", 0, 0xFF);
-    let other = " EXPORT X\nX: POP";
-    assert_both(
-        &rt,
-        rt.alloc(),
-        one,
-        (other, 128, 0xFF),
-        "0:90 1:7F 80:1C X=128 ",
-    )?;
-    assert_both(&rt, rt.alloc(), one, (other, 129, 0xFF), "0 5")?;
-    Ok(())
-}
-
-#[test]
-fn values_of_imports(rt: HostRuntime) -> Result<(), Fail> {
-    let most = " EXPORT X\nX: EQU 4294901760";
-    let beyond = " EXPORT X\nX: EQU 4294901761";
-    let zero = " EXPORT X\nX: EQU 0";
-    let halves = " IMPORT X\n DB <(X+65535),>(X+65535)";
-    for (text, export, want) in [
-        (halves, most, "0:FF 1:FF X=4294901760 "),
-        (halves, beyond, "0 5"),
-        (" IMPORT X", beyond, "0 5"),
-        (" IMPORT X\n DB <(X-1)", zero, "0 5"),
-        (" IMPORT X\n DB X-1", zero, "0:FF X=0 "),
-        (" IMPORT X\n DW <X,X-3", zero, "0 5"),
-        (
-            " IMPORT X\n DW <(X+258),>(X+258)",
-            zero,
-            "0:00 1:02 2:00 3:01 X=0 ",
-        ),
-    ] {
-        assert_both(&rt, rt.alloc(), (text, 0, 0xFF), (export, 0, 0xFF), want)?;
-    }
-    Ok(())
-}
-
-#[test]
-fn each_cause_over_all_modules(rt: HostRuntime) -> Result<(), Fail> {
-    let got = answer(
-        rt.alloc(),
-        &[(" DB 1", 0, 0), (" DB 1", 0, 0), (" DB 1,2", 5, 5)],
-    )?;
-    assert_eq!(rt; got.as_str(), "2 3");
-    let got = answer(
-        rt.alloc(),
-        &[(" DB 1", 0, 0), (" DB 1", 0, 0), (" DB 1,2", 5, 6)],
-    )?;
-    assert_eq!(rt; got.as_str(), "1 4");
-    Ok(())
-}
-
-#[test]
-fn own_names_are_apart(rt: HostRuntime) -> Result<(), Fail> {
-    let modules = [
-        ("X: DB 1\n DW X", 0, 0xFF),
-        ("X: DB 2\n DW X", 0x10, 0xFF),
-        (" EXPORT X\nX: DB 3\n DW X", 0x20, 0xFF),
-    ];
-    let got = answer(rt.alloc(), &modules)?;
+    let parts = PartList::from_vec(parts);
+    assert_eq!(rt; parts.as_slice().len(), 2);
+    let Ok(linked) = link(rt.alloc(), &parts) else {
+        panic!(rt; "modules are not linked");
+    };
     assert_eq!(rt;
-        got.as_str(),
-        "0:01 1:00 2:00 10:02 11:00 12:10 20:03 21:00 22:20 X=32 "
+        linked.bytes(),
+        [(0, 0x90), (1, 0x7F), (0x80, 0x1C)].as_slice()
     );
+    assert_eq!(rt; linked.symbols().len(), 1);
+    assert_eq!(rt; linked.symbols().get(0), Some(("X", 128)));
     Ok(())
 }
 
