@@ -7,8 +7,8 @@ use chip_face::{Bytes, ChipList, ChipSpec, Page, PageList, PageSort, Powers};
 use std::alloc::Global;
 use std::test::Fail;
 
-/// A 3851 at address 0 with some bytes, and FF behind them. With a vector it can interrupt.
-pub(crate) fn psu(alloc: Global, code: &[u8], vector: Option<u16>) -> Result<ChipSpec, Fail>
+/// A 3851 at address 0 with some bytes, and FF behind them.
+pub(crate) fn psu(alloc: Global, code: &[u8]) -> Result<ChipSpec, Fail>
     requires { length code.now ≤ 1024 }
     ensures spec { IfOk result IsSpec }
     ensures kept { IfOk result (λ chip. is_blank chip ≡ false) }
@@ -19,13 +19,13 @@ pub(crate) fn psu(alloc: Global, code: &[u8], vector: Option<u16>) -> Result<Chi
         base: 0x0000,
         rom: Bytes::of(alloc, &rom)?,
         ports: 0x04,
-        vector: vector.unwrap_or(0x0000),
-        wired: vector.is_some(),
+        vector: 0x0000,
+        wired: false,
     })
 }
 
-/// A 3853 with a RAM page at 28, which may be one that can interrupt.
-pub(crate) fn smi(alloc: Global, wired: bool) -> Result<ChipSpec, Fail>
+/// A 3853 with a RAM page at 28.
+pub(crate) fn smi(alloc: Global) -> Result<ChipSpec, Fail>
     ensures spec { IfOk result IsSpec }
     ensures kept { IfOk result (λ chip. is_blank chip ≡ false) }
 {
@@ -36,25 +36,21 @@ pub(crate) fn smi(alloc: Global, wired: bool) -> Result<ChipSpec, Fail>
     Ok(ChipSpec::Smi {
         pages: PageList::of(alloc, &pages)?,
         rom: Bytes::of(alloc, &[])?,
-        wired,
+        wired: false,
     })
 }
 
-/// A cartridge of some chips, of whose power-on nothing is said.
-pub(crate) fn cart_with(split: Split, chips: ChipList) -> Cart {
-    let powers = Powers::usual(chips.as_slice().len());
-    Cart {
-        split,
-        chips,
-        powers,
-    }
-}
-
-/// A cartridge of such a 3851 alone that can't interrupt, with no register tracked.
+/// A cartridge of such a 3851 alone, with no register tracked, of whose power-on nothing is said.
 pub(crate) fn lone_cart(alloc: Global, code: &[u8]) -> Result<Cart, Fail>
     requires { length code.now ≤ 1024 }
 {
     let mut chips = Vec::with_capacity(alloc, 1)?;
-    chips.push(psu(alloc, code, None)?)?;
-    Ok(cart_with(Split::new(), ChipList::from_vec(chips)))
+    chips.push(psu(alloc, code)?)?;
+    let chips = ChipList::from_vec(chips);
+    let powers = Powers::usual(chips.as_slice().len());
+    Ok(Cart {
+        split: Split::new(),
+        chips,
+        powers,
+    })
 }

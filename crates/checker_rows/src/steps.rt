@@ -2,7 +2,7 @@
 ghost use Rattle.std.specs.Prelude.{◌≡◌, ◌≤◌, None, length, replicate};
 
 use super::chips::{lone_cart, psu, smi};
-use abs_domain::{Bit, Point, Reason, Word};
+use abs_domain::{Bit, Point, Word};
 use abs_step::{after, start, whole};
 use cartridge::Split;
 use chip_face::ChipList;
@@ -23,8 +23,8 @@ fn both(alloc: Global, code: &[u8]) -> Result<Map, Fail>
     requires { length code.now ≤ 16 }
 {
     let mut chips = Vec::with_capacity(alloc, 2)?;
-    chips.push(psu(alloc, code, None)?)?;
-    chips.push(smi(alloc, false)?)?;
+    chips.push(psu(alloc, code)?)?;
+    chips.push(smi(alloc)?)?;
     Ok(Map::of(alloc, &ChipList::from_vec(chips))?)
 }
 
@@ -58,22 +58,6 @@ fn loads_the_data_counter_at_the_start(rt: HostRuntime) -> Result<(), Fail> {
     Ok(())
 }
 
-// LM where ROM may answer at 0010, and RAM at 2800
-#[test]
-fn refuses_a_read_that_two_chips_may_answer(rt: HostRuntime) -> Result<(), Fail> {
-    let code = [0x2A, 0x28, 0x00, 0x2C, 0x2A, 0x00, 0x10, 0x2C, 0x16];
-    let map = both(rt.alloc(), &code)?;
-    let split = Split::new();
-    let (_, mut parted) = start(&split);
-    parted.d0 = Word::Known(0x2800);
-    parted.c = Word::Known(0x0010);
-    parted.s0 = true;
-    parted.p0 = false;
-    let refused = after(&parted, &point(0x0008), &split, &map);
-    assert_eq!(rt; refused.err(), Some(Reason::DataCountersApart));
-    Ok(())
-}
-
 // BT 2 back to itself, with a carry that isn't known
 #[test]
 fn takes_a_branch_first(rt: HostRuntime) -> Result<(), Fail> {
@@ -87,21 +71,6 @@ fn takes_a_branch_first(rt: HostRuntime) -> Result<(), Fail> {
     assert_eq!(rt; ways.len(), 2);
     assert_eq!(rt; ways.get(0), Some((point(0x0000), unknown)));
     assert_eq!(rt; ways.get(1), Some((point(0x0002), unknown)));
-    Ok(())
-}
-
-// LM at the last byte of ROM, and behind it
-#[test]
-fn reads_within_the_chip_are_whole(rt: HostRuntime) -> Result<(), Fail> {
-    let map = lone(rt.alloc(), &[0x16])?;
-    let (here, state) = start(&Split::new());
-    for (at, answered) in [(0x03FF, true), (0x0400, false)] {
-        let mut loaded = state;
-        loaded.p0 = true;
-        loaded.d0 = Word::Known(at);
-        loaded.c = Word::Known(at);
-        assert_eq!(rt; whole(&loaded, &here, &map), answered, "at {at:04X}");
-    }
     Ok(())
 }
 
