@@ -1,12 +1,11 @@
-// Each call on files in memory, on its happy path and at its refusals.
-use certificate::CertCause;
-use loader::{Refusal, Stop, load_bytes, load_cart, load_claim, load_game, load_image};
+// Calls on files in memory, on their happy paths.
+use loader::{load_bytes, load_game, load_image};
 use outside::{FileList, NamedFile, SureStore};
 use pad_script::{At, Event};
 use std::alloc::Global;
 use std::test::Fail;
 
-const FILES: [(&str, &str); 5] = [
+const FILES: [(&str, &str); 4] = [
     (
         "cart",
         "format = 1\nsplit = [8, 63]\n[[chip]]\nkind = '3851'\nbase = 0x400\nports = 4\nsource = 'code'\n",
@@ -14,7 +13,6 @@ const FILES: [(&str, &str); 5] = [
     ("code", " ORG $0400\nBYTES: DB 1, 2\n"),
     ("script", "power 5A\nat 1 pulse 0\nsteps 7\n"),
     ("digits", "7 12B\t90\r\nfe"),
-    ("cert", "F8CERT 1 2\n"),
 ];
 
 fn store(alloc: Global) -> Result<SureStore, Fail> {
@@ -48,32 +46,6 @@ fn loads_a_game(rt: HostRuntime) -> Result<(), Fail> {
 }
 
 #[test]
-fn loads_a_cartridge(rt: HostRuntime) -> Result<(), Fail> {
-    let mut store = store(rt.alloc())?;
-    let Ok(cart) = load_cart(rt.alloc(), &mut store, "cart") else {
-        panic!(rt; "no cartridge");
-    };
-    assert_eq!(rt; cart.chips.len(), 1);
-    assert_eq!(rt; cart.split.as_slice(), [8, 63].as_slice());
-    Ok(())
-}
-
-#[test]
-fn refuses_a_certificate_without_points(rt: HostRuntime) -> Result<(), Fail> {
-    let mut store = store(rt.alloc())?;
-    let Err(Stop::Refused(Refusal::Cert(fault))) = load_claim(
-        rt.alloc(),
-        &mut store,
-        "cart",
-        "cert",
-    ) else {
-        panic!(rt; "a line is missing");
-    };
-    assert_eq!(rt; (fault.line, fault.cause), (2, CertCause::End));
-    Ok(())
-}
-
-#[test]
 fn loads_an_image(rt: HostRuntime) -> Result<(), Fail> {
     let mut store = store(rt.alloc())?;
     let Ok(image) = load_image(rt.alloc(), &mut store, "code") else {
@@ -91,15 +63,5 @@ fn loads_digits(rt: HostRuntime) -> Result<(), Fail> {
         panic!(rt; "no bytes");
     };
     assert_eq!(rt; bytes.as_slice(), [0x71, 0x2B, 0x90, 0xFE].as_slice());
-    Ok(())
-}
-
-#[test]
-fn refuses_digits_as_a_description(rt: HostRuntime) -> Result<(), Fail> {
-    let mut store = store(rt.alloc())?;
-    let Err(Stop::Refused(refusal)) = load_game(rt.alloc(), &mut store, "digits", "script") else {
-        panic!(rt; "digits are a description");
-    };
-    assert_eq!(rt; refusal, Refusal::Document);
     Ok(())
 }
