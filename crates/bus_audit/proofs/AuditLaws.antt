@@ -13,6 +13,7 @@ use Rattle.console_spec.specs.declared.Event.{Event}
 use Rattle.f8_machine.specs.MachineState.{MachineState}
 use Rattle.f8_machine.specs.Refinement.{Represents}
 use Rattle.bus_audit.specs.Answers.{Trace, steps_of, line_at, answer_by, answer_in}
+use Rattle.bus_audit.specs.Audits.{LeavesNone}
 use Rattle.bus_audit.specs.PlainSteps.{HaveBytes, plain, plain_course}
 use Rattle.bus_audit.specs.FreeRuns.{Setup, own_fallen, own_behind, own_begun, BeginsFreely, GoesFreely, IsFreelyAt, IsRecord, broken_off}
 use Rattle.bus_audit.specs.FreeRuns.{reset_cut, cut}
@@ -59,6 +60,33 @@ rest_told lines told n same =
 
 pub length-part : (n : ℕ) (lines : List ToldLine) → length (take (length lines - n) (drop n lines)) ≡ length lines - n
 length-part n lines = ap (λ (ls : List ToldLine). length ls) (part_from n lines) ∙ length-drop n lines
+
+-- ---- what an answer leaves
+
+leaves_by : (trace : Trace) (n told : ℕ) (steps rest : List TraceStep) (lines : List ToldLine) → rest ≡ drop told steps →
+    (0 < length lines → 0 < length steps) → LeavesNone (answer_by trace n rest lines) steps told
+leaves_by trace n told steps rest [] is some = tt
+leaves_by trace n told steps [] (l ∷ lines) is some = (some (omega arith), sym is)
+leaves_by trace n told steps (s ∷ rest) (l ∷ lines) is some = tt
+
+-- behind reset
+pub leaves_first : (trace : Trace) (n told : ℕ) (answer : AuditAnswer) →
+    answer ≡ answer_in trace (record { count = n; rest = drop told (steps_of trace.told) }) → LeavesNone answer (steps_of trace.told) told
+leaves_first trace n told answer is =
+    let size : length (steps_of trace.told) ≡ length trace.told = length-map trace.told (λ (l : ToldLine). l.step) in
+    subst (λ (a : AuditAnswer). LeavesNone a (steps_of trace.told) told) (sym is)
+    (leaves_by trace n told (steps_of trace.told) (drop told (steps_of trace.told)) trace.told refl (λ some. omega (arith, size, some)))
+
+-- behind an instruction
+pub leaves_here : (trace : Trace) (n count told : ℕ) (answer : AuditAnswer) → count < length (steps_of trace.told) →
+    answer ≡ answer_in trace (record { count = n; rest = drop (count + told) (steps_of trace.told) }) →
+    LeavesNone answer (drop count (steps_of trace.told)) told
+leaves_here trace n count told answer within is =
+    let whole = steps_of trace.told in
+    let size : length (drop count whole) ≡ length whole - count = length-drop count whole in
+    subst (λ (a : AuditAnswer). LeavesNone a (drop count whole) told) (sym is)
+    (leaves_by trace n told (drop count whole) (drop (count + told) whole) trace.told (sym (drop_more count told whole))
+    (λ some. omega (arith, size, within)))
 
 -- ---- the machine follows the trace
 

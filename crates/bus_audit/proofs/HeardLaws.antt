@@ -1,11 +1,13 @@
 -- What the chips hear in reset and in an instruction, and what they are asked.
 use Rattle.std.proofs.Common.{◌≡◌, ℕ, ◌+◌, ◌≤◌, Bool, true, false, List, [], ◌∷◌, ◌++◌, length, map, drop, refl, ◌∙◌, ap, sym, subst, arith}
-use Rattle.std.proofs.Common.{append-nil}
+use Rattle.std.proofs.Common.{append-nil, append_assoc, Some, inl, inr}
 use Rattle.std.proofs.lemmas.List.{length-map}
 use Rattle.f8_spec.specs.ChipState.{ChipState}
 use Rattle.console_spec.specs.BusTrace.{TracedStep}
 use Rattle.data_bus.specs.declared.index.Index.{Index}
+use Rattle.data_bus.specs.declared.fault.BusFault.{BusFault}
 use Rattle.f8_machine.specs.Advancing.{Follows}
+use Rattle.f8_machine.specs.Faults.{fault_of}
 use Rattle.f8_machine.specs.Fitting.{tried}
 use Rattle.f8_machine.specs.HeardSteps.{step_of}
 use Rattle.f8_machine.specs.MachineState.{MachineState, steps_in}
@@ -18,11 +20,11 @@ use Rattle.f8_machine.specs.declared.record.TheConstants.{MOST_HEARD}
 use Rattle.rack_run.specs.Asking.{AsksOn, AsksWithin, served_codes}
 use Rattle.rack_run.proofs.MachineAsking.{allowances-append, tried_most}
 use Rattle.bus_audit.specs.Audits.{Hears}
-use Rattle.bus_audit.specs.PlainSteps.{plain}
+use Rattle.bus_audit.specs.PlainSteps.{plain, plain_fault}
 use Rattle.bus_audit.specs.Turns.{heard_told, outcome_told, stand_next, judged}
 use Rattle.bus_audit.specs.declared.step.TraceStep.{TraceStep}
 use Rattle.bus_audit.proofs.Behind.{behind_is}
-use Rattle.bus_audit.proofs.OutcomeLaws.{found_behind, length_told}
+use Rattle.bus_audit.proofs.OutcomeLaws.{found_behind, length_told, length_cut}
 
 -- ---- the steps as the definitions have them
 
@@ -81,6 +83,15 @@ module _ (chips : ℕ) (old new : MachineState) (olds news : List ChipState) (be
       ∙ sym (behind_is (heard_told steps) trace (drop (length steps) trace)
       (found_behind (heard_told steps) trace (length steps) (length_told steps) is))
 
+  begins_cut : (steps : List Heard) (fault : BusFault) (long : Bool) → stand_next (outcome_told (Fault fault long steps)) trace ≡ true →
+      map plain (traced_all steps) ++ (plain_fault (Some (fault_of fault, long)) ++ drop (length steps + 1) trace) ≡ trace
+  begins_cut steps fault long is =
+      let told = outcome_told (Fault fault long steps) in
+      let rest = drop (length steps + 1) trace in
+      ap (λ (l : List TraceStep). l ++ (plain_fault (Some (fault_of fault, long)) ++ rest)) (told_again steps)
+      ∙ sym (append_assoc (heard_told steps) (plain_fault (Some (fault_of fault, long))) rest)
+      ∙ sym (behind_is told trace rest (found_behind told trace (length steps + 1) (length_cut steps (fault_of fault) long) is))
+
   pub hears_are : (outcome : Outcome) → Follows outcome old new olds news →
       after ≤ before + allowances chips old.index (tried old.mode outcome) → length (steps_in outcome) ≤ MOST_HEARD →
       Hears (judged outcome (stand_next (outcome_told outcome) trace)) chips old.index new.index olds news before after trace
@@ -102,28 +113,29 @@ module _ (chips : ℕ) (old new : MachineState) (olds news : List ChipState) (be
         steps = traced_all steps;
         short = short_again steps short;
         ran = ran_again steps follows.ran;
-        begins = tt;
+        begins = inl refl;
         asks = ([], omega arith, asks_all steps most);
       }
-  hears_are (Fault fault long steps) follows few short = by (stand_next (outcome_told (Fault fault long steps)) trace)
+  hears_are (Fault fault long steps) follows few short = by (stand_next (outcome_told (Fault fault long steps)) trace) refl
     where
-      by : (stands : Bool) → Hears (judged (Fault fault long steps) stands) chips old.index new.index olds news before after trace
-      by true = record {
+      by : (stands : Bool) → stand_next (outcome_told (Fault fault long steps)) trace ≡ stands →
+          Hears (judged (Fault fault long steps) stands) chips old.index new.index olds news before after trace
+      by true is = record {
         steps = traced_all steps;
         short = short_again steps short;
         ran = ran_again steps follows.ran;
-        begins = tt;
+        begins = inr ((fault_of fault, long), begins_cut steps fault long is);
         asks = (
           code_of fault ∷ [],
           omega arith,
           asks_within steps (code_of fault ∷ []) (tried_most chips before after old.index (Fault fault long steps) old.mode few),
         );
       }
-      by false = record {
+      by false is = record {
         steps = traced_all steps;
         short = short_again steps short;
         ran = ran_again steps follows.ran;
-        begins = tt;
+        begins = inl refl;
         asks = (
           code_of fault ∷ [],
           omega arith,
@@ -137,13 +149,13 @@ module _ (chips : ℕ) (old new : MachineState) (olds news : List ChipState) (be
         steps = [];
         short = short;
         ran = follows.ran;
-        begins = tt;
+        begins = inl refl;
         asks = ([], omega arith, tried_most chips before after old.index (Reserved at code) old.mode few);
       }
       by false = record {
         steps = [];
         short = short;
         ran = follows.ran;
-        begins = tt;
+        begins = inl refl;
         asks = ([], omega arith, tried_most chips before after old.index (Reserved at code) old.mode few);
       }

@@ -1,6 +1,6 @@
 -- What becomes of the chips of a rack up to a place in the trace, and what they have been asked.
 use Rattle.std.proofs.Common.{◌≡◌, ℕ, ◌+◌, ◌*◌, ◌≤◌, Bool, List, [], ◌∷◌, ◌++◌, length, map, drop, refl, ◌∙◌, ap, sym, subst, arith}
-use Rattle.std.proofs.Common.{append_assoc, append-nil, filter, length-append}
+use Rattle.std.proofs.Common.{append_assoc, append-nil, filter, length-append, ◌<◌, Some, inl, inr}
 use Rattle.std.proofs.lemmas.List.{map-append}
 use Rattle.std.proofs.lemmas.Grind.{flat_map-append}
 use Rattle.std.specs.List.{list_any}
@@ -22,10 +22,13 @@ use Rattle.rack_run.specs.Asking.{AsksOn, AsksWithin, heard_codes, run_allowed, 
 use Rattle.rack_run.specs.Lives.{Come, Lives}
 use Rattle.rack_run.proofs.AskingLaws.{heard_codes-more}
 use Rattle.rack_run.proofs.LifeLaws.{lives_then}
-use Rattle.bus_audit.specs.Audits.{Hears, Beginning, Audits, LivesUpTo, LivesSoFar, LivesBy, TakeFromPower, heard_steps, is_outer}
+use Rattle.bus_audit.specs.Audits.{Hears, BeginsBy, EndsBy, Beginning, Audits, LeavesNone, LivesUpTo, LivesSoFar, LivesBy, TakeFromPower}
+use Rattle.bus_audit.specs.Audits.{heard_steps, is_outer}
 use Rattle.bus_audit.specs.Inputs.{Comes}
-use Rattle.bus_audit.specs.PlainSteps.{plain}
+use Rattle.bus_audit.specs.PlainSteps.{plain, plain_fault}
 use Rattle.bus_audit.specs.ReadInputs.{read_key, read_inputs}
+use Rattle.bus_audit.specs.declared.answers.AuditAnswer.{AuditAnswer}
+use Rattle.bus_audit.specs.declared.answers.AuditAnswer.TheVariants.{Accept, Reject}
 use Rattle.bus_audit.specs.declared.matching.Turn.{Turn}
 use Rattle.bus_audit.specs.declared.matching.Turn.TheVariants.{Onward, Over}
 use Rattle.bus_audit.specs.declared.step.TraceStep.{TraceStep}
@@ -59,6 +62,24 @@ heard_more ms m =
 
 at_least_two : (n k : ℕ) → n ≡ k + 1 → 1 ≤ k → 2 ≤ n
 at_least_two n k is some = omega (arith, is, some)
+
+-- ---- what an answer leaves
+
+ends_all : (answer : AuditAnswer) (rest : List TraceStep) → rest ≡ [] → EndsBy answer [] rest
+ends_all (Accept count) rest none = none
+ends_all (Reject line) rest none = tt
+
+ends_tried : (answer : AuditAnswer) (told : ℕ) (m : Moment) (rest : List TraceStep) → BeginsBy (Over told) (map plain m.heard) rest →
+    LeavesNone answer rest told → EndsBy answer (m ∷ []) rest
+ends_tried (Reject line) told m rest begins leaves = tt
+ends_tried (Accept count) told m rest (inl none) leaves =
+    let nothing : rest ≡ [] = subst (λ (n : ℕ). drop n rest ≡ []) none leaves.1 in
+    let size : length rest ≡ 0 = ap (λ (l : List TraceStep). length l) nothing in
+    absurd (omega (arith, size, leaves.0))
+ends_tried (Accept count) told m rest (inr cut) leaves = (
+  cut.0,
+  sym cut.1 ∙ ap (λ (l : List TraceStep). map plain m.heard ++ (plain_fault (Some cut.0) ++ l)) leaves.1,
+)
 
 -- ---- power-on, and what comes before reset
 
@@ -143,8 +164,8 @@ module _ (first : Beginning) (count chips : ℕ) (index : Index) (states : List 
       )
 
   -- the audit ends behind it
-  pub audits_all : Audits first states now
-  audits_all = record {
+  pub audits_all : (answer : AuditAnswer) → drop count first.trace ≡ [] → Audits first answer states now
+  audits_all answer none = record {
     powered = so_far.powered;
     power_on = so_far.power_on;
     moments = so_far.moments;
@@ -155,6 +176,7 @@ module _ (first : Beginning) (count chips : ℕ) (index : Index) (states : List 
     one = omega arith;
     short = omega arith;
     still = refl;
+    ends = ends_all answer (drop count first.trace) none;
     lived = subst (λ (ms : List Moment). Lives first.chain ms so_far.powered states) (sym (append-nil so_far.moments)) so_far.lived;
     unserved = [];
     most = omega arith;
@@ -165,8 +187,9 @@ module _ (first : Beginning) (count chips : ℕ) (index : Index) (states : List 
 
   -- or where the run is over in it
   over : (told later_now : ℕ) (later : Index) (news : List ChipState) →
-      Hears (Over told) chips index later states news now later_now (drop count first.trace) → Audits first news later_now
-  over told later_now later news hears =
+      Hears (Over told) chips index later states news now later_now (drop count first.trace) →
+      (answer : AuditAnswer) → LeavesNone answer (drop count first.trace) told → Audits first answer news later_now
+  over told later_now later news hears answer leaves =
       let moment = moment_with hears.steps [] in
       record {
         powered = so_far.powered;
@@ -179,6 +202,7 @@ module _ (first : Beginning) (count chips : ℕ) (index : Index) (states : List 
         one = omega arith;
         short = subst (λ (steps : List TracedStep). length steps ≤ MOST_HEARD) (sym (append-nil hears.steps)) hears.short;
         still = refl;
+        ends = ends_tried answer told moment (drop count first.trace) hears.begins leaves;
         lived =
             lives_then first.chain so_far.moments moment so_far.powered states news so_far.lived
             (record { between = news; heard = hears.ran; came = refl });

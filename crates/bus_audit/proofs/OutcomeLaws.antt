@@ -67,7 +67,7 @@ cut_told course whole steps fault long is recorded =
     ap (λ (told : List TraceStep). told ++ plain_fault (Some (fault, long))) (ap heard_told recorded ∙ map_told course.steps)
     ∙ sym (ap plain_course is)
 
-length_cut : (steps : List Heard) (fault : Fault) (long : Bool) →
+pub length_cut : (steps : List Heard) (fault : Fault) (long : Bool) →
     length (heard_told steps ++ plain_fault (Some (fault, long))) ≡ length steps + 1
 length_cut steps fault long =
     let told = length_told steps in

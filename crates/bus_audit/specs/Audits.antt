@@ -1,9 +1,10 @@
 -- What becomes of the chips of a rack in an audit, and how many questions have been put to them. All of it is this project's own.
-use Rattle.std.specs.Prelude.{◌≡◌, ℕ, ◌+◌, ◌≤◌, Bool, not, List, [], ◌∷◌, ◌++◌, length, map, filter, flat_map, drop}
+use Rattle.std.specs.Prelude.{◌≡◌, ℕ, ◌+◌, ◌<◌, ◌≤◌, ◌⊎◌, Bool, not, List, [], ◌∷◌, ◌++◌, length, map, filter, flat_map, drop, Some}
 use Rattle.f8_spec.specs.ChipState.{ChipState}
 use Rattle.f8_spec.specs.MicroSteps.{reset_steps}
 use Rattle.f8_spec.specs.declared.chips.PowerOn.{PowerOn}
 use Rattle.console_spec.specs.BusTrace.{TracedStep}
+use Rattle.console_spec.specs.Services.{Fault}
 use Rattle.console_spec.specs.Telling.{Moment}
 use Rattle.console_spec.specs.declared.Event.{Event}
 use Rattle.data_bus.specs.declared.index.Index.{Index}
@@ -13,8 +14,10 @@ use Rattle.f8_machine.specs.declared.record.TheConstants.{MOST_HEARD}
 use Rattle.rack_run.specs.Asking.{AsksOn, AsksWithin, heard_codes, run_allowed, served_codes}
 use Rattle.rack_run.specs.Lives.{Lives}
 use Rattle.bus_audit.specs.FreeRuns.{is_own_key}
-use Rattle.bus_audit.specs.PlainSteps.{plain}
+use Rattle.bus_audit.specs.PlainSteps.{plain, plain_fault}
 use Rattle.bus_audit.specs.ReadInputs.{read_key, read_inputs}
+use Rattle.bus_audit.specs.declared.answers.AuditAnswer.{AuditAnswer}
+use Rattle.bus_audit.specs.declared.answers.AuditAnswer.TheVariants.{Accept, Reject}
 use Rattle.bus_audit.specs.declared.matching.Turn.{Turn}
 use Rattle.bus_audit.specs.declared.matching.Turn.TheVariants.{Onward, Over}
 use Rattle.bus_audit.specs.declared.step.TraceStep.{TraceStep}
@@ -28,12 +31,14 @@ AsksBy (Over told) chips old new before after steps =
     (unserved : List ℕ) × (length unserved ≤ 1)
     × AsksWithin (λ codes. allowances chips old codes) before after (served_codes steps ++ unserved)
 
+-- Where the run is over, none of the trace's steps count, or those that were heard do and behind them one that is not served.
 abbrev pub BeginsBy : Turn → (steps trace : List TraceStep) → Type 0
 BeginsBy (Onward told) steps trace = steps ++ drop told trace ≡ trace
-BeginsBy (Over told) steps trace = Unit {0}
+BeginsBy (Over told) steps trace =
+    (told ≡ 0) ⊎ ((failed : Fault × Bool) × (steps ++ (plain_fault (Some failed) ++ drop told trace) ≡ trace))
 
--- The chips hear some steps, no more than one instruction has, which stand first in the trace where the run goes on; and they are asked no more
--- than is allowed for these, and for one that is not served.
+-- The chips hear some steps, no more than one instruction has, which stand first in the trace where the run goes on or where steps of the trace
+-- count; and they are asked no more than is allowed for these, and for one that is not served.
 pub record Hears (turn : Turn) (chips : ℕ) (old new : Index) (olds news : List ChipState) (before after : ℕ) (trace : List TraceStep) : Type 0 where
   pub steps : List TracedStep
   pub short : length steps ≤ MOST_HEARD
@@ -86,11 +91,18 @@ heard_steps moments = flat_map (λ m. m.heard) moments
 abbrev pub events_taken : List Moment → List Event
 events_taken moments = flat_map (λ m. m.events) moments
 
+-- A trace that is accepted has nothing behind the moments, or the steps of the one that was tried and the step in which that failed.
+abbrev pub EndsBy : AuditAnswer → List Moment → List TraceStep → Type 0
+EndsBy (Reject line) tried rest = Unit {0}
+EndsBy (Accept count) [] rest = rest ≡ []
+EndsBy (Accept count) (m ∷ later) rest = (failed : Fault × Bool) × (rest ≡ map plain m.heard ++ plain_fault (Some failed))
+
 -- The chips are powered as the script and the description say. They live through moments whose bus steps stand first in the trace, with the
--- inputs that are read off it, and through one more at most, whose steps need not. That one has no more steps than reset or one instruction, and
--- no input comes behind it. The most are 9: DCI has four before its last fetch, and an interrupt puts five in the place of that. The chips were
--- put no more than 512 questions each, and the allowances of all these steps and of one that was tried and not served.
-pub record Audits (first : Beginning) (news : List ChipState) (asked : ℕ) : Type 0 where
+-- inputs that are read off it, and through one more at most, whose steps need not where the trace is rejected. That one has no more steps than
+-- reset or one instruction, and no input comes behind it. The most are 9: DCI has four before its last fetch, and an interrupt puts five in the
+-- place of that. The chips were put no more than 512 questions each, and the allowances of all these steps and of one that was tried and not
+-- served.
+pub record Audits (first : Beginning) (answer : AuditAnswer) (news : List ChipState) (asked : ℕ) : Type 0 where
   pub powered : List ChipState
   pub power_on : RackPowers first.power first.chain first.powers first.fitted powered
   pub moments : List Moment
@@ -101,6 +113,7 @@ pub record Audits (first : Beginning) (news : List ChipState) (asked : ℕ) : Ty
   pub one : length tried ≤ 1
   pub short : length (heard_steps tried) ≤ MOST_HEARD
   pub still : events_taken tried ≡ []
+  pub ends : EndsBy answer tried rest
   pub lived : Lives first.chain (moments ++ tried) powered news
   pub unserved : List ℕ
   pub most : length unserved ≤ 1
@@ -122,7 +135,13 @@ pub record LivesUpTo (first : Beginning) (count chips : ℕ) (index : Index) (no
 abbrev pub LivesSoFar : Beginning → (count chips : ℕ) → Index → List ChipState → ℕ → Type 0
 LivesSoFar first count chips index nows asked = (lives : LivesUpTo first count chips index nows asked) × (2 ≤ length lives.moments)
 
--- the run goes on behind so many steps more, or it is over
+-- An answer that accepts leaves nothing of these steps, behind so many of them, and there are some.
+abbrev pub LeavesNone : AuditAnswer → List TraceStep → ℕ → Type 0
+LeavesNone (Accept count) steps told = (some : 0 < length steps) × (drop told steps ≡ [])
+LeavesNone (Reject line) steps told = Unit {0}
+
+-- the run goes on behind so many steps more, or it is over, whatever is then answered
 abbrev pub LivesBy : Turn → (first : Beginning) (count chips : ℕ) (index : Index) (nows : List ChipState) (asked : ℕ) → Type 0
 LivesBy (Onward told) first count chips index nows asked = LivesSoFar first (count + told) chips index nows asked
-LivesBy (Over told) first count chips index nows asked = Audits first nows asked
+LivesBy (Over told) first count chips index nows asked =
+    (answer : AuditAnswer) → LeavesNone answer (drop count first.trace) told → Audits first answer nows asked

@@ -45,7 +45,7 @@ pub fn audit(
     ensures audits { Audits
         (beginning script.now.power chain cart.now.powers (steps_of trace.now.told)
         (map state rack.old.items) (sum_by queries rack.old.items))
-        (map state rack.new.items) (sum_by queries rack.new.items) }
+        result (map state rack.new.items) (sum_by queries rack.new.items) }
     ensures chips { length rack.new.items ≡ length rack.old.items }
 {
     determinacy_law();

@@ -3,7 +3,7 @@ use Rattle.std.proofs.Common.{◌≡◌, ◌≢◌, ℕ, List, refl, ap, ◌∙�
 use Rattle.f8_spec.specs.ChipState.{ChipState, ChipView}
 use Rattle.data_bus.specs.Racks.{views}
 use Rattle.bus_audit.specs.Answers.{answer_in, steps_of}
-use Rattle.bus_audit.specs.Audits.{Audits}
+use Rattle.bus_audit.specs.Audits.{Audits, Beginning}
 use Rattle.bus_audit.specs.DictatedRuns.{dictated}
 use Rattle.bus_audit.specs.declared.answers.AuditAnswer.{AuditAnswer}
 use Rattle.bus_audit.specs.declared.answers.AuditAnswer.TheVariants.{Accept, Reject}
@@ -12,7 +12,7 @@ use Rattle.loader.specs.Games.{Auditing}
 use Rattle.rack_run.specs.Seating.{fitted_views, seated, RackFits, RackFitsInPart}
 use Rattle.channel_f.specs.Answers.{audit_answer, audit_by, audit_setup, audited_answer, game_chain}
 use Rattle.channel_f.specs.ExactAudits.{AcceptsExactly, FindsExactly}
-use Rattle.channel_f.specs.RackAudited.{AuditsRack, audit_begun}
+use Rattle.channel_f.specs.RackAudited.{AuditsRack, audit_begun, audit_found}
 use Rattle.channel_f.specs.Reports.{Answers, Reports}
 use Rattle.channel_f.specs.declared.status.Status.{Status}
 use Rattle.channel_f.specs.declared.status.Status.TheVariants as status
@@ -30,6 +30,13 @@ unfolding audit_by
 finds_exactly asked chain vs found is exact =
     subst (λ (f : AuditAnswer). AcceptsExactly f (audit_setup asked chain vs) (steps_of asked.trace.told)) is exact
 
+-- and so is what becomes of the rack
+pub audits_found : (asked : Auditing) (chain : List ℕ) (vs : List ChipView) (found : AuditAnswer) →
+    found ≡ answer_in asked.trace (dictated (audit_setup asked chain vs) (steps_of asked.trace.told)) →
+    (first : Beginning) (news : List ChipState) (after : ℕ) → Audits first found news after → Audits first (audit_by asked chain vs) news after
+unfolding audit_by
+audits_found asked chain vs found is first news after audits = subst (λ (f : AuditAnswer). Audits first f news after) is audits
+
 module _ (a b : Output) (said : Status) (asked : Auditing) (rack fitted : List ChipState) (chain : List ℕ)
     (same : views fitted ≡ fitted_views asked.game.cart.chips rack) (linked : chain ≡ game_chain asked.game rack)
     (reports : Reports a b said (audited_answer (audit_by asked chain (views fitted))).status
@@ -46,7 +53,8 @@ module _ (a b : Output) (said : Status) (asked : Auditing) (rack fitted : List C
       (subst (λ (found : AuditAnswer). Reports a b said (audited_answer found).status (audited_answer found).lines) found_same reports)
 
   pub audits_rack : (news : List ChipState) (before begun after : ℕ) → RackFits (seated asked.game.cart.chips rack) rack fitted →
-      begun ≡ before → Audits (audit_begun asked chain fitted begun) news after → AuditsRack said asked rack news before after
+      begun ≡ before → Audits (audit_begun asked chain fitted begun) (audit_by asked chain (views fitted)) news after →
+      AuditsRack said asked rack news before after
   audits_rack news before begun after fits none audits = record {
     wanting = λ by_memory. absurd (no_memory_from said _ (audited_not_memory _) reports.which by_memory);
     unasked = λ by_memory. absurd (no_memory_from said _ (audited_not_memory _) reports.which by_memory);
@@ -54,8 +62,9 @@ module _ (a b : Output) (said : Status) (asked : Auditing) (rack fitted : List C
       fitted = fitted;
       fits = fits;
       audited =
-          subst (λ (n : ℕ). Audits (audit_begun asked (game_chain asked.game rack) fitted n) news after) none
-          (subst (λ (sockets : List ℕ). Audits (audit_begun asked sockets fitted begun) news after) linked audits);
+          subst (λ (n : ℕ). Audits (audit_begun asked (game_chain asked.game rack) fitted n) (audit_found asked rack) news after) none
+          (subst (λ (sockets : List ℕ). Audits (audit_begun asked sockets fitted begun) (audit_found asked rack) news after) linked
+          (subst (λ (found : AuditAnswer). Audits (audit_begun asked chain fitted begun) found news after) found_same audits));
     };
   }
 

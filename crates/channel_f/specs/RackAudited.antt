@@ -4,10 +4,11 @@ use Rattle.std.specs.Prelude.{◌≡◌, ◌≢◌, ℕ, List, Option, Some, Non
 use Rattle.f8_spec.specs.ChipState.{ChipState}
 use Rattle.bus_audit.specs.Answers.{steps_of}
 use Rattle.bus_audit.specs.Audits.{Audits, Beginning, beginning}
+use Rattle.bus_audit.specs.declared.answers.AuditAnswer.{AuditAnswer}
 use Rattle.loader.specs.declared.refusals.Stop.{Stop}
 use Rattle.loader.specs.Games.{Auditing}
-use Rattle.rack_run.specs.Seating.{seated, RackFits, RackFitsInPart}
-use Rattle.channel_f.specs.Answers.{game_chain, refusal}
+use Rattle.rack_run.specs.Seating.{fitted_views, seated, RackFits, RackFitsInPart}
+use Rattle.channel_f.specs.Answers.{audit_by, game_chain, refusal}
 use Rattle.channel_f.specs.RackAfter.{Leaves}
 use Rattle.channel_f.specs.declared.status.Status.{Status}
 use Rattle.channel_f.specs.declared.status.Status.TheVariants as status
@@ -17,11 +18,15 @@ abbrev pub audit_begun : Auditing → List ℕ → List ChipState → ℕ → Be
 audit_begun asked chain fitted before =
     beginning asked.game.script.power chain asked.game.cart.powers (steps_of asked.trace.told) fitted before
 
+-- what is found on the chips of a rack
+abbrev pub audit_found : Auditing → List ChipState → AuditAnswer
+audit_found asked rack = audit_by asked (game_chain asked.game rack) (fitted_views asked.game.cart.chips rack)
+
 -- the chips are fitted as the cartridge has it, and then the audit is theirs
 pub record AuditedOn (asked : Auditing) (rack news : List ChipState) (before after : ℕ) : Type 0 where
   pub fitted : List ChipState
   pub fits : RackFits (seated asked.game.cart.chips rack) rack fitted
-  pub audited : Audits (audit_begun asked (game_chain asked.game rack) fitted before) news after
+  pub audited : Audits (audit_begun asked (game_chain asked.game rack) fitted before) (audit_found asked rack) news after
 
 -- What a call that audits a trace says of the rack, also where the sink fails at its line. Where memory was wanting, the first chips may have
 -- been fitted, and no more became of any.

@@ -41,6 +41,7 @@ fn audit_fitted<K: Sink>(asked: &Auditing, chain: Chain, sink: &mut K, rack: &mu
     ensures audits { Audits
         (audit_begun (seen_auditing asked.now) chain (map state rack.old.items)
         (sum_by queries rack.old.items))
+        (audit_by (seen_auditing asked.now) chain (views (map state rack.old.items)))
         (map state rack.new.items) (sum_by queries rack.new.items) }
 {
     let found = audit(

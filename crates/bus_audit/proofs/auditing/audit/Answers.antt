@@ -1,7 +1,7 @@
 -- The machine follows the trace with the inputs that are read off it, and the dictated run is over where it is.
 use Rattle.std.proofs.Common.{◌≡◌, ℕ, ◌+◌, List, length, map, drop, ap, sym, subst, ◌∙◌, arith}
 use Rattle.std.specs.Prelude.{sum_by}
-use Rattle.std.proofs.lemmas.List.{length-map}
+use Rattle.std.proofs.lemmas.List.{length-map, drop_all}
 use Rattle.console_spec.specs.Telling.{with_events}
 use Rattle.data_bus.specs.Racks.{views}
 use Rattle.f8_machine.specs.Refinement.{Represents}
@@ -14,7 +14,7 @@ use Rattle.bus_audit.specs.Turns.{GoesOnward, IsOver}
 use Rattle.bus_audit.specs.declared.step.TraceStep.{TraceStep}
 use Rattle.bus_audit.specs.declared.trace.ToldLine.{ToldLine}
 use Rattle.bus_audit.proofs.AuditLaws.{rest_told, length-part, follows_first, over_first, over_all, over_here, follows_on}
-use Rattle.bus_audit.proofs.AuditLaws.{accepts_records}
+use Rattle.bus_audit.proofs.AuditLaws.{accepts_records, leaves_first, leaves_here}
 use Rattle.bus_audit.proofs.LivedLaws.{audits_all}
 use Rattle.bus_audit.proofs.auditing.audit.Goals as goal
 
@@ -33,6 +33,12 @@ returns-in-Over-clause-accepts g c = λ n.
     let olds = map (λ b. (goal.Chip-dyn g (b.vtable, b.value)).state b.value) c.args.rack.now.items in
     let setup = setup_of (views olds) c.args.chain c.args.cart.now.powers (seen c.args.script.now) in
     accepts_records c.determinacy_law.ensures setup c.args.trace.now n c.answer.result (returns-in-Over-clause-answer g c) c.told-told.ensures.bytes
+
+pub returns-in-Over-clause-audits : goal.returns-in-Over-clause-audits
+returns-in-Over-clause-audits g c =
+    let lives = rw c.in-Over.is at c.begin-machine.ensures.lived in
+    let lived = rw c.told-told.ensures.value at lives in
+    lived c.answer.result (leaves_first c.args.trace.now 0 c.in-Over.told c.answer.result c.answer.ensures)
 
 pub loop-count-init : goal.loop-count-init
 loop-count-init g c =
@@ -97,7 +103,12 @@ returns-in-Over-go_on-clause-audits g c =
     let before = sum_by (λ b. (goal.Chip-dyn g (b.vtable, b.value)).queries b.value) c.args.rack.now.items in
     let first = beginning c.args.script.now.power c.args.chain c.args.cart.now.powers (steps_of c.args.trace.now.told) olds before in
     let part = rest_told c.told-told.result.now c.args.trace.now.told c.loop-count.count c.told-told.ensures.value in
+    let same = ap (λ (lines : List ToldLine). length lines) c.told-told.ensures.value in
+    let size = length-map c.args.trace.now.told (λ (l : ToldLine). l.step) in
     c.in-Over-go_on.ensures.lived first c.loop-count.count c.loop-count.invariant.chain part c.loop-count.invariant.lived
+    c.answer-in-Over-go_on.result
+    (leaves_here c.args.trace.now c.loop-count.instructions c.loop-count.count c.in-Over-go_on.told c.answer-in-Over-go_on.result
+    (omega (arith, same, size, c.loop-count-test.true)) c.answer-in-Over-go_on.ensures)
 
 pub loop-count-preserved : goal.loop-count-preserved
 loop-count-preserved g c =
@@ -160,5 +171,9 @@ returns-clause-audits g c =
     let nows = map (λ b. (goal.Chip-dyn g (b.vtable, b.value)).state b.value) c.loop-count.rack.items in
     let before = sum_by (λ b. (goal.Chip-dyn g (b.vtable, b.value)).queries b.value) c.args.rack.now.items in
     let first = beginning c.args.script.now.power c.args.chain c.args.cart.now.powers (steps_of c.args.trace.now.told) olds before in
+    let same = ap (λ (lines : List ToldLine). length lines) c.told-told.ensures.value in
+    let size = length-map c.args.trace.now.told (λ (l : ToldLine). l.step) in
     audits_all first c.loop-count.count (length c.loop-count.rack.items) c.loop-count.machine.index nows
     (sum_by (λ b. (goal.Chip-dyn g (b.vtable, b.value)).queries b.value) c.loop-count.rack.items) c.loop-count.invariant.lived.0
+    c.answer-2.result
+    (drop_all c.loop-count.count (steps_of c.args.trace.now.told) (omega (arith, same, size, c.loop-count-test.false)))
