@@ -48,7 +48,10 @@ fn interrupts_and_reserved_opcodes(rt: HostRuntime) -> Result<(), Fail> {
     instruction(&rt, &mut cpu, 0xA1)?;
     assert!(rt; cpu.icb());
     instruction(&rt, &mut cpu, 0x2B)?;
-    assert_eq!(rt; cpu.regs(0, 0, 0, 0).a, 0x30);
+    assert_eq!(rt; cpu.opcode(), 0x2B);
+    let regs = cpu.regs(3, 2, 1, 0);
+    assert_eq!(rt; regs.a, 0x30);
+    assert_eq!(rt; (regs.p, regs.p1, regs.d0, regs.d1), (3, 2, 1, 0));
     cpu.vectored();
     assert!(rt; !cpu.icb());
     cpu.fetch(0xFF);
@@ -69,5 +72,6 @@ fn latch_before_an_unserved_fetch(rt: HostRuntime) -> Result<(), Fail> {
     assert_eq!(rt; cpu.ports(), [0x5A, 0x00]);
     cpu.restore(kept);
     assert_eq!(rt; cpu.ports(), [0x00, 0x00]);
+    assert_eq!(rt; cpu.opcode(), 0xB0);
     Ok(())
 }
