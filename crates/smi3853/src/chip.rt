@@ -159,9 +159,9 @@ impl Smi {
     }
 }
 
-/// What a bus step does but for the counters.
+/// What a bus step does.
 impl Smi {
-    ghost use Rattle.f8_spec.specs.ChipState.{effect, timer_passed};
+    ghost use Rattle.f8_spec.specs.ChipState.{after_step, effect, timer_passed};
     ghost use Rattle.f8_spec.specs.ShiftTimer.{step_period};
     ghost use Rattle.smi3853.specs.SmiState.{smi_view, smi_queries};
 
@@ -190,6 +190,24 @@ impl Smi {
             Romc::WRITE_PORT => self.write_port(self.last, byte),
             _ => {}
         }
+    }
+
+    /// All of it: the clocks, the effect of the code on memory, ports and request, and what the counters do.
+    #[inline(always)]
+    fn follow(&mut self, romc: Romc, byte: u8, phi: u8, first: bool)
+        requires { phi < step_period }
+        ensures view { smi_view self.new ≡ after_step (record {
+          romc = romc;
+          byte = byte;
+          clocks = phi;
+          first = first;
+        }) (smi_view self.old) }
+        ensures asked { smi_queries self.new ≡ smi_queries self.old }
+    {
+        self.pass(phi);
+        self.act(romc, byte, first);
+        self.registers.hear(romc, byte, true);
+        self.last = byte;
     }
 }
 
@@ -273,15 +291,12 @@ impl Chip for Smi {
     }
 
     fn settle(&mut self, romc: Romc, byte: u8, phi: u8, first: bool) {
-        self.pass(phi);
+        // By far the most steps are fetches: what they do is worked out by itself as the program is compiled.
         if romc == Romc::FETCH {
-            // By far the most steps are fetches. They only count, which is cheap where the code is known as the program is compiled.
-            self.registers.hear(Romc::FETCH, byte, true);
+            self.follow(Romc::FETCH, byte, phi, first);
         } else {
-            self.act(romc, byte, first);
-            self.registers.hear(romc, byte, true);
+            self.follow(romc, byte, phi, first);
         }
-        self.last = byte;
     }
 
     fn asks(&self) -> bool {
