@@ -37,17 +37,17 @@ RESERVED = {*PLAIN, *BYTES, *PORTS, *WORDS, *BRANCHES, *REGISTER_FIELDS, *FIELDS
 # ---- faults and tokens
 
 class LineFault(Exception):
-    """A fault of a line, at a column or at its end."""
+    """A fault of a line, at a column or at its end; a far one is of a value too far from a module's base, which the text alone may have."""
 
-    def __init__(self, cause: int, column: Optional[int]):
-        self.cause, self.column = cause, column
+    def __init__(self, cause: int, column: Optional[int], is_far: bool = False):
+        self.cause, self.column, self.is_far = cause, column, is_far
 
 
 class Fault(Exception):
     """The fault of a module."""
 
-    def __init__(self, line: int, column: int, cause: int):
-        self.line, self.column, self.cause = line, column, cause
+    def __init__(self, line: int, column: int, cause: int, is_far: bool = False):
+        self.line, self.column, self.cause, self.is_far = line, column, cause, is_far
 
 
 @dataclass(frozen=True)
@@ -111,6 +111,7 @@ class Undefined(NamedTuple):
 
 class Lost(Enum):
     RANGE = RANGE
+    FAR = 'a placed value too far from its base, which is out of range too'
     SHAPE = SHAPE
 
 
@@ -122,7 +123,7 @@ def within(value: int) -> Value:
 
 
 def near(base: Optional[str], k: int) -> Value:
-    return Placed(base, k) if -FARTHEST <= k <= FARTHEST else Lost.RANGE
+    return Placed(base, k) if -FARTHEST <= k <= FARTHEST else Lost.FAR
 
 
 def quotient(a: int, b: int) -> Value:
@@ -137,8 +138,11 @@ CONSTANTS: dict[str, Callable[[int, int], Value]] = {
 def joined(mark: str, a: Value, b: Value) -> Value:
     """Two values joined: the first undefined name, else that one is out of range, else that there is no such value."""
     undefined = [value for value in (a, b) if isinstance(value, Undefined)]
-    if undefined or Lost.RANGE in (a, b):
-        return undefined[0] if undefined else Lost.RANGE
+    if undefined:
+        return undefined[0]
+    for lost in (Lost.RANGE, Lost.FAR):
+        if lost in (a, b):
+            return lost
     if isinstance(a, int) and isinstance(b, int):
         return CONSTANTS[mark](a, b)
     if mark == '+' and isinstance(a, int) and isinstance(b, Placed):
@@ -469,7 +473,7 @@ def names_behind(tokens: list[Token]) -> Iterator[tuple[int, str]]:
 def refused(column: int, value: Value) -> LineFault:
     if isinstance(value, Undefined):
         return LineFault(UNDEFINED, value.column)
-    return LineFault(RANGE if value is Lost.RANGE else SHAPE, column)
+    return LineFault(RANGE if value in (Lost.RANGE, Lost.FAR) else SHAPE, column, value is Lost.FAR)
 
 
 def constant(column: int, value: Value) -> int:
@@ -563,7 +567,7 @@ def compiled(text: bytes) -> Object:
         try:
             here = module.settle(here, line) if isinstance(line, Line) else here
         except LineFault as fault:
-            raise Fault(line.number, fault.column or line.end, fault.cause) from None
+            raise Fault(line.number, fault.column or line.end, fault.cause, fault.is_far) from None
     for offset, line in zip(module.offsets, module.lines):
         export_or_emit(module, offset, line)
     return module.object
@@ -578,4 +582,4 @@ def export_or_emit(module: Module, offset: int, line: Union[Line, Export]) -> No
     try:
         module.emit(offset, line)
     except LineFault as fault:
-        raise Fault(line.number, fault.column or line.end, fault.cause) from None
+        raise Fault(line.number, fault.column or line.end, fault.cause, fault.is_far) from None

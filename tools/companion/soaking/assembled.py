@@ -1,7 +1,8 @@
 """What `asm` may answer to a text without ORG, by the compiler of modules and the linker that the tests have.
 
 Without ORG a text is a module at 0000, as far as each has a meaning: what a module is refused for in the first pass, the text is too, at
-the same place. Later a value may be too wide, or a branch too far, that a module leaves to the linker.
+the same place. Later a value may be too wide, or a branch too far, that a module leaves to the linker; and a value may be further from the
+module's base than any address, of which the text alone knows nothing.
 """
 from __future__ import annotations
 
@@ -47,7 +48,7 @@ def place_of(told: Told) -> Optional[tuple[int, int, int]]:
 
 def against_fault(own: Optional[tuple[int, int, int]], fault: Fault) -> str:
     due = fault.line, fault.column, fault.cause
-    if fault.cause == SHAPE or own == due:
+    if fault.cause == SHAPE or fault.is_far or own == due:
         return ''
     is_earlier = own is not None and own[2] in LEFT_TO_LINK and own[:2] < due[:2]
     return '' if fault.cause not in FIRST_PASS and is_earlier else f'as a module this text has its first fault elsewhere: line, column, cause {due}'
