@@ -11,6 +11,7 @@ from audited import steps
 from companion.auditing.traces import line_of
 from companion.description import Description
 from companion.script import Script
+from worked import LOOP_STEPS
 
 PSU = 'format = 1\n[[chip]]\nkind = "3851"\nbase = {base}\nports = {ports}\nvector = {vector}\ninterrupt = {interrupt}\nrom = "{rom}"\n'
 
@@ -36,14 +37,7 @@ OF_PIO = chips(PIO, psu('71BA1B90FF' + 'FF' * 251 + ROUTINES))
 # Controls that let in the timer and pulses in turn, and a key byte that goes to a data port.
 BOTH_SORTS = psu('1B73B6207FB7A4B5' + '2B' * 8 + '71B6A4B590EC' + 'FF' * (0x100 - 22) + ROUTINES, vector=0x100, interrupt=True)
 STEPS_1, PULSES = b'steps 1\n', b'at 1 pulse 1\nat 1 pulse 0\nsteps 2135\n'
-OF_LOOP = '''bus 1C S 00 -
-bus 08 L 00 cpu
-bus 00 S 71 0
-bus 00 S 2B 0
-bus 00 S 90 0
-bus 1C S 00 -
-bus 01 L FE 0
-bus 00 S 2B 0'''.splitlines()
+OF_LOOP = LOOP_STEPS.splitlines()
 OF_MISSING_PORT = '''bus 1C S 00 -
 bus 08 L 00 cpu
 bus 00 S 20 0
