@@ -66,7 +66,8 @@ fn code_of(fault: &BusFault) -> Romc
 
 /// A step that isn't served is what stands next.
 fn fault_is_next(fault: &BusFault, long: bool, rest: &[ToldLine]) -> bool
-    ensures { result ≡ are_next (plain_fault (Some (fault_of fault.now, long))) (steps_of rest.now) }
+    ensures { result ≡ are_next (plain_fault (Some (fault_of fault.now, long)))
+        (steps_of rest.now) }
 {
     let [next, ..] = rest else {
         return false;
@@ -82,7 +83,8 @@ fn fault_is_next(fault: &BusFault, long: bool, rest: &[ToldLine]) -> bool
 /// Some served steps, and behind them one that isn't served, are what stands next.
 fn cut_is_next(served: &[Heard], fault: &BusFault, long: bool, rest: &[ToldLine]) -> bool
     ensures { result ≡ are_next
-        (heard_told served.now ++ plain_fault (Some (fault_of fault.now, long))) (steps_of rest.now) }
+        (heard_told served.now ++ plain_fault (Some (fault_of fault.now, long)))
+        (steps_of rest.now) }
 {
     if !stand_next(served, rest) {
         return false;

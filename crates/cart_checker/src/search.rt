@@ -72,7 +72,8 @@ impl Worklist {
             OnOk result (Holds an (work_of self.new) (Nothing an)) }
         ensures end { IfOk result (λ more. OnFalse more ((work_of self.new).due ≡ [])) }
         ensures falls { let an = map_analysis map.now split.now in
-            IfOk result (λ more. OnTrue more (effort an (work_of self.new) < effort an (work_of self.old))) }
+            IfOk result (λ more.
+            OnTrue more (effort an (work_of self.new) < effort an (work_of self.old))) }
         ensures halt { IfErr result (Shows (map_analysis map.now split.now)) }
     {
         let Some(point) = self.due.pop_first() else {
@@ -90,7 +91,8 @@ impl Worklist {
         requires laws { AnalysisLaws (map_analysis map.now split.now) }
         requires holds { let an = map_analysis map.now split.now in
             Holds an (work_of self.old) (Nothing an) }
-        ensures least { OnOk result (IsLeastMap (map_analysis map.now split.now) (work_of self.new).notes) }
+        ensures least { OnOk result
+            (IsLeastMap (map_analysis map.now split.now) (work_of self.new).notes) }
         ensures halt { IfErr result (Shows (map_analysis map.now split.now)) }
     {
         loop {

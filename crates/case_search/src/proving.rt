@@ -81,7 +81,8 @@ fn by_search(alloc: Global, cart: &Cart, found: &Found) -> Result<Option<ProveAn
 fn by_states(alloc: Global, cart: &Cart) -> Result<Option<ProveAnswer>, Memory>
     ensures shows { IfOk result (λ shown. ForSome shown (Shows cart.now.chips)) }
     ensures told { IfOk result (λ shown. ForSome shown (λ answer. is_shown answer ≡ true)) }
-    ensures whole { IfOk result (λ shown. IsFaultFreeCart cart.now → option_map is_whole shown ≡ Some true) }
+    ensures whole { IfOk result
+        (λ shown. IsFaultFreeCart cart.now → option_map is_whole shown ≡ Some true) }
     ensures safe { IfOk result (λ shown. IsSafeCart cart.now → is_some shown ≡ true) }
 {
     map_view_law();

@@ -100,7 +100,8 @@ fn listed(numbers: &[u8]) -> Bytes
 
 /// The values that a byte gets, by how far bytes are spread, and `None` where it stays as it is.
 fn byte_spread(spread: Spread, values: &ByteSet) -> Option<Bytes>
-    ensures { option_map (λ bytes. bytes.items) result ≡ spelled_spread spread (byte_values values.now) }
+    ensures { option_map (λ bytes. bytes.items) result
+        ≡ spelled_spread spread (byte_values values.now) }
 {
     match (spread, values) {
         (Spread::EachByte, ByteSet::Any) => Some(every_byte()),
@@ -158,7 +159,8 @@ fn with_isar(number: u8, mut case: Abs) -> Abs
 fn with_flag(place: usize, flag: bool, mut case: Abs) -> Abs
     requires { place < 5 }
     ensures { state_of result
-        ≡ with_status (status_of (map (λ k. if k == place then Known flag else slice_index_or case.w k Any)
+        ≡ with_status (status_of
+        (map (λ k. if k == place then Known flag else slice_index_or case.w k Any)
         (range_with_len 0 5)))
         (state_of case) }
 {
@@ -204,7 +206,8 @@ fn add_accumulator_cases(
     case: &Abs,
 ) -> Result<(), AllocError>
     ensures { OnOk result (states_of out.new.items
-        ≡ states_of out.old.items ++ spelled_part spread (entry_view entry.now) Accumulator (state_of case.now)) }
+        ≡ states_of out.old.items
+        ++ spelled_part spread (entry_view entry.now) Accumulator (state_of case.now)) }
 {
     let tied = same_register_byte(entry, case);
     let Some(bytes) = tied_spread(tied, spread, &entry.a) else {
@@ -227,7 +230,8 @@ fn add_register_cases(
 ) -> Result<(), AllocError>
     requires { number < SCRATCHPAD_SIZE }
     ensures { OnOk result (states_of out.new.items
-        ≡ states_of out.old.items ++ register_cases spread (entry_view entry.now) (Some number) (state_of case.now)) }
+        ≡ states_of out.old.items
+        ++ register_cases spread (entry_view entry.now) (Some number) (state_of case.now)) }
 {
     let tied = same_accumulator(entry, number, case);
     let Some(bytes) = tied_spread(tied, spread, &entry.regs[usize::from(number)]) else {
@@ -243,7 +247,8 @@ fn add_register_cases(
 /// Adds a case for each number that ISAR may have.
 fn add_isar_cases(out: &mut Vec<Abs>, entry: &Entry, case: &Abs) -> Result<(), AllocError>
     ensures { OnOk result (states_of out.new.items
-        ≡ states_of out.old.items ++ map (λ number. spelled_isar number (state_of case.now)) entry.now.isar.items) }
+        ≡ states_of out.old.items
+        ++ map (λ number. spelled_isar number (state_of case.now)) entry.now.isar.items) }
 {
     for number in entry.isar.as_slice() {
         out.push(with_isar(*number, *case))?;
@@ -261,7 +266,8 @@ fn add_flag_cases(
     requires { place < 5 }
     ensures { OnOk result (states_of out.new.items ≡ states_of out.old.items
         ++ each_case (λ flag. with_status (status_of
-        (map (λ k. if k == place then Known flag else slice_index_or case.now.w k Any) (range_with_len 0 5)))
+        (map (λ k. if k == place then Known flag else slice_index_or case.now.w k Any)
+        (range_with_len 0 5)))
         (state_of case.now))
         (state_of case.now) (flag_spread (known_bit (slice_index_or entry.now.w place Any)))) }
 {
@@ -300,7 +306,8 @@ fn add_part_cases(
 ) -> Result<(), AllocError>
     requires { (number : ℕ) → part ≡ Register number → number < SCRATCHPAD_SIZE }
     ensures { OnOk result (states_of out.new.items
-        ≡ states_of out.old.items ++ spelled_part spread (entry_view entry.now) part (state_of case.now)) }
+        ≡ states_of out.old.items
+        ++ spelled_part spread (entry_view entry.now) part (state_of case.now)) }
 {
     match part {
         Part::Accumulator => add_accumulator_cases(out, spread, entry, case),
@@ -411,7 +418,8 @@ impl Cases {
         parts: &[Part],
         plain: Abs,
     ) -> Result<bool, AllocError>
-        requires { All (λ part. (number : ℕ) → part ≡ Register number → number < SCRATCHPAD_SIZE) parts.now }
+        requires { All (λ part. (number : ℕ) → part ≡ Register number →
+            number < SCRATCHPAD_SIZE) parts.now }
         ensures { IfOk result (λ all. (if all then Some self.new else None)
             ≡ spelled_spread_cases spread (entry_view entry.now) parts.now (state_of plain ∷ [])) }
     {

@@ -39,7 +39,8 @@ fn first_open(
     case: &Abs,
     ways: &Successors,
 ) -> Option<Point>
-    ensures { result ≡ spelled_open list.now op (entry_view entry.now) (state_of case.now) ways.now }
+    ensures { result ≡ spelled_open list.now op (entry_view entry.now)
+        (state_of case.now) ways.now }
 {
     for place in 0..ways.len() {
         if let Some((point, state)) = ways.get(place) {
@@ -68,7 +69,8 @@ fn failure_of(
     map: &Map,
 ) -> Option<CasesAnswer>
     requires { op ≡ op_of (view_of map.now) (entry_view entry.now) }
-    ensures { result ≡ case_failure (view_of map.now) list.now place (entry_view entry.now) (state_of case.now) }
+    ensures { result ≡ case_failure (view_of map.now) list.now place (entry_view entry.now)
+        (state_of case.now) }
 {
     let point = point_of(entry.at, entry.ret);
     match after(case, &point, &Split::new(), map) {
@@ -96,7 +98,8 @@ fn first_failure(
     map: &Map,
 ) -> Option<CasesAnswer>
     requires { op ≡ op_of (view_of map.now) (entry_view entry.now) }
-    ensures { result ≡ cases_failure (view_of map.now) list.now place (entry_view entry.now) (states_of cases.now) }
+    ensures { result ≡ cases_failure (view_of map.now) list.now place (entry_view entry.now)
+        (states_of cases.now) }
 {
     for case in cases {
         let failure = failure_of(list, place, op, entry, case, map);
@@ -109,7 +112,8 @@ fn first_failure(
 
 /// Each case of an entry is free of faults.
 fn are_fault_free(entry: &Entry, cases: &[Abs], map: &Map) -> bool
-    ensures { result ≡ list_all (is_case_fault_free (view_of map.now) (entry_view entry.now)) (states_of cases.now) }
+    ensures { result ≡ list_all (is_case_fault_free (view_of map.now) (entry_view entry.now))
+        (states_of cases.now) }
 {
     let point = point_of(entry.at, entry.ret);
     cases.iter().all(|case| whole(case, &point, map))

@@ -78,8 +78,10 @@ impl CaseList {
 
     /// Some entry covers the result of a case.
     pub fn covers(&self, outcome: &Outcome<'_>) -> bool
-        ensures { result ≡ is_covered self.now (spelled_result outcome.now.op (entry_view outcome.now.entry.now)
-            (state_of outcome.now.before.now) (invariant_at outcome.now.point outcome.now.after.now)) }
+        ensures { result ≡ is_covered self.now
+            (spelled_result outcome.now.op (entry_view outcome.now.entry.now)
+            (state_of outcome.now.before.now)
+            (invariant_at outcome.now.point outcome.now.after.now)) }
     {
         let at = outcome.point.at;
         let first = self.entries.partition_point(|entry| entry.at < at);
@@ -99,7 +101,8 @@ impl CaseList {
 
 /// The entry is at the start's address, with no return.
 fn is_at_start(upper: &Entry) -> bool
-    ensures { result ≡ (start_entry.at == upper.now.at && option_eq (λ x y. x == y) start_entry.ret upper.now.ret) }
+    ensures { result ≡ (start_entry.at == upper.now.at
+        && option_eq (λ x y. x == y) start_entry.ret upper.now.ret) }
 {
     upper.at == 0 && upper.ret.is_none()
 }
@@ -125,7 +128,8 @@ fn are_registers_free(upper: &Entry) -> bool
 /// The data counters may be as reset leaves them, and no fact is stated of them.
 fn are_counters_free(upper: &Entry) -> bool
     ensures { result ≡ (is_within start_entry.d0 (word_values upper.now.d0)
-        && is_within start_entry.d1 (word_values upper.now.d1) && is_within start_entry.c (word_values upper.now.c)
+        && is_within start_entry.d1 (word_values upper.now.d1)
+        && is_within start_entry.c (word_values upper.now.c)
         && is_fact_below start_entry.s0 upper.now.s0 && is_fact_below start_entry.s1 upper.now.s1
         && is_fact_below start_entry.p0 upper.now.p0 && is_fact_below start_entry.p1 upper.now.p1) }
 {

@@ -43,7 +43,8 @@ pub struct Outcome<'a> {
 
 /// A byte after an instruction lies within a set.
 fn is_byte_within(written: bool, after: Val, before: Val, values: &ByteSet, upper: &ByteSet) -> bool
-    ensures { result ≡ is_within (values_after written (known_byte after) (known_byte before) (byte_values values.now))
+    ensures { result ≡ is_within
+        (values_after written (known_byte after) (known_byte before) (byte_values values.now))
         (byte_values upper.now) }
 {
     match if written { after } else { before } {
@@ -55,7 +56,8 @@ fn is_byte_within(written: bool, after: Val, before: Val, values: &ByteSet, uppe
 
 /// A data counter that isn't written, or goes into the other one, lies within a set.
 fn is_word_kept_within(before: Word, values: &WordSet, upper: &WordSet) -> bool
-    ensures { result ≡ is_within (kept (known_word before) (word_values values.now)) (word_values upper.now) }
+    ensures { result ≡ is_within (kept (known_word before) (word_values values.now))
+        (word_values upper.now) }
 {
     match before {
         Word::Known(at) => upper.has(at),
@@ -71,7 +73,8 @@ fn is_word_within(
     values: &WordSet,
     upper: &WordSet,
 ) -> bool
-    ensures { result ≡ is_within (values_after written (known_word after) (known_word before) (word_values values.now))
+    ensures { result ≡ is_within
+        (values_after written (known_word after) (known_word before) (word_values values.now))
         (word_values upper.now) }
 {
     match after {
@@ -83,7 +86,8 @@ fn is_word_within(
 
 /// The one value of a byte after an instruction.
 fn single_after(written: bool, after: Val, before: Val, values: &ByteSet) -> Option<u8>
-    ensures { result ≡ single (values_after written (known_byte after) (known_byte before) (byte_values values.now)) }
+    ensures { result ≡ single
+        (values_after written (known_byte after) (known_byte before) (byte_values values.now)) }
 {
     match if written { after } else { before } {
         Val::Known(byte) => Some(byte),
@@ -107,7 +111,8 @@ fn are_flags_below(lower: &[Bit; 5], upper: &[Bit; 5]) -> bool
 
 /// The status word after an instruction says no less than the upper one.
 fn is_status_within(written: bool, after: &[Bit; 5], before: &[Bit; 5], upper: &[Bit; 5]) -> bool
-    ensures { result ≡ is_status_below (status_after written (status_of after.now) (status_of before.now))
+    ensures { result ≡ is_status_below
+        (status_after written (status_of after.now) (status_of before.now))
         (status_of upper.now) }
 {
     are_flags_below(if written { after } else { before }, upper) && after[4].below(upper[4])
@@ -123,7 +128,8 @@ pub fn are_all_among(numbers: &[u8]) -> bool
 /// A register is one of those written, or may be.
 fn is_among_written(written: &Written, case: &Abs, number: u8) -> bool
     ensures { result
-        ≡ list_any (λ part. is_register (spelled_register part (state_of case.now)) number) written.now.items }
+        ≡ list_any
+        (λ part. is_register (spelled_register part (state_of case.now)) number) written.now.items }
 {
     written.iter().any(|part| register_in(*part, case).is_none_or(|register| register == number))
 }
@@ -133,7 +139,8 @@ impl<'a> Outcome<'a> {
     #[tactic(auto, unfolding(crate::specs::Results::result, crate::specs::Results::is_covered_by))]
     pub fn is_covered_by(&self, upper: &Entry) -> bool
         ensures { result ≡ spelled_cover (spelled_result self.now.op (entry_view self.now.entry.now)
-            (state_of self.now.before.now) (invariant_at self.now.point self.now.after.now)) (entry_view upper.now) }
+            (state_of self.now.before.now) (invariant_at self.now.point self.now.after.now))
+            (entry_view upper.now) }
     {
         self.point.at == upper.at
             && self.point.ret == upper.ret
@@ -147,8 +154,10 @@ impl<'a> Outcome<'a> {
 
     /// The accumulator's values are.
     fn is_accumulator_covered(&self, upper: &Entry) -> bool
-        ensures { result ≡ is_within (values_after (spelled_accumulator self.now.op) (known_byte self.now.after.now.a)
-            (known_byte self.now.before.now.a) (byte_values self.now.entry.now.a)) (byte_values upper.now.a) }
+        ensures { result ≡ is_within
+            (values_after (spelled_accumulator self.now.op) (known_byte self.now.after.now.a)
+            (known_byte self.now.before.now.a) (byte_values self.now.entry.now.a))
+            (byte_values upper.now.a) }
     {
         let written = writes_accumulator(self.op);
         is_byte_within(
@@ -163,7 +172,8 @@ impl<'a> Outcome<'a> {
     /// The numbers that ISAR may have are.
     fn is_isar_covered(&self, upper: &Entry) -> bool
         ensures { result ≡ spelled_among upper.now.isar.items (isar_after (spelled_isar self.now.op)
-            (spelled_pointed (state_of self.now.after.now)) (spelled_pointed (state_of self.now.before.now))
+            (spelled_pointed (state_of self.now.after.now))
+            (spelled_pointed (state_of self.now.before.now))
             self.now.entry.now.isar.items) }
     {
         let written = writes_isar(self.op);
@@ -177,7 +187,8 @@ impl<'a> Outcome<'a> {
 
     /// The flags are, and the interrupt control bit.
     fn is_status_covered(&self, upper: &Entry) -> bool
-        ensures { result ≡ is_status_below (status_after (spelled_flags self.now.op) (status_of self.now.after.now.w)
+        ensures { result ≡ is_status_below
+            (status_after (spelled_flags self.now.op) (status_of self.now.after.now.w)
             (status_of self.now.before.now.w)) (status_of upper.now.w) }
     {
         let written = writes_flags(self.op);
@@ -186,14 +197,19 @@ impl<'a> Outcome<'a> {
 
     /// The data counters are, and the facts about them.
     fn are_counters_covered(&self, upper: &Entry) -> bool
-        ensures { result ≡ (is_within (d0_after (spelled_row self.now.op) (entry_view self.now.entry.now)
+        ensures { result ≡ (is_within
+            (d0_after (spelled_row self.now.op) (entry_view self.now.entry.now)
             (state_of self.now.before.now) (state_of self.now.after.now)) (word_values upper.now.d0)
             && is_within (d1_after (spelled_row self.now.op) (entry_view self.now.entry.now)
             (state_of self.now.before.now)) (word_values upper.now.d1)
-            && is_within (values_after (spelled_data (spelled_row self.now.op)) (known_word self.now.after.now.c)
-            (known_word self.now.before.now.c) (word_values self.now.entry.now.c)) (word_values upper.now.c)
-            && is_fact_below self.now.after.now.s0 upper.now.s0 && is_fact_below self.now.after.now.s1 upper.now.s1
-            && is_fact_below self.now.after.now.p0 upper.now.p0 && is_fact_below self.now.after.now.p1 upper.now.p1) }
+            && is_within (values_after (spelled_data (spelled_row self.now.op))
+            (known_word self.now.after.now.c)
+            (known_word self.now.before.now.c) (word_values self.now.entry.now.c))
+            (word_values upper.now.c)
+            && is_fact_below self.now.after.now.s0 upper.now.s0
+            && is_fact_below self.now.after.now.s1 upper.now.s1
+            && is_fact_below self.now.after.now.p0 upper.now.p0
+            && is_fact_below self.now.after.now.p1 upper.now.p1) }
     {
         self.is_d0_covered(upper)
             && self.is_d1_covered(upper)
@@ -206,8 +222,10 @@ impl<'a> Outcome<'a> {
 
     /// D0 is, which an exchange has from D1.
     fn is_d0_covered(&self, upper: &Entry) -> bool
-        ensures { result ≡ is_within (d0_after (spelled_row self.now.op) (entry_view self.now.entry.now)
-            (state_of self.now.before.now) (state_of self.now.after.now)) (word_values upper.now.d0) }
+        ensures { result ≡ is_within
+            (d0_after (spelled_row self.now.op) (entry_view self.now.entry.now)
+            (state_of self.now.before.now) (state_of self.now.after.now))
+            (word_values upper.now.d0) }
     {
         let (before, entry) = (self.before, self.entry);
         match row_of(self.op) {
@@ -224,7 +242,8 @@ impl<'a> Outcome<'a> {
 
     /// D1 is, which an exchange has from D0.
     fn is_d1_covered(&self, upper: &Entry) -> bool
-        ensures { result ≡ is_within (d1_after (spelled_row self.now.op) (entry_view self.now.entry.now)
+        ensures { result ≡ is_within
+            (d1_after (spelled_row self.now.op) (entry_view self.now.entry.now)
             (state_of self.now.before.now)) (word_values upper.now.d1) }
     {
         let (before, entry) = (self.before, self.entry);
@@ -237,7 +256,8 @@ impl<'a> Outcome<'a> {
     /// The DC0 of every 3851 is.
     fn is_c_covered(&self, upper: &Entry) -> bool
         ensures { result ≡ is_within (values_after (spelled_data (spelled_row self.now.op))
-            (known_word self.now.after.now.c) (known_word self.now.before.now.c) (word_values self.now.entry.now.c))
+            (known_word self.now.after.now.c) (known_word self.now.before.now.c)
+            (word_values self.now.entry.now.c))
             (word_values upper.now.c) }
     {
         let written = writes_data(row_of(self.op));
@@ -261,7 +281,8 @@ impl<'a> Outcome<'a> {
 
     /// The register that held the accumulator's byte, where neither is written.
     fn same_kept(&self) -> Option<u8>
-        ensures { result ≡ spelled_kept self.now.op (state_of self.now.before.now) self.now.entry.now.same }
+        ensures { result ≡ spelled_kept self.now.op
+            (state_of self.now.before.now) self.now.entry.now.same }
     {
         let number = self.entry.same?;
         if self.is_lost(number) {
@@ -273,14 +294,16 @@ impl<'a> Outcome<'a> {
 
     /// The register that a copy makes hold the accumulator's byte.
     fn copied_register(&self) -> Option<u8>
-        ensures { result ≡ spelled_copy (spelled_copied self.now.op) (state_of self.now.before.now) }
+        ensures { result ≡ spelled_copy (spelled_copied self.now.op)
+            (state_of self.now.before.now) }
     {
         register_in(copied(self.op)?, self.before)
     }
 
     /// The register that holds the accumulator's byte after the instruction.
     pub fn same_after(&self) -> Option<u8>
-        ensures { result ≡ spelled_same self.now.op (entry_view self.now.entry.now) (state_of self.now.before.now) }
+        ensures { result ≡ spelled_same self.now.op (entry_view self.now.entry.now)
+            (state_of self.now.before.now) }
     {
         match self.copied_register() {
             Some(number) => Some(number),
@@ -291,7 +314,8 @@ impl<'a> Outcome<'a> {
     /// The register that the upper entry names holds the accumulator's byte.
     fn is_same_covered(&self, upper: &Entry) -> bool
         ensures { result ≡ is_same_below (spelled_result self.now.op (entry_view self.now.entry.now)
-            (state_of self.now.before.now) (invariant_at self.now.point self.now.after.now)) upper.now.same }
+            (state_of self.now.before.now)
+            (invariant_at self.now.point self.now.after.now)) upper.now.same }
     {
         match upper.same {
             None => true,
@@ -303,8 +327,10 @@ impl<'a> Outcome<'a> {
     fn holds_accumulator(&self, number: u8) -> bool
         requires { number < 64 }
         ensures { result ≡ agree (single (values_after (spelled_accumulator self.now.op)
-            (known_byte self.now.after.now.a) (known_byte self.now.before.now.a) (byte_values self.now.entry.now.a)))
-            (single (register_after self.now.op (entry_view self.now.entry.now) (state_of self.now.before.now)
+            (known_byte self.now.after.now.a) (known_byte self.now.before.now.a)
+            (byte_values self.now.entry.now.a)))
+            (single (register_after self.now.op (entry_view self.now.entry.now)
+            (state_of self.now.before.now)
             (state_of self.now.after.now) number)) }
     {
         let written = writes_accumulator(self.op);
@@ -333,7 +359,8 @@ impl<'a> Outcome<'a> {
 
     /// The values of each register are.
     fn is_scratchpad_covered(&self, upper: &Entry) -> bool
-        ensures { result ≡ is_each_within (map (register_after self.now.op (entry_view self.now.entry.now)
+        ensures { result ≡ is_each_within
+            (map (register_after self.now.op (entry_view self.now.entry.now)
             (state_of self.now.before.now) (state_of self.now.after.now))
             (range_with_len 0 64)) (map byte_values upper.now.regs) }
     {

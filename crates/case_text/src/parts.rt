@@ -85,7 +85,8 @@ pub fn status_of(word: &[u8]) -> Option<[Bit; 5]>
 /// The four facts.
 #[tactic(auto, using(crate::proofs::PartLengths::no_facts_of))]
 pub fn facts_of(word: &[u8]) -> Option<Facts>
-    ensures { option_map (λ facts. record { s0 = facts.s0; s1 = facts.s1; p0 = facts.p0; p1 = facts.p1 }) result
+    ensures { option_map
+        (λ facts. record { s0 = facts.s0; s1 = facts.s1; p0 = facts.p0; p1 = facts.p1 }) result
         ≡ spelled_facts word.now }
 {
     let [s0, s1, p0, p1] = word else {

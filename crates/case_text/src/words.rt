@@ -70,14 +70,16 @@ impl<'a> LineWords<'a> {
 
     /// A set of bytes.
     pub fn byte_set(&mut self) -> Option<ByteSet>
-        ensures { option_map (λ set. (byte_values set, self.new)) result ≡ part spelled_byte_set self.old }
+        ensures { option_map (λ set. (byte_values set, self.new)) result
+            ≡ part spelled_byte_set self.old }
     {
         byte_set_of(self.next()?)
     }
 
     /// The numbers that ISAR may have.
     pub fn numbers(&mut self) -> Option<IsarSet>
-        ensures value { option_map (λ numbers. (numbers.items, self.new)) result ≡ part spelled_numbers self.old }
+        ensures value { option_map (λ numbers. (numbers.items, self.new)) result
+            ≡ part spelled_numbers self.old }
         ensures small { IfSome result (λ numbers. All (λ number. number < 64) numbers.items) }
     {
         numbers_of(self.next()?)
@@ -85,7 +87,8 @@ impl<'a> LineWords<'a> {
 
     /// The status word, from bit 0 on.
     pub fn status(&mut self) -> Option<[Bit; 5]>
-        ensures { option_map (λ bits. (status_view bits, self.new)) result ≡ part spelled_status self.old }
+        ensures { option_map (λ bits. (status_view bits, self.new)) result
+            ≡ part spelled_status self.old }
     {
         status_of(self.next()?)
     }
@@ -119,7 +122,8 @@ impl<'a> LineWords<'a> {
 
     /// The register that holds the accumulator's byte, or none.
     pub fn same(&mut self) -> Option<Option<u8>>
-        ensures value { option_map (λ number. (number, self.new)) result ≡ part spelled_same self.old }
+        ensures value { option_map (λ number. (number, self.new)) result
+            ≡ part spelled_same self.old }
         ensures small { IfSome result (λ number. ForSome number (λ number. number < 64)) }
     {
         same_of(self.next()?)

@@ -40,7 +40,8 @@ impl Lines {
     fn add(&mut self, line: Vec<u8>) -> Result<(), AllocError>
         requires { self.old.size ≤ 67108864 }
         ensures { OnOk result (map (λ line. line.items) self.new.lines.keys
-            ≡ insert_key (slice_cmp nat_cmp) (map (λ line. line.items) self.old.lines.keys) line.items) }
+            ≡ insert_key (slice_cmp nat_cmp)
+            (map (λ line. line.items) self.old.lines.keys) line.items) }
     {
         let length = line.len();
         if self.lines.insert(line)? {
@@ -51,7 +52,8 @@ impl Lines {
 
     /// They aren't too many, nor too long.
     fn may_stand(&self) -> bool
-        ensures { result ≡ (nat_le self.now.size 67108864 && nat_le (length self.now.lines.keys) 65536) }
+        ensures { result ≡ (nat_le self.now.size 67108864
+            && nat_le (length self.now.lines.keys) 65536) }
     {
         self.size <= MOST_TEXT && self.lines.len() <= MOST_LINES
     }
@@ -117,7 +119,8 @@ fn text_of(alloc: Global, lines: &Lines) -> Result<Option<Vec<u8>>, AllocError>
 /// The text of some entries, or none.
 #[tactic(auto, unfolding(crate::specs::WrittenCases::written))]
 fn text_with(alloc: Global, entries: &[Entry]) -> Result<Option<Vec<u8>>, AllocError>
-    ensures { IfOk result (λ text. option_map (λ text. text.items) text ≡ written (map entry_view entries.now)) }
+    ensures { IfOk result (λ text. option_map (λ text. text.items) text
+        ≡ written (map entry_view entries.now)) }
 {
     match lines_of(alloc, entries)? {
         Some(lines) => text_of(alloc, &lines),
@@ -133,7 +136,8 @@ fn text_with(alloc: Global, entries: &[Entry]) -> Result<Option<Vec<u8>>, AllocE
 ///
 /// Memory is missing for the lines, or for the text.
 pub fn write_cases(alloc: Global, entries: &[Entry]) -> Result<Option<Vec<u8>>, Memory>
-    ensures { IfOk result (λ text. option_map (λ text. text.items) text ≡ written (map entry_view entries.now)) }
+    ensures { IfOk result (λ text. option_map (λ text. text.items) text
+        ≡ written (map entry_view entries.now)) }
 {
     match text_with(alloc, entries) {
         Ok(text) => Ok(text),

@@ -177,7 +177,8 @@ fn put_scratchpad(
     registers: &[ByteSet; SCRATCHPAD_SIZE],
 ) -> Result<(), AllocError>
     ensures { OnOk result (out.new.items
-        ≡ out.old.items ++ flat_map (λ set. behind_blank (byte_set_text set)) (map byte_values registers.now)) }
+        ≡ out.old.items ++ flat_map (λ set. behind_blank (byte_set_text set))
+        (map byte_values registers.now)) }
 {
     for register in registers {
         put_blank(out)?;

@@ -143,7 +143,8 @@ impl Session {
             ≤ sum_by queries rack.old.items + allowed_since_power (reached (scene_on
             (chain_by cart.now.chips (kinds_of (map state rack.old.items)))
             cart.now.powers (views (map state rack.old.items))))) }
-        ensures fits { IfOk result (λ session. Fits session.tape.machine (map state rack.new.items)) }
+        ensures fits { IfOk result
+            (λ session. Fits session.tape.machine (map state rack.new.items)) }
         ensures count { IfOk result (λ session. count_in session ≡ 0) }
         ensures stays { OnErr result (map state rack.new.items ≡ map state rack.old.items) }
         ensures unasked { OnErr result (map queries rack.new.items ≡ map queries rack.old.items) }

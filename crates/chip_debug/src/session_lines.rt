@@ -165,7 +165,8 @@ fn write_byte(line: &mut Line, byte: Option<u8>)
 pub(crate) fn mem_line(rack: &mut Rack, at: u16, count: u8) -> Line
     requires few { length rack.old.items ≤ MOST_CHIPS }
     requires count { count ≤ 16 }
-    ensures line { result ≡ spelled_mem at (bytes_held (views (map state rack.old.items)) at count) }
+    ensures line { result ≡ spelled_mem at
+        (bytes_held (views (map state rack.old.items)) at count) }
     ensures stays { map state rack.new.items ≡ map state rack.old.items }
     ensures asked { sum_by queries rack.new.items ≤ sum_by queries rack.old.items
         + count * length rack.old.items }

@@ -18,7 +18,8 @@ fn kind_of(chip: &Box<dyn Chip>) -> ChipKind
 /// The kind of the chip in a socket.
 pub(crate) fn kind_in(rack: &Rack, socket: u8) -> ChipKind
     requires within { socket < length rack.now.items }
-    ensures { (s : ChipState) → slice_get (map state rack.now.items) socket ≡ Some s → result ≡ s.view.kind }
+    ensures { (s : ChipState) → slice_get (map state rack.now.items) socket ≡ Some s →
+        result ≡ s.view.kind }
 {
     kind_of(&rack[usize::from(socket)])
 }

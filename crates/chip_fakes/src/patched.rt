@@ -66,7 +66,8 @@ impl Chip for Patched {
 
     fn fit(&mut self, alloc: Global, spec: &ChipSpec) -> Result<(), FitFault>
         requires { IsSpec spec.now }
-        ensures ok { OnOk result (FitsAs spec.now (patched_state self.old) (patched_state self.new)) }
+        ensures ok { OnOk result
+            (FitsAs spec.now (patched_state self.old) (patched_state self.new)) }
         ensures whole { OnOk result (IsWhole (patched_state self.new).view) }
         ensures wrong_kind { IsErrOf result FitFault.WrongKind
             ↔ (kind_of spec.now ≢ (patched_state self.old).view.kind) }

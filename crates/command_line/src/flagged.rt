@@ -19,7 +19,8 @@ pub fn file_and_flag<'a>(
 ) -> Result<Option<(&'a str, bool)>, Error>
     requires { IsTrue (is_flag_name name.now) }
     ensures asked { IfOk result (λ asked.
-        option_map seen_flagged asked ≡ flagged_of (dashed name.now) (drop 1 (map string_bytes words.now))) }
+        option_map seen_flagged asked
+        ≡ flagged_of (dashed name.now) (drop 1 (map string_bytes words.now))) }
     ensures refused { IfErr result (λ error.
         (kind_of error ≡ ErrorKind.OutOfMemory)
         ⊎ (flagged_of (dashed name.now) (drop 1 (map string_bytes words.now)) ≡ None)) }

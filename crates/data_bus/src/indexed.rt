@@ -191,7 +191,8 @@ pub fn step_asking(
     requires chosen { ChosenAsks cycle.now.romc cycle.now.first (map state rack.old.items) }
     requires stands { StandsFor index.old probe.old (map state rack.old.items) }
     ensures answer { result ≡ step_answer cycle.now probe.old (map state rack.old.items) }
-    ensures settled { IfOk result (λ served. RackSettles cycle.now.romc cycle.now.long cycle.now.first
+    ensures settled { IfOk result
+        (λ served. RackSettles cycle.now.romc cycle.now.long cycle.now.first
         served.byte (map state rack.old.items) (map state rack.new.items)) }
     ensures heard { IfOk result (λ served. probe.new
         ≡ probe_after cycle.now.romc served.byte probe.old) }

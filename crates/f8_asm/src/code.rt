@@ -137,7 +137,8 @@ pub fn bytes_of(
 ) -> Result<Vec<u8>, LineStop>
     ensures { let acts = values scope.now.symbols.now scope.now.address in
         SaysOfBytes result
-        (bytes_of scope.now.address (statement_valued (formula_value Outcome.OutOfRange acts) statement.now)) }
+        (bytes_of scope.now.address
+        (statement_valued (formula_value Outcome.OutOfRange acts) statement.now)) }
 {
     match statement {
         Statement::Nothing => Ok(Vec::new(alloc)),

@@ -132,7 +132,8 @@ fn top_of(stack: &[Outcome]) -> Outcome
 #[tactic(auto, unfolding(crate::specs::Formulas::formula_value))]
 pub fn formula_value(alloc: Global, scope: &Scope, formula: &Formula) -> Result<Outcome, AllocError>
     ensures { IfOk result (λ o. o
-        ≡ formula_value Outcome.OutOfRange (values scope.now.symbols.now scope.now.address) formula.now) }
+        ≡ formula_value Outcome.OutOfRange
+        (values scope.now.symbols.now scope.now.address) formula.now) }
 {
     let mut stack = Vec::new(alloc);
     let steps = formula.as_slice();

@@ -155,7 +155,8 @@ pub fn effect_of(
     statement: &Statement<Formula>,
 ) -> Result<Effect, AllocError>
     ensures { let acts = values scope.now.symbols.now scope.now.address in
-        IfOk result (λ e. e ≡ effect_of (statement_valued (formula_value Outcome.OutOfRange acts) statement.now)) }
+        IfOk result (λ e. e ≡ effect_of
+        (statement_valued (formula_value Outcome.OutOfRange acts) statement.now)) }
 {
     match statement {
         Statement::One(single, operand) => single_effect(alloc, scope, *single, operand),

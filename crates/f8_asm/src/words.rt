@@ -200,7 +200,8 @@ fn field_at(mut table: &[(Op, Shape)], name: &[u8]) -> Option<Shape>
 /// The one of these instructions, in rows by the first letter, whose mnemonic is a word.
 fn op_in(rows: &[&[Op]], name: &[u8]) -> Option<Op>
     requires { length rows.now ≡ 27 }
-    ensures { result ≡ at_word name.now (map own_word (row_at (map (λ row. row.now) rows.now) name.now)) }
+    ensures { result ≡ at_word name.now
+        (map own_word (row_at (map (λ row. row.now) rows.now) name.now)) }
 {
     op_at(rows[initial_of(name)], name)
 }
@@ -208,7 +209,8 @@ fn op_in(rows: &[&[Op]], name: &[u8]) -> Option<Op>
 /// What goes behind a word, in rows by the first letter, that is the mnemonic of one of these instructions.
 fn field_in(rows: &[&[(Op, Shape)]], name: &[u8]) -> Option<Shape>
     requires { length rows.now ≡ 27 }
-    ensures { result ≡ at_word name.now (map field_word (row_at (map (λ row. row.now) rows.now) name.now)) }
+    ensures { result ≡ at_word name.now
+        (map field_word (row_at (map (λ row. row.now) rows.now) name.now)) }
 {
     field_at(rows[initial_of(name)], name)
 }
@@ -264,7 +266,8 @@ fn shape_of_op(op: Op) -> Shape
 
 /// What goes behind a mnemonic that names no instruction alone, or a directive.
 fn other_shape(name: &[u8]) -> Option<Shape>
-    ensures value { result ≡ option_or (at_word name.now (map field_word field_words)) (at_word name.now directives) }
+    ensures value { result ≡ option_or (at_word name.now (map field_word field_words))
+        (at_word name.now directives) }
     ensures room { IfSome result HasRoom }
 {
     match field_shape(name) {

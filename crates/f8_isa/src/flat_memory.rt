@@ -99,7 +99,8 @@ fn first_byte(map: &Map, powers: &Powers, fill: u8, at: u16) -> u8
 
 /// The byte that is read at each address at power-on, or want of memory.
 fn first_bytes(alloc: Global, map: &Map, powers: &Powers, fill: u8) -> Result<Vec<u8>, AllocError>
-    ensures { IfOk result (λ bytes. AreFirstBytes map.now (placed_fill fill powers.now) bytes.items 65536) }
+    ensures { IfOk result (λ bytes.
+        AreFirstBytes map.now (placed_fill fill powers.now) bytes.items 65536) }
 {
     let mut bytes = Vec::with_capacity(alloc, 65_536)?;
     for at in 0..65_536_u32 {

@@ -51,7 +51,8 @@ impl Reading {
 
     /// Takes a name that line `number` exports at a column.
     fn take_export(&mut self, number: u32, column: u32, name: &Name) -> Result<(), LineStop>
-        ensures steps { StepsTo result self.new (name_taken Directive.Export number self.old column name.now) }
+        ensures steps { StepsTo result self.new
+            (name_taken Directive.Export number self.old column name.now) }
         ensures count { self.new.count ≡ self.old.count }
     {
         self.lines
@@ -86,7 +87,8 @@ impl Reading {
         column: u32,
         name: &Name,
     ) -> Result<(), LineStop>
-        ensures steps { StepsTo result self.new (name_taken directive number self.old column name.now) }
+        ensures steps { StepsTo result self.new
+            (name_taken directive number self.old column name.now) }
         ensures count { self.new.count ≡ self.old.count }
     {
         match directive {

@@ -125,7 +125,8 @@ fn put(bytes: &mut [u8], offset: u32, fixed: Filling)
 /// Puts one thing into the bytes of a module that begins at this address.
 #[tactic(auto, unfolding(crate::specs::Linking::fixup_put))]
 fn fix(first: u16, imports: &[i64], bytes: &mut Vec<u8>, fixup: &Fixup) -> Result<(), LinkCause>
-    ensures { caused result bytes.new.items ≡ fixup_put first imports.now bytes.old.items fixup.now }
+    ensures { caused result bytes.new.items
+        ≡ fixup_put first imports.now bytes.old.items fixup.now }
 {
     let sum = operator_value(
         Operator::Plus,

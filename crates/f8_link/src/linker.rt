@@ -232,7 +232,8 @@ pub fn link(alloc: Global, parts: &PartList) -> Result<Linked, LinkAnswer>
     ensures source { (texts : List (List ℕ)) → AllZip IsCompiled texts parts.now
         → IfOk result (λ linked. IsOneSource linked (source_image (one_source texts parts.now))) }
     ensures plain { (texts : List (List ℕ)) → AllZip IsCompiled texts parts.now → NoNameTwice texts
-        → IfOk result (λ linked. HasBytes linked.bytes (image_of (joined texts parts.now) everywhere)) }
+        → IfOk result (λ linked.
+        HasBytes linked.bytes (image_of (joined texts parts.now) everywhere)) }
 {
     let parts = parts.as_slice();
     let names = all_exports(alloc, parts)?;

@@ -66,7 +66,8 @@ impl Piece {
 
     /// Bytes into which linking puts one thing.
     fn open_at(alloc: Global, bytes: &[u8], fixup: Fixup) -> Result<Piece, AllocError>
-        ensures { IfOk result (λ p. p ≡ open_at bytes.now fixup.offset fixup.kind fixup.base fixup.k) }
+        ensures { IfOk result
+            (λ p. p ≡ open_at bytes.now fixup.offset fixup.kind fixup.base fixup.k) }
     {
         let mut piece = Piece::whole(alloc, bytes)?;
         piece.fixups.push(fixup)?;

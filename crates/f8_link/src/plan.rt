@@ -172,7 +172,8 @@ fn said(line: &[u8]) -> Result<(&[u8], Room), PlanCause>
 #[tactic(auto, unfolding(crate::specs::Plans::line_of))]
 fn line_of(line: &[u8]) -> Result<Option<(&[u8], Room)>, PlanCause>
     ensures value { line_seen result ≡ spelled_line line.now }
-    ensures printable { IfOk result (λ said. IfSome said (λ e. IsTrue (list_all is_printable e.0.now))) }
+    ensures printable { IfOk result
+        (λ said. IfSome said (λ e. IsTrue (list_all is_printable e.0.now))) }
 {
     if is_skipped(line) {
         return Ok(None);

@@ -63,7 +63,8 @@ impl Layout {
 
     /// Lets a label's name stand for this.
     fn name(&mut self, alloc: Global, label: Option<&Name>, value: Named) -> Result<(), AllocError>
-        ensures value { OnOk result (self.new ≡ with_label (option_copied label.entry) value self.old) }
+        ensures value { OnOk result
+            (self.new ≡ with_label (option_copied label.entry) value self.old) }
         ensures same { OnErr result (self.new ≡ self.old) }
         ensures here { self.new.here ≡ self.old.here }
     {
@@ -103,7 +104,8 @@ impl Layout {
         column: Option<u32>,
         size: usize,
     ) -> Result<(), ModuleLineStop>
-        ensures steps { StepsTo result self.new (filled (option_copied label.entry) column size self.old) }
+        ensures steps { StepsTo result self.new
+            (filled (option_copied label.entry) column size self.old) }
         ensures ends { OnOk result (self.old.here + size ≤ 65536) }
     {
         if !is_inside(EVERYWHERE, self.here, size) {

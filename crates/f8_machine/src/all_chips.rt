@@ -36,7 +36,8 @@ fn power_for(socket: u8, chain: &[u8], powers: &[PowerOn]) -> PowerOn
 /// Power-on of the chip in a socket, as is said of it. Where nothing is said its RAM has the power byte, and its counters stand at the power
 /// byte in both halves, and the socket added.
 fn power_at(chip: &mut Box<dyn Chip>, socket: u8, fill: u8, power: PowerOn)
-    ensures powers { PowersOn (unwrap_or power.fill fill) (unwrap_or power.start (power_start fill socket))
+    ensures powers { PowersOn (unwrap_or power.fill fill)
+        (unwrap_or power.start (power_start fill socket))
         (state chip.old) (state chip.new) }
     ensures asked { queries chip.new ≡ queries chip.old }
 {

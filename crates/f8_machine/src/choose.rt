@@ -32,7 +32,8 @@ fn asks_in(rack: &Rack, socket: u8) -> bool
 /// Which of the chips described ask, in the order of the description.
 fn asks_of(rack: &Rack, sockets: &[u8]) -> [bool; MOST_CHIPS]
     requires { length sockets.now ≤ MOST_CHIPS }
-    ensures { take (length sockets.now) result ≡ map (asks_in (map state rack.now.items)) sockets.now }
+    ensures { take (length sockets.now) result
+        ≡ map (asks_in (map state rack.now.items)) sockets.now }
 {
     let mut asks = [false; MOST_CHIPS];
     for (place, socket) in sockets.iter().enumerate() {
@@ -46,7 +47,8 @@ fn asks_of(rack: &Rack, sockets: &[u8]) -> [bool; MOST_CHIPS]
 #[inline(never)]
 fn first_in(rack: &Rack, chain: &Chain) -> Option<u8>
     ensures first { result ≡ first_in (map state rack.now.items) chain.now }
-    ensures asking { IfSome result (λ socket. NamesAsking (Some socket) (map state rack.now.items)) }
+    ensures asking { IfSome result
+        (λ socket. NamesAsking (Some socket) (map state rack.now.items)) }
 {
     let sockets = chain.as_slice();
     let asks = asks_of(rack, sockets);
@@ -73,7 +75,8 @@ fn is_open(cpu: &Cpu) -> bool
 pub(crate) fn choose(cpu: &Cpu, rack: &Rack, chain: &Chain) -> Option<u8>
     ensures chosen { result ≡ chosen_by (decoded cpu.now.opcode) cpu.now.registers.status.icb
         (map state rack.now.items) chain.now }
-    ensures asking { IfSome result (λ socket. NamesAsking (Some socket) (map state rack.now.items)) }
+    ensures asking { IfSome result
+        (λ socket. NamesAsking (Some socket) (map state rack.now.items)) }
 {
     if is_open(cpu) {
         first_in(rack, chain)

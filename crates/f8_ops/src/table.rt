@@ -130,7 +130,8 @@ pub fn clocks_law()
     ensures reached { (taken : Bool) → clocks_of Op.Pi taken ≡ MOST_PHI }
     ensures most_interrupted { (op : Op) (taken : Bool) → is_shielding op ≡ false →
         clocks_before_fetch op taken + INTERRUPT_PHI ≤ MOST_INTERRUPTED_PHI }
-    ensures reached_interrupted { clocks_before_fetch Op.Dci false + INTERRUPT_PHI ≡ MOST_INTERRUPTED_PHI }
+    ensures reached_interrupted { clocks_before_fetch Op.Dci false + INTERRUPT_PHI
+        ≡ MOST_INTERRUPTED_PHI }
 {}
 
 /// No interrupt is taken at the end of the instruction: so at `PK`, `PI`, `POP`, `JMP`, `EI`, `LR W,J`, `OUT`, and `OUTS` of the

@@ -61,7 +61,8 @@ fn allows(known: Digit, digit: u8) -> bool
 
 /// The numbers that ISAR may have by its two octal digits.
 fn numbers_by(high: Digit, low: Digit) -> IsarSet
-    ensures value { result.items ≡ spelled_numbers (record { high = known_digit high; low = known_digit low }) }
+    ensures value { result.items
+        ≡ spelled_numbers (record { high = known_digit high; low = known_digit low }) }
     ensures small { All (λ number. number < 64) result.items }
 {
     let mut numbers = ArrayVec::new();
@@ -76,7 +77,8 @@ fn numbers_by(high: Digit, low: Digit) -> IsarSet
 /// The entry of a state at a point.
 #[tactic(auto, unfolding(crate::specs::NotedEntries::noted_entry))]
 fn noted_entry(alloc: Global, point: &Point, state: &Abs) -> Result<Entry, AllocError>
-    ensures { IfOk result (λ entry. entry_view entry ≡ spelled_entry (state_in (point.now, state.now))) }
+    ensures { IfOk result (λ entry. entry_view entry
+        ≡ spelled_entry (state_in (point.now, state.now))) }
 {
     Ok(Entry {
         at: point.at,

@@ -57,7 +57,8 @@ impl<W: Write + Drop> Sink for OutSink<W> {
         ensures whole { OnOk result
             (Appends (W.contents self.old.out.writer) (W.contents self.new.out.writer) piece.now) }
         ensures part { OnErr result
-            (AppendsPart (W.contents self.old.out.writer) (W.contents self.new.out.writer) piece.now) }
+            (AppendsPart (W.contents self.old.out.writer)
+            (W.contents self.new.out.writer) piece.now) }
     {
         put_whole(&mut self.out, piece)
     }

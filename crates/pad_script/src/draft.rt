@@ -101,7 +101,8 @@ impl Draft {
     #[tactic(auto, unfolding(crate::specs::Reading::script_in))]
     pub fn finish(self) -> Option<Script>
         ensures script { option_map seen result ≡ script_in self }
-        ensures limit { IfSome result (λ script. length script.events + length script.shows ≤ 1024) }
+        ensures limit { IfSome result
+            (λ script. length script.events + length script.shows ≤ 1024) }
         ensures ends { IfSome result (λ script. HasLimits script.end) }
     {
         Some(Script {

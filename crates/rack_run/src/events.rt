@@ -34,7 +34,8 @@ fn happen_if<P: Player>(player: &mut P, rack: &mut Rack, event: Event, due: bool
         → Come x.chain (if due then event ∷ [] else [])
         (map state rack.old.items) (map state rack.new.items) }
     ensures asked { AsksOn
-        (P.allowed (length rack.old.items) player.old) (P.allowed (length rack.old.items) player.new)
+        (P.allowed (length rack.old.items) player.old)
+        (P.allowed (length rack.old.items) player.new)
         (sum_by queries rack.old.items) (sum_by queries rack.new.items) [] }
     ensures ready { P.ready player.old → P.ready player.new }
     ensures fits { P.fits player.new (map state rack.new.items) }
@@ -63,7 +64,8 @@ pub(crate) fn happen_at<P: Player>(player: &mut P, rack: &mut Rack, events: &[At
         → Come x.chain (events_at frame events.now)
         (map state rack.old.items) (map state rack.new.items) }
     ensures asked { AsksOn
-        (P.allowed (length rack.old.items) player.old) (P.allowed (length rack.old.items) player.new)
+        (P.allowed (length rack.old.items) player.old)
+        (P.allowed (length rack.old.items) player.new)
         (sum_by queries rack.old.items) (sum_by queries rack.new.items) [] }
     ensures ready { P.ready player.old → P.ready player.new }
     ensures fits { P.fits player.new (map state rack.new.items) }
@@ -92,7 +94,8 @@ pub(crate) fn happen_behind<P: Player>(
         → HappenBehind (seen script.now) (P.at player.new (map state rack.new.items))
         (map state rack.old.items) (map state rack.new.items) x y }
     ensures asked { AsksOn
-        (P.allowed (length rack.old.items) player.old) (P.allowed (length rack.old.items) player.new)
+        (P.allowed (length rack.old.items) player.old)
+        (P.allowed (length rack.old.items) player.new)
         (sum_by queries rack.old.items) (sum_by queries rack.new.items) [] }
     ensures ready { P.ready player.old → P.ready player.new }
     ensures fits { P.fits player.new (map state rack.new.items) }

@@ -144,7 +144,8 @@ pub fn play<K: Sink>(
         (K.output sink.old) (K.output sink.new)) }
     ensures asked { OnOk result (AsksWithin (run_allowed (map state rack.old.items))
         (sum_by queries rack.old.items) (sum_by queries rack.new.items)
-        (tried_codes (run_on detail (seen script.now) chain powers.now (map state rack.old.items)))) }
+        (tried_codes (run_on detail (seen script.now) chain powers.now
+        (map state rack.old.items)))) }
     ensures failed { OnErr result (PlaysPart
         (AsksWithin (run_allowed (map state rack.old.items))
         (sum_by queries rack.old.items) (sum_by queries rack.new.items))

@@ -67,14 +67,16 @@ fn turn<P: Player, K: Sink>(
         (K.output sink.old) (K.output sink.new) x cut) }
     ensures asked { (x : Position) → P.at player.old (map state rack.old.items) x
         → OnOk result (AsksOn
-        (P.allowed (length rack.old.items) player.old) (P.allowed (length rack.old.items) player.new)
+        (P.allowed (length rack.old.items) player.old)
+        (P.allowed (length rack.old.items) player.new)
         (sum_by queries rack.old.items) (sum_by queries rack.new.items)
         (turn_codes (P.way detail) x)) }
     ensures asked_cut { (x : Position) → P.at player.old (map state rack.old.items) x
         → OnErr result (AsksWithin (P.allowed (length rack.old.items) player.old)
         (sum_by queries rack.old.items) (sum_by queries rack.new.items)
         (turn_codes (P.way detail) x)) }
-    ensures clocks { (P.readout player.new).phi ≤ (P.readout player.old).phi + MOST_INTERRUPTED_PHI }
+    ensures clocks { (P.readout player.new).phi ≤ (P.readout player.old).phi
+        + MOST_INTERRUPTED_PHI }
     ensures phi { OnOk result (progress.new.phi ≡ (P.readout player.new).phi) }
     ensures count { OnOk result (progress.new.count ≡ progress.old.count + 1) }
     ensures ready { P.ready player.new }

@@ -113,7 +113,8 @@ impl Sockets {
     /// Counts one more of a kind.
     fn count(&mut self, kind: ChipKind)
         requires { so_far self.old kind < MOST_CHIPS }
-        ensures { (other : ChipKind) → so_far self.new other ≡ counted kind (so_far self.old) other }
+        ensures { (other : ChipKind) →
+            so_far self.new other ≡ counted kind (so_far self.old) other }
     {
         match kind {
             ChipKind::Psu => self.psus += 1,
@@ -133,7 +134,8 @@ fn fit_next(
     requires specified { All IsSpec chips.now }
     requires few { (kind : ChipKind) → so_far sockets.old kind < MOST_CHIPS }
     ensures fits { let kind = (state chip.old).view.kind in OnOk result
-        (FitsAs (seat_at chips.now kind (so_far sockets.old kind)) (state chip.old) (state chip.new)) }
+        (FitsAs (seat_at chips.now kind (so_far sockets.old kind)) (state chip.old)
+        (state chip.new)) }
     ensures whole { OnOk result (IsWhole (state chip.new).view) }
     ensures ports { OnOk result (LeavesOwn (state chip.new).view) }
     ensures same { OnErr result (state chip.new ≡ state chip.old) }

@@ -64,7 +64,8 @@ pub fn union_of<const N: usize>(
     mut numbers: ArrayVec<u8, N>,
     more: &[u8],
 ) -> Option<ArrayVec<u8, N>>
-    ensures { option_map (λ numbers. numbers.items) result ≡ listed_union N numbers.entry.items more.now }
+    ensures { option_map (λ numbers. numbers.items) result
+        ≡ listed_union N numbers.entry.items more.now }
 {
     for number in more {
         if !add_number(&mut numbers, *number) {

@@ -126,7 +126,8 @@ impl WordSet {
     ///
     /// Memory is missing for the list.
     pub fn joined(self, more: &WordSet) -> Result<WordSet, AllocError>
-        ensures { IfOk result (λ set. word_values set ≡ joined MOST_WORDS (word_values self) (word_values more.now)) }
+        ensures { IfOk result (λ set. word_values set
+            ≡ joined MOST_WORDS (word_values self) (word_values more.now)) }
     {
         let (WordSet::Among(words), WordSet::Among(others)) = (self, more) else {
             return Ok(WordSet::Any);
