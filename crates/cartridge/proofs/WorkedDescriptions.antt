@@ -257,7 +257,8 @@ ports_of_a_3861_off_their_boundary : description_in (in_two (pio (ports 6 (membe
 unfolding description_in top_of chips_from chip_of pio_of
 ports_of_a_3861_off_their_boundary = refl
 
-vector_of_a_3861_out_of_range : description_in (in_two (member (codes "interrupt") (number 1) (pio (ports 8 (member (codes "vector") (number 65536) no_members)))))
+vector_of_a_3861_out_of_range : description_in
+    (in_two (member (codes "interrupt") (number 1) (pio (ports 8 (member (codes "vector") (number 65536) no_members)))))
     ≡ at_chip key.Vector Range
 unfolding description_in top_of chips_from chip_of pio_of
 vector_of_a_3861_out_of_range = refl

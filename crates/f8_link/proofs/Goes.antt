@@ -156,7 +156,8 @@ module _ (first : ℕ) (values : List ℤ) (reach : Reach first values) where
   joined_goes op (Placed base k) (Constant a) = moved_goes op base k a
   joined_goes op (Placed base k) (Placed other j) = placed_goes op base other k j
 
-  both_goes : (op : Operator) (x u : Found) (y v : Outcome) → Goes first values x y → Goes first values u v → Goes first values (both op x u) (plain.both op y v)
+  both_goes : (op : Operator) (x u : Found) (y v : Outcome) → Goes first values x y → Goes first values u v →
+      Goes first values (both op x u) (plain.both op y v)
   both_goes op (found.Value a) (found.Value b) y v so now = rw (so, now) (joined_goes op a b)
   both_goes op (found.Value a) (found.Half half base k) y v so now = tt
   both_goes op (found.Value a) found.OutOfRange y v so now = tt

@@ -71,7 +71,8 @@ texts_apart (t ∷ ts) twice = (
 abbrev pub PlainBefore : List (List ℕ × ℤ) → List (List ℕ) → Type 0
 PlainBefore before texts = (x : List ℕ) → is_some (value_of before x) ≡ true → DefinedNowhere texts x
 
-module _ (text : List ℕ) (texts : List (List ℕ)) (p : Part) (c : Compiled text p.object) (before : List (List ℕ × ℤ)) (so : PlainBefore before (text ∷ texts)) where
+module _ (text : List ℕ) (texts : List (List ℕ)) (p : Part) (c : Compiled text p.object) (before : List (List ℕ × ℤ))
+    (so : PlainBefore before (text ∷ texts)) where
   abbrev own : List (List ℕ × ℤ)
   own = spelled_names (λ x. x) p.room.first c.laid.names
 

@@ -92,7 +92,8 @@ module _ (rename : List ℕ → List ℕ) (apart : (x y : List ℕ) → bytes_eq
     after_is : after ≡ names ++ no_values rename (label_list label)
     unseen : Unseen rename own (seen_after seen label) after
 
-  still : (seen : List (List ℕ)) (names : List (List ℕ × ℤ)) (x : List ℕ) → Unseen rename own seen names → Unseen rename own (x ∷ seen) (names ++ (rename x, pos 0) ∷ [])
+  still : (seen : List (List ℕ)) (names : List (List ℕ × ℤ)) (x : List ℕ) → Unseen rename own seen names →
+      Unseen rename own (x ∷ seen) (names ++ (rename x, pos 0) ∷ [])
   still seen names x so y is_own h = by (bytes_eq y x) refl h
     where
       by : (t : Bool) → bytes_eq y x ≡ t → (t || has seen y) ≡ false → value_of (names ++ (rename x, pos 0) ∷ []) (rename y) ≡ None

@@ -95,7 +95,8 @@ pub returns-in-Over-go_on-clause-accepts : goal.returns-in-Over-go_on-clause-acc
 returns-in-Over-go_on-clause-accepts g c = λ n.
     let olds = map (λ b. (goal.Chip-dyn g (b.vtable, b.value)).state b.value) c.args.rack.now.items in
     let setup = setup_of (views olds) c.args.chain c.args.cart.now.powers (seen c.args.script.now) in
-    accepts_records c.determinacy_law.ensures setup c.args.trace.now n c.answer-in-Over-go_on.result (returns-in-Over-go_on-clause-answer g c) c.told-told.ensures.bytes
+    accepts_records c.determinacy_law.ensures setup c.args.trace.now n c.answer-in-Over-go_on.result
+    (returns-in-Over-go_on-clause-answer g c) c.told-told.ensures.bytes
 
 pub returns-in-Over-go_on-clause-audits : goal.returns-in-Over-go_on-clause-audits
 returns-in-Over-go_on-clause-audits g c =

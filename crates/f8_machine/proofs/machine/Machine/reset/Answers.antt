@@ -16,8 +16,8 @@ returns-in-Ok-clause-refines g c = λ x p.
 
 pub returns-in-Err-clause-refines : goal.returns-in-Err-clause-refines
 returns-in-Err-clause-refines g c = λ x p.
-    reset_cut c.args.self.now _ c.self.view_is _ x c.fetch_first-fetched.new.bus.probe c.fetch_first-fetched.new.bus.index c.fetch_first-fetched.new.unserved.fault
-    c.to_stopped_by.result c.fetch_first-fetched.new.unserved.long c.fetch_first-fetched.new.steps p
+    reset_cut c.args.self.now _ c.self.view_is _ x c.fetch_first-fetched.new.bus.probe c.fetch_first-fetched.new.bus.index
+    c.fetch_first-fetched.new.unserved.fault c.to_stopped_by.result c.fetch_first-fetched.new.unserved.long c.fetch_first-fetched.new.steps p
     (λ at. c.in-Err.ensures.cut x at) c.to_stopped_by.ensures
 
 pub returns-in-Ok-clause-follows : goal.returns-in-Ok-clause-follows
