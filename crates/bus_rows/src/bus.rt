@@ -4,7 +4,6 @@ ghost use Rattle.f8_spec.specs.ChipState.{TakesPulse};
 ghost use Rattle.data_bus.specs.Racks.{ChosenAsks, NumberedZip};
 ghost use Rattle.bus_rows.specs.Indexed.{FitsIndexed, HasAddresses};
 
-use super::cart::Cart;
 use chip_face::{Chip, MOST_CHIPS};
 use data_bus::{BusFault, Cycle, Index, Rack, Served, step, step_by};
 use probe::Probe;
@@ -38,24 +37,24 @@ fn power_at(chip: &mut Box<dyn Chip>, start: u16)
     chip.power(0, start);
 }
 
-/// Power-on of every chip, at the addresses of a cartridge.
-fn power_all(rack: &mut Rack, cart: &Cart)
+/// Power-on of every chip, each at its address.
+fn power_all(rack: &mut Rack, starts: &[u16])
     requires few { length rack.old.items ≤ MOST_CHIPS }
     ensures powered { NumberedZip HasAddresses 0 (map state rack.old.items) (map state rack.new.items) }
     ensures chips { length rack.new.items ≡ length rack.old.items }
 {
     for (socket, chip) in rack.iter_mut().enumerate() {
-        power_at(chip, cart.start_of(socket));
+        power_at(chip, starts.get(socket).copied().unwrap_or(0));
     }
 }
 
 impl Bus {
-    /// The bus of a rack, whose chips are powered on.
-    pub(crate) fn of(rack: &mut Rack, cart: &Cart, way: Way) -> Bus
+    /// The bus of a rack, whose chips are powered on, each at its address.
+    pub(crate) fn of(rack: &mut Rack, starts: &[u16], way: Way) -> Bus
         requires few { length rack.old.items ≤ MOST_CHIPS }
         ensures fits { FitsIndexed result.index result.probe (map state rack.new.items) }
     {
-        power_all(rack, cart);
+        power_all(rack, starts);
         let probe = Probe::new();
         match way {
             Way::EveryChip => Bus { probe, index: None },

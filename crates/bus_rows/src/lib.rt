@@ -11,7 +11,11 @@ mod cart;
 #[cfg(test)]
 mod carts;
 #[cfg(test)]
+mod ends;
+#[cfg(test)]
 mod fakes;
+#[cfg(test)]
+mod fitting;
 #[cfg(test)]
 mod free_steps;
 #[cfg(test)]
@@ -23,8 +27,6 @@ mod psu_chip;
 #[cfg(test)]
 mod reads;
 #[cfg(test)]
-mod seats;
-#[cfg(test)]
 mod smi_chip;
 #[cfg(test)]
 mod stores;
@@ -32,3 +34,5 @@ mod stores;
 mod tests;
 #[cfg(test)]
 mod walk;
+#[cfg(test)]
+mod words;

@@ -1,7 +1,6 @@
 // The worked steps, each on a rack made anew.
 use super::bus::Way;
-use super::cart::{Cart, empty};
-use super::seats::psu;
+use super::cart::{play_all, seat};
 use super::walk::walk;
 use super::{acknowledgements, carts, free_steps, ports, reads, stores};
 use chip_face::Chip;
@@ -9,7 +8,6 @@ use chip_fakes::Listener;
 use data_bus::Rack;
 use pio3861::Pio;
 use psu3851::Psu;
-use romc_table::Romc;
 use smi3853::Smi;
 use std::alloc::Global;
 use std::process::Abort;
@@ -29,19 +27,26 @@ macro_rules! rack_of {
 }
 
 /// Every worked step.
-fn play_all(rt: &impl Abort, alloc: Global, rack: &mut Rack) -> Result<(), Fail> {
-    reads::all(rt, alloc, rack)?;
-    stores::all(rt, alloc, rack)?;
-    ports::all(rt, alloc, rack)?;
-    acknowledgements::all(rt, alloc, rack)?;
-    free_steps::all(rt, alloc, rack)?;
-    carts::all(rt, alloc, rack)
+fn play_each(rt: &impl Abort, alloc: Global, rack: &mut Rack) -> Result<(), Fail> {
+    let reads = reads::each_code(alloc)?;
+    let texts = [
+        reads.as_str(),
+        stores::CARTS,
+        ports::CARTS,
+        acknowledgements::CARTS,
+        free_steps::CARTS,
+        carts::CARTS,
+    ];
+    for text in texts {
+        play_all(rt, alloc, rack, text)?;
+    }
+    Ok(())
 }
 
 #[test]
 fn on_plain_chips(rt: HostRuntime) -> Result<(), Fail> {
     let mut rack = rack_of!(rt, Psu::blank(), Smi::blank(), Pio::blank());
-    play_all(&rt, rt.alloc(), &mut rack)
+    play_each(&rt, rt.alloc(), &mut rack)
 }
 
 #[test]
@@ -52,7 +57,7 @@ fn on_listeners(rt: HostRuntime) -> Result<(), Fail> {
         Listener::round_smi(rt.alloc(), 1000)?,
         Listener::round_pio(rt.alloc(), 1000)?
     );
-    play_all(&rt, rt.alloc(), &mut rack)
+    play_each(&rt, rt.alloc(), &mut rack)
 }
 
 /// How many questions were put to the first chip.
@@ -63,25 +68,20 @@ fn asked(rack: &Rack) -> u64 {
     }
 }
 
+/// The code of the last test.
+const CODE: &str = "rom 0000 2B 2B\n3851 0 0000 0000 04 0000";
+
 // The code lies at 0000, where reset marks the program counter: from then on a fetch by the index asks the one chip, and once.
 #[test]
 fn asks_once_by_an_index(rt: HostRuntime) -> Result<(), Fail> {
     let mut rack: Rack = Vec::new(rt.alloc());
     rack.push(Box::new(rt.alloc(), Psu::blank())?)?;
-    let cart = Cart {
-        psus: &[psu(0, 0x0000)],
-        program: &[0x2B, 0x2B],
-        ..empty()
-    };
-    let mut bus = cart.seat(rt.alloc(), &mut rack, Way::ByIndex)?;
-    let begin = [
-        (Romc::RESET, 0x00, "served 00"),
-        (Romc::FETCH, 0x77, "served 2B socket 0"),
-    ];
-    walk(&rt, rt.alloc(), &mut rack, &mut bus, None, &begin)?;
+    let mut bus = seat(rt.alloc(), &mut rack, Way::ByIndex, CODE)?;
+    let begin = "08 00 -> served 00\n00 77 -> served 2B socket 0";
+    walk(&rt, rt.alloc(), &mut rack, &mut bus, begin)?;
     let before = asked(&rack);
-    let fetch = [(Romc::FETCH, 0x77, "served 2B socket 0")];
-    walk(&rt, rt.alloc(), &mut rack, &mut bus, None, &fetch)?;
+    let fetch = "00 77 -> served 2B socket 0";
+    walk(&rt, rt.alloc(), &mut rack, &mut bus, fetch)?;
     assert_eq!(rt; asked(&rack), before.saturating_add(1));
     Ok(())
 }

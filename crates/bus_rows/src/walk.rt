@@ -1,10 +1,11 @@
-// A worked bus step, and what is said of it as text.
+// Worked bus steps, pulses, and what is told of them as text.
 ghost use Rattle.std.specs.Prelude.{◌≡◌, true, map, IfOk};
 ghost use Rattle.f8_spec.specs.ChipState.{is_asking};
 ghost use Rattle.data_bus.specs.Racks.{NamesAsking};
 ghost use Rattle.bus_rows.specs.Indexed.{FitsIndexed};
 
-use super::bus::Bus;
+use super::bus::{Bus, pulse};
+use super::words::spelled;
 use chip_face::Chip;
 use data_bus::{BusFault, Cycle, Rack, Served};
 use romc_table::Romc;
@@ -12,10 +13,6 @@ use std::alloc::Global;
 use std::fmt::Write;
 use std::process::Abort;
 use std::test::Fail;
-
-/// A worked bus step: its code, the byte that the CPU places, and what is told of the step. A served one is told with its byte and the
-/// socket of the chip that drove or took it, a fault as in a stop line.
-pub(crate) type Row<'a> = (Romc, u8, &'a str);
 
 fn asks(chip: &Box<dyn Chip>) -> bool
     ensures { result ≡ is_asking (state chip.now).view }
@@ -36,7 +33,7 @@ fn names_asking(rack: &Rack, first: Option<u8>) -> bool
     }
 }
 
-/// What is told of a bus step.
+/// What is told of a bus step: where it is served its byte and the socket of the chip that drove or took it, and a fault as in a stop line.
 fn told(alloc: Global, answer: &Result<Served, BusFault>) -> Result<String, Fail> {
     match answer {
         Ok(served) => told_served(alloc, *served),
@@ -82,44 +79,96 @@ fn told_fault(alloc: Global, fault: &BusFault) -> Result<String, Fail> {
     }
 }
 
-/// One bus step, and what is told of it. `Err` where it may not be asked for.
-fn one_step(alloc: Global, rack: &mut Rack, bus: &mut Bus, cycle: Cycle) -> Result<String, Fail>
+/// A long bus step, and what is told of it. `Err` where it may not be asked for. In the codes 0F and 13 the chip in the socket `first` is
+/// acknowledged.
+fn one_step(
+    alloc: Global,
+    rack: &mut Rack,
+    bus: &mut Bus,
+    code: &str,
+    byte: u16,
+    first: Option<u8>,
+) -> Result<String, Fail>
     requires fits { FitsIndexed bus.old.index bus.old.probe (map state rack.old.items) }
     ensures fits { IfOk result (λ text. FitsIndexed bus.new.index bus.new.probe (map state rack.new.items)) }
 {
+    let number = u8::from_str_radix(code, 16)?;
+    let cycle = Cycle {
+        romc: Romc::of(number).ok_or(code)?,
+        long: true,
+        byte: u8::try_from(byte)?,
+        first,
+    };
     if rack.len() > 16 {
         return Err("more than 16 chips".into());
     }
-    let number = cycle.romc.number();
     let acknowledges = number == 0x0F || number == 0x13;
-    if acknowledges && !names_asking(rack, cycle.first) {
+    if acknowledges && !names_asking(rack, first) {
         return Err("the named chip doesn't ask".into());
     }
     let answer = bus.step(rack, cycle);
     told(alloc, &answer)
 }
 
-/// Long steps, each as it was worked out. In the codes 0F and 13 the chip in the socket `first` is acknowledged.
+/// Whether the chip in a socket asks for an interrupt.
+fn is_asking(rack: &Rack, socket: usize) -> bool {
+    match rack.get(socket) {
+        Some(chip) => chip.asks(),
+        None => false,
+    }
+}
+
+/// A pulse to the chip in a socket, and whether it asks before and behind it.
+fn pulsed(alloc: Global, rack: &mut Rack, bus: &Bus, socket: usize) -> Result<String, Fail>
+    requires fits { FitsIndexed bus.now.index bus.now.probe (map state rack.old.items) }
+    ensures fits { IfOk result (λ text. FitsIndexed bus.now.index bus.now.probe (map state rack.new.items)) }
+{
+    if socket >= rack.len() {
+        return Err("no such socket".into());
+    }
+    let before = is_asking(rack, socket);
+    pulse(rack, bus, socket);
+    let behind = is_asking(rack, socket);
+    Ok(format!(in alloc; "{before} {behind}")?)
+}
+
+/// What is told of what a line does.
+fn told_by(alloc: Global, rack: &mut Rack, bus: &mut Bus, what: &str) -> Result<String, Fail>
+    requires fits { FitsIndexed bus.old.index bus.old.probe (map state rack.old.items) }
+    ensures fits { IfOk result (λ text. FitsIndexed bus.new.index bus.new.probe (map state rack.new.items)) }
+{
+    let (word, numbers) = spelled(alloc, what)?;
+    match (word, numbers.as_slice()) {
+        ("asks", [socket]) => {
+            let asking = is_asking(rack, usize::from(*socket));
+            Ok(format!(in alloc; "{asking}")?)
+        }
+        ("pulse", [socket]) => pulsed(alloc, rack, bus, usize::from(*socket)),
+        (code, [byte]) => one_step(alloc, rack, bus, code, *byte, None),
+        (code, [byte, first]) => {
+            let first = u8::try_from(*first)?;
+            one_step(alloc, rack, bus, code, *byte, Some(first))
+        }
+        _ => Err(what.into()),
+    }
+}
+
+/// Does what the lines of a cart tell, one behind another, and compares what is told of it.
 pub(crate) fn walk(
     rt: &impl Abort,
     alloc: Global,
     rack: &mut Rack,
     bus: &mut Bus,
-    first: Option<u8>,
-    rows: &[Row],
+    lines: &str,
 ) -> Result<(), Fail>
     requires fits { FitsIndexed bus.old.index bus.old.probe (map state rack.old.items) }
     ensures fits { IfOk result (λ done. FitsIndexed bus.new.index bus.new.probe (map state rack.new.items)) }
 {
-    for (place, (romc, byte, want)) in rows.iter().enumerate() {
-        let cycle = Cycle {
-            romc: *romc,
-            long: true,
-            byte: *byte,
-            first,
-        };
-        let text = one_step(alloc, rack, bus, cycle)?;
-        assert_eq!(rt; text.as_str(), *want, "row {place}");
+    for line in lines.lines() {
+        if let Some((what, want)) = line.split_once(" -> ") {
+            let told = told_by(alloc, rack, bus, what)?;
+            assert_eq!(rt; told.as_str(), want, "{line}");
+        }
     }
     Ok(())
 }

@@ -1,7 +1,0 @@
--- After each step the index stands for the rack and the probe.
-use Rattle.std.proofs.Common.{map}
-use Rattle.bus_rows.specs.Indexed.{FitsIndexed}
-use Rattle.bus_rows.proofs.reads.each_fails_by.Given as goal
-
-abbrev pub invariant-loop-number : goal.invariant-loop-number
-invariant-loop-number g l = FitsIndexed l.bus.index l.bus.probe (map (λ b. (goal.Chip-dyn g (b.vtable, b.value)).state b.value) l.rack.items)
