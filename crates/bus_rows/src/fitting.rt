@@ -1,7 +1,7 @@
 // The chips of a cart, as its lines tell them: the kind of each, its socket, the address in every counter at power-on, and what it is
 // fitted with. Their interrupts are wired.
 ghost use Rattle.std.specs.Prelude.{IfOk};
-ghost use Rattle.chip_face.specs.Fitting.{IsSpec};
+ghost use Rattle.chip_face.specs.Fitting.{IsSmiSpec, IsSpec};
 
 use super::words::spelled;
 use chip_face::{Bytes, Chip, ChipSpec, MOST_CHIPS, Page, PageList, PageSort};
@@ -35,9 +35,16 @@ pub(crate) fn clear(alloc: Global, rack: &mut Rack) -> Result<(), Fail> {
     Ok(())
 }
 
-fn psu(alloc: Global, rom: &[u8; 1024], base: u16, ports: u8, vector: u16) -> Result<ChipSpec, Fail>
+fn psu(
+    alloc: Global,
+    rom: &[u8; 1024],
+    numbers: (u16, u16, u16),
+    wired: bool,
+) -> Result<ChipSpec, Fail>
     ensures { IfOk result IsSpec }
 {
+    let (base, ports, vector) = numbers;
+    let ports = u8::try_from(ports)?;
     if base % 1024 != 0 || ports % 4 != 0 || ports < 4 {
         return Err("no 3851 is fitted so".into());
     }
@@ -46,23 +53,64 @@ fn psu(alloc: Global, rom: &[u8; 1024], base: u16, ports: u8, vector: u16) -> Re
         rom: Bytes::of(alloc, rom)?,
         ports,
         vector,
+        wired,
+    })
+}
+
+/// A page of each sort.
+const PAGES: [Page; 3] = [
+    Page {
+        number: 0x00,
+        sort: PageSort::Rom,
+    },
+    Page {
+        number: 0x28,
+        sort: PageSort::Ram,
+    },
+    Page {
+        number: 0x80,
+        sort: PageSort::Void,
+    },
+];
+
+/// A 3853 with these pages.
+fn smi(alloc: Global, pages: &[Page], rom: &[u8]) -> Result<ChipSpec, Fail>
+    requires { IsSmiSpec pages.now rom.now }
+    ensures { IfOk result IsSpec }
+{
+    Ok(ChipSpec::Smi {
+        pages: PageList::of(alloc, pages)?,
+        rom: Bytes::of(alloc, rom)?,
         wired: true,
     })
 }
 
-/// A 3853 with one page, which has 2B throughout where it is ROM.
-fn smi(alloc: Global, number: u8, sort: PageSort) -> Result<ChipSpec, Fail>
+/// A 3853 with one page, with a page of each sort, or with none. Its ROM is 2B throughout.
+fn smi_named(alloc: Global, kind: &str, numbers: &[u16]) -> Result<ChipSpec, Fail>
     ensures { IfOk result IsSpec }
 {
-    let rom = match sort {
-        PageSort::Rom => Bytes::of(alloc, &[0x2B; 256])?,
-        PageSort::Ram | PageSort::Void => Bytes::of(alloc, &[])?,
+    let number = match numbers {
+        [number] => u8::try_from(*number)?,
+        _ => 0x00,
     };
-    Ok(ChipSpec::Smi {
-        pages: PageList::of(alloc, &[Page { number, sort }])?,
-        rom,
-        wired: true,
-    })
+    let rom = [0x2B; 256];
+    match kind {
+        "3853-rom" => {
+            let sort = PageSort::Rom;
+            smi(alloc, &[Page { number, sort }], &rom)
+        }
+        "3853-ram" => {
+            let sort = PageSort::Ram;
+            smi(alloc, &[Page { number, sort }], &[])
+        }
+        "3853-void" => {
+            let sort = PageSort::Void;
+            smi(alloc, &[Page { number, sort }], &[])
+        }
+        "3853-three" => smi(alloc, &PAGES, &rom),
+        "3853-none" => smi(alloc, &[], &[]),
+        _ => Err(kind.into()),
+    }
 }
 
 fn pio(ports: u8, vector: u16) -> Result<ChipSpec, Fail>
@@ -92,13 +140,13 @@ impl Fitting {
     {
         match (kind, numbers) {
             ("3851", [base, ports, vector]) => {
-                psu(alloc, &self.rom, *base, u8::try_from(*ports)?, *vector)
+                psu(alloc, &self.rom, (*base, *ports, *vector), true)
             }
-            ("3853-rom", [page]) => smi(alloc, u8::try_from(*page)?, PageSort::Rom),
-            ("3853-ram", [page]) => smi(alloc, u8::try_from(*page)?, PageSort::Ram),
-            ("3853-void", [page]) => smi(alloc, u8::try_from(*page)?, PageSort::Void),
+            ("3851-unwired", [base, ports, vector]) => {
+                psu(alloc, &self.rom, (*base, *ports, *vector), false)
+            }
             ("3861", [ports, vector]) => pio(u8::try_from(*ports)?, *vector),
-            _ => Err(kind.into()),
+            _ => smi_named(alloc, kind, numbers),
         }
     }
 

@@ -5,29 +5,35 @@
 #[cfg(test)]
 mod acknowledgements;
 #[cfg(test)]
+mod alone;
+#[cfg(test)]
 mod bus;
 #[cfg(test)]
 mod cart;
 #[cfg(test)]
 mod carts;
 #[cfg(test)]
-mod ends;
+mod chain;
 #[cfg(test)]
-mod fakes;
+mod chips;
+#[cfg(test)]
+mod codes;
+#[cfg(test)]
+mod descriptions;
 #[cfg(test)]
 mod fitting;
 #[cfg(test)]
 mod free_steps;
 #[cfg(test)]
-mod pio_chip;
-#[cfg(test)]
 mod ports;
 #[cfg(test)]
-mod psu_chip;
+mod powers;
+#[cfg(test)]
+mod probe_steps;
+#[cfg(test)]
+mod questions;
 #[cfg(test)]
 mod reads;
-#[cfg(test)]
-mod smi_chip;
 #[cfg(test)]
 mod stores;
 #[cfg(test)]

@@ -1,10 +1,11 @@
 // The worked steps, each on a rack made anew.
+use super::alone::play_alone;
 use super::bus::Way;
 use super::cart::{play_all, seat};
 use super::walk::walk;
-use super::{acknowledgements, carts, free_steps, ports, reads, stores};
+use super::{acknowledgements, carts, chips, free_steps, ports, reads, stores};
 use chip_face::Chip;
-use chip_fakes::Listener;
+use chip_fakes::{Listener, Patched};
 use data_bus::Rack;
 use pio3861::Pio;
 use psu3851::Psu;
@@ -26,8 +27,9 @@ macro_rules! rack_of {
     }};
 }
 
-/// Every worked step.
+/// Every worked step, on chips that were put no question yet.
 fn play_each(rt: &impl Abort, alloc: Global, rack: &mut Rack) -> Result<(), Fail> {
+    play_alone(rt, alloc, rack, chips::CHIPS)?;
     let reads = reads::each_code(alloc)?;
     let texts = [
         reads.as_str(),
@@ -58,6 +60,21 @@ fn on_listeners(rt: HostRuntime) -> Result<(), Fail> {
         Listener::round_pio(rt.alloc(), 1000)?
     );
     play_each(&rt, rt.alloc(), &mut rack)
+}
+
+#[test]
+fn patches_one_byte(rt: HostRuntime) -> Result<(), Fail> {
+    let mut rack: Rack = Vec::new(rt.alloc());
+    rack.push(Box::new(rt.alloc(), Patched::psu(0x0401, 0x70))?)?;
+    rack.push(Box::new(rt.alloc(), Patched::psu(0x0001, 0x70))?)?;
+    play_alone(&rt, rt.alloc(), &mut rack, chips::PATCHED)
+}
+
+#[test]
+fn listens_past_its_room(rt: HostRuntime) -> Result<(), Fail> {
+    let mut rack: Rack = Vec::new(rt.alloc());
+    rack.push(Box::new(rt.alloc(), Listener::round_psu(rt.alloc(), 1)?)?)?;
+    play_alone(&rt, rt.alloc(), &mut rack, chips::PAST_ROOM)
 }
 
 /// How many questions were put to the first chip.

@@ -1,6 +1,6 @@
 // The chips of a description.
-ghost use Rattle.std.specs.Prelude.{◌≡◌, ◌==◌, false, length};
-ghost use Rattle.chip_face.specs.Fitting.{IsChipList, IsSpec, is_blank};
+ghost use Rattle.std.specs.Prelude.{◌≡◌, ◌==◌, length};
+ghost use Rattle.chip_face.specs.Fitting.{IsChipList};
 
 use super::ChipSpec;
 use std::marker::Model;
@@ -53,37 +53,5 @@ impl ChipList {
         ensures { result ≡ (length self.now == 0) }
     {
         self.items.is_empty()
-    }
-}
-
-#[cfg(test)]
-mod tests {
-    use super::*;
-    use crate::{Bytes, PageList};
-    use std::alloc::Global;
-    use std::test::Fail;
-
-    fn listed(alloc: Global, chip: ChipSpec) -> Result<ChipList, Fail>
-        requires specified { IsSpec chip }
-        requires no_blank { is_blank chip ≡ false }
-    {
-        let mut chips = Vec::with_capacity(alloc, 1)?;
-        chips.push(chip)?;
-        Ok(ChipList::from_vec(chips))
-    }
-
-    #[test]
-    fn one_chip(rt: HostRuntime) -> Result<(), Fail> {
-        let alloc = rt.alloc();
-        let chip = ChipSpec::Smi {
-            pages: PageList::of(alloc, &[])?,
-            rom: Bytes::of(alloc, &[])?,
-            wired: true,
-        };
-        let chips = listed(alloc, chip)?;
-        assert_eq!(rt; chips.len(), 1);
-        assert!(rt; !chips.is_empty());
-        assert_eq!(rt; chips.as_slice().len(), 1);
-        Ok(())
     }
 }

@@ -83,36 +83,3 @@ impl FixedList<u8> {
         bytes
     }
 }
-
-#[cfg(test)]
-mod tests {
-    use super::*;
-    use f8_spec::PageSort;
-    use std::test::Fail;
-
-    #[test]
-    fn copies_with_ample_memory(rt: HostRuntime) -> Result<(), Fail> {
-        let bytes = Bytes::of(rt.alloc(), &[0x2B, 0xFF])?;
-        assert_eq!(rt; bytes.len(), 2);
-        assert_eq!(rt; bytes.get(1), Some(0xFF));
-
-        let ram = Page {
-            number: 0x28,
-            sort: PageSort::Ram,
-        };
-        let pages = PageList::of(rt.alloc(), &[ram])?;
-        assert_eq!(rt; pages.get(0), Some(ram));
-        assert_eq!(rt; pages.get(1), None);
-        Ok(())
-    }
-
-    #[test]
-    fn keeps_vectors(rt: HostRuntime) -> Result<(), Fail> {
-        let bytes = Bytes::from_vec(vec![in rt.alloc(); 0x2B, 0xFF]?);
-        assert_eq!(rt; bytes.as_slice(), [0x2B, 0xFF].as_slice());
-
-        let pages = PageList::from_vec(Vec::new(rt.alloc()));
-        assert_eq!(rt; pages.is_empty(), true);
-        Ok(())
-    }
-}

@@ -119,24 +119,3 @@ fn ranges_law(power: PowerOn)
         (None, None) => {}
     }
 }
-
-#[cfg(test)]
-mod tests {
-    use super::*;
-
-    #[test]
-    fn keeps_the_order(rt: HostRuntime) {
-        let said = PowerOn {
-            fill: Some(0x33),
-            start: Some(0x1111),
-        };
-        let mut powers = Powers::usual(1);
-        powers.push(said);
-        assert_eq!(rt; powers.len(), 2);
-        assert!(rt; !powers.is_empty());
-        assert_eq!(rt; powers.get(0), Some(USUAL_POWER));
-        assert_eq!(rt; powers.copy().get(1), Some(said));
-        assert_eq!(rt; powers.get(2), None);
-        assert!(rt; Powers::new().as_slice().is_empty());
-    }
-}

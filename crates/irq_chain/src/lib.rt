@@ -5,6 +5,3 @@
 mod priority;
 
 pub use priority::first_asking;
-
-#[cfg(test)]
-mod tests;

@@ -5,6 +5,3 @@ mod addresses;
 mod counters;
 
 pub use counters::Probe;
-
-#[cfg(test)]
-mod tests;

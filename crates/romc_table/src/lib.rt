@@ -7,6 +7,3 @@ mod roles;
 pub use codes::Romc;
 pub use f8_spec::{Counter, Counters, Driver};
 pub use roles::{counter_of, driver_of};
-
-#[cfg(test)]
-mod tests;

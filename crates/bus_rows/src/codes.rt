@@ -2,7 +2,7 @@
 ghost use Rattle.std.specs.Prelude.{◌≡◌};
 ghost use Rattle.std.specs.List.{range_with_len};
 
-use super::*;
+use romc_table::{Counter, Driver, Romc, counter_of, driver_of};
 
 /// The codes by their names, from 00 to 1F.
 fn named() -> [Romc; 32]

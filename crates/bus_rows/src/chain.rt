@@ -1,5 +1,5 @@
-// The chip that comes first, by hand.
-use super::*;
+// The chip of a chain that comes first, by hand.
+use irq_chain::first_asking;
 
 #[test]
 fn chooses_the_first_that_asks(rt: HostRuntime) {
