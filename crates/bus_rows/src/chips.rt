@@ -1,9 +1,9 @@
 // Each kind of chip by itself, through the trait.
 
 /// A 3851 in socket 0, a 3853 in socket 2 and a 3861 in socket 4. The first three texts count the questions that were put to each since it
-/// was made.
+/// was made: eight to the 3851, each of the five at least once, and each of the five once to the others.
 pub(crate) const CHIPS: &str = "\
-A branch at 0000 whose displacement byte, FD, stands at 0001: from there -3 leads to FFFE, which the chip doesn't hold. Eight questions are put, each of the five at least once.
+A branch at 0000 whose displacement byte, FD, stands at 0001: from there -3 leads to FFFE, which the chip doesn't hold.
 byte 0 0000 = none
 rom 0000 90 FD
 3851-unwired 0 0000 0000 04 1234
@@ -20,7 +20,7 @@ offer 0 00 = none
 latch 0 04 = 00
 asked 0 = 8
 
-The data counters change places, and the ports 0C and 0D set the vector that a pulse under control 1 gives. Each of the five questions is put once.
+The data counters change places, and the ports 0C and 0D set the vector that a pulse under control 1 gives.
 3853-none 2 0000
 power 2 00 0101
 long 2 19 77
@@ -41,7 +41,7 @@ byte 2 0000 = none
 takes 2 0000 = false
 asked 2 = 5
 
-It answers no fetch and holds no address, and its counters stay 0 whatever it is powered on with. Five questions are put, each of the five once.
+A 3861 answers no fetch and holds no address, and its counters stay 0 whatever it is powered on with.
 latch 4 08 = none
 3861 4 0000 08 0100
 kind 4 = 3861

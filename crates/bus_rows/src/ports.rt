@@ -1,6 +1,7 @@
 // Port steps, which go by the last byte on the bus: it names the port. A 3853 has the ports 0C to 0F.
 
-/// Each fault, and port steps that are served.
+/// Each fault, and port steps that are served. A fault leaves the last byte, so a write behind it goes to the same port; at a port that is
+/// nobody's it is lost.
 pub(crate) const CARTS: &str = "\
 Two 3851s, whose data ports are written and read back.
 3851 0 0000 0000 04 0000
@@ -23,7 +24,7 @@ latch 0 04 = 81
 latch 0 05 = 00
 latch 1 09 = 42
 
-Ports that no chip drives: control, timer and vector, and one that no chip has. A fault leaves the last byte, so the write behind it goes to the same port; port 20 is nobody's, and that write is lost.
+Ports that no chip drives: control, timer and vector, and port 20, which is nobody's.
 3851 0 0000 0000 04 0000
 3853-void 2 0000 FF
 1C 06 -> served 06

@@ -1,6 +1,6 @@
 // Stores: a chip takes the byte where its own data counter lies in RAM of its own.
 
-/// Each fault, and stores that are served.
+/// Each fault, and stores that are served. A chip that stands by with ROM at the probe's address is no fault.
 pub(crate) const CARTS: &str = "\
 Two chips have RAM at their own addresses.
 3853-ram 2 2800 28
@@ -48,7 +48,7 @@ counters 1 = 0000 0000 0000
 counters 2 = 9000 9000 9000 9000
 byte 2 0000 = 00
 
-Stores at 2801 in RAM, and at 0000 in ROM, 2A02 where there is nothing, and 9003, which no chip holds, where the byte is lost. A chip that stands by with ROM at the probe's address is no fault.
+Stores at 2801 in RAM, and at 0000 in ROM, 2A02 where there is nothing, and 9003, which no chip holds, where the byte is lost.
 3851 0 0000 0000 04 0000
 3851 1 9000 0000 08 0000
 3853-ram 2 0000 28
