@@ -9,6 +9,18 @@ mod command_words;
 #[cfg(test)]
 mod descriptions;
 #[cfg(test)]
+mod generated_chips;
+#[cfg(test)]
+mod lines_and_characters;
+#[cfg(test)]
 mod loaded_files;
 #[cfg(test)]
+mod printed_lines;
+#[cfg(test)]
 mod scripts;
+#[cfg(test)]
+mod stores_and_sinks;
+#[cfg(test)]
+mod texts_of_digits;
+#[cfg(test)]
+mod words_and_numbers;

@@ -7,8 +7,6 @@ mod chips;
 mod draws;
 mod lines;
 mod scratchpad;
-#[cfg(test)]
-mod tests;
 
 pub use chip_face::{ChipList, Memory};
 pub use chips::generated_chips;

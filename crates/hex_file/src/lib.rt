@@ -7,6 +7,3 @@ mod read;
 
 pub use answer::HexAnswer;
 pub use read::{BYTE_LIMIT, read_hex};
-
-#[cfg(test)]
-mod tests;

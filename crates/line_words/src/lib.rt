@@ -11,6 +11,3 @@ pub use line_draft::{LineDraft, read_lines};
 pub use numbers::{NumberFault, address_of, byte_of, number_of, number_within};
 pub use text_fault::TextFault;
 pub use words::{first_word, is_skipped, is_word, only_word};
-
-#[cfg(test)]
-mod tests;

@@ -23,6 +23,3 @@ pub use memory_stores::{MemStore, SureStore};
 pub use out_sink::OutSink;
 pub use sink::{Sink, SinkFault};
 pub use store::{FetchFault, Store};
-
-#[cfg(test)]
-mod tests;

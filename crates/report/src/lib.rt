@@ -7,8 +7,6 @@ mod check_lines;
 mod error_lines;
 mod line_buffer;
 mod run_lines;
-#[cfg(test)]
-mod tests;
 mod told_lines;
 
 pub use check_lines::{

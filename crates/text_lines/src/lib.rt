@@ -11,6 +11,3 @@ pub use digits::hex2;
 pub use lines::first_line;
 pub use printable::all_printable;
 pub use read_error::ReadError;
-
-#[cfg(test)]
-mod tests;

@@ -1,5 +1,4 @@
 // Each line by worked values.
-use super::*;
 use abs_domain::{Point, Reason};
 use cartridge::Split;
 use console_board::{PortWrite, Screen};
@@ -7,6 +6,13 @@ use console_spec::{Regs, Who};
 use data_bus::{BusFault, Parties};
 use f8_machine::Heard;
 use f8_spec::{ChipKind, Party};
+use report::{
+    Line, Reader, VerdictWord, agreed_line, bus_fault_line, bus_line, error_asm, error_cart,
+    error_hex, error_link, error_long, error_module, error_rack, error_reader, error_sockets,
+    error_store, error_toml, error_words, frame_line, notclosed_line, out_line, refused_line,
+    regs_line, row_line, scratch_line, stop_done_line, stop_fault_line, stop_reserved_line,
+    toomany_line, total_line, unsafe_line, verdict_line, whole_line,
+};
 use romc_table::Romc;
 use std::process::Abort;
 

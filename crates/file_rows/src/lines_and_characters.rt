@@ -1,6 +1,6 @@
 // Lines, printable characters and digits.
-use super::*;
 use std::test::Fail;
+use text_lines::{all_printable, first_line, hex2};
 
 #[test]
 fn line_ends(rt: HostRuntime) -> Result<(), Fail> {

@@ -1,6 +1,6 @@
 // The chips of a number, byte by byte where they are given.
-use super::*;
 use chip_face::ChipSpec;
+use generator::{gen_line, generated_chips, scratch_sum, scratch_sum_line, writes_line};
 use report::Line;
 use std::process::Abort;
 use std::test::Fail;

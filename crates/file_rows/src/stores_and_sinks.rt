@@ -1,5 +1,5 @@
 // Stores and sinks in memory and over the system: what they give and keep, and how they fail.
-use super::{
+use outside::{
     CallList, Cut, CutList, FetchFault, FileList, FileStore, MemSink, MemStore, NamedFile, OutSink,
     Sink, Store, SureSink, SureStore,
 };

@@ -1,5 +1,5 @@
 // Words and the numbers that they spell.
-use super::*;
+use line_words::{address_of, byte_of, first_word, is_skipped, number_of, only_word};
 use std::test::Fail;
 
 #[test]

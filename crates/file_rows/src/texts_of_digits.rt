@@ -1,5 +1,5 @@
 // Texts and what is answered to them.
-use super::*;
+use hex_file::{BYTE_LIMIT, HexAnswer, read_hex};
 use std::alloc::Global;
 use std::test::Fail;
 
