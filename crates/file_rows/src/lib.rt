@@ -15,6 +15,8 @@ mod lines_and_characters;
 #[cfg(test)]
 mod loaded_files;
 #[cfg(test)]
+mod named_files;
+#[cfg(test)]
 mod printed_lines;
 #[cfg(test)]
 mod scripts;

@@ -1,6 +1,7 @@
 // Calls on files in memory, on their happy paths.
+use super::named_files::files_of;
 use loader::{load_bytes, load_game, load_image};
-use outside::{FileList, NamedFile, SureStore};
+use outside::SureStore;
 use pad_script::{At, Event};
 use std::alloc::Global;
 use std::test::Fail;
@@ -16,15 +17,7 @@ const FILES: [(&str, &str); 4] = [
 ];
 
 fn store(alloc: Global) -> Result<SureStore, Fail> {
-    let mut list = Vec::new(alloc);
-    for (name, text) in FILES {
-        let bytes = Vec::from_slice(alloc, text.as_bytes())?;
-        list.push(NamedFile::new(name.to_string(alloc)?, bytes))?;
-    }
-    match FileList::from_vec(list) {
-        Some(list) => Ok(SureStore::new(list)),
-        None => Err(Fail::from("two files have one name")),
-    }
+    Ok(SureStore::new(files_of(alloc, &FILES)?))
 }
 
 #[test]

@@ -1,24 +1,14 @@
 // Stores and sinks in memory and over the system: what they give and keep, and how they fail.
+use super::named_files::{files_of, listed};
 use outside::{
-    CallList, Cut, CutList, FetchFault, FileList, FileStore, MemSink, MemStore, NamedFile, OutSink,
-    Sink, Store, SureSink, SureStore,
+    CallList, Cut, CutList, FetchFault, FileStore, MemSink, MemStore, OutSink, Sink, Store,
+    SureSink, SureStore,
 };
-use std::alloc::Global;
 use std::io::Write;
 use std::test::Fail;
 use std::{fs, io};
 
-/// The files `cart` with three bytes and `script` with none.
-fn two_files(alloc: Global) -> Result<FileList, Fail> {
-    let mut files = Vec::new(alloc);
-    let cart = Vec::from_slice(alloc, b"ABC".as_slice())?;
-    files.push(NamedFile::new("cart".to_string(alloc)?, cart))?;
-    files.push(NamedFile::new("script".to_string(alloc)?, Vec::new(alloc)))?;
-    match FileList::from_vec(files) {
-        Some(files) => Ok(files),
-        None => Err(Fail::from("the names differ")),
-    }
-}
+const TEXTS: [(&str, &str); 2] = [("cart", "ABC"), ("script", "")];
 
 /// What a store answers, as text.
 fn told(answer: &Result<Vec<u8>, FetchFault>) -> &str {
@@ -34,12 +24,8 @@ fn told(answer: &Result<Vec<u8>, FetchFault>) -> &str {
 
 #[test]
 fn refuses_two_files_of_one_name(rt: HostRuntime) -> Result<(), Fail> {
-    let mut files = Vec::new(rt.alloc());
-    for _ in 0..2 {
-        let name = "cart".to_string(rt.alloc())?;
-        files.push(NamedFile::new(name, Vec::new(rt.alloc())))?;
-    }
-    assert!(rt; FileList::from_vec(files).is_none());
+    let files = listed(rt.alloc(), &[("cart", ""), ("cart", "")])?;
+    assert!(rt; files.is_none());
     Ok(())
 }
 
@@ -47,8 +33,8 @@ fn refuses_two_files_of_one_name(rt: HostRuntime) -> Result<(), Fail> {
 fn gives_files_from_memory(rt: HostRuntime) -> Result<(), Fail> {
     let mut failing = Vec::new(rt.alloc());
     failing.push(5)?;
-    let mut store = MemStore::new(two_files(rt.alloc())?, CallList::from_vec(failing));
-    let mut sure = SureStore::new(two_files(rt.alloc())?);
+    let mut store = MemStore::new(files_of(rt.alloc(), &TEXTS)?, CallList::from_vec(failing));
+    let mut sure = SureStore::new(files_of(rt.alloc(), &TEXTS)?);
     let rows = [
         ("cart", 3, "ABC", "ABC"),
         ("cart", 2, "too long", "too long"),
@@ -74,7 +60,7 @@ fn gives_files_from_memory(rt: HostRuntime) -> Result<(), Fail> {
 /// Over a real file, which is longer than one read.
 #[test]
 fn reads_files_of_the_system(rt: HostRuntime) -> Result<(), Fail> {
-    let bytes = vec![in rt.alloc(); 0x2Bu8; 5000]?;
+    let bytes = [0x2B; 5000];
     fs::write(&rt, "cart", bytes.as_slice())?;
     let mut store = FileStore::new(&rt);
     let whole = store.fetch(rt.alloc(), "cart", 5000);
@@ -87,6 +73,17 @@ fn reads_files_of_the_system(rt: HostRuntime) -> Result<(), Fail> {
     Ok(())
 }
 
+// the pieces of calls, and whether they are taken
+const PIECES: [(&str, bool); 7] = [
+    ("AB", true),
+    ("C", false),
+    ("DEF", false),
+    ("G", false),
+    ("", true),
+    ("HIJKL", false),
+    ("M", false),
+];
+
 /// The second call takes nothing, the third two bytes and the fourth a whole piece, which is shorter than its cut. The room ends in the
 /// sixth, and no byte of it is there for the seventh.
 #[test]
@@ -97,18 +94,9 @@ fn keeps_lines_in_memory(rt: HostRuntime) -> Result<(), Fail> {
     }
     let mut sink = MemSink::new(rt.alloc(), 8, CutList::from_vec(cuts))?;
     let mut sure = SureSink::new(rt.alloc(), 4)?;
-    let pieces = [
-        (b"AB".as_slice(), true),
-        (b"C", false),
-        (b"DEF", false),
-        (b"G", false),
-        (b"", true),
-        (b"HIJKL", false),
-        (b"M", false),
-    ];
-    for (piece, taken) in pieces {
-        assert_eq!(rt; sink.put(piece).is_ok(), taken);
-        assert!(rt; sure.put(piece).is_ok());
+    for (piece, taken) in PIECES {
+        assert_eq!(rt; sink.put(piece.as_bytes()).is_ok(), taken);
+        assert!(rt; sure.put(piece.as_bytes()).is_ok());
     }
     assert_eq!(rt; sink.bytes(), b"ABDEGHIJ".as_slice());
     assert_eq!(rt; sure.bytes(), b"ABC".as_slice());
@@ -140,9 +128,9 @@ fn writes_a_piece_in_several_calls(rt: HostRuntime) -> Result<(), Fail> {
         room: 12,
     };
     let mut sink = OutSink::new(&mut narrow);
-    assert!(rt; sink.put(b"stop done\n").is_ok());
-    assert!(rt; sink.put(b"").is_ok());
-    assert!(rt; sink.put(b"total").is_err());
+    for (piece, taken) in [("stop done\n", true), ("", true), ("total", false)] {
+        assert_eq!(rt; sink.put(piece.as_bytes()).is_ok(), taken);
+    }
     assert_eq!(rt; narrow.kept.as_slice(), b"stop done\nto".as_slice());
     Ok(())
 }
