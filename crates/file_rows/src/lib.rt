@@ -1,5 +1,5 @@
-//! Worked words, descriptions, scripts and files of commands, each as its reader takes it, and what commands need of their files. This crate
-//! has tests alone, so that the readers aren't proved once more with them.
+//! Worked words, descriptions, scripts, digits and files of commands, each as its reader takes it, what commands need of their files,
+//! stores and sinks, and printed lines. This crate has tests alone, so that the crates below aren't proved once more with them.
 #![tactic(auto)]
 
 #[cfg(test)]
