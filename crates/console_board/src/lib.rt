@@ -6,6 +6,3 @@ mod video_board;
 pub use console_spec::PortWrite;
 pub use video::Screen;
 pub use video_board::{Board, FRAME_CLOCKS};
-
-#[cfg(test)]
-mod tests;

@@ -15,6 +15,3 @@ pub use offers::{counter_byte, offered, offered_if};
 pub use ports::port_offset;
 pub use registers::Registers;
 pub use words::{high_byte, low_byte, with_high, with_low};
-
-#[cfg(test)]
-mod tests;

@@ -13,6 +13,3 @@ pub use table::{
     INTERRUPT_PHI, MOST_INTERRUPTED_PHI, MOST_PHI, OWN_PORTS, RESET_PHI, clocks_law,
     has_long_fetch, length, phi, row_of, shields, step_phi,
 };
-
-#[cfg(test)]
-mod tests;

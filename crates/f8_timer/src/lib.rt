@@ -5,6 +5,3 @@ mod clock;
 mod cycle;
 
 pub use clock::{CYCLE_PHI, STEP_PHI, Timer};
-
-#[cfg(test)]
-mod tests;

@@ -10,6 +10,3 @@ pub use addresses::wrap_add;
 pub use laws::sum_law;
 pub use status_word::Flags;
 pub use sums::{Sum, add9, bcd};
-
-#[cfg(test)]
-mod tests;

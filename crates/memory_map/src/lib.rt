@@ -13,6 +13,3 @@ mod table;
 pub use console_spec::Sort;
 pub use f8_spec::Memory;
 pub use table::Map;
-
-#[cfg(test)]
-mod tests;

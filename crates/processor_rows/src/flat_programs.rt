@@ -1,55 +1,19 @@
 // Worked programs.
-ghost use Rattle.std.specs.Prelude.{◌≡◌, ◌≤◌, IfOk, false, length};
-ghost use Rattle.chip_face.specs.Fitting.{IsSpec, is_blank};
+ghost use Rattle.std.specs.Prelude.{◌≤◌, length};
 
-use chip_face::{Bytes, ChipList, ChipSpec, Page, PageList, PageSort, Powers};
+use super::chips::two_chips;
+use chip_face::Powers;
 use f8_isa::{Done, Isa, PortWrite, Reserved};
 use memory_map::Map;
 use std::alloc::Global;
 use std::process::Abort;
 use std::test::Fail;
 
-// a 3851 at 0000 with these bytes, and FF in the rest of its ROM, whose interrupts lead to 0180
-fn psu(alloc: Global, program: &[u8]) -> Result<ChipSpec, Fail>
-    requires fits { length program.now ≤ 1024 }
-    ensures spec { IfOk result IsSpec }
-    ensures kept { IfOk result (λ chip. is_blank chip ≡ false) }
-{
-    let mut bytes = program.to_vec(alloc)?;
-    bytes.resize(1024, 0xFF)?;
-    Ok(ChipSpec::Psu {
-        base: 0x0000,
-        rom: Bytes::from_vec(bytes),
-        ports: 0x04,
-        vector: 0x0180,
-        wired: true,
-    })
-}
-
-// a 3853 with a RAM page at 28
-fn smi(alloc: Global) -> Result<ChipSpec, Fail>
-    ensures spec { IfOk result IsSpec }
-    ensures kept { IfOk result (λ chip. is_blank chip ≡ false) }
-{
-    let pages = [Page {
-        number: 0x28,
-        sort: PageSort::Ram,
-    }];
-    Ok(ChipSpec::Smi {
-        pages: PageList::of(alloc, &pages)?,
-        rom: Bytes::of(alloc, &[])?,
-        wired: false,
-    })
-}
-
 // these bytes in a 3851 at 0000, beside a 3853
 fn program(alloc: Global, bytes: &[u8]) -> Result<Isa, Fail>
     requires { length bytes.now ≤ 1024 }
 {
-    let mut chips = Vec::with_capacity(alloc, 2)?;
-    chips.push(psu(alloc, bytes)?)?;
-    chips.push(smi(alloc)?)?;
-    let chips = ChipList::from_vec(chips);
+    let chips = two_chips(alloc, bytes, true)?;
     let map = Map::of(alloc, &chips)?;
     let powers = Powers::usual(chips.as_slice().len());
     Ok(Isa::new(alloc, &map, &chips, &powers, 0x5A)?)

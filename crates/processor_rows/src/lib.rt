@@ -1,8 +1,25 @@
-//! Worked programs of the processor, step by step along the bus and at once on a flat memory. This crate has tests alone, so that the two
-//! crates aren't proved once more with them.
+//! Worked values of the processor and of what stands below it: sums, instructions, timers, counters, maps of chips, pictures, and programs
+//! step by step along the bus and at once on a flat memory. This crate has tests alone, so that the crates that it calls aren't proved
+//! once more with them.
 #![tactic(auto)]
 
 #[cfg(test)]
+mod boards;
+#[cfg(test)]
+mod chips;
+#[cfg(test)]
+mod counters;
+#[cfg(test)]
 mod flat_programs;
 #[cfg(test)]
+mod instructions;
+#[cfg(test)]
+mod memory_maps;
+#[cfg(test)]
+mod pictures;
+#[cfg(test)]
 mod stepped_programs;
+#[cfg(test)]
+mod timers;
+#[cfg(test)]
+mod words;

@@ -5,6 +5,3 @@ mod pixel_row;
 mod video_memory;
 
 pub use video_memory::Screen;
-
-#[cfg(test)]
-mod tests;

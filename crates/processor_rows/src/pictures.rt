@@ -1,5 +1,5 @@
 // Pixels, palettes, rows and their planes.
-use super::*;
+use video::Screen;
 
 // a screen that was given some writes, each a port and a byte
 fn written(writes: &[(u8, u8)]) -> Screen {

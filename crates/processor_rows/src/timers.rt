@@ -1,5 +1,5 @@
 // Timers by values that were worked out by hand.
-use super::*;
+use f8_timer::{STEP_PHI, Timer};
 
 // Passes 31 Φ, and says whether the timer expired in them.
 fn pass_a_step(timer: &mut Timer) -> bool {

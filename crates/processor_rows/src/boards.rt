@@ -1,5 +1,5 @@
 // A pixel drawn through the board, and frames that fall.
-use super::*;
+use console_board::{Board, PortWrite};
 
 // The strobe rises at the column and the row inverted, so that one pixel is drawn.
 #[test]

@@ -1,15 +1,21 @@
-// Counters and requests by worked steps.
-use super::*;
+// Counters, requests and ports of a chip by worked steps.
+use f8_counters::{Interrupts, Registers, high_byte, low_byte, port_offset};
 use romc_table::{Counters, Romc};
 
-// A call of 0123 whose operand bytes stand at 0005 and 0006.
+/// A call of 0123, of whose operand the first byte stands at 0005.
+const CALL: [(Romc, u8); 4] = [
+    (Romc::OPERAND, 0x01),
+    (Romc::SAVE_NEXT, 0x00),
+    (Romc::JUMP_LOW, 0x23),
+    (Romc::SET_PROGRAM_HIGH, 0x01),
+];
+
 #[test]
 fn follows_a_call(rt: HostRuntime) {
     let mut registers = Registers::at(0x0005);
-    registers.hear(Romc::OPERAND, 0x01, true);
-    registers.hear(Romc::SAVE_NEXT, 0x00, true);
-    registers.hear(Romc::JUMP_LOW, 0x23, true);
-    registers.hear(Romc::SET_PROGRAM_HIGH, 0x01, true);
+    for (romc, byte) in CALL {
+        registers.hear(romc, byte, true);
+    }
     assert_eq!(rt;
         registers.counters(true),
         Counters {
@@ -24,15 +30,13 @@ fn follows_a_call(rt: HostRuntime) {
 // Code 1D exchanges the data counters of a chip that has two, and leaves that of a chip with one.
 #[test]
 fn exchanges_two_data_counters(rt: HostRuntime) {
-    let mut two = Registers::at(0x2800);
-    two.hear(Romc::SET_DATA_LOW, 0x34, true);
-    let mut one = two;
-    two.hear(Romc::EXCHANGE, 0x00, true);
-    one.hear(Romc::EXCHANGE, 0x00, false);
-    assert_eq!(rt; two.counters(true).dc0, 0x2800);
-    assert_eq!(rt; two.counters(true).dc1, Some(0x2834));
-    assert_eq!(rt; one.counters(false).dc0, 0x2834);
-    assert_eq!(rt; one.counters(false).dc1, None);
+    for (both, dc0, dc1) in [(true, 0x2800, Some(0x2834)), (false, 0x2834, None)] {
+        let mut registers = Registers::at(0x2800);
+        registers.hear(Romc::SET_DATA_LOW, 0x34, true);
+        registers.hear(Romc::EXCHANGE, 0x00, both);
+        let told = registers.counters(both);
+        assert_eq!(rt; (told.dc0, told.dc1), (dc0, dc1));
+    }
 }
 
 // A pulse under control 1 asks, with bit 7 of the vector set, until it is acknowledged.
@@ -71,8 +75,8 @@ fn requests_by_an_expiry(rt: HostRuntime) {
 // The ports 04 to 07 are the four that begin at 04.
 #[test]
 fn counts_ports_from_the_first(rt: HostRuntime) {
-    assert_eq!(rt; port_offset(0x07, 0x04), Some(3));
-    assert_eq!(rt; port_offset(0x08, 0x04), None);
-    assert_eq!(rt; port_offset(0x03, 0x04), None);
+    for (port, place) in [(0x07, Some(3)), (0x08, None), (0x03, None)] {
+        assert_eq!(rt; port_offset(port, 0x04), place);
+    }
     assert_eq!(rt; high_byte(0x1234), 0x12);
 }

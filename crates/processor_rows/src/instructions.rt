@@ -1,0 +1,46 @@
+// Opcodes both ways, clocks and lengths, shielding, and names.
+use f8_ops::{Op, Reserved, Row, decode, encode, length, name, phi, row_of, shields};
+
+/// The first and the last opcode of ranges beside reserved ones.
+const OPCODES: [(u8, Result<Op, Reserved>); 7] = [
+    (0x2B, Ok(Op::Nop)),
+    (0x3E, Ok(Op::Ds { r: 14 })),
+    (0x7F, Ok(Op::Lis { n: 15 })),
+    (0x90, Ok(Op::Bf { t: 0 })),
+    (0xA4, Ok(Op::Ins { n: 4 })),
+    (0xB1, Ok(Op::Outs { n: 1 })),
+    (0xA2, Err(Reserved { code: 0xA2 })),
+];
+
+/// Instructions, whether a branch is taken, and their clocks and bytes.
+const LENGTHS: [(Op, bool, u8, u8); 10] = [
+    (Op::Nop, false, 4, 1),
+    (Op::Ds { r: 0 }, false, 6, 1),
+    (Op::Bf { t: 0 }, true, 14, 2),
+    (Op::Bt { t: 0 }, false, 12, 2),
+    (Op::Br7, true, 10, 2),
+    (Op::Br7, false, 8, 2),
+    (Op::Outs { n: 1 }, false, 8, 1),
+    (Op::Outs { n: 4 }, false, 16, 1),
+    (Op::Dci, false, 24, 3),
+    (Op::Pi, false, 26, 3),
+];
+
+#[test]
+fn table_of_instructions(rt: HostRuntime) {
+    for (code, decoded) in OPCODES {
+        assert_eq!(rt; decode(code), decoded, "at {code}");
+    }
+    assert_eq!(rt; encode(Op::Ns { r: 14 }), 0xFE);
+    for (op, taken, clocks, bytes) in LENGTHS {
+        assert_eq!(rt; phi(op, taken), clocks, "of {op:?}");
+        assert_eq!(rt; length(op), bytes, "of {op:?}");
+    }
+    assert_eq!(rt; row_of(Op::Xdc), Row::Exchange);
+    for (op, shielding) in [(Op::Ei, true), (Op::Di, false), (Op::Outs { n: 1 }, false)] {
+        assert_eq!(rt; shields(op), shielding, "of {op:?}");
+    }
+    for (op, first_word) in [(Op::LrDcH, "LR"), (Op::Br7, "BR7")] {
+        assert_eq!(rt; name(op), first_word);
+    }
+}
