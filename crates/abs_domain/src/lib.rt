@@ -16,6 +16,3 @@ pub use reason::Reason;
 pub use scratchpad::SCRATCHPAD_SIZE;
 pub use state::Abs;
 pub use values::{Bit, Digit, Val, Word};
-
-#[cfg(test)]
-mod tests;

@@ -1,5 +1,5 @@
 // States, values and points by hand.
-use super::*;
+use abs_domain::{Abs, Bit, Digit, Point, SCRATCHPAD_SIZE, Val, Word};
 
 // What is known at reset: the status word and the data counters of the flat machine, which are 0.
 const START: Abs = Abs {
