@@ -4,8 +4,6 @@
 
 mod image_out;
 mod listing_out;
-#[cfg(test)]
-mod tests;
 
 pub use image_out::{put_image, put_linked};
 pub use listing_out::put_listing;

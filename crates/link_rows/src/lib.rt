@@ -7,3 +7,5 @@ mod objects;
 mod pictures;
 #[cfg(test)]
 mod plans;
+#[cfg(test)]
+mod printed_lines;

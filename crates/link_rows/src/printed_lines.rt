@@ -1,5 +1,5 @@
 // Worked images and a listing, each line as one put, and a sink that fails.
-use super::*;
+use asm_lines::{put_image, put_listing};
 use f8_asm::{Image, Room, assemble, disassemble};
 use outside::{Cut, CutList, MemSink, SinkFault, SureSink};
 use std::alloc::Global;
