@@ -17,6 +17,8 @@ mod questions;
 #[cfg(test)]
 mod racks;
 #[cfg(test)]
+mod replay_log;
+#[cfg(test)]
 mod sixteen_chips;
 #[cfg(test)]
 mod tapes;

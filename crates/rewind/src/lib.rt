@@ -8,8 +8,6 @@ mod log;
 mod starting;
 mod tape;
 mod tape_mode;
-#[cfg(test)]
-mod tests;
 
 pub use entry::Entry;
 pub use law::forgetting_law;

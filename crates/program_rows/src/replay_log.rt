@@ -1,6 +1,6 @@
-// A log of two instructions and two events.
-use super::*;
+// The replay log of rewind: two instructions and two events.
 use console_spec::Event;
+use rewind::{Entry, Log, forgetting_law};
 use std::test::Fail;
 
 const KEYS: Event = Event::Keys {
@@ -11,7 +11,7 @@ const KEYS: Event = Event::Keys {
 const PULSE: Event = Event::Pulse { chip: 0 };
 
 #[test]
-fn a_log(rt: HostRuntime) -> Result<(), Fail> {
+fn plays_a_log_again(rt: HostRuntime) -> Result<(), Fail> {
     let mut log = Log::with_room(rt.alloc(), 2)?;
     assert_eq!(rt; log.next_entry(), None);
     log.add_event(KEYS);
