@@ -1,7 +1,8 @@
 // What the rows have in common: files, and calls over stores and sinks in memory.
 use channel_f::console;
 use f8_machine::Rack;
-use outside::{CallList, CutList, FileList, MemSink, MemStore, NamedFile, Sink, Store};
+use outside::{CallList, Cut, CutList, FileList, MemSink, MemStore, NamedFile, Sink, Store};
+use romc_table::Counters;
 use std::alloc::Global;
 use std::process::Abort;
 use std::test::Fail;
@@ -24,8 +25,69 @@ pub(crate) const LOOP_PLAY: &str = "verdict whole\n\
 /// A file: its name and its text.
 pub(crate) type File<'a> = (&'a str, &'a str);
 
-/// Files, words, the status, and what is written.
-pub(crate) type Row<'a> = (&'a [File<'a>], &'a [&'a str], u8, &'a str);
+/// What is written: all of it, or how it begins and ends.
+#[derive(Clone, Copy)]
+pub(crate) enum Text<'a> {
+    All(&'a str),
+    Between(&'a str, &'a str),
+}
+
+/// What a chip has: its PC0, PC1 and DC0, and the DC1 of a 3853; or the latch of a port.
+#[derive(Clone, Copy)]
+pub(crate) enum Has {
+    Counters(u16, u16, u16, Option<u16>),
+    Latch(u8, u8),
+}
+
+/// What the chip of a socket has after a call.
+pub(crate) type Left = (usize, Has);
+
+/// A call of the program, and what comes of it. The store has no file but the row's.
+#[derive(Clone, Copy)]
+pub(crate) struct Row<'a> {
+    pub(crate) files: &'a [File<'a>],
+    pub(crate) words: &'a [&'a str],
+
+    /// The fetch that fails.
+    pub(crate) fetch: Option<u64>,
+
+    /// The put that fails, and after how many bytes.
+    pub(crate) put: Option<(u64, u32)>,
+
+    /// The room of the sink.
+    pub(crate) room: u32,
+    pub(crate) status: u8,
+    pub(crate) text: Text<'a>,
+    pub(crate) left: &'a [Left],
+}
+
+/// A call in which no call of the store and the sink fails.
+pub(crate) const SERVED: Row = Row {
+    files: &[],
+    words: &[],
+    fetch: None,
+    put: None,
+    room: 100_000,
+    status: 0,
+    text: Text::All(""),
+    left: &[],
+};
+
+/// What is written before the scratchpad, the scratchpad without a byte, and what is written behind it.
+macro_rules! ended {
+    ($head:literal, $total:literal) => {
+        concat!(
+            $head,
+            "s00 00 00 00 00 00 00 00 00 00 00 00 00 00 00 00 00\n",
+            "s10 00 00 00 00 00 00 00 00 00 00 00 00 00 00 00 00\n",
+            "s20 00 00 00 00 00 00 00 00 00 00 00 00 00 00 00 00\n",
+            "s30 00 00 00 00 00 00 00 00 00 00 00 00 00 00 00 00\n",
+            $total
+        )
+    };
+}
+
+pub(crate) use ended;
 
 fn file_of(alloc: Global, file: &File) -> Result<NamedFile, Fail> {
     let (name, text) = *file;
@@ -34,19 +96,32 @@ fn file_of(alloc: Global, file: &File) -> Result<NamedFile, Fail> {
     Ok(NamedFile::new(name, bytes))
 }
 
-pub(crate) fn list_of(files: Vec<NamedFile>) -> Result<FileList, Fail> {
-    match FileList::from_vec(files) {
-        Some(list) => Ok(list),
-        None => Err("two files have one name".into()),
-    }
-}
-
 pub(crate) fn files_of(alloc: Global, files: &[File]) -> Result<FileList, Fail> {
     let mut list = Vec::new(alloc);
     for file in files {
         list.push(file_of(alloc, file)?)?;
     }
-    list_of(list)
+    match FileList::from_vec(list) {
+        Some(list) => Ok(list),
+        None => Err("two files have one name".into()),
+    }
+}
+
+fn store_of(alloc: Global, row: &Row) -> Result<MemStore, Fail> {
+    let mut calls = Vec::new(alloc);
+    if let Some(call) = row.fetch {
+        calls.push(call)?;
+    }
+    let files = files_of(alloc, row.files)?;
+    Ok(MemStore::new(files, CallList::from_vec(calls)))
+}
+
+fn sink_of(alloc: Global, row: &Row) -> Result<MemSink, Fail> {
+    let mut cuts = Vec::new(alloc);
+    if let Some((call, sent)) = row.put {
+        cuts.push(Cut { call, sent })?;
+    }
+    Ok(MemSink::new(alloc, row.room, CutList::from_vec(cuts))?)
 }
 
 fn words_of(alloc: Global, texts: &[&str]) -> Result<Vec<String>, Fail> {
@@ -55,11 +130,6 @@ fn words_of(alloc: Global, texts: &[&str]) -> Result<Vec<String>, Fail> {
         words.push(text.to_string(alloc)?)?;
     }
     Ok(words)
-}
-
-/// A store with these files, in which no fetch fails but of a missing one.
-pub(crate) fn store_of(alloc: Global, files: FileList) -> MemStore {
-    MemStore::new(files, CallList::from_vec(Vec::new(alloc)))
 }
 
 /// The status of the program.
@@ -74,37 +144,50 @@ pub(crate) fn status_of<S: Store, K: Sink>(
     Ok(console(alloc, words.as_slice(), store, sink, rack))
 }
 
-/// The status, with what is written, over a store and a sink in which no call is made to fail. The sink has room for so many bytes.
-pub(crate) fn answered(
-    alloc: Global,
-    room: u32,
-    files: FileList,
-    words: &[&str],
-    rack: &mut Rack,
-) -> Result<(u8, MemSink), Fail> {
-    let mut store = store_of(alloc, files);
-    let mut sink = MemSink::new(alloc, room, CutList::from_vec(Vec::new(alloc)))?;
-    let status = status_of(alloc, words, &mut store, &mut sink, rack)?;
+/// The status, with what is written.
+pub(crate) fn answered(alloc: Global, row: &Row, rack: &mut Rack) -> Result<(u8, MemSink), Fail> {
+    let mut store = store_of(alloc, row)?;
+    let mut sink = sink_of(alloc, row)?;
+    let status = status_of(alloc, row.words, &mut store, &mut sink, rack)?;
     Ok((status, sink))
 }
 
-fn check_row(rt: &impl Abort, alloc: Global, row: &Row, rack: &mut Rack) -> Result<(), Fail> {
-    let (files, words, want, text) = *row;
-    let (status, sink) = answered(alloc, 4_096, files_of(alloc, files)?, words, rack)?;
-    assert_eq!(rt; status, want, "{text}");
-    assert_eq!(rt; sink.bytes(), text.as_bytes(), "{text}");
-    Ok(())
+fn check_text(rt: &impl Abort, row: &Row, bytes: &[u8]) {
+    match row.text {
+        Text::All(text) => assert_eq!(rt; bytes, text.as_bytes(), "{text}"),
+        Text::Between(head, tail) => {
+            assert!(rt; bytes.starts_with(head.as_bytes()), "{head}");
+            assert!(rt; bytes.ends_with(tail.as_bytes()), "{tail}");
+        }
+    }
 }
 
-/// Answers each row on one rack. The store has no file but the row's.
-pub(crate) fn check_rows(
+fn check_left(rt: &impl Abort, left: &Left, rack: &mut Rack) {
+    let (socket, has) = *left;
+    let Some(chip) = rack.get_mut(socket) else {
+        panic!(rt; "no socket {socket}");
+    };
+    match has {
+        Has::Counters(pc0, pc1, dc0, dc1) => {
+            let want = Counters { pc0, pc1, dc0, dc1 };
+            assert_eq!(rt; chip.counters(), want, "socket {socket}");
+        }
+        Has::Latch(port, byte) => assert_eq!(rt; chip.latch(port), Some(byte), "socket {socket}"),
+    }
+}
+
+/// Makes the call of a row, on this rack, and compares what comes of it.
+pub(crate) fn check_row(
     rt: &impl Abort,
     alloc: Global,
-    rows: &[Row],
+    row: &Row,
     rack: &mut Rack,
 ) -> Result<(), Fail> {
-    for row in rows {
-        check_row(rt, alloc, row, rack)?;
+    let (status, sink) = answered(alloc, row, rack)?;
+    check_text(rt, row, sink.bytes());
+    assert_eq!(rt; status, row.status, "{:?}", row.words);
+    for left in row.left {
+        check_left(rt, left, rack);
     }
     Ok(())
 }

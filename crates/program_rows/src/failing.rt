@@ -1,7 +1,7 @@
 // Stores that fail at a fetch, and sinks that fail in mid-run.
-use super::calls::{File, LOOP_CART, LOOP_SCRIPT, answered, files_of, status_of, store_of};
+use super::calls::{File, LOOP_CART, LOOP_SCRIPT, Row, SERVED, Text, answered};
+use super::seats::{LONE, P, Seat, check_rows};
 use f8_machine::Rack;
-use outside::{CallList, Cut, CutList, MemSink, MemStore};
 use psu3851::Psu;
 use std::alloc::Global;
 use std::process::Abort;
@@ -16,120 +16,148 @@ const FILES: [File; 6] = [
     ("digits", "712D"),
 ];
 
-/// What is put where the sink fails at a call, after so many bytes: its room, the call, the bytes, and the status with the sink.
-fn cut_short(
-    alloc: Global,
-    words: &[&str],
-    room: u32,
-    cut: Cut,
-    rack: &mut Rack,
-) -> Result<(u8, MemSink), Fail> {
-    let mut cuts = Vec::new(alloc);
-    cuts.push(cut)?;
-    let mut sink = MemSink::new(alloc, room, CutList::from_vec(cuts))?;
-    let mut store = store_of(alloc, files_of(alloc, &FILES)?);
-    let status = status_of(alloc, words, &mut store, &mut sink, rack)?;
-    Ok((status, sink))
-}
-
-/// Words, the room, the call that fails, after how many bytes, and what is written. No call has the number 0: there the room ends within the
-/// second line.
-type Row<'a> = (&'a [&'a str], u32, u64, u32, &'a [u8]);
-
-const PLAY: &[&str] = &["play", "cart", "script"];
-
-const REFUSED: &[&str] = &["play", "empty", "script"];
-
-const ROWS: [Row; 12] = [
-    (
-        &["play", "cart", "drawn"],
-        1_024,
-        4,
-        0,
-        b"verdict whole\nframe 1 phi 29830 tone 0\n\
-          0 00000000000000000000000000000000000000000000000000000000000000000000000000000000000000000000000000000000000000000000000000000000\n",
-    ),
-    (&["gen", "1"], 1_024, 2, 0, b"gen 1\n"),
-    (PLAY, 1_024, 1, 0, b""),
-    (PLAY, 1_024, 3, 0, b"verdict whole\nstop done\n"),
-    (PLAY, 1_024, 3, 1, b"verdict whole\nstop done\nr"),
-    (
-        PLAY,
-        1_024,
-        3,
-        1_000,
-        b"verdict whole\nstop done\nregs P=0001 P1=0000 D0=0000 D1=0000 A=01 IS=00 W=00\n",
-    ),
-    (PLAY, 18, 0, 0, b"verdict whole\nstop"),
-    (REFUSED, 1_024, 1, 0, b""),
-    (REFUSED, 1_024, 1, 7, b"error c"),
-    (REFUSED, 1_024, 1, 1_000, b"error cart key format cause 1\n"),
-    (&["asm", "code"], 1_024, 2, 0, b"0000 2B90FE\n"),
-    (&["dis", "digits"], 1_024, 3, 0, b"ORG $0000\nLIS 1\n"),
+static ROWS: [Row; 12] = [
+    Row {
+        files: &FILES,
+        words: &["play", "cart", "drawn"],
+        put: Some((4, 0)),
+        status: 5,
+        text: Text::All(
+            "verdict whole\nframe 1 phi 29830 tone 0\n\
+             0 00000000000000000000000000000000000000000000000000000000000000000000000000000000000000000000000000000000000000000000000000000000\n",
+        ),
+        ..SERVED
+    },
+    Row {
+        files: &FILES,
+        words: &["gen", "1"],
+        put: Some((2, 0)),
+        status: 5,
+        text: Text::All("gen 1\n"),
+        ..SERVED
+    },
+    Row {
+        files: &FILES,
+        words: &["play", "cart", "script"],
+        put: Some((1, 0)),
+        status: 5,
+        text: Text::All(""),
+        ..SERVED
+    },
+    Row {
+        files: &FILES,
+        words: &["play", "cart", "script"],
+        put: Some((3, 0)),
+        status: 5,
+        text: Text::All("verdict whole\nstop done\n"),
+        ..SERVED
+    },
+    Row {
+        files: &FILES,
+        words: &["play", "cart", "script"],
+        put: Some((3, 1)),
+        status: 5,
+        text: Text::All("verdict whole\nstop done\nr"),
+        ..SERVED
+    },
+    Row {
+        files: &FILES,
+        words: &["play", "cart", "script"],
+        put: Some((3, 1_000)),
+        status: 5,
+        text: Text::All(
+            "verdict whole\nstop done\nregs P=0001 P1=0000 D0=0000 D1=0000 A=01 IS=00 W=00\n",
+        ),
+        ..SERVED
+    },
+    Row {
+        files: &FILES,
+        words: &["play", "cart", "script"],
+        room: 18,
+        status: 5,
+        text: Text::All("verdict whole\nstop"),
+        ..SERVED
+    },
+    Row {
+        files: &FILES,
+        words: &["play", "empty", "script"],
+        put: Some((1, 0)),
+        status: 5,
+        text: Text::All(""),
+        ..SERVED
+    },
+    Row {
+        files: &FILES,
+        words: &["play", "empty", "script"],
+        put: Some((1, 7)),
+        status: 5,
+        text: Text::All("error c"),
+        ..SERVED
+    },
+    Row {
+        files: &FILES,
+        words: &["play", "empty", "script"],
+        put: Some((1, 1_000)),
+        status: 5,
+        text: Text::All("error cart key format cause 1\n"),
+        ..SERVED
+    },
+    Row {
+        files: &FILES,
+        words: &["asm", "code"],
+        put: Some((2, 0)),
+        status: 5,
+        text: Text::All("0000 2B90FE\n"),
+        ..SERVED
+    },
+    Row {
+        files: &FILES,
+        words: &["dis", "digits"],
+        put: Some((3, 0)),
+        status: 5,
+        text: Text::All("ORG $0000\nLIS 1\n"),
+        ..SERVED
+    },
 ];
 
-fn check_row(rt: &impl Abort, alloc: Global, row: &Row, rack: &mut Rack) -> Result<(), Fail> {
-    let (words, room, call, sent, text) = *row;
-    let (status, sink) = cut_short(alloc, words, room, Cut { call, sent }, rack)?;
-    assert_eq!(rt; status, 5, "{words:?}");
-    assert_eq!(rt; sink.bytes(), text, "{words:?}");
-    Ok(())
-}
+/// Each of the two fetches fails, and the line says so.
+static FETCHES: [Row; 2] = [
+    Row {
+        files: &FILES,
+        words: &["play", "cart", "script"],
+        fetch: Some(1),
+        status: 4,
+        text: Text::All("error store cart\n"),
+        ..SERVED
+    },
+    Row {
+        files: &FILES,
+        words: &["play", "cart", "script"],
+        fetch: Some(2),
+        status: 4,
+        text: Text::All("error store script\n"),
+        ..SERVED
+    },
+];
+
+const TWELVE: [Seat; 12] = [P, P, P, P, P, P, P, P, P, P, P, P];
 
 #[test]
 fn stops_at_a_failing_sink(rt: HostRuntime) -> Result<(), Fail> {
-    let mut rack: Rack = Vec::new(rt.alloc());
-    for _ in 0..12 {
-        rack.push(Box::new(rt.alloc(), Psu::blank())?)?;
-    }
-    for row in &ROWS {
-        check_row(&rt, rt.alloc(), row, &mut rack)?;
-    }
-    Ok(())
-}
-
-/// The fetch that fails, and the line that says so.
-const FETCHES: [(u64, &str); 2] = [(1, "error store cart\n"), (2, "error store script\n")];
-
-fn check_fetch(
-    rt: &impl Abort,
-    alloc: Global,
-    call: u64,
-    text: &str,
-    rack: &mut Rack,
-) -> Result<(), Fail> {
-    let mut calls = Vec::new(alloc);
-    calls.push(call)?;
-    let mut store = MemStore::new(files_of(alloc, &FILES)?, CallList::from_vec(calls));
-    let mut sink = MemSink::new(alloc, 1_024, CutList::from_vec(Vec::new(alloc)))?;
-    let status = status_of(alloc, PLAY, &mut store, &mut sink, rack)?;
-    assert_eq!(rt; status, 4, "{text}");
-    assert_eq!(rt; sink.bytes(), text.as_bytes(), "{text}");
-    Ok(())
+    check_rows(&rt, rt.alloc(), &TWELVE, &ROWS)
 }
 
 #[test]
 fn stops_at_a_failing_store(rt: HostRuntime) -> Result<(), Fail> {
-    let mut rack: Rack = Vec::new(rt.alloc());
-    rack.push(Box::new(rt.alloc(), Psu::blank())?)?;
-    for (call, text) in &FETCHES {
-        check_fetch(&rt, rt.alloc(), *call, text, &mut rack)?;
-    }
-    Ok(())
+    check_rows(&rt, rt.alloc(), &LONE, &FETCHES)
 }
 
-const DRAWN: &[&str] = &["play", "cart", "drawn"];
-
-/// Where the lines of some bytes end.
-fn line_ends(alloc: Global, bytes: &[u8]) -> Result<Vec<usize>, Fail> {
-    let mut ends = Vec::new(alloc);
-    for (place, byte) in bytes.iter().enumerate() {
-        if *byte == b'\n' {
-            ends.push(place.saturating_add(1))?;
-        }
-    }
-    Ok(ends)
-}
+/// A run with a frame.
+static DRAWN: Row = Row {
+    files: &FILES,
+    words: &["play", "cart", "drawn"],
+    ..SERVED
+};
 
 /// A call of the sink fails two bytes behind this place, and what was written is that of the whole run, up to there.
 fn check_line(
@@ -140,24 +168,31 @@ fn check_line(
     begin: usize,
     rack: &mut Rack,
 ) -> Result<(), Fail> {
-    let (status, sink) = cut_short(alloc, DRAWN, 10_000, Cut { call, sent: 2 }, rack)?;
+    let row = Row {
+        put: Some((call, 2)),
+        ..DRAWN
+    };
+    let (status, sink) = answered(alloc, &row, rack)?;
     assert_eq!(rt; status, 5, "{call}");
     assert_eq!(rt; sink.bytes().len(), begin.saturating_add(2), "{call}");
     assert!(rt; whole.starts_with(sink.bytes()), "{call}");
     Ok(())
 }
 
-/// A run with a frame has 73 lines. The sink fails within each of them.
+/// The run has 73 lines. The sink fails within each of them.
 fn check_lines(rt: &impl Abort, alloc: Global, rack: &mut Rack) -> Result<(), Fail> {
-    let files = files_of(alloc, &FILES)?;
-    let (status, whole) = answered(alloc, 10_000, files, DRAWN, rack)?;
+    let (status, whole) = answered(alloc, &DRAWN, rack)?;
     assert_eq!(rt; status, 0);
     let mut call: u64 = 0;
     let mut begin: usize = 0;
-    for end in line_ends(alloc, whole.bytes())?.as_slice() {
-        call = call.saturating_add(1);
-        check_line(rt, alloc, whole.bytes(), call, begin, rack)?;
-        begin = *end;
+    let mut place: usize = 0;
+    for byte in whole.bytes() {
+        place = place.saturating_add(1);
+        if *byte == b'\n' {
+            call = call.saturating_add(1);
+            check_line(rt, alloc, whole.bytes(), call, begin, rack)?;
+            begin = place;
+        }
     }
     assert_eq!(rt; call, 73);
     Ok(())

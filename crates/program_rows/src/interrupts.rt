@@ -1,10 +1,6 @@
 // Interrupts by the program's words: that of a timer, and those of two pulses which come at one frame.
-use super::calls::{File, answered, files_of};
-use chip_fakes::Listener;
-use f8_machine::Rack;
-use psu3851::Psu;
-use std::alloc::Global;
-use std::process::Abort;
+use super::calls::{File, Row, SERVED, Text};
+use super::seats::{HP, P, Seat, check_rows};
 use std::test::Fail;
 
 /// The timer expires before EI ends, which shields its own end: the NOP behind it is followed by the vector.
@@ -96,50 +92,45 @@ const PULSES: [File; 3] = [
     ("script", PULSES_SCRIPT),
 ];
 
-/// Files, words, and how what is written ends.
-type Row<'a> = (&'a [File<'a>], &'a [&'a str], &'a str);
-
-const ROWS: [Row; 4] = [
-    (&TIMER, PLAIN, TIMER_PLAY),
-    (&TIMER, TRACED, TIMER_TRACE),
-    (&PULSES, PLAIN, PULSES_PLAY),
-    (&PULSES, TRACED, PULSES_TRACE_END),
+/// Both cartridges, without and with the trace.
+static ROWS: [Row; 4] = [
+    Row {
+        files: &TIMER,
+        words: PLAIN,
+        text: Text::All(TIMER_PLAY),
+        ..SERVED
+    },
+    Row {
+        files: &TIMER,
+        words: TRACED,
+        text: Text::All(TIMER_TRACE),
+        ..SERVED
+    },
+    Row {
+        files: &PULSES,
+        words: PLAIN,
+        text: Text::All(PULSES_PLAY),
+        ..SERVED
+    },
+    Row {
+        files: &PULSES,
+        words: TRACED,
+        text: Text::Between("verdict none\n", PULSES_TRACE_END),
+        ..SERVED
+    },
 ];
 
-fn check_row(rt: &impl Abort, alloc: Global, row: &Row, rack: &mut Rack) -> Result<(), Fail> {
-    let (files, words, end) = *row;
-    let files = files_of(alloc, files)?;
-    let (status, sink) = answered(alloc, 100_000, files, words, rack)?;
-    assert_eq!(rt; status, 0, "{words:?}");
-    assert!(rt; sink.bytes().ends_with(end.as_bytes()), "{words:?}");
-    assert!(rt; sink.bytes().starts_with(b"verdict none\n"), "{words:?}");
-    Ok(())
-}
+const PLAIN_CHIPS: [Seat; 2] = [P, P];
 
-/// Both cartridges, without and with the trace.
-fn check_all(rt: &impl Abort, alloc: Global, rack: &mut Rack) -> Result<(), Fail> {
-    for row in &ROWS {
-        check_row(rt, alloc, row, rack)?;
-    }
-    Ok(())
-}
+/// Chips that hear each of the steps.
+const HEARING: [Seat; 2] = [HP, HP];
 
 #[test]
 fn plays_interrupts(rt: HostRuntime) -> Result<(), Fail> {
-    let mut rack: Rack = Vec::new(rt.alloc());
-    for _ in 0..2 {
-        rack.push(Box::new(rt.alloc(), Psu::blank())?)?;
-    }
-    check_all(&rt, rt.alloc(), &mut rack)
+    check_rows(&rt, rt.alloc(), &PLAIN_CHIPS, &ROWS)
 }
 
-/// On chips that hear each of the steps.
 #[test]
 fn plays_interrupts_on_listeners(rt: HostRuntime) -> Result<(), Fail> {
-    let mut rack: Rack = Vec::new(rt.alloc());
-    for _ in 0..2 {
-        let psu = Listener::round_psu(rt.alloc(), 10_000)?;
-        rack.push(Box::new(rt.alloc(), psu)?)?;
-    }
-    check_all(&rt, rt.alloc(), &mut rack)
+    check_rows(&rt, rt.alloc(), &HEARING, &ROWS)
 }

@@ -19,6 +19,8 @@ mod racks;
 #[cfg(test)]
 mod replay_log;
 #[cfg(test)]
+mod seats;
+#[cfg(test)]
 mod sixteen_chips;
 #[cfg(test)]
 mod tapes;

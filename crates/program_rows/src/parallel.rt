@@ -1,9 +1,6 @@
 // The 3861 in whole runs, on chips that hear: its ports and its interrupt.
-use super::calls::{File, Row, answered, check_rows, files_of};
-use chip_fakes::Listener;
-use f8_machine::Rack;
-use std::alloc::Global;
-use std::process::Abort;
+use super::calls::{Row, SERVED, Text};
+use super::seats::{HI, HP, HS, Seat, check_rows};
 use std::test::Fail;
 
 /// LI 0F, OUTS 8, INS 8, and a branch to itself: the 3861 takes the write and answers the read.
@@ -26,76 +23,7 @@ const PULSE_CART: &str = "format = 2\n\
 const PULSE_SOURCE: &str =
     " ORG 0\n DB $71,$BA,$1B,$90,$FF\n ORG $100\n DB $1B,$1C\n ORG $180\n DB $1B,$1C\n";
 
-/// Played and checked.
-const RUNS: [Row; 6] = [
-    (
-        &[("cart", PORT_CART), ("script", PORT_SCRIPT)],
-        &["play", "cart", "script"],
-        0,
-        "verdict whole\n\
-         out 40 08 0F\n\
-         stop done\n\
-         regs P=0004 P1=0000 D0=0000 D1=0000 A=3F IS=00 W=01\n\
-         s00 00 00 00 00 00 00 00 00 00 00 00 00 00 00 00 00\n\
-         s10 00 00 00 00 00 00 00 00 00 00 00 00 00 00 00 00\n\
-         s20 00 00 00 00 00 00 00 00 00 00 00 00 00 00 00 00\n\
-         s30 00 00 00 00 00 00 00 00 00 00 00 00 00 00 00 00\n\
-         total 3 instructions 56 phi\n",
-    ),
-    (&[("cart", PORT_CART)], &["check", "cart"], 0, "whole 4\n"),
-    (
-        &[("cart", SHARED_CART), ("script", PORT_SCRIPT)],
-        &["play", "cart", "script"],
-        3,
-        "verdict none\n\
-         stop conflict romc 1A socket 0 at 0008 socket 14 at 0008\n\
-         regs P=0002 P1=0000 D0=0000 D1=0000 A=0F IS=00 W=00\n\
-         s00 00 00 00 00 00 00 00 00 00 00 00 00 00 00 00 00\n\
-         s10 00 00 00 00 00 00 00 00 00 00 00 00 00 00 00 00\n\
-         s20 00 00 00 00 00 00 00 00 00 00 00 00 00 00 00 00\n\
-         s30 00 00 00 00 00 00 00 00 00 00 00 00 00 00 00 00\n\
-         total 1 instructions 24 phi\n",
-    ),
-    (
-        &[("cart", SHARED_CART)],
-        &["check", "cart"],
-        7,
-        "refused 0002 ---- . 9\n",
-    ),
-    (
-        &[
-            ("cart", PULSE_CART),
-            ("loop.f8", PULSE_SOURCE),
-            ("script", "at 1 pulse 0\nframes 2\n"),
-        ],
-        &["play", "cart", "script"],
-        0,
-        "verdict whole\n\
-         out 34 0A 01\n\
-         stop done\n\
-         regs P=0003 P1=0003 D0=0000 D1=0000 A=01 IS=00 W=10\n\
-         s00 00 00 00 00 00 00 00 00 00 00 00 00 00 00 00 00\n\
-         s10 00 00 00 00 00 00 00 00 00 00 00 00 00 00 00 00\n\
-         s20 00 00 00 00 00 00 00 00 00 00 00 00 00 00 00 00\n\
-         s30 00 00 00 00 00 00 00 00 00 00 00 00 00 00 00 00\n\
-         total 4261 instructions 59664 phi\n",
-    ),
-    (
-        &[("cart", PULSE_CART), ("loop.f8", PULSE_SOURCE)],
-        &["check", "cart"],
-        0,
-        "whole 9\n",
-    ),
-];
-
-/// The pulse comes at the end of a branch at Φ 29,834, the 2,131st instruction.
-const PULSE: [File; 3] = [
-    ("cart", PULSE_CART),
-    ("loop.f8", PULSE_SOURCE),
-    ("script", "at 1 pulse 0\nsteps 2132\n"),
-];
-
-/// The branch behind it: the 3861 alone drives both halves of its vector, of which a pulse sets bit 7.
+/// A pulse comes at the end of a branch at Φ 29,834, the 2,131st instruction. In the branch behind it the 3861 alone drives both halves of its vector, of which a pulse sets bit 7.
 const PULSE_TRACE_END: &str = "\
      bus 1C S 00 -\nbus 01 L FF 0\n\
      bus 10 L 00 -\nbus 1C S 00 -\nbus 0F L 80 14\nbus 13 L 01 14\nbus 00 S 1B 0\n\
@@ -107,31 +35,97 @@ const PULSE_TRACE_END: &str = "\
      s30 00 00 00 00 00 00 00 00 00 00 00 00 00 00 00 00\n\
      total 2132 instructions 29870 phi\n";
 
-fn check_trace(rt: &impl Abort, alloc: Global, rack: &mut Rack) -> Result<(), Fail> {
-    let words = ["play", "--trace", "cart", "script"];
-    let files = files_of(alloc, &PULSE)?;
-    let (status, sink) = answered(alloc, 100_000, files, &words, rack)?;
-    assert_eq!(rt; status, 0);
-    assert!(rt; sink.bytes().ends_with(PULSE_TRACE_END.as_bytes()));
-    Ok(())
-}
+/// Played and checked.
+const RUNS: [Row; 7] = [
+    Row {
+        files: &[("cart", PORT_CART), ("script", PORT_SCRIPT)],
+        words: &["play", "cart", "script"],
+        text: Text::All(
+            "verdict whole\n\
+             out 40 08 0F\n\
+             stop done\n\
+             regs P=0004 P1=0000 D0=0000 D1=0000 A=3F IS=00 W=01\n\
+             s00 00 00 00 00 00 00 00 00 00 00 00 00 00 00 00 00\n\
+             s10 00 00 00 00 00 00 00 00 00 00 00 00 00 00 00 00\n\
+             s20 00 00 00 00 00 00 00 00 00 00 00 00 00 00 00 00\n\
+             s30 00 00 00 00 00 00 00 00 00 00 00 00 00 00 00 00\n\
+             total 3 instructions 56 phi\n",
+        ),
+        ..SERVED
+    },
+    Row {
+        files: &[("cart", PORT_CART)],
+        words: &["check", "cart"],
+        text: Text::All("whole 4\n"),
+        ..SERVED
+    },
+    Row {
+        files: &[("cart", SHARED_CART), ("script", PORT_SCRIPT)],
+        words: &["play", "cart", "script"],
+        status: 3,
+        text: Text::All(
+            "verdict none\n\
+             stop conflict romc 1A socket 0 at 0008 socket 14 at 0008\n\
+             regs P=0002 P1=0000 D0=0000 D1=0000 A=0F IS=00 W=00\n\
+             s00 00 00 00 00 00 00 00 00 00 00 00 00 00 00 00 00\n\
+             s10 00 00 00 00 00 00 00 00 00 00 00 00 00 00 00 00\n\
+             s20 00 00 00 00 00 00 00 00 00 00 00 00 00 00 00 00\n\
+             s30 00 00 00 00 00 00 00 00 00 00 00 00 00 00 00 00\n\
+             total 1 instructions 24 phi\n",
+        ),
+        ..SERVED
+    },
+    Row {
+        files: &[("cart", SHARED_CART)],
+        words: &["check", "cart"],
+        status: 7,
+        text: Text::All("refused 0002 ---- . 9\n"),
+        ..SERVED
+    },
+    Row {
+        files: &[
+            ("cart", PULSE_CART),
+            ("loop.f8", PULSE_SOURCE),
+            ("script", "at 1 pulse 0\nframes 2\n"),
+        ],
+        words: &["play", "cart", "script"],
+        text: Text::All(
+            "verdict whole\n\
+             out 34 0A 01\n\
+             stop done\n\
+             regs P=0003 P1=0003 D0=0000 D1=0000 A=01 IS=00 W=10\n\
+             s00 00 00 00 00 00 00 00 00 00 00 00 00 00 00 00 00\n\
+             s10 00 00 00 00 00 00 00 00 00 00 00 00 00 00 00 00\n\
+             s20 00 00 00 00 00 00 00 00 00 00 00 00 00 00 00 00\n\
+             s30 00 00 00 00 00 00 00 00 00 00 00 00 00 00 00 00\n\
+             total 4261 instructions 59664 phi\n",
+        ),
+        ..SERVED
+    },
+    Row {
+        files: &[("cart", PULSE_CART), ("loop.f8", PULSE_SOURCE)],
+        words: &["check", "cart"],
+        text: Text::All("whole 9\n"),
+        ..SERVED
+    },
+    Row {
+        files: &[
+            ("cart", PULSE_CART),
+            ("loop.f8", PULSE_SOURCE),
+            ("script", "at 1 pulse 0\nsteps 2132\n"),
+        ],
+        words: &["play", "--trace", "cart", "script"],
+        text: Text::Between("verdict whole\n", PULSE_TRACE_END),
+        ..SERVED
+    },
+];
 
-/// On chips that hear each of the steps, as many of each kind as in the program's rack.
+/// As many chips of each kind as in the program's rack, and they hear each of the steps.
+const HEARING: [Seat; 16] = [
+    HP, HP, HP, HP, HP, HP, HP, HP, HP, HP, HP, HP, HS, HS, HI, HI,
+];
+
 #[test]
 fn plays_a_3861_on_listeners(rt: HostRuntime) -> Result<(), Fail> {
-    let mut rack: Rack = Vec::new(rt.alloc());
-    for _ in 0..12 {
-        let psu = Listener::round_psu(rt.alloc(), 20_000)?;
-        rack.push(Box::new(rt.alloc(), psu)?)?;
-    }
-    for _ in 0..2 {
-        let smi = Listener::round_smi(rt.alloc(), 20_000)?;
-        rack.push(Box::new(rt.alloc(), smi)?)?;
-    }
-    for _ in 0..2 {
-        let pio = Listener::round_pio(rt.alloc(), 20_000)?;
-        rack.push(Box::new(rt.alloc(), pio)?)?;
-    }
-    check_rows(&rt, rt.alloc(), &RUNS, &mut rack)?;
-    check_trace(&rt, rt.alloc(), &mut rack)
+    check_rows(&rt, rt.alloc(), &HEARING, &RUNS)
 }

@@ -1,171 +1,183 @@
-// As many chips as there may be, in several mixes of the kinds. Each chip that has a ROM has a source.
-use super::calls::{answered, list_of};
-use f8_machine::Rack;
-use outside::{FileList, NamedFile};
-use pio3861::Pio;
-use psu3851::Psu;
-use smi3853::Smi;
-use std::alloc::Global;
-use std::fmt::Write;
+// As many chips as there may be, in several mixes of the kinds. Each chip that has a ROM has a source, with a jump to the next chip's.
+use super::calls::{File, Row, SERVED, Text, ended};
+use super::seats::{I, P, S, Seat, check_rows};
 use std::test::Fail;
 
-/// The kinds of chip that a description names.
-#[derive(Clone, Copy)]
-enum Kind {
-    Psu,
-    Smi,
-    Pio,
-}
+const SMIS_LAST: &str = "format = 1\nchip = [\
+     {kind='3851',base=0,ports=4,source='0'},{kind='3851',base=1024,ports=8,source='1'},\
+     {kind='3851',base=2048,ports=12,source='2'},{kind='3851',base=3072,ports=16,source='3'},\
+     {kind='3851',base=4096,ports=20,source='4'},{kind='3851',base=5120,ports=24,source='5'},\
+     {kind='3851',base=6144,ports=28,source='6'},{kind='3851',base=7168,ports=32,source='7'},\
+     {kind='3851',base=8192,ports=36,source='8'},{kind='3851',base=9216,ports=40,source='9'},\
+     {kind='3851',base=10240,ports=44,source='10'},{kind='3851',base=11264,ports=48,source='11'},\
+     {kind='3853',rom_page=48,rom_pages=1,source='12'},{kind='3853',rom_page=52,rom_pages=1,source='13'},\
+     {kind='3853',rom_page=56,rom_pages=1,source='14'},{kind='3853',rom_page=60,rom_pages=1,source='15'},\
+     ]\n";
 
-const P: Kind = Kind::Psu;
+const PSUS: &str = "format = 1\nchip = [\
+     {kind='3851',base=0,ports=4,source='0'},{kind='3851',base=1024,ports=8,source='1'},\
+     {kind='3851',base=2048,ports=12,source='2'},{kind='3851',base=3072,ports=16,source='3'},\
+     {kind='3851',base=4096,ports=20,source='4'},{kind='3851',base=5120,ports=24,source='5'},\
+     {kind='3851',base=6144,ports=28,source='6'},{kind='3851',base=7168,ports=32,source='7'},\
+     {kind='3851',base=8192,ports=36,source='8'},{kind='3851',base=9216,ports=40,source='9'},\
+     {kind='3851',base=10240,ports=44,source='10'},{kind='3851',base=11264,ports=48,source='11'},\
+     {kind='3851',base=12288,ports=52,source='12'},{kind='3851',base=13312,ports=56,source='13'},\
+     {kind='3851',base=14336,ports=60,source='14'},{kind='3851',base=15360,ports=64,source='15'},\
+     ]\n";
 
-const S: Kind = Kind::Smi;
+const SMIS: &str = "format = 1\nchip = [\
+     {kind='3853',rom_page=0,rom_pages=1,source='0'},{kind='3853',rom_page=4,rom_pages=1,source='1'},\
+     {kind='3853',rom_page=8,rom_pages=1,source='2'},{kind='3853',rom_page=12,rom_pages=1,source='3'},\
+     {kind='3853',rom_page=16,rom_pages=1,source='4'},{kind='3853',rom_page=20,rom_pages=1,source='5'},\
+     {kind='3853',rom_page=24,rom_pages=1,source='6'},{kind='3853',rom_page=28,rom_pages=1,source='7'},\
+     {kind='3853',rom_page=32,rom_pages=1,source='8'},{kind='3853',rom_page=36,rom_pages=1,source='9'},\
+     {kind='3853',rom_page=40,rom_pages=1,source='10'},{kind='3853',rom_page=44,rom_pages=1,source='11'},\
+     {kind='3853',rom_page=48,rom_pages=1,source='12'},{kind='3853',rom_page=52,rom_pages=1,source='13'},\
+     {kind='3853',rom_page=56,rom_pages=1,source='14'},{kind='3853',rom_page=60,rom_pages=1,source='15'},\
+     ]\n";
 
-const I: Kind = Kind::Pio;
+const MIXED: &str = "format = 1\nchip = [\
+     {kind='3853',rom_page=0,rom_pages=1,source='0'},{kind='3851',base=1024,ports=8,source='1'},\
+     {kind='3853',rom_page=8,rom_pages=1,source='2'},{kind='3851',base=3072,ports=16,source='3'},\
+     {kind='3851',base=4096,ports=20,source='4'},{kind='3853',rom_page=20,rom_pages=1,source='5'},\
+     {kind='3853',rom_page=24,rom_pages=1,source='6'},{kind='3851',base=7168,ports=32,source='7'},\
+     {kind='3853',rom_page=32,rom_pages=1,source='8'},{kind='3851',base=9216,ports=40,source='9'},\
+     {kind='3851',base=10240,ports=44,source='10'},{kind='3853',rom_page=44,rom_pages=1,source='11'},\
+     {kind='3853',rom_page=48,rom_pages=1,source='12'},{kind='3851',base=13312,ports=56,source='13'},\
+     {kind='3851',base=14336,ports=60,source='14'},{kind='3853',rom_page=60,rom_pages=1,source='15'},\
+     ]\n";
 
-/// A description of sixteen chips, which jumps go through in one round.
-#[derive(Clone, Copy)]
-struct Mix {
-    format: u8,
+const BETWEEN_PIOS: &str = "format = 2\nchip = [\
+     {kind='3861',ports=4},{kind='3851',base=0,ports=8,source='0'},{kind='3853',pages=['rom 04'],source='1'},\
+     {kind='3861',ports=16},{kind='3851',base=2048,ports=20,source='2'},{kind='3861',ports=24},{kind='3861',ports=28},\
+     {kind='3853',pages=['rom 0C'],source='3'},{kind='3851',base=4096,ports=36,source='4'},\
+     {kind='3853',pages=['rom 14'],source='5'},{kind='3861',ports=44},{kind='3851',base=6144,ports=48,source='6'},\
+     {kind='3853',pages=['rom 1C'],source='7'},{kind='3851',base=8192,ports=56,source='8_of_9'},{kind='3861',ports=60},\
+     {kind='3861',ports=64},\
+     ]\n";
 
-    /// The kinds of the chips, in the order of the description.
-    kinds: [Kind; 16],
+const PIOS_FIRST: &str = "format = 2\nchip = [\
+     {kind='3861',ports=4},{kind='3861',ports=8},{kind='3861',ports=12},{kind='3861',ports=16},{kind='3861',ports=20},\
+     {kind='3861',ports=24},{kind='3861',ports=28},{kind='3861',ports=32},{kind='3861',ports=36},{kind='3861',ports=40},\
+     {kind='3861',ports=44},{kind='3861',ports=48},{kind='3861',ports=52},{kind='3861',ports=56},{kind='3861',ports=60},\
+     {kind='3853',pages=['rom 00'],source='0_of_1'},\
+     ]\n";
 
-    /// How many of them have a ROM. There is a jump in each.
-    roms: u8,
-
-    /// The last line: reset takes 14 Φ, and a jump 22.
-    total: &'static str,
-}
-
-const ALL_ROMS: &str = "total 16 instructions 366 phi\n";
-
-const MIXES: [Mix; 6] = [
-    Mix {
-        format: 1,
-        kinds: [P, P, P, P, P, P, P, P, P, P, P, P, S, S, S, S],
-        roms: 16,
-        total: ALL_ROMS,
-    },
-    Mix {
-        format: 1,
-        kinds: [P; 16],
-        roms: 16,
-        total: ALL_ROMS,
-    },
-    Mix {
-        format: 1,
-        kinds: [S; 16],
-        roms: 16,
-        total: ALL_ROMS,
-    },
-    Mix {
-        format: 1,
-        kinds: [S, P, S, P, P, S, S, P, S, P, P, S, S, P, P, S],
-        roms: 16,
-        total: ALL_ROMS,
-    },
-    Mix {
-        format: 2,
-        kinds: [I, P, S, I, P, I, I, S, P, S, I, P, S, P, I, I],
-        roms: 9,
-        total: "total 9 instructions 212 phi\n",
-    },
-    Mix {
-        format: 2,
-        kinds: [I, I, I, I, I, I, I, I, I, I, I, I, I, I, I, S],
-        roms: 1,
-        total: "total 1 instructions 36 phi\n",
-    },
+/// The descriptions, scripts for one round, and the jumps: each from the first address of a ROM to that of the next, and from the last one
+/// to the first.
+const FILES: [File; 27] = [
+    ("smis_last", SMIS_LAST),
+    ("psus", PSUS),
+    ("smis", SMIS),
+    ("mixed", MIXED),
+    ("between_pios", BETWEEN_PIOS),
+    ("pios_first", PIOS_FIRST),
+    ("round_of_16", "steps 16\n"),
+    ("round_of_9", "steps 9\n"),
+    ("round_of_1", "steps 1\n"),
+    ("0", " ORG 0\n JMP 1024\n"),
+    ("1", " ORG 1024\n JMP 2048\n"),
+    ("2", " ORG 2048\n JMP 3072\n"),
+    ("3", " ORG 3072\n JMP 4096\n"),
+    ("4", " ORG 4096\n JMP 5120\n"),
+    ("5", " ORG 5120\n JMP 6144\n"),
+    ("6", " ORG 6144\n JMP 7168\n"),
+    ("7", " ORG 7168\n JMP 8192\n"),
+    ("8", " ORG 8192\n JMP 9216\n"),
+    ("9", " ORG 9216\n JMP 10240\n"),
+    ("10", " ORG 10240\n JMP 11264\n"),
+    ("11", " ORG 11264\n JMP 12288\n"),
+    ("12", " ORG 12288\n JMP 13312\n"),
+    ("13", " ORG 13312\n JMP 14336\n"),
+    ("14", " ORG 14336\n JMP 15360\n"),
+    ("15", " ORG 15360\n JMP 0\n"),
+    ("8_of_9", " ORG 8192\n JMP 0\n"),
+    ("0_of_1", " ORG 0\n JMP 0\n"),
 ];
 
-const PLAY: &str = "verdict whole\n\
+/// Reset takes 14 Φ, and a jump 22.
+const ROUND_OF_16: &str = ended!(
+    "verdict whole\n\
      stop done\n\
-     regs P=0000 P1=0000 D0=0000 D1=0000 A=00 IS=00 W=00\n\
-     s00 00 00 00 00 00 00 00 00 00 00 00 00 00 00 00 00\n\
-     s10 00 00 00 00 00 00 00 00 00 00 00 00 00 00 00 00\n\
-     s20 00 00 00 00 00 00 00 00 00 00 00 00 00 00 00 00\n\
-     s30 00 00 00 00 00 00 00 00 00 00 00 00 00 00 00 00\n";
+     regs P=0000 P1=0000 D0=0000 D1=0000 A=00 IS=00 W=00\n",
+    "total 16 instructions 366 phi\n"
+);
 
-/// Adds a chip to a description. Its ROM begins at 1,024 times its place among those that have one.
-fn describe(cart: &mut String, format: u8, kind: Kind, chip: u8, place: u8) -> Result<(), Fail> {
-    let base = u32::from(place) * 1024;
-    let page = u32::from(place) * 4;
-    let ports = u32::from(chip) * 4 + 4;
-    match kind {
-        Kind::Psu => write!(
-            cart,
-            "[[chip]]\nkind = '3851'\nbase = {base}\nports = {ports}\nsource = '{chip}'\n"
-        )?,
-        Kind::Smi if format == 1 => write!(
-            cart,
-            "[[chip]]\nkind = '3853'\nrom_page = {page}\nrom_pages = 1\nsource = '{chip}'\n"
-        )?,
-        Kind::Smi => write!(
-            cart,
-            "[[chip]]\nkind = '3853'\npages = ['rom {page:02X}']\nsource = '{chip}'\n"
-        )?,
-        Kind::Pio => write!(cart, "[[chip]]\nkind = '3861'\nports = {ports}\n")?,
-    }
-    Ok(())
-}
+const ROUND_OF_9: &str = ended!(
+    "verdict whole\n\
+     stop done\n\
+     regs P=0000 P1=0000 D0=0000 D1=0000 A=00 IS=00 W=00\n",
+    "total 9 instructions 212 phi\n"
+);
 
-/// A jump from the first address of a ROM to that of the next, and from the last one to the first.
-fn jump_of(alloc: Global, place: u8, roms: u8) -> Result<String, Fail> {
-    let first = u32::from(place) * 1024;
-    let is_last = u32::from(place) + 1 == u32::from(roms);
-    let next = if is_last { 0 } else { first + 1024 };
-    Ok(format!(in alloc; " ORG {first}\n JMP {next}\n")?)
-}
+const ROUND_OF_1: &str = ended!(
+    "verdict whole\n\
+     stop done\n\
+     regs P=0000 P1=0000 D0=0000 D1=0000 A=00 IS=00 W=00\n",
+    "total 1 instructions 36 phi\n"
+);
 
-fn named(alloc: Global, name: String, text: &str) -> Result<NamedFile, Fail> {
-    let bytes = Vec::from_slice(alloc, text.as_bytes())?;
-    Ok(NamedFile::new(name, bytes))
-}
+// The chips of each rack, in the order of the description, and a round through their ROMs.
+const SMIS_LAST_SEATS: [Seat; 16] = [P, P, P, P, P, P, P, P, P, P, P, P, S, S, S, S];
 
-/// The description, a source for each chip with a ROM, and a script for one round.
-fn files_of(alloc: Global, mix: &Mix) -> Result<FileList, Fail> {
-    let Mix {
-        format,
-        kinds,
-        roms,
-        ..
-    } = *mix;
-    let mut cart = format!(in alloc; "format = {format}\n")?;
-    let mut files = Vec::new(alloc);
-    let mut place = 0u8;
-    for chip in 0..16u8 {
-        let kind = kinds[usize::from(chip)];
-        describe(&mut cart, format, kind, chip, place)?;
-        if !matches!(kind, Kind::Pio) {
-            let jump = jump_of(alloc, place, roms)?;
-            files.push(named(alloc, format!(in alloc; "{chip}")?, jump.as_str())?)?;
-            place = place.saturating_add(1);
-        }
-    }
-    files.push(named(alloc, "cart".to_string(alloc)?, cart.as_str())?)?;
-    let script = format!(in alloc; "steps {roms}\n")?;
-    files.push(named(alloc, "script".to_string(alloc)?, script.as_str())?)?;
-    list_of(files)
-}
+static SMIS_LAST_ROUND: [Row; 1] = [Row {
+    files: &FILES,
+    words: &["play", "smis_last", "round_of_16"],
+    text: Text::All(ROUND_OF_16),
+    ..SERVED
+}];
+
+const PSUS_SEATS: [Seat; 16] = [P, P, P, P, P, P, P, P, P, P, P, P, P, P, P, P];
+
+static PSUS_ROUND: [Row; 1] = [Row {
+    files: &FILES,
+    words: &["play", "psus", "round_of_16"],
+    text: Text::All(ROUND_OF_16),
+    ..SERVED
+}];
+
+const SMIS_SEATS: [Seat; 16] = [S, S, S, S, S, S, S, S, S, S, S, S, S, S, S, S];
+
+static SMIS_ROUND: [Row; 1] = [Row {
+    files: &FILES,
+    words: &["play", "smis", "round_of_16"],
+    text: Text::All(ROUND_OF_16),
+    ..SERVED
+}];
+
+const MIXED_SEATS: [Seat; 16] = [S, P, S, P, P, S, S, P, S, P, P, S, S, P, P, S];
+
+static MIXED_ROUND: [Row; 1] = [Row {
+    files: &FILES,
+    words: &["play", "mixed", "round_of_16"],
+    text: Text::All(ROUND_OF_16),
+    ..SERVED
+}];
+
+const BETWEEN_PIOS_SEATS: [Seat; 16] = [I, P, S, I, P, I, I, S, P, S, I, P, S, P, I, I];
+
+static BETWEEN_PIOS_ROUND: [Row; 1] = [Row {
+    files: &FILES,
+    words: &["play", "between_pios", "round_of_9"],
+    text: Text::All(ROUND_OF_9),
+    ..SERVED
+}];
+
+const PIOS_FIRST_SEATS: [Seat; 16] = [I, I, I, I, I, I, I, I, I, I, I, I, I, I, I, S];
+
+static PIOS_FIRST_ROUND: [Row; 1] = [Row {
+    files: &FILES,
+    words: &["play", "pios_first", "round_of_1"],
+    text: Text::All(ROUND_OF_1),
+    ..SERVED
+}];
 
 #[test]
 fn plays_sixteen_chips(rt: HostRuntime) -> Result<(), Fail> {
-    for mix in MIXES {
-        let mut rack: Rack = Vec::new(rt.alloc());
-        for kind in mix.kinds {
-            match kind {
-                Kind::Psu => rack.push(Box::new(rt.alloc(), Psu::blank())?)?,
-                Kind::Smi => rack.push(Box::new(rt.alloc(), Smi::blank())?)?,
-                Kind::Pio => rack.push(Box::new(rt.alloc(), Pio::blank())?)?,
-            }
-        }
-        let files = files_of(rt.alloc(), &mix)?;
-        let words = ["play", "cart", "script"];
-        let (status, sink) = answered(rt.alloc(), 1_024, files, &words, &mut rack)?;
-        let want = format!(in rt.alloc(); "{PLAY}{}", mix.total)?;
-        assert_eq!(rt; status, 0);
-        assert_eq!(rt; sink.bytes(), want.as_bytes());
-    }
-    Ok(())
+    check_rows(&rt, rt.alloc(), &SMIS_LAST_SEATS, &SMIS_LAST_ROUND)?;
+    check_rows(&rt, rt.alloc(), &PSUS_SEATS, &PSUS_ROUND)?;
+    check_rows(&rt, rt.alloc(), &SMIS_SEATS, &SMIS_ROUND)?;
+    check_rows(&rt, rt.alloc(), &MIXED_SEATS, &MIXED_ROUND)?;
+    check_rows(&rt, rt.alloc(), &BETWEEN_PIOS_SEATS, &BETWEEN_PIOS_ROUND)?;
+    check_rows(&rt, rt.alloc(), &PIOS_FIRST_SEATS, &PIOS_FIRST_ROUND)
 }
