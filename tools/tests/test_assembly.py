@@ -15,6 +15,11 @@ IMAGES = {
     'X: EQU -1&$FFFFFFFF': ['sym X 4294967295'],
     'X: EQU -1|0': ['sym X -1'],
     " DB ' ',';',''' ; any \r byte": ['0000 203B27'],
+    # a line ends at a gap and behind 16 bytes
+    'NOP\nORG $0400\nDB 1,$AB\n': ['0000 2B', '0400 01AB'],
+    'NOP\nORG 2\nNOP\n': ['0000 2B', '0002 2B'],
+    'ORG $2800\nDB 0,1,2,3,4,5,6,7,8,9,10,11,12,13,14,15,16\n': ['2800 000102030405060708090A0B0C0D0E0F', '2810 10'],
+    'LOW: EQU -5\nHIGH: EQU 4294967295\n': ['sym LOW -5', 'sym HIGH 4294967295'],
     # both sides of the last address
     ' ORG $FFFE\n BR $FFFF': ['FFFE 9000'],
     ' ORG $FFFF\n NOP\nX:': ['FFFF 2B', 'sym X 65536'],
@@ -34,6 +39,7 @@ OPENED = [('(', 64, ')', None), ('(', 65, ')', 69), ('-', 64, '', None), ('-', 6
 LISTINGS = {
     '712D4C90FE9080A428123420': 'ORG $0000\nLIS 1\nDB $2D\nLR A,S\nBF 0,$0002\nDB $90\nDB $80\nINS 4\nPI $1234\nDB $20\n',
     '': 'ORG $0000\n',
+    '712D20': 'ORG $0000\nLIS 1\nDB $2D\nDB $20\n',
 }
 
 

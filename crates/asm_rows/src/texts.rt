@@ -6,10 +6,15 @@ use std::test::Fail;
 const ROOM: Room = Room { first: 0, last: 2 };
 
 #[test]
-fn texts_in_a_small_room(rt: HostRuntime) -> Result<(), Fail> {
+fn a_text_has_an_image(rt: HostRuntime) -> Result<(), Fail> {
     let image = assemble(rt.alloc(), b"LOOP: NOP\nBR LOOP", ROOM)?;
     assert_eq!(rt; image.bytes(), [(0, 0x2B), (1, 0x90), (2, 0xFE)].as_slice());
     assert_eq!(rt; image.symbol(0), Some(("LOOP", 0)));
+    Ok(())
+}
+
+#[test]
+fn a_text_leaves_its_room(rt: HostRuntime) -> Result<(), Fail> {
     let told = assemble(rt.alloc(), b" DW 1,2", ROOM);
     let wanted = AsmFault {
         line: 1,

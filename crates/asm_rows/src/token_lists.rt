@@ -1,5 +1,5 @@
-// Lines with their tokens, and a list of tokens that is made from outside.
-use asm_text::{Name, Token, TokenKind, TokenList, tokens};
+// Lines with their tokens.
+use asm_text::{Token, TokenKind, tokens};
 use std::alloc::Global;
 use std::test::Fail;
 
@@ -58,20 +58,5 @@ fn lines_are_read(rt: HostRuntime) -> Result<(), Fail> {
         let got = answer(rt.alloc(), line)?;
         assert_eq!(rt; got.as_str(), want, "{line}");
     }
-    Ok(())
-}
-
-#[test]
-fn lists_and_names_are_made(rt: HostRuntime) -> Result<(), Fail> {
-    let name = Name::of(b"_loop9");
-    assert_eq!(rt; name.as_str(), "_loop9");
-    let kind = TokenKind::Name(name);
-    let token = Token {
-        column: 3,
-        end: 9,
-        kind,
-    };
-    let list = TokenList::from_vec(vec![in rt.alloc(); token]?);
-    assert_eq!(rt; list.as_slice().len(), 1);
     Ok(())
 }

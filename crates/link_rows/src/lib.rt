@@ -1,4 +1,5 @@
-//! Worked texts of modules, of modules linked and of plans. This crate has tests alone, so that the linker isn't proved once more with them.
+//! Worked texts of modules, of modules linked and of plans, and lines that a sink doesn't take. This crate has tests alone, so that the
+//! linker isn't proved once more with them.
 #![tactic(auto)]
 
 #[cfg(test)]

@@ -17,29 +17,40 @@ fn kind(fixup: &Fixup) -> &'static str {
     }
 }
 
-/// Writes the bytes, the exports, how many imports there are, and what linking puts: where, what, from which base, and how far from it.
+/// Writes an exported name and what it stands for.
+fn write_export(written: &mut String, name: &str, named: &Named) -> Result<(), Fail> {
+    match named {
+        Named::Constant(value) => write!(written, " {name}={value}")?,
+        Named::Offset(offset) => write!(written, " {name}=own+{offset}")?,
+    }
+    Ok(())
+}
+
+/// Writes what linking puts: where, what, from which base, and how far from it.
+fn write_fixup(written: &mut String, fixup: &Fixup) -> Result<(), Fail> {
+    let offset = fixup.offset;
+    let kind = kind(fixup);
+    let k = fixup.k;
+    match fixup.base {
+        Some(Base::Module) => write!(written, ", {offset} {kind} own {k}")?,
+        Some(Base::Import(number)) => write!(written, ", {offset} {kind} {number} {k}")?,
+        None => write!(written, ", {offset} {kind} none {k}")?,
+    }
+    Ok(())
+}
+
+/// Writes the bytes, the exports, how many imports there are, and what linking puts.
 fn write_object(written: &mut String, object: &Object) -> Result<(), Fail> {
     for byte in object.bytes() {
         write!(written, "{byte:02X}")?;
     }
     for (name, named) in object.exports() {
-        let name = name.as_str();
-        match named {
-            Named::Constant(value) => write!(written, " {name}={value}")?,
-            Named::Offset(offset) => write!(written, " {name}=own+{offset}")?,
-        }
+        write_export(written, name.as_str(), named)?;
     }
     let imports = object.imports().len();
     write!(written, " {imports}")?;
     for fixup in object.fixups() {
-        let offset = fixup.offset;
-        let kind = kind(fixup);
-        let k = fixup.k;
-        match fixup.base {
-            Some(Base::Module) => write!(written, ", {offset} {kind} own {k}")?,
-            Some(Base::Import(number)) => write!(written, ", {offset} {kind} {number} {k}")?,
-            None => write!(written, ", {offset} {kind} none {k}")?,
-        }
+        write_fixup(written, fixup)?;
     }
     Ok(())
 }

@@ -1,9 +1,6 @@
-// Two modules linked, an object, and the texts of causes.
+// Two modules linked, and the numbers and the texts of causes.
 use f8_asm::{AsmCause, Room};
-use f8_link::{
-    Base, Fixup, FixupKind, LinkCause, LinkFault, ModCause, Named, Object, Part, PartList, compile,
-    link,
-};
+use f8_link::{LinkCause, LinkFault, ModCause, Object, Part, PartList, compile, link};
 use std::alloc::Global;
 use std::test::Fail;
 
@@ -38,32 +35,6 @@ fn modules_are_linked(rt: HostRuntime) -> Result<(), Fail> {
     );
     assert_eq!(rt; linked.symbols().len(), 1);
     assert_eq!(rt; linked.symbols().get(0), Some(("X", 128)));
-    Ok(())
-}
-
-#[test]
-fn an_object_in_parts(rt: HostRuntime) -> Result<(), Fail> {
-    let object = object_of(
-        rt.alloc(),
-        " EXPORT START\n IMPORT TICK\nSTART: PI TICK\n BR START",
-    )?;
-    assert_eq!(rt; object.bytes(), [0x28, 0, 0, 0x90, 0xFC].as_slice());
-    let word = Fixup {
-        offset: 1,
-        kind: FixupKind::Word,
-        base: Some(Base::Import(0)),
-        k: 0,
-    };
-    assert_eq!(rt; object.fixups(), [word].as_slice());
-    for (name, named) in object.exports() {
-        assert_eq!(rt; name.as_str(), "START");
-        assert_eq!(rt; *named, Named::Offset(0));
-    }
-    for name in object.imports() {
-        assert_eq!(rt; name.as_str(), "TICK");
-    }
-    assert_eq!(rt; object.exports().len(), 1);
-    assert_eq!(rt; object.imports().len(), 1);
     Ok(())
 }
 
