@@ -27,19 +27,31 @@ const LENGTHS: [(Op, bool, u8, u8); 10] = [
 ];
 
 #[test]
-fn table_of_instructions(rt: HostRuntime) {
+fn opcodes_both_ways(rt: HostRuntime) {
     for (code, decoded) in OPCODES {
         assert_eq!(rt; decode(code), decoded, "at {code}");
     }
     assert_eq!(rt; encode(Op::Ns { r: 14 }), 0xFE);
+}
+
+#[test]
+fn clocks_and_lengths(rt: HostRuntime) {
     for (op, taken, clocks, bytes) in LENGTHS {
         assert_eq!(rt; phi(op, taken), clocks, "of {op:?}");
         assert_eq!(rt; length(op), bytes, "of {op:?}");
     }
     assert_eq!(rt; row_of(Op::Xdc), Row::Exchange);
+}
+
+#[test]
+fn shielding_instructions(rt: HostRuntime) {
     for (op, shielding) in [(Op::Ei, true), (Op::Di, false), (Op::Outs { n: 1 }, false)] {
         assert_eq!(rt; shields(op), shielding, "of {op:?}");
     }
+}
+
+#[test]
+fn names_are_the_first_words(rt: HostRuntime) {
     for (op, first_word) in [(Op::LrDcH, "LR"), (Op::Br7, "BR7")] {
         assert_eq!(rt; name(op), first_word);
     }

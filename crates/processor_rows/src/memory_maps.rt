@@ -6,6 +6,7 @@ use super::chips::{psu, two_chips};
 use chip_face::{ChipKind, ChipList, ChipSpec};
 use memory_map::{Map, Sort};
 use std::alloc::Global;
+use std::process::Abort;
 use std::test::Fail;
 
 /// What an address is, the byte that stays there, whose it is, and whether the 3851 and the 3853 hold it.
@@ -31,11 +32,8 @@ const PORTS: [(u8, u8, u8); 9] = [
     (0x10, 0, 0),
 ];
 
-// a 3851 whose bytes are 2B, and a 3853: each address and port, what each kind holds, and what holds of all addresses and of both chips
-#[test]
-fn map_of_two_chips(rt: HostRuntime) -> Result<(), Fail> {
-    let chips = two_chips(rt.alloc(), &[0x2B; 1024], false)?;
-    let map = Map::of(rt.alloc(), &chips)?;
+/// Each address.
+fn addresses(rt: &impl Abort, map: &Map) {
     for (at, sort, byte, owner, by_psu, by_smi) in ADDRESSES {
         assert_eq!(rt; map.sort(at), sort, "at {at}");
         assert_eq!(rt; map.byte(at), byte, "at {at}");
@@ -43,10 +41,23 @@ fn map_of_two_chips(rt: HostRuntime) -> Result<(), Fail> {
         assert_eq!(rt; map.held(at, ChipKind::Psu), by_psu, "at {at}");
         assert_eq!(rt; map.held(at, ChipKind::Smi), by_smi, "at {at}");
     }
+}
+
+/// Each port.
+fn ports(rt: &impl Abort, map: &Map) {
     for (port, readers, takers) in PORTS {
         assert_eq!(rt; map.reads(port), readers, "of {port}");
         assert_eq!(rt; map.writes(port), takers, "of {port}");
     }
+}
+
+// a 3851 whose bytes are 2B, and a 3853: each address and port, what each kind holds, and what holds of all addresses and of both chips
+#[test]
+fn map_of_two_chips(rt: HostRuntime) -> Result<(), Fail> {
+    let chips = two_chips(rt.alloc(), &[0x2B; 1024], false)?;
+    let map = Map::of(rt.alloc(), &chips)?;
+    addresses(&rt, &map);
+    ports(&rt, &map);
     assert!(rt; map.any(ChipKind::Psu) && map.any(ChipKind::Smi));
     assert!(rt; map.overlaps() && !map.covered() && !map.wired());
     Ok(())

@@ -1,12 +1,16 @@
 // Worked sums, and a status word.
 use f8_words::{Flags, Sum, add9, bcd, wrap_add};
 
-// a branch that wraps below 0, 0 less 1 and 0 compared with 0, and two decimal sums, to whose second numbers 66 was added beforehand
 #[test]
-fn sums(rt: HostRuntime) {
+fn branch_wraps_below_zero(rt: HostRuntime) {
     for (at, by, sum) in [(0x0001, -3, 0xFFFE), (0x0003, -2, 0x0001)] {
         assert_eq!(rt; wrap_add(at, by), sum);
     }
+}
+
+// 0 less 1, and 0 compared with 0
+#[test]
+fn sums_with_their_flags(rt: HostRuntime) {
     for (cin, value, carry) in [(false, 0xFF, false), (true, 0x00, true)] {
         let sum = Sum {
             value,
@@ -15,6 +19,11 @@ fn sums(rt: HostRuntime) {
         };
         assert_eq!(rt; add9(0x00, 0xFF, cin), sum);
     }
+}
+
+// 66 was added to the second number of each beforehand
+#[test]
+fn decimal_sums(rt: HostRuntime) {
     let binary = Sum {
         value: 0x68,
         carry: false,
