@@ -46,6 +46,14 @@ pub(crate) fn seat(alloc: Global, rack: &mut Rack, way: Way, lines: &str) -> Res
     Ok(Bus::of(rack, &fitting.starts, way))
 }
 
+/// What the probe or a chip tells.
+fn told_at_end(alloc: Global, rack: &mut Rack, bus: &Bus, what: &str) -> Result<String, Fail> {
+    match what {
+        "probe" => told_counters(alloc, bus.probe.counters()),
+        _ => told_of(alloc, rack, what),
+    }
+}
+
 /// What stands at the end.
 fn check_ends(
     rt: &impl Abort,
@@ -56,10 +64,7 @@ fn check_ends(
 ) -> Result<(), Fail> {
     for line in lines.lines() {
         if let Some((what, want)) = line.split_once(" = ") {
-            let told = match what {
-                "probe" => told_counters(alloc, bus.probe.counters())?,
-                _ => told_of(alloc, rack, what)?,
-            };
+            let told = told_at_end(alloc, rack, bus, what)?;
             assert_eq!(rt; told.as_str(), want, "{line}");
         }
     }

@@ -152,7 +152,11 @@ impl Fitting {
 
     /// Bytes of the 3851s that the lines behind tell, from an address on.
     fn place(&mut self, address: u16, bytes: &[u16]) -> Result<(), Fail> {
-        let places = self.rom.iter_mut().skip(usize::from(address));
+        let address = usize::from(address);
+        if bytes.len() > self.rom.len().saturating_sub(address) {
+            return Err("bytes behind a 3851".into());
+        }
+        let places = self.rom.iter_mut().skip(address);
         for (place, byte) in places.zip(bytes) {
             *place = u8::try_from(*byte)?;
         }
