@@ -17,7 +17,7 @@ use super::inputs::ahead;
 use super::registers::Registers;
 use super::writes::Writes;
 use abs_domain::Reason;
-use cartridge::Split;
+use cart_data::Split;
 use chip_face::ChipKind;
 use console_spec::Sort;
 use f8_ops::registers::{K, Q};

@@ -26,7 +26,7 @@ use super::tracked::tracked_bytes;
 use super::ways::ways_of;
 use super::writes::Writes;
 use abs_domain::{Abs, Bit, Digit, MOST_TRACKED, Point, Reason, SCRATCHPAD_SIZE, Val, Word};
-use cartridge::Split;
+use cart_data::Split;
 use f8_ops::{Op, decode, row_of};
 use memory_map::Map;
 

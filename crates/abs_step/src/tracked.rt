@@ -4,7 +4,7 @@ ghost use Rattle.abs_step.specs.Successors.{tracked_byte, tracked_bytes};
 
 use super::registers::Registers;
 use abs_domain::MOST_TRACKED;
-use cartridge::Split;
+use cart_data::Split;
 
 /// What is known of the tracked registers, in their order, and nothing past the last.
 pub fn tracked_bytes(split: &Split, registers: &Registers) -> [Option<u8>; MOST_TRACKED]

@@ -16,7 +16,7 @@ use super::law::determinacy_law;
 use super::matching::Turn;
 use super::run::{begin, go_on};
 use super::trace::TraceList;
-use cartridge::Cart;
+use cart_data::Cart;
 use chip_face::{Chip, MOST_CHIPS};
 use f8_machine::{Chain, Rack};
 use pad_script::Script;

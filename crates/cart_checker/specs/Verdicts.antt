@@ -2,7 +2,7 @@
 use Rattle.std.specs.Prelude.{List}
 use Rattle.console_spec.specs.declared.VerdictWord.{VerdictWord}
 use Rattle.console_spec.specs.declared.VerdictWord.TheVariants.{Whole as WholeWord, Agreed as AgreedWord, NoVerdict}
-use Rattle.cartridge.specs.declared.finish.Cart.{Cart}
+use Rattle.cart_data.specs.declared.cart.Cart.{Cart}
 use Rattle.abs_domain.specs.AbstractState.{AbstractState}
 use Rattle.abs_domain.specs.StateView.{state_of}
 use Rattle.abs_domain.specs.declared.points.Point.{Point}

@@ -15,7 +15,7 @@ use super::search::search;
 use super::verdict::Verdict;
 use abs_domain::{Abs, Point};
 use abs_step::{Annotation, analysis_law, map_view_law, whole};
-use cartridge::{Cart, Split};
+use cart_data::{Cart, Split};
 use f8_spec::Memory;
 use memory_map::Map;
 use std::alloc::Global;

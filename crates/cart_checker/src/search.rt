@@ -8,7 +8,7 @@ use super::halt::Halt;
 use super::worklist::Worklist;
 use abs_domain::{Abs, Point};
 use abs_step::{Annotation, after, start};
-use cartridge::Split;
+use cart_data::Split;
 use memory_map::Map;
 use std::alloc::Global;
 use std::collections::{BTreeMap, BTreeSet};

@@ -3,7 +3,7 @@ use Rattle.std.specs.Prelude.{◌≡◌, ℕ, Bool, false, not, List, length, ma
 use Rattle.std.specs.Option.{option_map_or}
 use Rattle.chip_face.specs.declared.specification.ChipSpec.{ChipSpec}
 use Rattle.chip_face.specs.declared.specification.ChipSpec.TheVariants.{Blank, Psu, Smi, Pio}
-use Rattle.cartridge.specs.declared.finish.Cart.{Cart}
+use Rattle.cart_data.specs.declared.cart.Cart.{Cart}
 use Rattle.cartridge.specs.declared.finish.Unfilled.{Unfilled}
 use Rattle.cartridge.specs.Filling.{PlannedSource, PlannedChip, Planned}
 

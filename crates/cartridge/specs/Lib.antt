@@ -12,4 +12,3 @@ pub mod DistinctKeys
 pub mod Filled
 pub mod Carts
 pub mod Plans
-pub mod Splits

@@ -1,9 +1,9 @@
 -- What the values at the keys have to be. At one key the faults come in this order: the value is missing, of a wrong type, out of range,
 -- off its boundary, and last a text of bad digits or one that another key excludes.
-use Rattle.std.specs.Prelude.{ℕ, ℤ, pos, negsuc, ◌+◌, ◌-◌, ◌%◌, ◌==◌, ◌&&◌, nat_le, Bool, true, not, if◌then◌else◌}
+use Rattle.std.specs.Prelude.{ℕ, ℤ, pos, negsuc, ◌+◌, ◌-◌, ◌%◌, ◌==◌, ◌&&◌, nat_le, Bool, not, if◌then◌else◌}
 use Rattle.std.specs.Prelude.{List, [], ◌∷◌, ◌++◌, length, replicate, codes, bytes_eq, Option, Some, None, option_map}
 use Rattle.std.specs.Prelude.{option_and_then, Result, Ok, Err}
-use Rattle.std.specs.List.{list_any, list_all}
+use Rattle.std.specs.List.{list_all}
 use Rattle.std.specs.Result.{result_ok}
 use Rattle.hex.specs.Hex.{decode_of}
 use Rattle.hex.specs.declared.error.FromHexError.{FromHexError}
@@ -12,6 +12,7 @@ use Rattle.f8_spec.specs.declared.chips.ChipKind.{ChipKind}
 use Rattle.f8_spec.specs.declared.chips.ChipKind.TheVariants.{Psu, Smi, Pio}
 use Rattle.chip_face.specs.declared.sizes.TheConstants.{MOST_CHIPS}
 use Rattle.text_lines.specs.Printable.{is_printable}
+use Rattle.cart_data.specs.Splits.{are_different}
 use Rattle.cartridge.specs.declared.keys.Key.{Key}
 use Rattle.cartridge.specs.declared.refusal.CartCause.{CartCause}
 use Rattle.cartridge.specs.declared.refusal.CartCause.TheVariants.{Missing, WrongType, Range, Boundary, TooMany, BadHex, Both}
@@ -118,13 +119,6 @@ count_of (item d ds) = count_of ds + 1
 abbrev pub each : {A : Type 0} → (Data → Option A) → Items → Option (List A)
 each part no_items = Some []
 each part (item d ds) = option_and_then (λ x. option_map (λ xs. x ∷ xs) (each part ds)) (part d)
-
-abbrev pub is_among : List ℕ → ℕ → Bool
-is_among rs r = list_any (λ other. other == r) rs
-
-abbrev pub are_different : List ℕ → Bool
-are_different [] = true
-are_different (r ∷ rs) = not (is_among rs r) && are_different rs
 
 -- registers of the scratchpad, no two of them equal; an entry of a wrong type is out of range, too
 abbrev pub registers : Option (List ℕ) → Result (List ℕ) CartCause

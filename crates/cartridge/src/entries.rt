@@ -9,9 +9,9 @@ ghost use Rattle.cartridge.specs.declared.keys.Key.TheVariants.{Split as SplitKe
 
 use super::keys::Key;
 use super::refusal::{CartCause, KeyFault};
-use super::split::Split;
 use super::values::{number_in, value_at};
 use abs_domain::MOST_TRACKED;
+use cart_data::Split;
 use std::alloc::{AllocError, Global};
 use toml::{Table, Value};
 

@@ -1,21 +1,11 @@
-// The cartridge of a plan.
+// The chips of a plan with the bytes of their sources.
 ghost use Rattle.std.specs.Prelude.{◌≡◌, ◌≤◌, length, map, position, MatchResult, Some, None};
 ghost use Rattle.cartridge.specs.Carts.{with_rom, specification_of, wants_image};
 ghost use Rattle.cartridge.specs.Plans.{seen_chips};
 
 use super::rom_source::SourceRom;
-use super::split::Split;
-use chip_face::{Bytes, ChipList, ChipSpec, MOST_CHIPS, Powers};
+use chip_face::{Bytes, ChipSpec, MOST_CHIPS};
 use thiserror::Error;
-
-/// A cartridge: the registers that the checker tracks, the chips in the order of the description, and in the same order what is said of
-/// the power-on of each.
-#[derive(Debug, Drop)]
-pub struct Cart {
-    pub split: Split,
-    pub chips: ChipList,
-    pub powers: Powers,
-}
 
 /// The lowest chip with a source that no image was put into. Chips are counted from 0, in the order of the description.
 #[derive(Clone, Copy, Debug, PartialEq, Eq, Error)]

@@ -19,13 +19,11 @@ mod refusal;
 mod rom_room;
 mod rom_source;
 mod run_text;
-mod split;
 mod values;
 
 pub use f8_spec::Memory;
-pub use finish::{Cart, Unfilled};
+pub use finish::Unfilled;
 pub use keys::Key;
 pub use migration::{migrate, migration_law};
 pub use plan::{Plan, read_cart};
 pub use refusal::{CartAnswer, CartCause, CartFault};
-pub use split::Split;

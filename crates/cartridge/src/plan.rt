@@ -10,10 +10,10 @@ ghost use Rattle.cartridge.specs.Plans.{seen_cart, seen_chip, seen_source, str_s
 
 use super::chip_table::ChipPlan;
 use super::description::{Described, read_description};
-use super::finish::{Cart, Unfilled, finished_specs};
+use super::finish::{Unfilled, finished_specs};
 use super::refusal::CartAnswer;
 use super::rom_source::{ChipSource, SourceRom, unfilled_rom};
-use super::split::Split;
+use cart_data::{Cart, Split};
 use chip_face::{ChipList, ChipSpec, MOST_CHIPS, Powers};
 use f8_asm::{Image, Room};
 use std::alloc::{AllocError, Global};

@@ -2,7 +2,7 @@
 use Rattle.std.proofs.Common.{◌≡◌, Bool, true, false, cond, refl}
 use Rattle.std.specs.Prelude.{Option, Some, None, is_some, option_map, unwrap_or}
 use Rattle.std.specs.Option.{ForSome, option_or}
-use Rattle.cartridge.specs.declared.finish.Cart.{Cart}
+use Rattle.cart_data.specs.declared.cart.Cart.{Cart}
 use Rattle.cart_checker.specs.Verdicts.{IsFaultFreeCart, IsSafeCart}
 use Rattle.case_search.specs.ProvedLists.{IsNoLess, is_shown, is_whole, is_whole_found}
 use Rattle.case_search.specs.declared.proving.ProveAnswer.{ProveAnswer}

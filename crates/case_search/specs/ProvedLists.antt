@@ -2,7 +2,7 @@
 use Rattle.std.specs.Prelude.{◌≡◌, ◌≤◌, Bool, true, false, List, length, Option, Some, None, option_map, option_and_then, Ok}
 use Rattle.std.specs.Result.{result_ok}
 use Rattle.chip_face.specs.declared.specification.ChipSpec.{ChipSpec}
-use Rattle.cartridge.specs.declared.finish.Cart.{Cart}
+use Rattle.cart_data.specs.declared.cart.Cart.{Cart}
 use Rattle.abs_step.specs.MapView.{MapView, chips_view}
 use Rattle.abs_step.specs.Soundness.{OnlyUndriven}
 use Rattle.cart_checker.specs.Verdicts.{IsFaultFreeCart, IsSafeCart}

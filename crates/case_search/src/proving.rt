@@ -12,7 +12,7 @@ use super::searching::{Found, search};
 use abs_domain::{Point, Reason};
 use abs_step::map_view_law;
 use cart_checker::{Verdict, check_cart};
-use cartridge::Cart;
+use cart_data::Cart;
 use case_step::{CasesAnswer, Entry, judged_law};
 use case_text::{CasesError, confirm, read_cases, write_cases, written_law};
 use f8_spec::Memory;

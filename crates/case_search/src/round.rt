@@ -9,7 +9,7 @@ use super::live::Live;
 use super::numbers::every_number;
 use abs_domain::{Abs, Bit, MOST_TRACKED, Point, Reason};
 use abs_step::{after, instruction_at, whole};
-use cartridge::Split;
+use cart_data::Split;
 use case_step::{Cases, Entry, Outcome};
 use f8_ops::Op;
 use memory_map::Map;

@@ -14,7 +14,7 @@ use super::list::CaseList;
 use super::outcome::Outcome;
 use abs_domain::{Abs, MOST_TRACKED, Point};
 use abs_step::{Successors, after, instruction_at, whole};
-use cartridge::Split;
+use cart_data::Split;
 use f8_ops::Op;
 use f8_spec::Memory;
 use memory_map::Map;

@@ -7,7 +7,7 @@ ghost use Rattle.case_step.specs.declared.answer.CasesAnswer.TheVariants.{Whole,
 ghost use Rattle.certificate.specs.VerifiedMaps.{GoesOnAlways};
 
 use abs_step::map_view_law;
-use cartridge::Cart;
+use cart_data::Cart;
 use case_step::{CaseList, CasesAnswer, case_soundness_law, judge, judged_law};
 use f8_spec::Memory;
 use memory_map::Map;

@@ -22,7 +22,7 @@ ghost use Rattle.certificate.specs.declared.examined.VerifyAnswer.TheVariants.{W
 use super::ranges::entry_law;
 use abs_domain::{Abs, Point, Reason};
 use abs_step::{Annotation, Successors, after, analysis_law, map_view_law, start, whole};
-use cartridge::{Cart, Split};
+use cart_data::{Cart, Split};
 use f8_spec::Memory;
 use memory_map::Map;
 use std::alloc::Global;

@@ -1,7 +1,7 @@
 // The invariant map of a text.
 ghost use Rattle.std.specs.Prelude.{◌≡◌, ◌==◌, ◌<◌, ◌≤◌, ◌+◌, IfOk, IfSome, IsOk, None, length, position};
 ghost use Rattle.abs_domain.specs.StateView.{state_of};
-ghost use Rattle.cartridge.specs.Splits.{IsSplit};
+ghost use Rattle.cart_data.specs.Splits.{IsSplit};
 ghost use Rattle.abs_step.specs.StatesAtPoints.{state_in, states_of};
 ghost use Rattle.certificate.specs.Answers.{Gives, ReadsAs, entry_as};
 ghost use Rattle.text_lines.specs.ReadErrors.{SaysSeen, OnMemory};
@@ -17,7 +17,7 @@ use super::entry::entry_of;
 use super::parts::behind as after_mark;
 use abs_domain::{Abs, Point};
 use abs_step::{Annotation, MOST_POINTS};
-use cartridge::Split;
+use cart_data::Split;
 use line_words::number_of;
 use std::alloc::Global;
 use std::collections::BTreeMap;

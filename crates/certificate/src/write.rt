@@ -16,7 +16,7 @@ ghost use Rattle.certificate.specs.CertificateLaws.{HaveSplit, IsInRange, AllInR
 use super::ranges::entry_law;
 use abs_domain::{Abs, Bit, Digit, Point, SCRATCHPAD_SIZE, Val, Word};
 use abs_step::Annotation;
-use cartridge::Split;
+use cart_data::Split;
 use f8_asm::Text;
 use f8_spec::Memory;
 use std::alloc::{AllocError, Global};

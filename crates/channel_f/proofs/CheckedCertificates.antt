@@ -2,8 +2,8 @@
 use Rattle.std.proofs.Common.{ap, arith}
 use Rattle.std.specs.Prelude.{length}
 use Rattle.abs_step.specs.MapView.{chips_view}
-use Rattle.cartridge.specs.Splits.{IsSplit}
-use Rattle.cartridge.specs.declared.finish.Cart.{Cart}
+use Rattle.cart_data.specs.Splits.{IsSplit}
+use Rattle.cart_data.specs.declared.cart.Cart.{Cart}
 use Rattle.cart_checker.specs.Verdicts.{IsVerdict, Carries}
 use Rattle.cart_checker.specs.declared.verdict.Verdict.{Verdict}
 use Rattle.cart_checker.specs.declared.verdict.Verdict.TheVariants.{Whole, Agreed, Refused, TooMany}

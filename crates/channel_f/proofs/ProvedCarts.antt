@@ -1,6 +1,6 @@
 -- A list that is found is confirmed as it is told.
 use Rattle.std.proofs.Common.{◌≡◌, ℕ, length, ap, ◌∙◌}
-use Rattle.cartridge.specs.declared.finish.Cart.{Cart}
+use Rattle.cart_data.specs.declared.cart.Cart.{Cart}
 use Rattle.abs_step.specs.MapView.{chips_view}
 use Rattle.case_step.specs.declared.answer.CasesAnswer.{CasesAnswer}
 use Rattle.case_step.specs.declared.answer.CasesAnswer.TheVariants as confirmed

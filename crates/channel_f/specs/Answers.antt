@@ -23,7 +23,7 @@ use Rattle.rack_run.specs.declared.sockets.Shortage.{Shortage}
 use Rattle.report.specs.CheckLines.{whole_line, agreed_line, refused_line, toomany_line, notclosed_line, unsafe_line}
 use Rattle.report.specs.ErrorLines.{words_line, rack_line, sockets_line}
 use Rattle.cartridge.specs.Migrated.{migrated_table}
-use Rattle.cartridge.specs.declared.finish.Cart.{Cart}
+use Rattle.cart_data.specs.declared.cart.Cart.{Cart}
 use Rattle.cart_checker.specs.Verdicts.{verdict_word, analysis_of}
 use Rattle.cart_checker.specs.declared.verdict.Verdict.{Verdict}
 use Rattle.cart_checker.specs.declared.verdict.Verdict.TheVariants.{Whole as FaultFree, Agreed, Refused, TooMany}

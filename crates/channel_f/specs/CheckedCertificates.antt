@@ -2,8 +2,8 @@
 use Rattle.std.specs.Prelude.{◌≡◌, ◌≤◌, Ok, List, length}
 use Rattle.abs_domain.specs.AbstractState.{AbstractState}
 use Rattle.abs_domain.specs.declared.points.Point.{Point}
-use Rattle.cartridge.specs.Splits.{IsSplit}
-use Rattle.cartridge.specs.declared.finish.Cart.{Cart}
+use Rattle.cart_data.specs.Splits.{IsSplit}
+use Rattle.cart_data.specs.declared.cart.Cart.{Cart}
 use Rattle.cart_checker.specs.Verdicts.{RightVerdict}
 use Rattle.cart_checker.specs.declared.verdict.Verdict.{Verdict}
 use Rattle.cart_checker.specs.declared.verdict.Verdict.TheVariants.{Whole, Agreed, Refused, TooMany}

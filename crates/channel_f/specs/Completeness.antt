@@ -10,7 +10,7 @@ use Rattle.chip_face.specs.declared.specification.ChipSpec.{ChipSpec}
 use Rattle.loader.specs.Readings.{table_of}
 use Rattle.loader.specs.Work.{Ask, End, Gives, Refuses, Lacks, Work}
 use Rattle.loader.specs.Works.{AsksFew, HasFiles, Misses, order_of, file_of}
-use Rattle.cartridge.specs.declared.finish.Cart.{Cart}
+use Rattle.cart_data.specs.declared.cart.Cart.{Cart}
 use Rattle.cart_checker.specs.Verdicts.{RightVerdict}
 use Rattle.cart_checker.specs.declared.verdict.Verdict.{Verdict}
 use Rattle.case_search.specs.ProvedLists.{IsNoLess, Shows}

@@ -1,6 +1,6 @@
 -- What `prove --cases` tells of a cartridge, and what `confirm` says of that.
 use Rattle.std.specs.Prelude.{◌≡◌, ◌≤◌, Ok, List, length}
-use Rattle.cartridge.specs.declared.finish.Cart.{Cart}
+use Rattle.cart_data.specs.declared.cart.Cart.{Cart}
 use Rattle.case_step.specs.Entries.{EntryView}
 use Rattle.case_text.specs.CasesText.{cases_of}
 use Rattle.case_search.specs.ProvedLists.{Shows}

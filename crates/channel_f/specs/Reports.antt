@@ -4,7 +4,7 @@ use Rattle.console_spec.specs.RunText.{text_of}
 use Rattle.outside.specs.SinkRules.{Output, Adds, AddsPart}
 use Rattle.loader.specs.declared.refusals.Stop.{Stop}
 use Rattle.loader.specs.declared.refusals.Stop.TheVariants.{Refused, Store, Memory}
-use Rattle.cartridge.specs.declared.finish.Cart.{Cart}
+use Rattle.cart_data.specs.declared.cart.Cart.{Cart}
 use Rattle.cart_checker.specs.Verdicts.{RightVerdict}
 use Rattle.cart_checker.specs.declared.verdict.Verdict.{Verdict}
 use Rattle.case_search.specs.ProvedLists.{IsNoLess, Shows}

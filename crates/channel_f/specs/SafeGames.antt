@@ -3,7 +3,7 @@ use Rattle.std.specs.Prelude.{◌≡◌, ◌≢◌, ◌⊎◌, List, None, Resul
 use Rattle.f8_spec.specs.ChipState.{ChipState}
 use Rattle.console_spec.specs.Run.{Done}
 use Rattle.console_spec.specs.Telling.{Telling}
-use Rattle.cartridge.specs.declared.finish.Cart.{Cart}
+use Rattle.cart_data.specs.declared.cart.Cart.{Cart}
 use Rattle.abs_step.specs.Soundness.{OnlyUndriven}
 use Rattle.abs_step.specs.ScriptRuns.{EndsBy}
 use Rattle.cart_checker.specs.Verdicts.{IsFaultFreeCart, IsSafeCart}

@@ -25,7 +25,7 @@ use super::manner::Manner;
 use super::playing::{play_game, refer_game};
 use super::status::Status;
 use cart_checker::{Verdict, check_cart};
-use cartridge::{Cart, Split};
+use cart_data::{Cart, Split};
 use case_search::{ProveAnswer, prove};
 use case_text::confirm;
 use certificate::{verify, write_cert};

@@ -12,7 +12,7 @@ use super::manner::Manner;
 use super::status::Status;
 use asm_lines::{put_image, put_linked, put_listing};
 use cart_checker::Verdict;
-use cartridge::Split;
+use cart_data::Split;
 use certificate::VerifyAnswer;
 use f8_asm::{Image, Text};
 use f8_link::Linked;

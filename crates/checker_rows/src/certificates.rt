@@ -2,7 +2,7 @@
 use super::chips::lone_cart;
 use abs_domain::{Abs, Bit, Digit, Point, Val, Word};
 use abs_step::{Annotation, start};
-use cartridge::Split;
+use cart_data::Split;
 use certificate::{VerifyAnswer, read_cert, verify, write_cert};
 use std::collections::BTreeMap;
 use std::test::Fail;

@@ -2,7 +2,7 @@
 ghost use Rattle.std.specs.Prelude.{◌≡◌, ◌≤◌, IfOk, false, length};
 ghost use Rattle.chip_face.specs.Fitting.{IsSpec, is_blank};
 
-use cartridge::{Cart, Split};
+use cart_data::{Cart, Split};
 use chip_face::{Bytes, ChipList, ChipSpec, Page, PageList, PageSort, Powers};
 use std::alloc::Global;
 use std::test::Fail;

@@ -4,7 +4,7 @@ ghost use Rattle.std.specs.Prelude.{◌≡◌, ◌≤◌, None, length, replicat
 use super::chips::{lone_cart, psu, smi};
 use abs_domain::{Bit, Point, Word};
 use abs_step::{after, start, whole};
-use cartridge::Split;
+use cart_data::Split;
 use chip_face::ChipList;
 use memory_map::Map;
 use std::alloc::Global;

@@ -9,7 +9,7 @@ use super::meeting::is_heeded;
 use super::replaying::{Sought, go_back, replay};
 use super::session_lines::{mem_line, stored_line};
 use super::telling::{put_back, put_chips, put_going, put_regs, put_start};
-use cartridge::Cart;
+use cart_data::Cart;
 use chip_face::{Chip, MOST_CHIPS};
 use console_spec::Event;
 use f8_machine::{Outcome, Rack};

@@ -1,5 +1,6 @@
 // The plan of a description: sources, rooms and images.
-use cartridge::{Cart, Plan, read_cart};
+use cart_data::Cart;
+use cartridge::{Plan, read_cart};
 use chip_face::ChipSpec;
 use f8_asm::{Room, assemble};
 use std::alloc::Global;

@@ -1,7 +1,6 @@
 // The chips of a number, byte by byte where they are given.
 use chip_face::ChipSpec;
-use generator::{gen_line, generated_chips, scratch_sum, scratch_sum_line, writes_line};
-use report::Line;
+use generator::{generated_chips, scratch_sum};
 use std::process::Abort;
 use std::test::Fail;
 
@@ -49,18 +48,6 @@ fn bytes_of_seed_one(rt: HostRuntime) -> Result<(), Fail> {
     holds(&rt, chips.as_slice().first(), 0, &[0xE3, 0x33, 0x13]);
     holds(&rt, chips.as_slice().last(), 1_021, &[0x29, 0x00, 0x00]);
     Ok(())
-}
-
-fn tells(rt: &impl Abort, line: &Line, text: &str) {
-    assert_eq!(rt; line.as_bytes(), text.as_bytes());
-}
-
-#[test]
-fn summary_lines(rt: HostRuntime) {
-    tells(&rt, &gen_line(0), "gen 0\n");
-    tells(&rt, &gen_line(4_294_967_295), "gen 4294967295\n");
-    tells(&rt, &writes_line(3, 765), "writes 3 sum 765\n");
-    tells(&rt, &scratch_sum_line(16_320), "scratch 16320\n");
 }
 
 #[test]

@@ -2,7 +2,7 @@
 use Rattle.std.proofs.Common.{◌≡◌, ℕ, List, Result, Ok, Err, arith, ◌≤◌}
 use Rattle.outside.specs.StoreRules.{Input}
 use Rattle.chip_face.specs.declared.sizes.TheConstants.{MOST_CHIPS}
-use Rattle.cartridge.specs.declared.finish.Cart.{Cart}
+use Rattle.cart_data.specs.declared.cart.Cart.{Cart}
 use Rattle.case_step.specs.Entries.{EntryView}
 use Rattle.case_text.specs.CasesText.{cases_of}
 use Rattle.case_text.specs.declared.cause.CasesFault.{CasesFault}

@@ -2,7 +2,7 @@
 use Rattle.std.proofs.Common.{◌≡◌, ℕ, List, Result, Ok, Err, arith, ◌≤◌}
 use Rattle.chip_face.specs.declared.sizes.TheConstants.{MOST_CHIPS}
 use Rattle.outside.specs.StoreRules.{Input}
-use Rattle.cartridge.specs.declared.finish.Cart.{Cart}
+use Rattle.cart_data.specs.declared.cart.Cart.{Cart}
 use Rattle.chip_debug.specs.Reading.{commands_of}
 use Rattle.chip_debug.specs.Answers.{DebugFault}
 use Rattle.chip_debug.specs.declared.command.Command.{Command}

@@ -4,7 +4,7 @@ use Rattle.std.proofs.Common.{subst, arith}
 use Rattle.std.specs.Prelude.{position}
 use Rattle.outside.specs.StoreRules.{Input}
 use Rattle.chip_face.specs.declared.sizes.TheConstants.{MOST_CHIPS}
-use Rattle.cartridge.specs.declared.finish.Cart.{Cart}
+use Rattle.cart_data.specs.declared.cart.Cart.{Cart}
 use Rattle.cartridge.specs.declared.finish.Unfilled.{Unfilled}
 use Rattle.cartridge.specs.Carts.{wants_image, cart_without}
 use Rattle.cartridge.specs.Carts.{cart_of as cart_of_plan}

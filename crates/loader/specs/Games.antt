@@ -6,7 +6,7 @@ use Rattle.chip_face.specs.declared.sizes.TheConstants.{MOST_CHIPS}
 use Rattle.cartridge.specs.Carts.{specification_of}
 use Rattle.cartridge.specs.ChipTables.{DescribedSource}
 use Rattle.cartridge.specs.Filling.{Planned, source_at, filled_plan}
-use Rattle.cartridge.specs.declared.finish.Cart.{Cart}
+use Rattle.cart_data.specs.declared.cart.Cart.{Cart}
 use Rattle.case_step.specs.Entries.{EntryView}
 use Rattle.toml.specs.Data.{Members}
 use Rattle.f8_asm.specs.declared.answers.Room.{Room}

@@ -1,6 +1,6 @@
 // A cartridge with what a certificate claims of it, or with a list of entries of it.
 use abs_step::Annotation;
-use cartridge::Cart;
+use cart_data::Cart;
 use case_step::CaseList;
 
 /// A cartridge with what a certificate claims of it.

@@ -1,6 +1,6 @@
 // A run, a session of the debugger, or an audit, that is asked for.
 use bus_audit::TraceList;
-use cartridge::Cart;
+use cart_data::Cart;
 use chip_debug::CommandList;
 use pad_script::Script;
 

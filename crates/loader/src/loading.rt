@@ -22,7 +22,7 @@ use super::refusals::Stop;
 use super::sources::{ASSEMBLY_LIMIT, load_planned};
 use abs_step::Annotation;
 use bus_audit::TraceList;
-use cartridge::{Cart, Split};
+use cart_data::{Cart, Split};
 use case_step::CaseList;
 use chip_debug::CommandList;
 use f8_asm::{Image, Room};

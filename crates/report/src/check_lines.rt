@@ -8,7 +8,7 @@ ghost use Rattle.report.specs.CheckLines.{unsafe_line as spelled_unsafe};
 
 use super::line_buffer::{LINE_ROOM, Line};
 use abs_domain::{Point, Reason};
-use cartridge::Split;
+use cart_data::Split;
 
 /// `whole`: every bus step of every run is served. So many points have a state.
 #[tactic(auto, unfolding(crate::specs::CheckLines::whole_line))]

@@ -1,7 +1,7 @@
 -- The verdict that is told is right, and has what shows it; so has that of which the certificate is told.
 use Rattle.std.proofs.Common.{◌⊎◌, inl, inr}
 use Rattle.outside.specs.SinkRules.{Output}
-use Rattle.cartridge.specs.declared.finish.Cart.{Cart}
+use Rattle.cart_data.specs.declared.cart.Cart.{Cart}
 use Rattle.cart_checker.specs.Verdicts.{RightVerdict}
 use Rattle.channel_f.specs.Answers.{Judged, cert_answer}
 use Rattle.channel_f.specs.Reports.{AnswersDue, Reports, Wants}

@@ -1,7 +1,6 @@
 // The tracked registers of a cartridge.
 ghost use Rattle.std.specs.Prelude.{◌≡◌, ◌<◌, ◌≤◌, ◌==◌, ◌++◌, [], ◌∷◌, length, slice_get, false};
-ghost use Rattle.cartridge.specs.Values.{is_among};
-ghost use Rattle.cartridge.specs.Splits.{IsSplit};
+ghost use Rattle.cart_data.specs.Splits.{IsSplit, is_among};
 
 use abs_domain::MOST_TRACKED;
 use std::marker::Model;
@@ -15,7 +14,7 @@ pub struct Split {
 
 impl Model for Split {
     ghost use Rattle.std.specs.Prelude.{ℕ, List, ◌≤◌, ◌≡◌, length, take};
-    ghost use Rattle.cartridge.specs.Splits.{IsSplit};
+    ghost use Rattle.cart_data.specs.Splits.{IsSplit};
 
     ghost Value = { List ℕ };
 

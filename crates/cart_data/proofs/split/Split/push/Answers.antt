@@ -1,7 +1,7 @@
 use Rattle.std.proofs.Common.{◌<◌, ◌∙◌, arith, length-set}
 use Rattle.std.proofs.lemmas.List.{take_more_set}
-use Rattle.cartridge.proofs.Registers.{split_push}
-use Rattle.cartridge.proofs.split.Split.push.Goals as goal
+use Rattle.cart_data.proofs.Registers.{split_push}
+use Rattle.cart_data.proofs.split.Split.push.Goals as goal
 
 pub invariant_of-self : goal.invariant_of-self
 invariant_of-self c =

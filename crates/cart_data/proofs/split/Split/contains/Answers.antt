@@ -1,7 +1,7 @@
 use Rattle.std.proofs.Common.{◌==◌, rules, tests}
 use Rattle.std.proofs.lemmas.Iterator.{YieldsList-from_slice}
 use Rattle.std.proofs.lemmas.Iterator.Search.{any_from_yields_List}
-use Rattle.cartridge.proofs.split.Split.contains.Goals as goal
+use Rattle.cart_data.proofs.split.Split.contains.Goals as goal
 
 pub returns : goal.returns
 returns c =
