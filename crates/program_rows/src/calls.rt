@@ -42,7 +42,7 @@ pub(crate) enum Has {
 /// What the chip of a socket has after a call.
 pub(crate) type Left = (usize, Has);
 
-/// A call of the program, and what comes of it. The store has no file but the row's.
+/// A call of the program, and what comes of it. The store has the row's files, those that the rows of its table have in common, and no others.
 #[derive(Clone, Copy)]
 pub(crate) struct Row<'a> {
     pub(crate) files: &'a [File<'a>],
@@ -96,23 +96,30 @@ fn file_of(alloc: Global, file: &File) -> Result<NamedFile, Fail> {
     Ok(NamedFile::new(name, bytes))
 }
 
-pub(crate) fn files_of(alloc: Global, files: &[File]) -> Result<FileList, Fail> {
-    let mut list = Vec::new(alloc);
+fn add_files(alloc: Global, list: &mut Vec<NamedFile>, files: &[File]) -> Result<(), Fail> {
     for file in files {
         list.push(file_of(alloc, file)?)?;
     }
+    Ok(())
+}
+
+/// These files, and those that rows have in common.
+pub(crate) fn files_of(alloc: Global, files: &[File], common: &[File]) -> Result<FileList, Fail> {
+    let mut list = Vec::new(alloc);
+    add_files(alloc, &mut list, files)?;
+    add_files(alloc, &mut list, common)?;
     match FileList::from_vec(list) {
         Some(list) => Ok(list),
         None => Err("two files have one name".into()),
     }
 }
 
-fn store_of(alloc: Global, row: &Row) -> Result<MemStore, Fail> {
+fn store_of(alloc: Global, row: &Row, common: &[File]) -> Result<MemStore, Fail> {
     let mut calls = Vec::new(alloc);
     if let Some(call) = row.fetch {
         calls.push(call)?;
     }
-    let files = files_of(alloc, row.files)?;
+    let files = files_of(alloc, row.files, common)?;
     Ok(MemStore::new(files, CallList::from_vec(calls)))
 }
 
@@ -145,8 +152,13 @@ pub(crate) fn status_of<S: Store, K: Sink>(
 }
 
 /// The status, with what is written.
-pub(crate) fn answered(alloc: Global, row: &Row, rack: &mut Rack) -> Result<(u8, MemSink), Fail> {
-    let mut store = store_of(alloc, row)?;
+pub(crate) fn answered(
+    alloc: Global,
+    row: &Row,
+    common: &[File],
+    rack: &mut Rack,
+) -> Result<(u8, MemSink), Fail> {
+    let mut store = store_of(alloc, row, common)?;
     let mut sink = sink_of(alloc, row)?;
     let status = status_of(alloc, row.words, &mut store, &mut sink, rack)?;
     Ok((status, sink))
@@ -181,9 +193,10 @@ pub(crate) fn check_row(
     rt: &impl Abort,
     alloc: Global,
     row: &Row,
+    common: &[File],
     rack: &mut Rack,
 ) -> Result<(), Fail> {
-    let (status, sink) = answered(alloc, row, rack)?;
+    let (status, sink) = answered(alloc, row, common, rack)?;
     check_text(rt, row, sink.bytes());
     assert_eq!(rt; status, row.status, "{:?}", row.words);
     for left in row.left {

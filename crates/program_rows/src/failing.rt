@@ -1,13 +1,14 @@
 // Stores that fail at a fetch, and sinks that fail in mid-run.
 use super::calls::{File, LOOP_CART, LOOP_SCRIPT, Row, SERVED, Text, answered};
-use super::seats::{LONE, P, Seat, check_rows};
+use super::seats::{LONE, P, Seat, check_rows_over};
 use f8_machine::Rack;
 use psu3851::Psu;
 use std::alloc::Global;
 use std::process::Abort;
 use std::test::Fail;
 
-const FILES: [File; 6] = [
+/// The files of all rows.
+static FILES: [File; 6] = [
     ("cart", LOOP_CART),
     ("script", LOOP_SCRIPT),
     ("empty", ""),
@@ -16,20 +17,8 @@ const FILES: [File; 6] = [
     ("digits", "712D"),
 ];
 
-static ROWS: [Row; 12] = [
+static ROWS: [Row; 11] = [
     Row {
-        files: &FILES,
-        words: &["play", "cart", "drawn"],
-        put: Some((4, 0)),
-        status: 5,
-        text: Text::All(
-            "verdict whole\nframe 1 phi 29830 tone 0\n\
-             0 00000000000000000000000000000000000000000000000000000000000000000000000000000000000000000000000000000000000000000000000000000000\n",
-        ),
-        ..SERVED
-    },
-    Row {
-        files: &FILES,
         words: &["gen", "1"],
         put: Some((2, 0)),
         status: 5,
@@ -37,7 +26,6 @@ static ROWS: [Row; 12] = [
         ..SERVED
     },
     Row {
-        files: &FILES,
         words: &["play", "cart", "script"],
         put: Some((1, 0)),
         status: 5,
@@ -45,7 +33,6 @@ static ROWS: [Row; 12] = [
         ..SERVED
     },
     Row {
-        files: &FILES,
         words: &["play", "cart", "script"],
         put: Some((3, 0)),
         status: 5,
@@ -53,7 +40,6 @@ static ROWS: [Row; 12] = [
         ..SERVED
     },
     Row {
-        files: &FILES,
         words: &["play", "cart", "script"],
         put: Some((3, 1)),
         status: 5,
@@ -61,7 +47,6 @@ static ROWS: [Row; 12] = [
         ..SERVED
     },
     Row {
-        files: &FILES,
         words: &["play", "cart", "script"],
         put: Some((3, 1_000)),
         status: 5,
@@ -71,7 +56,6 @@ static ROWS: [Row; 12] = [
         ..SERVED
     },
     Row {
-        files: &FILES,
         words: &["play", "cart", "script"],
         room: 18,
         status: 5,
@@ -79,7 +63,6 @@ static ROWS: [Row; 12] = [
         ..SERVED
     },
     Row {
-        files: &FILES,
         words: &["play", "empty", "script"],
         put: Some((1, 0)),
         status: 5,
@@ -87,7 +70,6 @@ static ROWS: [Row; 12] = [
         ..SERVED
     },
     Row {
-        files: &FILES,
         words: &["play", "empty", "script"],
         put: Some((1, 7)),
         status: 5,
@@ -95,7 +77,6 @@ static ROWS: [Row; 12] = [
         ..SERVED
     },
     Row {
-        files: &FILES,
         words: &["play", "empty", "script"],
         put: Some((1, 1_000)),
         status: 5,
@@ -103,7 +84,6 @@ static ROWS: [Row; 12] = [
         ..SERVED
     },
     Row {
-        files: &FILES,
         words: &["asm", "code"],
         put: Some((2, 0)),
         status: 5,
@@ -111,7 +91,6 @@ static ROWS: [Row; 12] = [
         ..SERVED
     },
     Row {
-        files: &FILES,
         words: &["dis", "digits"],
         put: Some((3, 0)),
         status: 5,
@@ -123,7 +102,6 @@ static ROWS: [Row; 12] = [
 /// Each of the two fetches fails, and the line says so.
 static FETCHES: [Row; 2] = [
     Row {
-        files: &FILES,
         words: &["play", "cart", "script"],
         fetch: Some(1),
         status: 4,
@@ -131,7 +109,6 @@ static FETCHES: [Row; 2] = [
         ..SERVED
     },
     Row {
-        files: &FILES,
         words: &["play", "cart", "script"],
         fetch: Some(2),
         status: 4,
@@ -140,21 +117,20 @@ static FETCHES: [Row; 2] = [
     },
 ];
 
-const TWELVE: [Seat; 12] = [P, P, P, P, P, P, P, P, P, P, P, P];
+static TWELVE: [Seat; 12] = [P; 12];
 
 #[test]
 fn stops_at_a_failing_sink(rt: HostRuntime) -> Result<(), Fail> {
-    check_rows(&rt, rt.alloc(), &TWELVE, &ROWS)
+    check_rows_over(&rt, rt.alloc(), &TWELVE, &FILES, &ROWS)
 }
 
 #[test]
 fn stops_at_a_failing_store(rt: HostRuntime) -> Result<(), Fail> {
-    check_rows(&rt, rt.alloc(), &LONE, &FETCHES)
+    check_rows_over(&rt, rt.alloc(), &LONE, &FILES, &FETCHES)
 }
 
 /// A run with a frame.
 static DRAWN: Row = Row {
-    files: &FILES,
     words: &["play", "cart", "drawn"],
     ..SERVED
 };
@@ -172,7 +148,7 @@ fn check_line(
         put: Some((call, 2)),
         ..DRAWN
     };
-    let (status, sink) = answered(alloc, &row, rack)?;
+    let (status, sink) = answered(alloc, &row, &FILES, rack)?;
     assert_eq!(rt; status, 5, "{call}");
     assert_eq!(rt; sink.bytes().len(), begin.saturating_add(2), "{call}");
     assert!(rt; whole.starts_with(sink.bytes()), "{call}");
@@ -181,7 +157,7 @@ fn check_line(
 
 /// The run has 73 lines. The sink fails within each of them.
 fn check_lines(rt: &impl Abort, alloc: Global, rack: &mut Rack) -> Result<(), Fail> {
-    let (status, whole) = answered(alloc, &DRAWN, rack)?;
+    let (status, whole) = answered(alloc, &DRAWN, &FILES, rack)?;
     assert_eq!(rt; status, 0);
     let mut call: u64 = 0;
     let mut begin: usize = 0;

@@ -1,6 +1,6 @@
-// Interrupts by the program's words: that of a timer, and those of two pulses which come at one frame.
-use super::calls::{File, Row, SERVED, Text};
-use super::seats::{HP, P, Seat, check_rows};
+// Interrupts on chips that hear, with the trace: that of a timer, and those of two pulses which come at one frame.
+use super::calls::{Row, SERVED, Text};
+use super::seats::{HP, Seat, check_rows};
 use std::test::Fail;
 
 /// The timer expires before EI ends, which shields its own end: the NOP behind it is followed by the vector.
@@ -9,17 +9,6 @@ const TIMER_CART: &str = "format = 1\n\
      rom = '73B6207FB72B2B2B2B2B2B2B1B2B'\n";
 
 const TIMER_SCRIPT: &str = "steps 13\n";
-
-const TIMER_PLAY: &str = "verdict none\n\
-     out 34 06 03\n\
-     out 60 07 7F\n\
-     stop done\n\
-     regs P=0100 P1=000E D0=0000 D1=0000 A=7F IS=00 W=00\n\
-     s00 00 00 00 00 00 00 00 00 00 00 00 00 00 00 00 00\n\
-     s10 00 00 00 00 00 00 00 00 00 00 00 00 00 00 00 00\n\
-     s20 00 00 00 00 00 00 00 00 00 00 00 00 00 00 00 00\n\
-     s30 00 00 00 00 00 00 00 00 00 00 00 00 00 00 00 00\n\
-     total 13 instructions 122 phi\n";
 
 const TIMER_TRACE: &str = "verdict none\n\
      bus 1C S 00 -\nbus 08 L 00 cpu\nbus 00 S 73 0\n\
@@ -52,17 +41,6 @@ const PULSES_SOURCE: &str =
 
 const PULSES_SCRIPT: &str = "at 1 pulse 1\nat 1 pulse 0\nsteps 2135\n";
 
-const PULSES_PLAY: &str = "verdict none\n\
-     out 34 06 01\n\
-     out 50 0A 01\n\
-     stop done\n\
-     regs P=0280 P1=0004 D0=0000 D1=0000 A=01 IS=00 W=00\n\
-     s00 00 00 00 00 00 00 00 00 00 00 00 00 00 00 00 00\n\
-     s10 00 00 00 00 00 00 00 00 00 00 00 00 00 00 00 00\n\
-     s20 00 00 00 00 00 00 00 00 00 00 00 00 00 00 00 00\n\
-     s30 00 00 00 00 00 00 00 00 00 00 00 00 00 00 00 00\n\
-     total 2135 instructions 29924 phi\n";
-
 /// The last four instructions: a branch, EI and POP of the first chip's vector, and the same branch once more.
 const PULSES_TRACE_END: &str = "\
      bus 1C S 00 -\nbus 01 L FF 0\n\
@@ -79,56 +57,30 @@ const PULSES_TRACE_END: &str = "\
      s30 00 00 00 00 00 00 00 00 00 00 00 00 00 00 00 00\n\
      total 2135 instructions 29924 phi\n";
 
-/// The words of a run without and with its trace.
-const PLAIN: &[&str] = &["play", "cart", "script"];
-
 const TRACED: &[&str] = &["play", "--trace", "cart", "script"];
 
-const TIMER: [File; 2] = [("cart", TIMER_CART), ("script", TIMER_SCRIPT)];
-
-const PULSES: [File; 3] = [
-    ("cart", PULSES_CART),
-    ("loop.f8", PULSES_SOURCE),
-    ("script", PULSES_SCRIPT),
-];
-
-/// Both cartridges, without and with the trace.
-static ROWS: [Row; 4] = [
+/// Both cartridges, with the trace.
+static ROWS: [Row; 2] = [
     Row {
-        files: &TIMER,
-        words: PLAIN,
-        text: Text::All(TIMER_PLAY),
-        ..SERVED
-    },
-    Row {
-        files: &TIMER,
+        files: &[("cart", TIMER_CART), ("script", TIMER_SCRIPT)],
         words: TRACED,
         text: Text::All(TIMER_TRACE),
         ..SERVED
     },
     Row {
-        files: &PULSES,
-        words: PLAIN,
-        text: Text::All(PULSES_PLAY),
-        ..SERVED
-    },
-    Row {
-        files: &PULSES,
+        files: &[
+            ("cart", PULSES_CART),
+            ("loop.f8", PULSES_SOURCE),
+            ("script", PULSES_SCRIPT),
+        ],
         words: TRACED,
         text: Text::Between("verdict none\n", PULSES_TRACE_END),
         ..SERVED
     },
 ];
 
-const PLAIN_CHIPS: [Seat; 2] = [P, P];
-
 /// Chips that hear each of the steps.
-const HEARING: [Seat; 2] = [HP, HP];
-
-#[test]
-fn plays_interrupts(rt: HostRuntime) -> Result<(), Fail> {
-    check_rows(&rt, rt.alloc(), &PLAIN_CHIPS, &ROWS)
-}
+static HEARING: [Seat; 2] = [HP, HP];
 
 #[test]
 fn plays_interrupts_on_listeners(rt: HostRuntime) -> Result<(), Fail> {

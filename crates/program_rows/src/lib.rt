@@ -1,15 +1,15 @@
-//! Worked rows of the program: each command, what fails under it, and other racks than its own. This crate has tests alone: it stands above
+//! Worked rows of the program: what fails under it, and other racks than its own. This crate has tests alone: it stands above
 //! channel_f.
 #![tactic(auto)]
 
-#[cfg(test)]
-mod answers;
 #[cfg(test)]
 mod calls;
 #[cfg(test)]
 mod failing;
 #[cfg(test)]
 mod interrupts;
+#[cfg(test)]
+mod never_failing;
 #[cfg(test)]
 mod parallel;
 #[cfg(test)]

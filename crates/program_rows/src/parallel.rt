@@ -35,8 +35,8 @@ const PULSE_TRACE_END: &str = "\
      s30 00 00 00 00 00 00 00 00 00 00 00 00 00 00 00 00\n\
      total 2132 instructions 29870 phi\n";
 
-/// Played and checked.
-const RUNS: [Row; 7] = [
+/// A port, a port of two chips, and a pulse without the trace and with it.
+static RUNS: [Row; 4] = [
     Row {
         files: &[("cart", PORT_CART), ("script", PORT_SCRIPT)],
         words: &["play", "cart", "script"],
@@ -54,12 +54,6 @@ const RUNS: [Row; 7] = [
         ..SERVED
     },
     Row {
-        files: &[("cart", PORT_CART)],
-        words: &["check", "cart"],
-        text: Text::All("whole 4\n"),
-        ..SERVED
-    },
-    Row {
         files: &[("cart", SHARED_CART), ("script", PORT_SCRIPT)],
         words: &["play", "cart", "script"],
         status: 3,
@@ -73,13 +67,6 @@ const RUNS: [Row; 7] = [
              s30 00 00 00 00 00 00 00 00 00 00 00 00 00 00 00 00\n\
              total 1 instructions 24 phi\n",
         ),
-        ..SERVED
-    },
-    Row {
-        files: &[("cart", SHARED_CART)],
-        words: &["check", "cart"],
-        status: 7,
-        text: Text::All("refused 0002 ---- . 9\n"),
         ..SERVED
     },
     Row {
@@ -103,12 +90,6 @@ const RUNS: [Row; 7] = [
         ..SERVED
     },
     Row {
-        files: &[("cart", PULSE_CART), ("loop.f8", PULSE_SOURCE)],
-        words: &["check", "cart"],
-        text: Text::All("whole 9\n"),
-        ..SERVED
-    },
-    Row {
         files: &[
             ("cart", PULSE_CART),
             ("loop.f8", PULSE_SOURCE),
@@ -121,7 +102,7 @@ const RUNS: [Row; 7] = [
 ];
 
 /// As many chips of each kind as in the program's rack, and they hear each of the steps.
-const HEARING: [Seat; 16] = [
+static HEARING: [Seat; 16] = [
     HP, HP, HP, HP, HP, HP, HP, HP, HP, HP, HP, HP, HS, HS, HI, HI,
 ];
 

@@ -1,5 +1,4 @@
 // Racks of other chips than blank ones, and racks without a place.
-use super::answers::LOOP_TRACE;
 use super::calls::{LOOP_CART, LOOP_SCRIPT, Row, SERVED, Text};
 use super::seats::{HP, HS, LONE, P, S, Seat, check_rows};
 use std::test::Fail;
@@ -9,7 +8,7 @@ const RAM_CART: &str = "format = 1\n\
      [[chip]]\nkind = '3851'\nbase = 0\nports = 4\nrom = '2A28002C2A28012C1690FF'\n\
      [[chip]]\nkind = '3853'\nram_page = 0x28\nram_pages = 1\n";
 
-const HEARD: [Row; 1] = [Row {
+static HEARD: [Row; 1] = [Row {
     files: &[("cart", RAM_CART), ("script", "power 5A\nsteps 6\n")],
     words: &["play", "cart", "script"],
     text: Text::All(
@@ -26,7 +25,7 @@ const HEARD: [Row; 1] = [Row {
 }];
 
 /// Chips that hear the steps.
-const HEARING: [Seat; 2] = [HP, HS];
+static HEARING: [Seat; 2] = [HP, HS];
 
 #[test]
 fn plays_on_listeners(rt: HostRuntime) -> Result<(), Fail> {
@@ -34,9 +33,9 @@ fn plays_on_listeners(rt: HostRuntime) -> Result<(), Fail> {
 }
 
 /// A chip with INC in the place of NOP.
-const INC_FOR_NOP: [Seat; 1] = [Seat::Patched(0x0001, 0x1F)];
+static INC_FOR_NOP: [Seat; 1] = [Seat::Patched(0x0001, 0x1F)];
 
-const INCREASED: [Row; 1] = [Row {
+static INCREASED: [Row; 1] = [Row {
     files: &[("cart", LOOP_CART), ("script", "steps 3\n")],
     words: &["play", "cart", "script"],
     text: Text::All(
@@ -53,9 +52,9 @@ const INCREASED: [Row; 1] = [Row {
 }];
 
 /// A chip with a reserved opcode in the place of the first.
-const RESERVED_FIRST: [Seat; 1] = [Seat::Patched(0x0000, 0x2D)];
+static RESERVED_FIRST: [Seat; 1] = [Seat::Patched(0x0000, 0x2D)];
 
-const RESERVED: [Row; 1] = [Row {
+static RESERVED: [Row; 1] = [Row {
     files: &[("cart", LOOP_CART), ("script", "steps 3\n")],
     words: &["play", "cart", "script"],
     status: 8,
@@ -79,6 +78,24 @@ fn plays_the_bytes_of_patched_chips(rt: HostRuntime) -> Result<(), Fail> {
     check_rows(&rt, rt.alloc(), &RESERVED_FIRST, &RESERVED)
 }
 
+/// The run of the loop with its trace, on the chips of the description.
+const LOOP_TRACE: &str = "verdict whole\n\
+     bus 1C S 00 -\n\
+     bus 08 L 00 cpu\n\
+     bus 00 S 71 0\n\
+     bus 00 S 2B 0\n\
+     bus 00 S 90 0\n\
+     bus 1C S 00 -\n\
+     bus 01 L FE 0\n\
+     bus 00 S 2B 0\n\
+     stop done\n\
+     regs P=0001 P1=0000 D0=0000 D1=0000 A=01 IS=00 W=00\n\
+     s00 00 00 00 00 00 00 00 00 00 00 00 00 00 00 00 00\n\
+     s10 00 00 00 00 00 00 00 00 00 00 00 00 00 00 00 00\n\
+     s20 00 00 00 00 00 00 00 00 00 00 00 00 00 00 00 00\n\
+     s30 00 00 00 00 00 00 00 00 00 00 00 00 00 00 00 00\n\
+     total 3 instructions 36 phi\n";
+
 /// The steps of the loop with INC in the place of NOP.
 const INCREASED_TRACE: &str = "bus 1C S 00 -\nbus 08 L 00 cpu\nbus 00 S 71 0\n\
      bus 00 S 1F 0\n\
@@ -86,7 +103,7 @@ const INCREASED_TRACE: &str = "bus 1C S 00 -\nbus 08 L 00 cpu\nbus 00 S 71 0\n\
      bus 1C S 00 -\nbus 01 L FE 0\nbus 00 S 1F 0\n";
 
 /// A session that looks at them, and audits of what they drive and of what the description has.
-const LOOKED_AT: [Row; 3] = [
+static LOOKED_AT: [Row; 3] = [
     Row {
         files: &[("cart", LOOP_CART), ("commands", "mem 0000 4\n")],
         words: &["debug", "cart", "commands"],
@@ -122,7 +139,7 @@ fn looks_at_the_bytes_of_patched_chips(rt: HostRuntime) -> Result<(), Fail> {
     check_rows(&rt, rt.alloc(), &INC_FOR_NOP, &LOOKED_AT)
 }
 
-const NO_PSU: [Row; 2] = [
+static NO_PSU: [Row; 2] = [
     Row {
         files: &[("cart", RAM_CART), ("script", "steps 3\n")],
         words: &["play", "cart", "script"],
@@ -143,7 +160,7 @@ const NO_PSU: [Row; 2] = [
     },
 ];
 
-const NO_SMI: [Row; 1] = [Row {
+static NO_SMI: [Row; 1] = [Row {
     files: &[("cart", RAM_CART), ("script", "steps 3\n")],
     words: &["play", "cart", "script"],
     status: 2,
@@ -151,10 +168,10 @@ const NO_SMI: [Row; 1] = [Row {
     ..SERVED
 }];
 
-const SEVENTEEN_CHIPS: [Seat; 17] = [P, S, S, S, S, S, S, S, S, S, S, S, S, S, S, S, S];
+static SEVENTEEN_CHIPS: [Seat; 17] = [P, S, S, S, S, S, S, S, S, S, S, S, S, S, S, S, S];
 
 /// Seventeen chips are too many. The rack isn't looked at where a file isn't there.
-const SEVENTEEN: [Row; 3] = [
+static SEVENTEEN: [Row; 3] = [
     Row {
         files: &[("cart", RAM_CART), ("script", "steps 3\n")],
         words: &["play", "cart", "script"],

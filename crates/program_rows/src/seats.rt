@@ -1,5 +1,5 @@
 // Rows on racks: a rack is named by its chips, in their order.
-use super::calls::{Row, check_row};
+use super::calls::{File, Row, check_row};
 use chip_face::{ChipKind, Memory};
 use chip_fakes::{Listener, Patched};
 use f8_machine::Rack;
@@ -36,7 +36,7 @@ pub(crate) const HS: Seat = Seat::Hearing(ChipKind::Smi);
 pub(crate) const HI: Seat = Seat::Hearing(ChipKind::Pio);
 
 /// One plain 3851.
-pub(crate) const LONE: [Seat; 1] = [P];
+pub(crate) static LONE: [Seat; 1] = [P];
 
 /// The most steps that a chip tells.
 const HEARD: u32 = 20_000;
@@ -56,6 +56,17 @@ pub(crate) fn check_rows(
     seats: &[Seat],
     rows: &[Row],
 ) -> Result<(), Fail> {
+    check_rows_over(rt, alloc, seats, &[], rows)
+}
+
+/// The same where the rows have files in common, beside their own.
+pub(crate) fn check_rows_over(
+    rt: &impl Abort,
+    alloc: Global,
+    seats: &[Seat],
+    common: &[File],
+    rows: &[Row],
+) -> Result<(), Fail> {
     let mut rack: Rack = Vec::new(alloc);
     for seat in seats {
         match *seat {
@@ -67,7 +78,7 @@ pub(crate) fn check_rows(
         }
     }
     for row in rows {
-        check_row(rt, alloc, row, &mut rack)?;
+        check_row(rt, alloc, row, common, &mut rack)?;
     }
     Ok(())
 }

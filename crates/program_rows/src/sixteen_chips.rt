@@ -1,18 +1,7 @@
 // As many chips as there may be, in several mixes of the kinds. Each chip that has a ROM has a source, with a jump to the next chip's.
 use super::calls::{File, Row, SERVED, Text, ended};
-use super::seats::{I, P, S, Seat, check_rows};
+use super::seats::{I, P, S, Seat, check_rows_over};
 use std::test::Fail;
-
-const SMIS_LAST: &str = "format = 1\nchip = [\
-     {kind='3851',base=0,ports=4,source='0'},{kind='3851',base=1024,ports=8,source='1'},\
-     {kind='3851',base=2048,ports=12,source='2'},{kind='3851',base=3072,ports=16,source='3'},\
-     {kind='3851',base=4096,ports=20,source='4'},{kind='3851',base=5120,ports=24,source='5'},\
-     {kind='3851',base=6144,ports=28,source='6'},{kind='3851',base=7168,ports=32,source='7'},\
-     {kind='3851',base=8192,ports=36,source='8'},{kind='3851',base=9216,ports=40,source='9'},\
-     {kind='3851',base=10240,ports=44,source='10'},{kind='3851',base=11264,ports=48,source='11'},\
-     {kind='3853',rom_page=48,rom_pages=1,source='12'},{kind='3853',rom_page=52,rom_pages=1,source='13'},\
-     {kind='3853',rom_page=56,rom_pages=1,source='14'},{kind='3853',rom_page=60,rom_pages=1,source='15'},\
-     ]\n";
 
 const PSUS: &str = "format = 1\nchip = [\
      {kind='3851',base=0,ports=4,source='0'},{kind='3851',base=1024,ports=8,source='1'},\
@@ -63,18 +52,8 @@ const PIOS_FIRST: &str = "format = 2\nchip = [\
      {kind='3853',pages=['rom 00'],source='0_of_1'},\
      ]\n";
 
-/// The descriptions, scripts for one round, and the jumps: each from the first address of a ROM to that of the next, and from the last one
-/// to the first.
-const FILES: [File; 27] = [
-    ("smis_last", SMIS_LAST),
-    ("psus", PSUS),
-    ("smis", SMIS),
-    ("mixed", MIXED),
-    ("between_pios", BETWEEN_PIOS),
-    ("pios_first", PIOS_FIRST),
-    ("round_of_16", "steps 16\n"),
-    ("round_of_9", "steps 9\n"),
-    ("round_of_1", "steps 1\n"),
+/// The jumps: each from the first address of a ROM to that of the next, and from the last one to the first.
+static JUMPS: [File; 18] = [
     ("0", " ORG 0\n JMP 1024\n"),
     ("1", " ORG 1024\n JMP 2048\n"),
     ("2", " ORG 2048\n JMP 3072\n"),
@@ -118,66 +97,84 @@ const ROUND_OF_1: &str = ended!(
 );
 
 // The chips of each rack, in the order of the description, and a round through their ROMs.
-const SMIS_LAST_SEATS: [Seat; 16] = [P, P, P, P, P, P, P, P, P, P, P, P, S, S, S, S];
-
-static SMIS_LAST_ROUND: [Row; 1] = [Row {
-    files: &FILES,
-    words: &["play", "smis_last", "round_of_16"],
-    text: Text::All(ROUND_OF_16),
-    ..SERVED
-}];
-
-const PSUS_SEATS: [Seat; 16] = [P, P, P, P, P, P, P, P, P, P, P, P, P, P, P, P];
+static PSUS_SEATS: [Seat; 16] = [P; 16];
 
 static PSUS_ROUND: [Row; 1] = [Row {
-    files: &FILES,
-    words: &["play", "psus", "round_of_16"],
+    files: &[("cart", PSUS), ("script", "steps 16\n")],
+    words: &["play", "cart", "script"],
     text: Text::All(ROUND_OF_16),
     ..SERVED
 }];
 
-const SMIS_SEATS: [Seat; 16] = [S, S, S, S, S, S, S, S, S, S, S, S, S, S, S, S];
+static SMIS_SEATS: [Seat; 16] = [S; 16];
 
 static SMIS_ROUND: [Row; 1] = [Row {
-    files: &FILES,
-    words: &["play", "smis", "round_of_16"],
+    files: &[("cart", SMIS), ("script", "steps 16\n")],
+    words: &["play", "cart", "script"],
     text: Text::All(ROUND_OF_16),
     ..SERVED
 }];
 
-const MIXED_SEATS: [Seat; 16] = [S, P, S, P, P, S, S, P, S, P, P, S, S, P, P, S];
+static MIXED_SEATS: [Seat; 16] = [S, P, S, P, P, S, S, P, S, P, P, S, S, P, P, S];
 
 static MIXED_ROUND: [Row; 1] = [Row {
-    files: &FILES,
-    words: &["play", "mixed", "round_of_16"],
+    files: &[("cart", MIXED), ("script", "steps 16\n")],
+    words: &["play", "cart", "script"],
     text: Text::All(ROUND_OF_16),
     ..SERVED
 }];
 
-const BETWEEN_PIOS_SEATS: [Seat; 16] = [I, P, S, I, P, I, I, S, P, S, I, P, S, P, I, I];
+static BETWEEN_PIOS_SEATS: [Seat; 16] = [I, P, S, I, P, I, I, S, P, S, I, P, S, P, I, I];
 
 static BETWEEN_PIOS_ROUND: [Row; 1] = [Row {
-    files: &FILES,
-    words: &["play", "between_pios", "round_of_9"],
+    files: &[("cart", BETWEEN_PIOS), ("script", "steps 9\n")],
+    words: &["play", "cart", "script"],
     text: Text::All(ROUND_OF_9),
     ..SERVED
 }];
 
-const PIOS_FIRST_SEATS: [Seat; 16] = [I, I, I, I, I, I, I, I, I, I, I, I, I, I, I, S];
+static PIOS_FIRST_SEATS: [Seat; 16] = [I, I, I, I, I, I, I, I, I, I, I, I, I, I, I, S];
 
 static PIOS_FIRST_ROUND: [Row; 1] = [Row {
-    files: &FILES,
-    words: &["play", "pios_first", "round_of_1"],
+    files: &[("cart", PIOS_FIRST), ("script", "steps 1\n")],
+    words: &["play", "cart", "script"],
     text: Text::All(ROUND_OF_1),
     ..SERVED
 }];
 
 #[test]
-fn plays_sixteen_chips(rt: HostRuntime) -> Result<(), Fail> {
-    check_rows(&rt, rt.alloc(), &SMIS_LAST_SEATS, &SMIS_LAST_ROUND)?;
-    check_rows(&rt, rt.alloc(), &PSUS_SEATS, &PSUS_ROUND)?;
-    check_rows(&rt, rt.alloc(), &SMIS_SEATS, &SMIS_ROUND)?;
-    check_rows(&rt, rt.alloc(), &MIXED_SEATS, &MIXED_ROUND)?;
-    check_rows(&rt, rt.alloc(), &BETWEEN_PIOS_SEATS, &BETWEEN_PIOS_ROUND)?;
-    check_rows(&rt, rt.alloc(), &PIOS_FIRST_SEATS, &PIOS_FIRST_ROUND)
+fn plays_sixteen_psus(rt: HostRuntime) -> Result<(), Fail> {
+    check_rows_over(&rt, rt.alloc(), &PSUS_SEATS, &JUMPS, &PSUS_ROUND)
+}
+
+#[test]
+fn plays_sixteen_smis(rt: HostRuntime) -> Result<(), Fail> {
+    check_rows_over(&rt, rt.alloc(), &SMIS_SEATS, &JUMPS, &SMIS_ROUND)
+}
+
+#[test]
+fn plays_a_mix(rt: HostRuntime) -> Result<(), Fail> {
+    check_rows_over(&rt, rt.alloc(), &MIXED_SEATS, &JUMPS, &MIXED_ROUND)
+}
+
+#[test]
+fn plays_chips_between_pios(rt: HostRuntime) -> Result<(), Fail> {
+    check_rows_over(
+        &rt,
+        rt.alloc(),
+        &BETWEEN_PIOS_SEATS,
+        &JUMPS,
+        &BETWEEN_PIOS_ROUND,
+    )
+}
+
+#[test]
+fn plays_a_smi_behind_pios(rt: HostRuntime) -> Result<(), Fail> {
+    check_rows_over(
+        &rt,
+        rt.alloc(),
+        &PIOS_FIRST_SEATS,
+        &JUMPS,
+        &PIOS_FIRST_ROUND,
+    )
 }

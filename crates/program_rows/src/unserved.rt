@@ -4,7 +4,7 @@ use super::seats::{HI, HP, HS, LONE, Seat, check_rows};
 use std::test::Fail;
 
 /// A fetch, a read at DC0 (four of them), an operand of a jump and a port.
-const RUNS: [Row; 7] = [
+static RUNS: [Row; 7] = [
     Row {
         files: &[
             (
@@ -156,10 +156,10 @@ const RUNS: [Row; 7] = [
 ];
 
 /// Twelve 3851s, and behind them a 3853.
-const HEARING: [Seat; 13] = [HP, HP, HP, HP, HP, HP, HP, HP, HP, HP, HP, HP, HS];
+static HEARING: [Seat; 13] = [HP, HP, HP, HP, HP, HP, HP, HP, HP, HP, HP, HP, HS];
 
 /// The same and a 3861, which changes nothing.
-const BESIDE_A_3861: [Seat; 14] = [HP, HP, HP, HP, HP, HP, HP, HP, HP, HP, HP, HP, HS, HI];
+static BESIDE_A_3861: [Seat; 14] = [HP, HP, HP, HP, HP, HP, HP, HP, HP, HP, HP, HP, HS, HI];
 
 #[test]
 fn ends_runs_on_listeners(rt: HostRuntime) -> Result<(), Fail> {
@@ -169,7 +169,7 @@ fn ends_runs_on_listeners(rt: HostRuntime) -> Result<(), Fail> {
 
 /// A JMP to OUTS 4, which is the last byte of the only chip: it writes what the JMP left in A, and can't fetch what comes next. The write
 /// isn't told, as its instruction isn't done, but the chip has its byte.
-const WRITES_AT_THE_END: [Row; 1] = [Row {
+static WRITES_AT_THE_END: [Row; 1] = [Row {
     files: &[
         (
             "cart",
