@@ -1,13 +1,16 @@
 // Acknowledgements of an interrupt, in which the named chip alone drives, wherever the counters are.
 
-/// Each chip comes to let pulses in, and the 3853 to have its vector. A fetch is a conflict, and four acknowledgements are served all the
-/// same: a pulse sets bit 7 of the low byte of a vector, and all chips with counters take each vector.
+/// Each chip comes to let pulses in, which it doesn't before, and the 3853 to have its vector. A fetch is a conflict, and four
+/// acknowledgements are served all the same: a pulse sets bit 7 of the low byte of a vector, and all chips with counters take each vector.
 pub(crate) const CARTS: &str = "\
 Two 3851s at 0000 with the vectors 1234 and 5678, a 3853 that stands by there with the vector 9A3C, and a 3861 with the vector 2345.
 3851 0 0000 0000 04 1234
 3851 1 0000 0000 08 5678
 3853-void 2 9000 00
 3861 4 9000 10 2345
+pulse 0 -> false false
+pulse 2 -> false false
+pulse 4 -> false false
 1C 06 -> served 06
 1A 01 -> served 01 socket 0
 1C 0A -> served 0A

@@ -2,10 +2,7 @@
 //
 //   rom ADDRESS BYTE..                         bytes of the 3851s behind it, which are FF elsewhere
 //   3851 SOCKET START BASE PORTS VECTOR        a chip, and the address in every counter of it at power-on
-//   3851-unwired SOCKET START BASE PORTS VECTOR
 //   3853-rom SOCKET START PAGE                 or 3853-ram, or 3853-void; a page of ROM is 2B throughout
-//   3853-three SOCKET START                    ROM at page 00, RAM at 28, and none at 80
-//   3853-none SOCKET START                     no page
 //   3861 SOCKET START PORTS VECTOR
 //   CODE BYTE -> TOLD                          a long bus step, the byte that the CPU places, and what is told of the step
 //   CODE BYTE SOCKET -> TOLD                   the same, where the chip in the socket is acknowledged
@@ -24,6 +21,7 @@ use super::bus::{Bus, WAYS, Way};
 use super::fitting::{Fitting, clear};
 use super::questions::{told_counters, told_of};
 use super::walk::walk;
+use super::words::check;
 use data_bus::Rack;
 use std::alloc::Global;
 use std::process::Abort;
@@ -65,7 +63,7 @@ fn check_ends(
     for line in lines.lines() {
         if let Some((what, want)) = line.split_once(" = ") {
             let told = told_at_end(alloc, rack, bus, what)?;
-            assert_eq!(rt; told.as_str(), want, "{line}");
+            check(rt, line, &told, want);
         }
     }
     Ok(())

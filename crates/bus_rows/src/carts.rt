@@ -101,3 +101,15 @@ counters 0 = 0009 0000 9000
 counters 1 = 0009 0001 9000
 counters 2 = 0009 0002 0400 9000
 ";
+
+/// 3851s with the patch 70, at 0401 in socket 0 and at 0001 in socket 1.
+pub(crate) const PATCHED: &str = "\
+A patch at 0401 shows in a ROM that holds that address, and every other byte is the described one.
+rom 0000 2B 2B
+3851 0 0400 0400 04 0000
+3851 1 0400 0400 08 0000
+byte 0 0400 = 2B
+byte 0 0401 = 70
+byte 1 0401 = 2B
+byte 1 0001 = none
+";

@@ -35,16 +35,10 @@ pub(crate) fn clear(alloc: Global, rack: &mut Rack) -> Result<(), Fail> {
     Ok(())
 }
 
-fn psu(
-    alloc: Global,
-    rom: &[u8; 1024],
-    numbers: (u16, u16, u16),
-    wired: bool,
-) -> Result<ChipSpec, Fail>
+/// A 3851, whose base is on a boundary of 1,024 and whose first port is on one of 4, but not 0.
+fn psu(alloc: Global, rom: &[u8; 1024], base: u16, ports: u8, vector: u16) -> Result<ChipSpec, Fail>
     ensures { IfOk result IsSpec }
 {
-    let (base, ports, vector) = numbers;
-    let ports = u8::try_from(ports)?;
     if base % 1024 != 0 || ports % 4 != 0 || ports < 4 {
         return Err("no 3851 is fitted so".into());
     }
@@ -53,25 +47,9 @@ fn psu(
         rom: Bytes::of(alloc, rom)?,
         ports,
         vector,
-        wired,
+        wired: true,
     })
 }
-
-/// A page of each sort.
-const PAGES: [Page; 3] = [
-    Page {
-        number: 0x00,
-        sort: PageSort::Rom,
-    },
-    Page {
-        number: 0x28,
-        sort: PageSort::Ram,
-    },
-    Page {
-        number: 0x80,
-        sort: PageSort::Void,
-    },
-];
 
 /// A 3853 with these pages.
 fn smi(alloc: Global, pages: &[Page], rom: &[u8]) -> Result<ChipSpec, Fail>
@@ -85,19 +63,14 @@ fn smi(alloc: Global, pages: &[Page], rom: &[u8]) -> Result<ChipSpec, Fail>
     })
 }
 
-/// A 3853 with one page, with a page of each sort, or with none. Its ROM is 2B throughout.
-fn smi_named(alloc: Global, kind: &str, numbers: &[u16]) -> Result<ChipSpec, Fail>
+/// A 3853 with one page. If that is ROM, it is 2B throughout.
+fn smi_named(alloc: Global, kind: &str, number: u8) -> Result<ChipSpec, Fail>
     ensures { IfOk result IsSpec }
 {
-    let number = match numbers {
-        [number] => u8::try_from(*number)?,
-        _ => 0x00,
-    };
-    let rom = [0x2B; 256];
     match kind {
         "3853-rom" => {
             let sort = PageSort::Rom;
-            smi(alloc, &[Page { number, sort }], &rom)
+            smi(alloc, &[Page { number, sort }], &[0x2B; 256])
         }
         "3853-ram" => {
             let sort = PageSort::Ram;
@@ -107,8 +80,6 @@ fn smi_named(alloc: Global, kind: &str, numbers: &[u16]) -> Result<ChipSpec, Fai
             let sort = PageSort::Void;
             smi(alloc, &[Page { number, sort }], &[])
         }
-        "3853-three" => smi(alloc, &PAGES, &rom),
-        "3853-none" => smi(alloc, &[], &[]),
         _ => Err(kind.into()),
     }
 }
@@ -140,24 +111,19 @@ impl Fitting {
     {
         match (kind, numbers) {
             ("3851", [base, ports, vector]) => {
-                psu(alloc, &self.rom, (*base, *ports, *vector), true)
-            }
-            ("3851-unwired", [base, ports, vector]) => {
-                psu(alloc, &self.rom, (*base, *ports, *vector), false)
+                psu(alloc, &self.rom, *base, u8::try_from(*ports)?, *vector)
             }
             ("3861", [ports, vector]) => pio(u8::try_from(*ports)?, *vector),
-            _ => smi_named(alloc, kind, numbers),
+            (_, [number]) => smi_named(alloc, kind, u8::try_from(*number)?),
+            _ => Err(kind.into()),
         }
     }
 
     /// Bytes of the 3851s that the lines behind tell, from an address on.
     fn place(&mut self, address: u16, bytes: &[u16]) -> Result<(), Fail> {
-        let address = usize::from(address);
-        if bytes.len() > self.rom.len().saturating_sub(address) {
-            return Err("bytes behind a 3851".into());
-        }
-        let places = self.rom.iter_mut().skip(address);
-        for (place, byte) in places.zip(bytes) {
+        for (offset, byte) in bytes.iter().enumerate() {
+            let place = usize::from(address).saturating_add(offset);
+            let place = self.rom.get_mut(place).ok_or("bytes behind a 3851")?;
             *place = u8::try_from(*byte)?;
         }
         Ok(())

@@ -1,11 +1,8 @@
-//! Worked bus steps on racks of boxed chips, and each kind of chip by itself. This crate has tests alone: it stands above the chips, on
-//! which the bus doesn't.
+//! Worked bus steps on racks of boxed chips. This crate has tests alone: it stands above the chips, on which the bus doesn't.
 #![tactic(auto)]
 
 #[cfg(test)]
 mod acknowledgements;
-#[cfg(test)]
-mod alone;
 #[cfg(test)]
 mod bus;
 #[cfg(test)]
@@ -15,21 +12,13 @@ mod carts;
 #[cfg(test)]
 mod chain;
 #[cfg(test)]
-mod chips;
-#[cfg(test)]
 mod codes;
-#[cfg(test)]
-mod descriptions;
 #[cfg(test)]
 mod fitting;
 #[cfg(test)]
 mod free_steps;
 #[cfg(test)]
 mod ports;
-#[cfg(test)]
-mod powers;
-#[cfg(test)]
-mod probe_steps;
 #[cfg(test)]
 mod questions;
 #[cfg(test)]

@@ -1,8 +1,8 @@
 // What a chip tells of itself, as text.
 use super::words::spelled;
-use chip_face::{Chip, ChipKind, Offer};
+use chip_face::Chip;
 use data_bus::Rack;
-use romc_table::{Counters, Romc};
+use romc_table::Counters;
 use std::alloc::Global;
 use std::test::Fail;
 
@@ -21,60 +21,6 @@ fn told_byte(alloc: Global, byte: Option<u8>) -> Result<String, Fail> {
     }
 }
 
-fn told_offer(alloc: Global, offer: Option<Offer>) -> Result<String, Fail> {
-    match offer {
-        Some(Offer { byte, at }) => Ok(format!(in alloc; "{byte:02X} at {at:04X}")?),
-        None => Ok(format!(in alloc; "none")?),
-    }
-}
-
-fn name_of(kind: ChipKind) -> &'static str {
-    match kind {
-        ChipKind::Psu => "3851",
-        ChipKind::Smi => "3853",
-        ChipKind::Pio => "3861",
-    }
-}
-
-/// The low byte of the vector of a chip that asks for an interrupt.
-fn vector_of(chip: &mut Box<dyn Chip>) -> Option<Offer> {
-    if chip.asks() {
-        chip.offer(Romc::VECTOR_LOW, true)
-    } else {
-        None
-    }
-}
-
-/// Acknowledges the interrupt of a chip that asks for one: it drives the high byte of its vector, and hears that byte.
-fn acknowledged(chip: &mut Box<dyn Chip>) -> Option<Offer> {
-    if chip.asks() {
-        let offer = chip.offer(Romc::VECTOR_HIGH, true)?;
-        chip.settle(Romc::VECTOR_HIGH, offer.byte, 6, true);
-        Some(offer)
-    } else {
-        None
-    }
-}
-
-/// What a chip drives, by a code or in an acknowledgement, as text.
-fn told_driven(
-    alloc: Global,
-    chip: &mut Box<dyn Chip>,
-    word: &str,
-    numbers: &[u16],
-) -> Result<String, Fail> {
-    let offer = match (word, numbers) {
-        ("offer", [code]) => {
-            let romc = Romc::of(u8::try_from(*code)?).ok_or("no code")?;
-            chip.offer(romc, false)
-        }
-        ("vector", []) => vector_of(chip),
-        ("acknowledge", []) => acknowledged(chip),
-        _ => return Err(word.into()),
-    };
-    told_offer(alloc, offer)
-}
-
 /// What a chip tells of a word, and of an address or a port behind it.
 fn told_by(
     alloc: Global,
@@ -86,11 +32,7 @@ fn told_by(
         ("counters", []) => told_counters(alloc, chip.counters()),
         ("byte", [address]) => told_byte(alloc, chip.peek(*address)),
         ("latch", [port]) => told_byte(alloc, chip.latch(u8::try_from(*port)?)),
-        ("takes", [address]) => Ok(format!(in alloc; "{}", chip.takes(*address))?),
-        ("asks", []) => Ok(format!(in alloc; "{}", chip.asks())?),
-        ("asked", []) => Ok(format!(in alloc; "{}", chip.asked())?),
-        ("kind", []) => Ok(format!(in alloc; "{}", name_of(chip.kind()))?),
-        _ => told_driven(alloc, chip, word, numbers),
+        _ => Err(word.into()),
     }
 }
 

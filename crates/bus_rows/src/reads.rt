@@ -1,22 +1,27 @@
 // Steps in which a chip has to drive a byte of memory or of a counter. A 3861 has neither: it takes no part in any of them, though each
 // counter that it tells is 0, as the probe's are at first.
-use std::alloc::Global;
-use std::test::Fail;
 
-/// The codes of such steps.
-const READS: [&str; 13] = [
-    "00", "01", "02", "03", "06", "07", "09", "0B", "0C", "0E", "11", "1E", "1F",
-];
-
-/// Each fault, and steps that are served. Two dots stand for each of the codes in turn: none of the faults changes anything, so each step
-/// finds what the first found.
-const CARTS: &str = "\
+/// Each fault in each of the thirteen codes of such steps, and steps that are served. None of the faults changes anything, so each step finds
+/// what the first found.
+pub(crate) const CARTS: &str = "\
 Three chips drive, each at its own address.
 3851 0 0000 0000 04 0000
 3851 1 0001 0000 08 0000
 3853-rom 2 0002 00
 3861 4 9000 10 0000
-.. 77 -> conflict romc .. socket 0 at 0000 socket 1 at 0001 socket 2 at 0002
+00 77 -> conflict romc 00 socket 0 at 0000 socket 1 at 0001 socket 2 at 0002
+01 77 -> conflict romc 01 socket 0 at 0000 socket 1 at 0001 socket 2 at 0002
+02 77 -> conflict romc 02 socket 0 at 0000 socket 1 at 0001 socket 2 at 0002
+03 77 -> conflict romc 03 socket 0 at 0000 socket 1 at 0001 socket 2 at 0002
+06 77 -> conflict romc 06 socket 0 at 0000 socket 1 at 0001 socket 2 at 0002
+07 77 -> conflict romc 07 socket 0 at 0000 socket 1 at 0001 socket 2 at 0002
+09 77 -> conflict romc 09 socket 0 at 0000 socket 1 at 0001 socket 2 at 0002
+0B 77 -> conflict romc 0B socket 0 at 0000 socket 1 at 0001 socket 2 at 0002
+0C 77 -> conflict romc 0C socket 0 at 0000 socket 1 at 0001 socket 2 at 0002
+0E 77 -> conflict romc 0E socket 0 at 0000 socket 1 at 0001 socket 2 at 0002
+11 77 -> conflict romc 11 socket 0 at 0000 socket 1 at 0001 socket 2 at 0002
+1E 77 -> conflict romc 1E socket 0 at 0000 socket 1 at 0001 socket 2 at 0002
+1F 77 -> conflict romc 1F socket 0 at 0000 socket 1 at 0001 socket 2 at 0002
 probe = 0000 0000 0000 0000
 counters 0 = 0000 0000 0000
 counters 1 = 0001 0001 0001
@@ -26,7 +31,19 @@ counters 4 = 0000 0000 0000
 The only chip with memory holds the probe's address, but not its own.
 3851 0 9000 0000 04 0000
 3861 4 9000 10 0000
-.. 77 -> undriven romc .. at 0000
+00 77 -> undriven romc 00 at 0000
+01 77 -> undriven romc 01 at 0000
+02 77 -> undriven romc 02 at 0000
+03 77 -> undriven romc 03 at 0000
+06 77 -> undriven romc 06 at 0000
+07 77 -> undriven romc 07 at 0000
+09 77 -> undriven romc 09 at 0000
+0B 77 -> undriven romc 0B at 0000
+0C 77 -> undriven romc 0C at 0000
+0E 77 -> undriven romc 0E at 0000
+11 77 -> undriven romc 11 at 0000
+1E 77 -> undriven romc 1E at 0000
+1F 77 -> undriven romc 1F at 0000
 probe = 0000 0000 0000 0000
 counters 0 = 9000 9000 9000
 counters 4 = 0000 0000 0000
@@ -35,7 +52,19 @@ The driver is away from the probe. A lower chip stands by at the probe's address
 3851 0 9000 0000 04 0000
 3851 1 0005 0000 08 0000
 3861 4 9000 10 0000
-.. 77 -> astray romc .. socket 1 at 0005 reference 0000
+00 77 -> astray romc 00 socket 1 at 0005 reference 0000
+01 77 -> astray romc 01 socket 1 at 0005 reference 0000
+02 77 -> astray romc 02 socket 1 at 0005 reference 0000
+03 77 -> astray romc 03 socket 1 at 0005 reference 0000
+06 77 -> astray romc 06 socket 1 at 0005 reference 0000
+07 77 -> astray romc 07 socket 1 at 0005 reference 0000
+09 77 -> astray romc 09 socket 1 at 0005 reference 0000
+0B 77 -> astray romc 0B socket 1 at 0005 reference 0000
+0C 77 -> astray romc 0C socket 1 at 0005 reference 0000
+0E 77 -> astray romc 0E socket 1 at 0005 reference 0000
+11 77 -> astray romc 11 socket 1 at 0005 reference 0000
+1E 77 -> astray romc 1E socket 1 at 0005 reference 0000
+1F 77 -> astray romc 1F socket 1 at 0005 reference 0000
 probe = 0000 0000 0000 0000
 counters 0 = 9000 9000 9000
 counters 1 = 0005 0005 0005
@@ -46,7 +75,19 @@ The driver is at the probe's address, which a lower and a higher chip hold as we
 3851 1 0000 0000 08 0000
 3853-void 3 9003 00
 3861 4 9000 10 0000
-.. 77 -> astray romc .. socket 0 at 9000 reference 0000
+00 77 -> astray romc 00 socket 0 at 9000 reference 0000
+01 77 -> astray romc 01 socket 0 at 9000 reference 0000
+02 77 -> astray romc 02 socket 0 at 9000 reference 0000
+03 77 -> astray romc 03 socket 0 at 9000 reference 0000
+06 77 -> astray romc 06 socket 0 at 9000 reference 0000
+07 77 -> astray romc 07 socket 0 at 9000 reference 0000
+09 77 -> astray romc 09 socket 0 at 9000 reference 0000
+0B 77 -> astray romc 0B socket 0 at 9000 reference 0000
+0C 77 -> astray romc 0C socket 0 at 9000 reference 0000
+0E 77 -> astray romc 0E socket 0 at 9000 reference 0000
+11 77 -> astray romc 11 socket 0 at 9000 reference 0000
+1E 77 -> astray romc 1E socket 0 at 9000 reference 0000
+1F 77 -> astray romc 1F socket 0 at 9000 reference 0000
 probe = 0000 0000 0000 0000
 counters 0 = 9000 9000 9000
 counters 1 = 0000 0000 0000
@@ -56,7 +97,19 @@ The driver is at the probe's address, which a higher chip alone holds as well, i
 3851 0 0000 0000 04 0000
 3853-void 3 9003 00
 3861 4 9000 10 0000
-.. 77 -> astray romc .. socket 3 at 9003 reference 0000
+00 77 -> astray romc 00 socket 3 at 9003 reference 0000
+01 77 -> astray romc 01 socket 3 at 9003 reference 0000
+02 77 -> astray romc 02 socket 3 at 9003 reference 0000
+03 77 -> astray romc 03 socket 3 at 9003 reference 0000
+06 77 -> astray romc 06 socket 3 at 9003 reference 0000
+07 77 -> astray romc 07 socket 3 at 9003 reference 0000
+09 77 -> astray romc 09 socket 3 at 9003 reference 0000
+0B 77 -> astray romc 0B socket 3 at 9003 reference 0000
+0C 77 -> astray romc 0C socket 3 at 9003 reference 0000
+0E 77 -> astray romc 0E socket 3 at 9003 reference 0000
+11 77 -> astray romc 11 socket 3 at 9003 reference 0000
+1E 77 -> astray romc 1E socket 3 at 9003 reference 0000
+1F 77 -> astray romc 1F socket 3 at 9003 reference 0000
 probe = 0000 0000 0000 0000
 counters 0 = 0000 0000 0000
 counters 4 = 0000 0000 0000
@@ -88,21 +141,13 @@ counters 1 = 0404 0462 0406
 counters 2 = 0404 0462 0406 0000
 counters 3 = 0404 0462 0406 0000
 counters 4 = 0000 0000 0000
-";
 
-/// The carts, with a line for each code where two dots stand.
-pub(crate) fn each_code(alloc: Global) -> Result<String, Fail> {
-    let mut carts = String::new(alloc);
-    for line in CARTS.lines() {
-        let codes: &[&str] = if line.starts_with("..") {
-            &READS
-        } else {
-            &[""]
-        };
-        for code in codes {
-            carts.push_str(line.replace(alloc, "..", code)?.as_str())?;
-            carts.push('\n')?;
-        }
-    }
-    Ok(carts)
-}
+A branch at 0000 whose displacement byte, FD, stands at 0001: from there -3 leads to FFFE, which the chip doesn't hold.
+rom 0000 90 FD
+3851 0 0000 0000 04 0000
+00 77 -> served 90 socket 0
+01 77 -> served FD socket 0
+00 77 -> undriven romc 00 at FFFE
+probe = FFFE 0000 0000 0000
+counters 0 = FFFE 0000 0000
+";

@@ -1,9 +1,8 @@
 // The worked steps, each on a rack made anew.
-use super::alone::play_alone;
 use super::bus::Way;
 use super::cart::{play_all, seat};
 use super::walk::walk;
-use super::{acknowledgements, carts, chips, free_steps, ports, reads, stores};
+use super::{acknowledgements, carts, free_steps, ports, reads, stores};
 use chip_face::Chip;
 use chip_fakes::{Listener, Patched};
 use data_bus::Rack;
@@ -27,12 +26,10 @@ macro_rules! rack_of {
     }};
 }
 
-/// Every worked step, on chips that were put no question yet.
+/// Every worked step.
 fn play_each(rt: &impl Abort, alloc: Global, rack: &mut Rack) -> Result<(), Fail> {
-    play_alone(rt, alloc, rack, chips::CHIPS)?;
-    let reads = reads::each_code(alloc)?;
     let texts = [
-        reads.as_str(),
+        reads::CARTS,
         stores::CARTS,
         ports::CARTS,
         acknowledgements::CARTS,
@@ -51,11 +48,12 @@ fn on_plain_chips(rt: HostRuntime) -> Result<(), Fail> {
     play_each(&rt, rt.alloc(), &mut rack)
 }
 
+// The 3851s have room for one step: a listener acts as the chip in it past its room too.
 #[test]
 fn on_listeners(rt: HostRuntime) -> Result<(), Fail> {
     let mut rack = rack_of!(
         rt,
-        Listener::round_psu(rt.alloc(), 1000)?,
+        Listener::round_psu(rt.alloc(), 1)?,
         Listener::round_smi(rt.alloc(), 1000)?,
         Listener::round_pio(rt.alloc(), 1000)?
     );
@@ -67,14 +65,7 @@ fn patches_one_byte(rt: HostRuntime) -> Result<(), Fail> {
     let mut rack: Rack = Vec::new(rt.alloc());
     rack.push(Box::new(rt.alloc(), Patched::psu(0x0401, 0x70))?)?;
     rack.push(Box::new(rt.alloc(), Patched::psu(0x0001, 0x70))?)?;
-    play_alone(&rt, rt.alloc(), &mut rack, chips::PATCHED)
-}
-
-#[test]
-fn listens_past_its_room(rt: HostRuntime) -> Result<(), Fail> {
-    let mut rack: Rack = Vec::new(rt.alloc());
-    rack.push(Box::new(rt.alloc(), Listener::round_psu(rt.alloc(), 1)?)?)?;
-    play_alone(&rt, rt.alloc(), &mut rack, chips::PAST_ROOM)
+    play_all(&rt, rt.alloc(), &mut rack, carts::PATCHED)
 }
 
 /// How many questions were put to the first chip.

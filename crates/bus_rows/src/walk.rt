@@ -5,7 +5,7 @@ ghost use Rattle.data_bus.specs.Racks.{NamesAsking};
 ghost use Rattle.bus_rows.specs.Indexed.{FitsIndexed};
 
 use super::bus::{Bus, pulse};
-use super::words::spelled;
+use super::words::{check, spelled};
 use chip_face::Chip;
 use data_bus::{BusFault, Cycle, Rack, Served};
 use romc_table::Romc;
@@ -167,7 +167,7 @@ pub(crate) fn walk(
     for line in lines.lines() {
         if let Some((what, want)) = line.split_once(" -> ") {
             let told = told_by(alloc, rack, bus, what)?;
-            assert_eq!(rt; told.as_str(), want, "{line}");
+            check(rt, line, &told, want);
         }
     }
     Ok(())
