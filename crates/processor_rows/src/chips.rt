@@ -1,4 +1,4 @@
-// The chips of worked programs and of a worked map.
+// The chips of a worked program and of a worked map.
 ghost use Rattle.std.specs.Prelude.{◌≡◌, ◌≤◌, IfOk, false, length};
 ghost use Rattle.chip_face.specs.Fitting.{IsSpec, is_blank};
 
@@ -7,7 +7,7 @@ use std::alloc::Global;
 use std::test::Fail;
 
 /// A 3851 at 0000 with these bytes, and FF in the rest of its ROM, whose interrupts lead to 0180 if it can interrupt.
-pub(crate) fn psu(alloc: Global, code: &[u8], wired: bool) -> Result<ChipSpec, Fail>
+fn psu(alloc: Global, code: &[u8], wired: bool) -> Result<ChipSpec, Fail>
     requires { length code.now ≤ 1024 }
     ensures spec { IfOk result IsSpec }
     ensures kept { IfOk result (λ chip. is_blank chip ≡ false) }

@@ -1,9 +1,9 @@
-// Worked programs.
+// An interrupt on a flat memory.
 ghost use Rattle.std.specs.Prelude.{◌≤◌, length};
 
 use super::chips::two_chips;
 use chip_face::Powers;
-use f8_isa::{Done, Isa, PortWrite, Reserved};
+use f8_isa::{Done, Isa, Reserved};
 use memory_map::Map;
 use std::alloc::Global;
 use std::process::Abort;
@@ -44,26 +44,5 @@ fn interrupt_of_a_pulse(rt: HostRuntime) -> Result<(), Fail> {
         [regs.p, regs.p1, regs.d0, regs.d1],
         [0x0180, 0x0005, 0x0000, 0x0000]
     );
-    Ok(())
-}
-
-// 50 in the latch of port 1 and 0F by its keys: their sum is stored in RAM
-#[test]
-fn keys_and_memory(rt: HostRuntime) -> Result<(), Fail> {
-    let code = [0x20, 0x50, 0xB1, 0xA1, 0x2A, 0x28, 0x01, 0x17];
-    let mut isa = program(rt.alloc(), &code)?;
-    isa.keys(0x01, 0x0F);
-    let _load = step(&rt, &mut isa)?;
-    let wrote = PortWrite {
-        phi: 32,
-        port: 0x01,
-        byte: 0x50,
-    };
-    assert_eq!(rt; step(&rt, &mut isa)?.wrote, Some(wrote));
-    for _ in 0..3 {
-        let _done = step(&rt, &mut isa)?;
-    }
-    assert_eq!(rt; isa.peek(0x2801), 0x5F);
-    assert_eq!(rt; isa.p(), 0x0008);
     Ok(())
 }

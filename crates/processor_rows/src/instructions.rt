@@ -1,5 +1,5 @@
-// Opcodes both ways, clocks and lengths, shielding, and names.
-use f8_ops::{Op, Reserved, Row, decode, encode, length, name, phi, row_of, shields};
+// Opcodes both ways, clocks and lengths, and shielding.
+use f8_ops::{Op, Reserved, Row, decode, encode, length, phi, row_of, shields};
 
 /// The first and the last opcode of ranges beside reserved ones.
 const OPCODES: [(u8, Result<Op, Reserved>); 7] = [
@@ -37,22 +37,14 @@ fn opcodes_both_ways(rt: HostRuntime) {
 #[test]
 fn clocks_and_lengths(rt: HostRuntime) {
     for (op, taken, clocks, bytes) in LENGTHS {
-        assert_eq!(rt; phi(op, taken), clocks, "of {op:?}");
-        assert_eq!(rt; length(op), bytes, "of {op:?}");
+        assert_eq!(rt; [phi(op, taken), length(op)], [clocks, bytes], "of {op:?}");
     }
     assert_eq!(rt; row_of(Op::Xdc), Row::Exchange);
 }
 
 #[test]
 fn shielding_instructions(rt: HostRuntime) {
-    for (op, shielding) in [(Op::Ei, true), (Op::Di, false), (Op::Outs { n: 1 }, false)] {
-        assert_eq!(rt; shields(op), shielding, "of {op:?}");
-    }
-}
-
-#[test]
-fn names_are_the_first_words(rt: HostRuntime) {
-    for (op, first_word) in [(Op::LrDcH, "LR"), (Op::Br7, "BR7")] {
-        assert_eq!(rt; name(op), first_word);
-    }
+    assert!(rt; shields(Op::Ei));
+    assert!(rt; !shields(Op::Di));
+    assert!(rt; !shields(Op::Outs { n: 1 }));
 }

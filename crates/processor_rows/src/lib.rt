@@ -1,4 +1,4 @@
-//! Worked values of the processor and of what stands below it: sums, instructions, timers, counters, maps of chips, pictures, and programs
+//! Worked values of the processor and of what stands below it: instructions, timers, counters, a map of chips, pictures, and programs
 //! step by step along the bus and at once on a flat memory. This crate has tests alone, so that the crates that it calls aren't proved
 //! once more with them.
 #![tactic(auto)]
@@ -21,5 +21,3 @@ mod pictures;
 mod stepped_programs;
 #[cfg(test)]
 mod timers;
-#[cfg(test)]
-mod words;

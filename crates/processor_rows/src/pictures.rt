@@ -1,4 +1,6 @@
-// Pixels, palettes, rows and their planes.
+// A palette, the planes of rows, and a tone.
+ghost use Rattle.std.specs.Prelude.{◌<◌};
+
 use video::Screen;
 
 // a screen that was given some writes, each a port and a byte
@@ -8,6 +10,13 @@ fn written(writes: &[(u8, u8)]) -> Screen {
         screen.port(*port, *byte);
     }
     screen
+}
+
+// both planes of a row
+fn planes(screen: &Screen, y: u8) -> [u128; 2]
+    requires { y < 64 }
+{
+    [screen.plane(y, 0), screen.plane(y, 1)]
 }
 
 // Bit 5 rises twice, and is written once more between: pixels 127 and 125 of row 63, of which the second tells the palette.
@@ -21,29 +30,11 @@ fn draws_at_rises(rt: HostRuntime) {
         (4, 0x82),
         (0, 0x20),
     ]);
-    let mut last = [b'0'; 130];
-    last[0] = b'1';
-    last[1] = b' ';
-    last[127] = b'3';
-    last[129] = b'3';
-    assert!(rt; screen.row_text(63) == last);
     assert_eq!(rt; screen.palette(63), 1);
-    assert_eq!(rt; screen.plane(63, 0), 1 << 127 | 1 << 125);
-    assert_eq!(rt; screen.plane(63, 1), 1 << 127 | 1 << 125);
-    let mut blank = [b'0'; 130];
-    blank[1] = b' ';
-    for y in 0..63 {
-        assert!(rt; screen.row_text(y) == blank);
-    }
-}
-
-#[test]
-fn one_pixel(rt: HostRuntime) {
-    let screen = written(&[(4, 0xFA), (5, 0x37), (0, 0x20)]);
-    assert_eq!(rt; screen.pixel(5, 8), 3);
-    assert_eq!(rt; screen.pixel(6, 8), 0);
-    assert_eq!(rt; screen.palette(8), 0);
-    assert_eq!(rt; screen.tone(), 0);
+    assert_eq!(rt;
+        planes(&screen, 63),
+        [1 << 127 | 1 << 125, 1 << 127 | 1 << 125]
+    );
 }
 
 // Pixels 5 and 6 of row 8 get the colours 1 and 2, and then pixel 5 gets 2 as well.
@@ -59,17 +50,14 @@ fn draws_over(rt: HostRuntime) {
         (4, 0xF9),
         (0, 0x20),
     ]);
-    assert_eq!(rt; screen.plane(8, 0), 1 << 5);
-    assert_eq!(rt; screen.plane(8, 1), 1 << 6);
+    assert_eq!(rt; planes(&screen, 8), [1 << 5, 1 << 6]);
     screen.port(0, 0x00);
     screen.port(4, 0xFA);
     screen.port(0, 0x20);
-    assert_eq!(rt; screen.plane(8, 0), 0);
-    assert_eq!(rt; screen.plane(8, 1), 1 << 5 | 1 << 6);
+    assert_eq!(rt; planes(&screen, 8), [0, 1 << 5 | 1 << 6]);
 }
 
 #[test]
 fn tone_of_port_5(rt: HostRuntime) {
-    assert_eq!(rt; Screen::dark().tone(), 0);
     assert_eq!(rt; written(&[(5, 0xC0)]).tone(), 3);
 }
