@@ -81,6 +81,39 @@ bus 0F L 80 14
 bus 13 L 01 14
 bus 00 S 1B 0
 ''' + ended('done', 'P=0180 P1=0003 D0=0000 D1=0000 A=01 IS=00 W=00', alike('00'), '2132 instructions 29870')
+# All chips that the rack takes. Two drive the byte that LM reads: the 3853 in socket 12 at 2800, by its first data counter, and the 3851 in
+# socket 0, which has one data counter and is at 0010.
+WHOLE_RACK = described(
+    SOURCED.format('text').replace('format = 1\n', ''),
+    *(PSU.format(1024 * page, ports, '') for page, ports in zip((1, 2, 3, 4, 5, 6, 7, 8, 9, 12, 13), (8, *range(16, 56, 4)))),
+    *(f"[[chip]]\nkind = '3853'\npages = ['ram {pages}']\n" for pages in ('28-2B', '2C-2F')), PIO.format(56), PIO.format(60))
+CONFLICT_TRACE = '''verdict none
+bus 1C S 00 -
+bus 08 L 00 cpu
+bus 00 S 2A 0
+bus 11 L 28 0
+bus 03 S 28 0
+bus 0E L 00 0
+bus 03 S 00 0
+bus 00 S 2C 0
+bus 1D S 00 -
+bus 00 S 2A 0
+bus 11 L 00 0
+bus 03 S 00 0
+bus 0E L 10 0
+bus 03 S 10 0
+bus 00 S 2C 0
+bus 1D S 00 -
+bus 00 S 16 0
+bus 02 L -- fault
+''' + ended('conflict romc 02 socket 0 at 0010 socket 12 at 2800', 'P=0008 P1=0000 D0=2800 D1=0010 A=00 IS=00 W=00', alike('00'),
+          '4 instructions 78')
+WHOLE = {
+    'the first fault on all sockets': (
+        'play --trace cart script', {
+            'cart': WHOLE_RACK, 'text': ' DCI $2800\n XDC\n DCI $0010\n XDC\n LM\n', 'script': 'power 00\nsteps 9\n'}, 3,
+        CONFLICT_TRACE),
+}
 PARALLEL = {
     'a port that a 3861 has': (
         'play cart script', {'cart': HAS_THE_PORT, 'script': KEYS}, 0, 'verdict whole\nout 40 08 0F\n' + ended(
@@ -114,6 +147,9 @@ class Chips(Rows):
 
     def test_parallel_ports(self):
         self.assert_rows(PARALLEL)
+
+    def test_a_whole_rack(self):
+        self.assert_rows(WHOLE)
 
     def test_the_trace_of_a_pulse(self):
         files = {'cart': CALLED, 'loop.f8': ROUTINES, 'script': 'at 1 pulse 0\nsteps 2132\n'}

@@ -1,6 +1,6 @@
-// Lines of which no command shows each part: refusals of places that files hardly reach, a row with a palette, and the pieces of a line.
+// Lines that no row of a command shows: a source that is too long, a row with a palette, and the pieces of a line.
 use console_board::Screen;
-use report::{Line, error_hex, error_long, error_rack, row_line};
+use report::{Line, error_long, row_line};
 use std::process::Abort;
 
 fn tells(rt: &impl Abort, line: &Line, text: &str) {
@@ -8,9 +8,7 @@ fn tells(rt: &impl Abort, line: &Line, text: &str) {
 }
 
 #[test]
-fn refusals(rt: HostRuntime) {
-    tells(&rt, &error_hex(), "error hex\n");
-    tells(&rt, &error_rack(17), "error rack 17\n");
+fn long_source(rt: HostRuntime) {
     tells(&rt, &error_long("source", Some(3)), "error long source 3\n");
 }
 

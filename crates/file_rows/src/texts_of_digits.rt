@@ -1,5 +1,5 @@
 // Texts of hexadecimal digits and what is answered to them.
-use hex_file::{BYTE_LIMIT, HexAnswer, read_hex};
+use hex_file::{HexAnswer, read_hex};
 use std::test::Fail;
 
 #[test]
@@ -30,21 +30,6 @@ fn texts_refused(rt: HostRuntime) {
     for text in texts {
         assert_eq!(rt; read_hex(rt.alloc(), text).err(), Some(HexAnswer::Digits));
     }
-}
-
-// 65,536 bytes are read, and one more aren't; a text with too many that isn't pairs of digits is told by its digits
-#[test]
-fn limit(rt: HostRuntime) -> Result<(), Fail> {
-    let mut text = Vec::new(rt.alloc());
-    text.resize(2 * BYTE_LIMIT, b'7')?;
-    let bytes = read_hex(rt.alloc(), text.as_slice())?;
-    assert_eq!(rt; bytes.len(), 65_536);
-    assert!(rt; bytes.iter().all(|byte| *byte == 0x77));
-    for wanted in [HexAnswer::Digits, HexAnswer::Long] {
-        text.push(b'7')?;
-        assert_eq!(rt; read_hex(rt.alloc(), text.as_slice()).err(), Some(wanted));
-    }
-    Ok(())
 }
 
 #[test]

@@ -1,5 +1,5 @@
-// `main`'s body as a macro: no function may make a boxed chip and hand it out, and two programs have it. So this crate stands on no other,
-// and is none that a build waits for. A program that calls it names psu3851, smi3853, pio3861, f8_machine, outside and channel_f beside it.
+// `main`'s body as a macro: no function may make a boxed chip and hand it out. This crate stands on no other, and is none that a build waits
+// for. A program that calls it names psu3851, smi3853, pio3861, f8_machine, outside and channel_f beside it.
 
 /// Puts so many chips into a rack, or ends `main` where memory is wanting.
 #[macro_export]

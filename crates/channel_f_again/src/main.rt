@@ -1,9 +1,0 @@
-//! The program once more, with another stored run.
-#![tactic(auto)]
-
-use program_body::program_body;
-use std::process::ExitCode;
-
-fn main(rt: HostRuntime) -> ExitCode {
-    program_body!(rt)
-}
