@@ -4,18 +4,18 @@ use cartridge::{Plan, read_cart};
 use chip_face::ChipSpec;
 use f8_asm::{Room, assemble};
 use std::alloc::Global;
+use std::process::Abort;
 use std::test::Fail;
 
-/// The plan of two chips with sources, and a third without.
+/// Two chips with sources, and a third without.
+const DESCRIPTION: &str = "format = 1\nsplit = [9]\n\
+     [[chip]]\nkind = '3851'\nbase = 0x400\nports = 4\nsource = 'one.asm'\n\
+     [[chip]]\nkind = '3853'\nrom_page = 0x28\nrom_pages = 2\nsource = 'two.asm'\n\
+     [[chip]]\nkind = '3853'\nram_page = 0x30\nram_pages = 8\n";
+
 fn plan_with_sources(alloc: Global) -> Result<Plan, Fail> {
-    let psu = "[[chip]]\nkind = '3851'\nbase = 0x400\nports = 4\nsource = 'one.asm'\n";
-    let smi = "[[chip]]\nkind = '3853'\nrom_page = 0x28\nrom_pages = 2\nsource = 'two.asm'\n";
-    let ram = "[[chip]]\nkind = '3853'\nram_page = 0x30\nram_pages = 8\n";
-    let mut text = String::new(alloc);
-    write!(text, "format = 1\nsplit = [9]\n{psu}{smi}{ram}")?;
-    let table = toml::table_from_str(alloc, text.as_str())?;
-    let plan = read_cart(alloc, &table)?;
-    Ok(plan)
+    let table = toml::table_from_str(alloc, DESCRIPTION)?;
+    Ok(read_cart(alloc, &table)?)
 }
 
 /// Longer texts are not tried here.
@@ -67,30 +67,54 @@ fn plans_have_sources_and_rooms(rt: HostRuntime) -> Result<(), Fail> {
     Ok(())
 }
 
+/// The plan with images of both sources, the first of them twice.
+fn filled_plan(alloc: Global) -> Result<Plan, Fail> {
+    let mut plan = plan_with_sources(alloc)?;
+    for (chip, text) in [
+        (0, " ORG $0402\n DB $71,2"),
+        (1, " ORG $2900\n DB 5"),
+        (0, " ORG $0403\n DB 3"),
+    ] {
+        put(alloc, &mut plan, chip, text)?;
+    }
+    Ok(plan)
+}
+
+/// A chip, a place in its ROM, and the byte there.
+static BYTES: [(usize, usize, u8); 6] = [
+    (0, 1, 0xFF),
+    (0, 2, 0x71),
+    (0, 3, 3),
+    (0, 4, 0xFF),
+    (1, 0xFF, 0xFF),
+    (1, 0x100, 5),
+];
+
+fn check_bytes(rt: &impl Abort, cart: &Cart) {
+    for (chip, place, want) in &BYTES {
+        assert_eq!(rt; byte_at(cart, *chip, *place), Some(*want), "{chip} {place}");
+    }
+}
+
 #[test]
 fn images_are_put_into_chips(rt: HostRuntime) -> Result<(), Fail> {
-    let mut plan = plan_with_sources(rt.alloc())?;
-    put(rt.alloc(), &mut plan, 0, " ORG $0402\n DB $71,2")?;
-    put(rt.alloc(), &mut plan, 1, " ORG $2900\n DB 5")?;
-    put(rt.alloc(), &mut plan, 0, " ORG $0403\n DB 3")?;
-    match plan.cart() {
-        Ok(cart) => {
-            assert_eq!(rt; cart.split.as_slice(), [9].as_slice());
-            assert_eq!(rt; cart.chips.len(), 3);
-            for (chip, place, want) in [
-                (0, 1, 0xFF),
-                (0, 2, 0x71),
-                (0, 3, 3),
-                (0, 4, 0xFF),
-                (1, 0xFF, 0xFF),
-                (1, 0x100, 5),
-            ] {
-                assert_eq!(rt; byte_at(&cart, chip, place), Some(want), "{chip} {place}");
-            }
-        }
-        Err(_) => assert!(rt; false),
-    }
+    let plan = filled_plan(rt.alloc())?;
+    let Ok(cart) = plan.cart() else {
+        panic!(rt; "a source isn't filled");
+    };
+    assert_eq!(rt; cart.split.as_slice(), [9].as_slice());
+    check_bytes(&rt, &cart);
     Ok(())
+}
+
+/// What is told of the plan where one chip is filled.
+fn told_where_filled(alloc: Global, chip: u8) -> Result<String, Fail> {
+    let mut plan = plan_with_sources(alloc)?;
+    put(alloc, &mut plan, chip, "")?;
+    match plan.cart() {
+        Ok(_) => Err("each source is filled".into()),
+        Err(unfilled) => Ok(format!(in alloc; "{unfilled}")?),
+    }
 }
 
 #[test]
@@ -100,15 +124,8 @@ fn the_lowest_unfilled_chip_is_told(rt: HostRuntime) -> Result<(), Fail> {
         (1, "the source of chip 0 isn't filled"),
         (0, "the source of chip 1 isn't filled"),
     ] {
-        let mut plan = plan_with_sources(rt.alloc())?;
-        put(rt.alloc(), &mut plan, filled, "")?;
-        match plan.cart() {
-            Ok(_) => assert!(rt; false),
-            Err(unfilled) => {
-                let told = format!(in rt.alloc(); "{unfilled}")?;
-                assert_eq!(rt; told.as_str(), want);
-            }
-        }
+        let told = told_where_filled(rt.alloc(), filled)?;
+        assert_eq!(rt; told.as_str(), want);
     }
     Ok(())
 }
