@@ -56,7 +56,7 @@ fn lines_are_read(rt: HostRuntime) -> Result<(), Fail> {
     ];
     for (line, want) in rows {
         let got = answer(rt.alloc(), line)?;
-        assert_eq!(rt; got.as_str(), want, "{line}");
+        assert!(rt; got.as_str() == want, "{line}");
     }
     Ok(())
 }

@@ -3,5 +3,5 @@ use irq_chain::first_asking;
 
 #[test]
 fn chooses_the_first_that_asks(rt: HostRuntime) {
-    assert_eq!(rt; first_asking(&[false, true, false, true], true), Some(1));
+    assert!(rt; first_asking(&[false, true, false, true], true) == Some(1));
 }

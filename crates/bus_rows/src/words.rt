@@ -22,5 +22,5 @@ fn numbers(alloc: Global, words: &str) -> Result<Vec<u16>, Fail> {
 
 /// What is told is what the line wants.
 pub(crate) fn check(rt: &impl Abort, line: &str, told: &str, want: &str) {
-    assert_eq!(rt; told, want, "{line}");
+    assert!(rt; told == want, "{line}");
 }

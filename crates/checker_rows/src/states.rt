@@ -27,7 +27,7 @@ fn joins_the_start_with_a_loaded_counter(rt: HostRuntime) {
     let joined = START.join(&loaded);
     let mut wanted = START;
     wanted.d0 = Word::Any;
-    assert_eq!(rt; joined, wanted);
+    assert!(rt; joined == wanted);
     assert!(rt; START.below(&joined) && loaded.below(&joined));
     assert!(rt; !joined.below(&START) && !START.below(&loaded));
 }
@@ -49,16 +49,16 @@ fn joins_registers_and_digits(rt: HostRuntime) {
     wanted.regs[63] = Val::Any;
     wanted.lo = Digit::Any;
     wanted.w[3] = Bit::Any;
-    assert_eq!(rt; joined, wanted);
+    assert!(rt; joined == wanted);
     assert!(rt; second.below(&wanted) && !second.below(&first));
 }
 
 #[test]
 fn knows_of_values_what_both_know(rt: HostRuntime) {
-    assert_eq!(rt; Val::Known(1).join(Val::Known(1)), Val::Known(1));
-    assert_eq!(rt; Digit::Known(1).join(Digit::Known(2)), Digit::Any);
-    assert_eq!(rt; Bit::Any.join(Bit::Known(true)), Bit::Any);
-    assert_eq!(rt; Word::Known(1).join(Word::Any), Word::Any);
+    assert!(rt; Val::Known(1).join(Val::Known(1)) == Val::Known(1));
+    assert!(rt; Digit::Known(1).join(Digit::Known(2)) == Digit::Any);
+    assert!(rt; Bit::Any.join(Bit::Known(true)) == Bit::Any);
+    assert!(rt; Word::Known(1).join(Word::Any) == Word::Any);
     assert!(rt; Val::Known(1).below(Val::Any) && !Val::Any.below(Val::Known(1)));
     assert!(rt;
         Digit::Known(1).below(Digit::Known(1)) && !Bit::Known(true).below(Bit::Known(false))
@@ -68,10 +68,10 @@ fn knows_of_values_what_both_know(rt: HostRuntime) {
 
 #[test]
 fn tells_values_as_options(rt: HostRuntime) {
-    assert_eq!(rt; Val::Known(1).known(), Some(1));
-    assert_eq!(rt; Digit::from(Some(7)).known(), Some(7));
-    assert_eq!(rt; Bit::from(None), Bit::Any);
-    assert_eq!(rt; Word::Any.known(), None);
+    assert!(rt; Val::Known(1).known() == Some(1));
+    assert!(rt; Digit::from(Some(7)).known() == Some(7));
+    assert!(rt; Bit::from(None) == Bit::Any);
+    assert!(rt; Word::Any.known() == None);
 }
 
 #[test]

@@ -61,8 +61,8 @@ fn plans_have_sources_and_rooms(rt: HostRuntime) -> Result<(), Fail> {
         (2, None, None),
         (3, None, None),
     ] {
-        assert_eq!(rt; plan.source(chip), source, "{chip}");
-        assert_eq!(rt; plan.room(chip), room, "{chip}");
+        assert!(rt; plan.source(chip) == source, "{chip}");
+        assert!(rt; plan.room(chip) == room, "{chip}");
     }
     Ok(())
 }
@@ -92,7 +92,10 @@ static BYTES: [(usize, usize, u8); 6] = [
 
 fn check_bytes(rt: &impl Abort, cart: &Cart) {
     for (chip, place, want) in &BYTES {
-        assert_eq!(rt; byte_at(cart, *chip, *place), Some(*want), "{chip} {place}");
+        assert!(rt;
+            byte_at(cart, *chip, *place) == Some(*want),
+            "{chip} {place}"
+        );
     }
 }
 
@@ -102,7 +105,7 @@ fn images_are_put_into_chips(rt: HostRuntime) -> Result<(), Fail> {
     let Ok(cart) = plan.cart() else {
         panic!(rt; "a source isn't filled");
     };
-    assert_eq!(rt; cart.split.as_slice(), [9].as_slice());
+    assert!(rt; cart.split.as_slice() == [9].as_slice());
     check_bytes(&rt, &cart);
     Ok(())
 }
@@ -125,7 +128,7 @@ fn the_lowest_unfilled_chip_is_told(rt: HostRuntime) -> Result<(), Fail> {
         (0, "the source of chip 1 isn't filled"),
     ] {
         let told = told_where_filled(rt.alloc(), filled)?;
-        assert_eq!(rt; told.as_str(), want);
+        assert!(rt; told.as_str() == want);
     }
     Ok(())
 }

@@ -8,7 +8,7 @@ use std::test::Fail;
 #[test]
 fn chips_in_a_row(rt: HostRuntime) -> Result<(), Fail> {
     let chips = generated_chips(rt.alloc(), 1)?;
-    assert_eq!(rt; chips.len(), 12);
+    assert!(rt; chips.len() == 12);
     for (number, chip) in chips.as_slice().iter().enumerate() {
         let ChipSpec::Psu {
             base,
@@ -20,12 +20,12 @@ fn chips_in_a_row(rt: HostRuntime) -> Result<(), Fail> {
         else {
             return Err("a chip is no 3851".into());
         };
-        assert_eq!(rt; usize::from(*base) / 1_024, number);
-        assert_eq!(rt; usize::from(*base) % 1_024, 0);
-        assert_eq!(rt; rom.len(), 1_024);
-        assert_eq!(rt; usize::from(*ports) / 4, number + 1);
-        assert_eq!(rt; usize::from(*ports) % 4, 0);
-        assert_eq!(rt; *vector, 0);
+        assert!(rt; usize::from(*base) / 1_024 == number);
+        assert!(rt; usize::from(*base) % 1_024 == 0);
+        assert!(rt; rom.len() == 1_024);
+        assert!(rt; usize::from(*ports) / 4 == number + 1);
+        assert!(rt; usize::from(*ports) % 4 == 0);
+        assert!(rt; *vector == 0);
         assert!(rt; !*wired);
     }
     Ok(())
@@ -38,7 +38,7 @@ fn holds(rt: &impl Abort, chip: Option<&ChipSpec>, place: usize, bytes: &[u8]) {
         _ => &[],
     };
     assert!(rt; place <= rom.len() && bytes.len() <= rom.len() - place);
-    assert_eq!(rt; &rom[place..place + bytes.len()], bytes);
+    assert!(rt; &rom[place..place + bytes.len()] == bytes);
 }
 
 /// The seed 1 draws 3C, 5E and 81 first, and a jump to address 0 ends its bytes.
@@ -52,9 +52,9 @@ fn bytes_of_seed_one(rt: HostRuntime) -> Result<(), Fail> {
 
 #[test]
 fn sum_of_a_scratchpad(rt: HostRuntime) {
-    assert_eq!(rt; scratch_sum(&[0xFF; 64]), 16_320);
+    assert!(rt; scratch_sum(&[0xFF; 64]) == 16_320);
     let mut scratch = [0; 64];
     scratch[0] = 2;
     scratch[63] = 3;
-    assert_eq!(rt; scratch_sum(&scratch), 5);
+    assert!(rt; scratch_sum(&scratch) == 5);
 }

@@ -7,7 +7,7 @@ fn line_ends(rt: HostRuntime) {
     for wanted in [b"A\r".as_slice(), b"", b"B\r"] {
         assert!(rt; !rest.is_empty());
         let (line, behind) = first_line(rest);
-        assert_eq!(rt; line, wanted);
+        assert!(rt; line == wanted);
         rest = behind;
     }
     assert!(rt; rest.is_empty());
@@ -20,12 +20,12 @@ fn printable_characters(rt: HostRuntime) {
         (b"\x1F", false),
         (b"a\x7F", false),
     ] {
-        assert_eq!(rt; all_printable(text), printable);
+        assert!(rt; all_printable(text) == printable);
     }
 }
 
 #[test]
 fn digits_of_a_byte(rt: HostRuntime) {
-    assert_eq!(rt; hex2(0x9A), *b"9A");
-    assert_eq!(rt; hex2(0x0F), *b"0F");
+    assert!(rt; hex2(0x9A) == *b"9A");
+    assert!(rt; hex2(0x0F) == *b"0F");
 }

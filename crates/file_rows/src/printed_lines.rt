@@ -4,7 +4,7 @@ use report::{Line, error_long, row_line};
 use std::process::Abort;
 
 fn tells(rt: &impl Abort, line: &Line, text: &str) {
-    assert_eq!(rt; line.as_bytes(), text.as_bytes());
+    assert!(rt; line.as_bytes() == text.as_bytes());
 }
 
 #[test]
@@ -44,5 +44,5 @@ fn pieces_of_lines(rt: HostRuntime) {
         &line,
         "x = 0A2B9057255 18446744073709551615 -2147483648",
     );
-    assert_eq!(rt; line.as_bytes().len(), 48);
+    assert!(rt; line.as_bytes().len() == 48);
 }

@@ -12,7 +12,7 @@ fn blanks_anywhere(rt: HostRuntime) -> Result<(), Fail> {
         (b" \t\r\n", &[]),
     ] {
         let bytes = read_hex(rt.alloc(), text)?;
-        assert_eq!(rt; bytes.as_slice(), wanted);
+        assert!(rt; bytes.as_slice() == wanted);
     }
     Ok(())
 }
@@ -28,7 +28,7 @@ fn texts_refused(rt: HostRuntime) {
         b"0x2A".as_slice(),
     ];
     for text in texts {
-        assert_eq!(rt; read_hex(rt.alloc(), text).err(), Some(HexAnswer::Digits));
+        assert!(rt; read_hex(rt.alloc(), text).err() == Some(HexAnswer::Digits));
     }
 }
 
@@ -41,7 +41,7 @@ fn printed(rt: HostRuntime) -> Result<(), Fail> {
     ];
     for (answer, wanted) in texts {
         let text = format!(in rt.alloc(); "{answer}")?;
-        assert_eq!(rt; text.as_str(), wanted);
+        assert!(rt; text.as_str() == wanted);
     }
     Ok(())
 }

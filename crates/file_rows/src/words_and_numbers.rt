@@ -4,20 +4,20 @@ use line_words::{address_of, byte_of, first_word, is_skipped, number_of, only_wo
 #[test]
 fn words_of_a_line(rt: HostRuntime) {
     let (word, rest) = first_word(b"mem 28F0".as_slice());
-    assert_eq!(rt; word, b"mem".as_slice());
-    assert_eq!(rt; rest, Some(b"28F0".as_slice()));
+    assert!(rt; word == b"mem".as_slice());
+    assert!(rt; rest == Some(b"28F0".as_slice()));
     for (line, word) in [
         (b"28F0".as_slice(), Some(b"28F0".as_slice())),
         (b"28F0 4", None),
     ] {
-        assert_eq!(rt; only_word(line), word);
+        assert!(rt; only_word(line) == word);
     }
     for (line, skipped) in [
         (b" \t".as_slice(), true),
         (b"# mem", true),
         (b" # mem", false),
     ] {
-        assert_eq!(rt; is_skipped(line), skipped);
+        assert!(rt; is_skipped(line) == skipped);
     }
 }
 
@@ -30,8 +30,8 @@ fn spelled_numbers(rt: HostRuntime) {
         (b"1000000", None, None, Some(1_000_000)),
         (b"+1", None, None, None),
     ] {
-        assert_eq!(rt; byte_of(word), byte);
-        assert_eq!(rt; address_of(word), address);
-        assert_eq!(rt; number_of(word), number);
+        assert!(rt; byte_of(word) == byte);
+        assert!(rt; address_of(word) == address);
+        assert!(rt; number_of(word) == number);
     }
 }

@@ -107,7 +107,7 @@ fn modules_have_objects(rt: HostRuntime) -> Result<(), Fail> {
         (" BR .+128\n BR .-127", "907F9080 0"),
     ] {
         let got = answer(rt.alloc(), text)?;
-        assert_eq!(rt; got.as_str(), want, "{text}");
+        assert!(rt; got.as_str() == want, "{text}");
     }
     Ok(())
 }

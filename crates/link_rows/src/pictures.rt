@@ -25,16 +25,13 @@ fn modules_are_linked(rt: HostRuntime) -> Result<(), Fail> {
         parts.push(Part { object, room })?;
     }
     let parts = PartList::from_vec(parts);
-    assert_eq!(rt; parts.as_slice().len(), 2);
+    assert!(rt; parts.as_slice().len() == 2);
     let Ok(linked) = link(rt.alloc(), &parts) else {
         panic!(rt; "modules are not linked");
     };
-    assert_eq!(rt;
-        linked.bytes(),
-        [(0, 0x90), (1, 0x7F), (0x80, 0x1C)].as_slice()
-    );
-    assert_eq!(rt; linked.symbols().len(), 1);
-    assert_eq!(rt; linked.symbols().get(0), Some(("X", 128)));
+    assert!(rt; linked.bytes() == [(0, 0x90), (1, 0x7F), (0x80, 0x1C)].as_slice());
+    assert!(rt; linked.symbols().len() == 1);
+    assert!(rt; linked.symbols().get(0) == Some(("X", 128)));
     Ok(())
 }
 
@@ -50,10 +47,10 @@ fn causes_have_numbers(rt: HostRuntime) -> Result<(), Fail> {
         let fault = LinkFault { module: 3, cause };
         let mut written = String::new(rt.alloc());
         write!(written, "{fault}")?;
-        assert_eq!(rt; cause.number(), number);
-        assert_eq!(rt; written.as_str(), text);
+        assert!(rt; cause.number() == number);
+        assert!(rt; written.as_str() == text);
     }
-    assert_eq!(rt; ModCause::Asm(AsmCause::Form).number(), 11);
-    assert_eq!(rt; ModCause::Shape.number(), 12);
+    assert!(rt; ModCause::Asm(AsmCause::Form).number() == 11);
+    assert!(rt; ModCause::Shape.number() == 12);
     Ok(())
 }

@@ -49,7 +49,7 @@ fn plans_have_modules(rt: HostRuntime) -> Result<(), Fail> {
         ),
     ] {
         let got = answer(rt.alloc(), text)?;
-        assert_eq!(rt; got.as_str(), want, "{text}");
+        assert!(rt; got.as_str() == want, "{text}");
     }
     Ok(())
 }

@@ -24,7 +24,7 @@ fn an_image_stops_at_a_failing_sink(rt: HostRuntime) -> Result<(), Fail> {
     let mut sink = failing_sink(rt.alloc(), 3, 5)?;
     let image = assemble(rt.alloc(), b"ONE: NOP\nORG 2\nTWO: NOP\n", EVERYWHERE)?;
     assert!(rt; matches!(put_image(&mut sink, &image), Err(SinkFault)));
-    assert_eq!(rt; sink.bytes(), b"0000 2B\n0002 2B\nsym O".as_slice());
+    assert!(rt; sink.bytes() == b"0000 2B\n0002 2B\nsym O".as_slice());
     Ok(())
 }
 
@@ -33,6 +33,6 @@ fn a_listing_stops_at_a_failing_sink(rt: HostRuntime) -> Result<(), Fail> {
     let mut sink = failing_sink(rt.alloc(), 2, 0)?;
     let text = disassemble(rt.alloc(), &[0x71, 0x2D, 0x20])?;
     assert!(rt; matches!(put_listing(&mut sink, &text), Err(SinkFault)));
-    assert_eq!(rt; sink.bytes(), b"ORG $0000\n".as_slice());
+    assert!(rt; sink.bytes() == b"ORG $0000\n".as_slice());
     Ok(())
 }

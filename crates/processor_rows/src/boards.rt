@@ -15,13 +15,13 @@ fn one_pixel(rt: HostRuntime) {
         port: 5,
         byte: 0x37,
     });
-    assert_eq!(rt; board.screen().pixel(5, 8), 0);
+    assert!(rt; board.screen().pixel(5, 8) == 0);
     board.write(PortWrite {
         phi: 80,
         port: 0,
         byte: 0x20,
     });
-    assert_eq!(rt; board.screen().pixel(5, 8), 3);
+    assert!(rt; board.screen().pixel(5, 8) == 3);
 }
 
 // Frame 1 falls at 29,830 Φ and frame 2 at 59,660 Φ, each in the first call that has reached it.

@@ -40,9 +40,6 @@ fn interrupt_of_a_pulse(rt: HostRuntime) -> Result<(), Fail> {
     let done = step(&rt, &mut isa)?;
     assert!(rt; done.vectored);
     let regs = isa.regs();
-    assert_eq!(rt;
-        [regs.p, regs.p1, regs.d0, regs.d1],
-        [0x0180, 0x0005, 0x0000, 0x0000]
-    );
+    assert!(rt; [regs.p, regs.p1, regs.d0, regs.d1] == [0x0180, 0x0005, 0x0000, 0x0000]);
     Ok(())
 }

@@ -29,17 +29,20 @@ const LENGTHS: [(Op, bool, u8, u8); 10] = [
 #[test]
 fn opcodes_both_ways(rt: HostRuntime) {
     for (code, decoded) in OPCODES {
-        assert_eq!(rt; decode(code), decoded, "at {code}");
+        assert!(rt; decode(code) == decoded, "at {code}");
     }
-    assert_eq!(rt; encode(Op::Ns { r: 14 }), 0xFE);
+    assert!(rt; encode(Op::Ns { r: 14 }) == 0xFE);
 }
 
 #[test]
 fn clocks_and_lengths(rt: HostRuntime) {
     for (op, taken, clocks, bytes) in LENGTHS {
-        assert_eq!(rt; [phi(op, taken), length(op)], [clocks, bytes], "of {op:?}");
+        assert!(rt;
+            [phi(op, taken), length(op)] == [clocks, bytes],
+            "of {op:?}"
+        );
     }
-    assert_eq!(rt; row_of(Op::Xdc), Row::Exchange);
+    assert!(rt; row_of(Op::Xdc) == Row::Exchange);
 }
 
 #[test]

@@ -30,11 +30,8 @@ fn draws_at_rises(rt: HostRuntime) {
         (4, 0x82),
         (0, 0x20),
     ]);
-    assert_eq!(rt; screen.palette(63), 1);
-    assert_eq!(rt;
-        planes(&screen, 63),
-        [1 << 127 | 1 << 125, 1 << 127 | 1 << 125]
-    );
+    assert!(rt; screen.palette(63) == 1);
+    assert!(rt; planes(&screen, 63) == [1 << 127 | 1 << 125, 1 << 127 | 1 << 125]);
 }
 
 // Pixels 5 and 6 of row 8 get the colours 1 and 2, and then pixel 5 gets 2 as well.
@@ -50,14 +47,14 @@ fn draws_over(rt: HostRuntime) {
         (4, 0xF9),
         (0, 0x20),
     ]);
-    assert_eq!(rt; planes(&screen, 8), [1 << 5, 1 << 6]);
+    assert!(rt; planes(&screen, 8) == [1 << 5, 1 << 6]);
     screen.port(0, 0x00);
     screen.port(4, 0xFA);
     screen.port(0, 0x20);
-    assert_eq!(rt; planes(&screen, 8), [0, 1 << 5 | 1 << 6]);
+    assert!(rt; planes(&screen, 8) == [0, 1 << 5 | 1 << 6]);
 }
 
 #[test]
 fn tone_of_port_5(rt: HostRuntime) {
-    assert_eq!(rt; written(&[(5, 0xC0)]).tone(), 3);
+    assert!(rt; written(&[(5, 0xC0)]).tone() == 3);
 }

@@ -20,9 +20,9 @@ fn latch_before_an_unserved_fetch(rt: HostRuntime) -> Result<(), Fail> {
     cpu.fetch(0xB0);
     let kept = cpu.kept();
     step(&rt, &mut cpu, 0, 0x00)?;
-    assert_eq!(rt; cpu.ports(), [0x5A, 0x00]);
+    assert!(rt; cpu.ports() == [0x5A, 0x00]);
     cpu.restore(kept);
-    assert_eq!(rt; cpu.ports(), [0x00, 0x00]);
-    assert_eq!(rt; cpu.opcode(), 0xB0);
+    assert!(rt; cpu.ports() == [0x00, 0x00]);
+    assert!(rt; cpu.opcode() == 0xB0);
     Ok(())
 }

@@ -166,7 +166,7 @@ pub(crate) fn answered(
 
 fn check_text(rt: &impl Abort, row: &Row, bytes: &[u8]) {
     match row.text {
-        Text::All(text) => assert_eq!(rt; bytes, text.as_bytes(), "{text}"),
+        Text::All(text) => assert!(rt; bytes == text.as_bytes(), "{text}"),
         Text::Between(head, tail) => {
             assert!(rt; bytes.starts_with(head.as_bytes()), "{head}");
             assert!(rt; bytes.ends_with(tail.as_bytes()), "{tail}");
@@ -182,9 +182,9 @@ fn check_left(rt: &impl Abort, left: &Left, rack: &mut Rack) {
     match has {
         Has::Counters(pc0, pc1, dc0, dc1) => {
             let want = Counters { pc0, pc1, dc0, dc1 };
-            assert_eq!(rt; chip.counters(), want, "socket {socket}");
+            assert!(rt; chip.counters() == want, "socket {socket}");
         }
-        Has::Latch(port, byte) => assert_eq!(rt; chip.latch(port), Some(byte), "socket {socket}"),
+        Has::Latch(port, byte) => assert!(rt; chip.latch(port) == Some(byte), "socket {socket}"),
     }
 }
 
@@ -198,7 +198,7 @@ pub(crate) fn check_row(
 ) -> Result<(), Fail> {
     let (status, sink) = answered(alloc, row, common, rack)?;
     check_text(rt, row, sink.bytes());
-    assert_eq!(rt; status, row.status, "{:?}", row.words);
+    assert!(rt; status == row.status, "{:?}", row.words);
     for left in row.left {
         check_left(rt, left, rack);
     }

@@ -16,7 +16,7 @@ fn plays_over_what_never_fails(rt: HostRuntime) -> Result<(), Fail> {
     let mut store = SureStore::new(files_of(rt.alloc(), &PLAY_FILES, &[])?);
     let mut sink = SureSink::new(rt.alloc(), 4_096)?;
     let status = status_of(rt.alloc(), &PLAY_WORDS, &mut store, &mut sink, &mut rack)?;
-    assert_eq!(rt; status, 0);
-    assert_eq!(rt; sink.bytes(), LOOP_PLAY.as_bytes());
+    assert!(rt; status == 0);
+    assert!(rt; sink.bytes() == LOOP_PLAY.as_bytes());
     Ok(())
 }

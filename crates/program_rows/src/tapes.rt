@@ -32,7 +32,7 @@ fn psu(rt: &impl Abort, alloc: Global) -> Result<ChipSpec, Fail>
     for (place, byte) in rom.iter_mut().zip(PROGRAM.iter()) {
         *place = *byte;
     }
-    assert_eq!(rt; rom.len(), 1024);
+    assert!(rt; rom.len() == 1024);
     rom[LED_TO] = INS;
     Ok(ChipSpec::Psu {
         base: 0,
@@ -93,10 +93,10 @@ type At = (u16, u16, u8, u64);
 /// The tape is begun, and stands there.
 fn check(rt: &impl Abort, tape: &Tape, counts: Counts, at: At) {
     assert!(rt; tape.is_begun());
-    assert_eq!(rt; (tape.place(), tape.length(), tape.spare()), counts);
+    assert!(rt; (tape.place(), tape.length(), tape.spare()) == counts);
     let regs = tape.machine().regs();
     let now = (regs.p, regs.p1, regs.a, tape.machine().phi());
-    assert_eq!(rt; now, at, "after {counts:?}");
+    assert!(rt; now == at, "after {counts:?}");
 }
 
 /// The tape of the chip after the program: a key byte came before INS 4, a pulse before NOP, and another key byte behind it. Reset takes 14
