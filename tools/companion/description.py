@@ -30,6 +30,9 @@ EMPTY_ROM = 0xFF  # a byte of ROM that nothing gives
 PAGE_TEXTS = 2  # the format in which the pages of a 3853 are texts, and in which a chip may be a 3861
 FORMATS = (1, PAGE_TEXTS)
 PAGE_TEXT = re.compile('(rom|ram|void) ([0-9A-Fa-f]{2})(?:-([0-9A-Fa-f]{2}))?')
+# Comments and texts of a TOML document, and what may follow a backslash in a text in double quotes.
+TOML_PIECE = re.compile(r"#[^\n]*|'''.*?'''|'[^'\n]*'" r'|"""(?:\\.|[^\\])*?"""|"(?:\\.|[^"\\\n])*"', re.DOTALL)
+ESCAPE = re.compile(r'\\(?:x([0-9A-Fa-f]{2})|.)', re.DOTALL)
 
 
 class Kind(Enum):
@@ -203,6 +206,19 @@ def chips_of(format: int, tables: Any) -> list[Chip]:
     return found
 
 
+def older_escape(found: re.Match[str]) -> str:
+    if found[1]:
+        return f'\\u00{found[1]}'
+    return '\\u001B' if found[0] == '\\e' else found[0]
+
+
+def with_older_escapes(text: str) -> str:
+    """The same document without the escapes `\\e` and `\\x1B` of TOML 1.1, as Python reads TOML 1.0."""
+    if '\\e' not in text and '\\x' not in text:
+        return text
+    return TOML_PIECE.sub(lambda piece: ESCAPE.sub(older_escape, piece[0]) if piece[0].startswith('"') else piece[0], text)
+
+
 @dataclass(frozen=True)
 class Description:
     """A description as TOML reads it."""
@@ -222,7 +238,7 @@ class Description:
         if tomllib is None:
             return cls(path, text, fault=f'{NEEDS_TOML}.')
         try:
-            values = tomllib.loads(text)
+            values = tomllib.loads(with_older_escapes(text))
         except tomllib.TOMLDecodeError as error:
             return cls(path, text, fault=str(error))
         except RecursionError:

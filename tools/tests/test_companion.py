@@ -136,6 +136,15 @@ class Descriptions(Room):
                 Description.read(self.put('cart.toml', text), PROGRAM)
             self.assertEqual(raised.exception.answer.last, line)
 
+    def test_escapes_of_a_later_toml(self):
+        text = r'''a = "\e\x41\\x" # \e
+b = '\e"\x41' # "
+c = """\x4A"\e""\"""" # '
+d = "\n\x7a"
+'''
+        self.assertEqual(Description.of(text.encode()).values,
+                         {'a': '\x1bA\\x', 'b': '\\e"\\x41', 'c': 'J"\x1b"""', 'd': '\nz'})
+
     def test_any_bytes(self):
         for data in (b'\xff', b'chip = 1', b'[[chip]]\nkind = ["3851"]', b'x = ' + b'1' * 5000, b'split = ' + b'[' * 2000):
             self.assertEqual(Description.of(data).chips, ())

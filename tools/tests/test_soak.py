@@ -29,7 +29,8 @@ PSU = 'format = 1\n[[chip]]\nkind = "3851"\nbase = 0\nports = 4\nrom = "90FF"\n'
 # By hand: descriptions with the line by which each is refused, if it is.
 DESCRIPTIONS = [
     (PSU, None), ('', 'error cart key format cause 1'), ('format = 3', 'error cart key format cause 4'), ('format = true', 'error cart key format cause 3'),
-    ('format', 'error cart toml'), (PSU.replace('ports = 4\n', ''), 'error cart chip 0 key ports cause 1'),
+    ('format', 'error cart toml'), ('at = "\\e"', 'error cart key ? cause 2'), ('at = "\\q"', 'error cart toml'),
+    (PSU.replace('ports = 4\n', ''), 'error cart chip 0 key ports cause 1'),
     (PSU.replace('base = 0', 'base = 5'), 'error cart chip 0 key base cause 5'), (PSU.replace('90FF', '90F'), 'error cart chip 0 key rom cause 7'),
     (PSU + 'source = "x"\n', 'error cart chip 0 key source cause 8'), (PSU + 'start = 1\n', 'error cart chip 0 key ? cause 2'),
     ('split = [1, 1]\n' + PSU, 'error cart key split cause 4'), (PSU.replace('3851', '3861'), 'error cart chip 0 key kind cause 4'),
