@@ -1,12 +1,14 @@
 -- What holds of some element of a list, and what is known of a number and of a scratchpad by the sets that they are in.
-use Rattle.std.proofs.Common.{◌≡◌, ◌==◌, ◌<◌, ◌≤◌, ◌+◌, ◌||◌, ℕ, zero, suc, Bool, true, false, List, [], ◌∷◌, ◌++◌, length, map}
+use Rattle.std.proofs.Common.{◌≡◌, ◌==◌, ◌<◌, ◌≤◌, ◌+◌, ◌||◌, ◌&&◌, ℕ, zero, suc, Bool, true, false, List, [], ◌∷◌, ◌++◌, length, map}
 use Rattle.std.proofs.Common.{refl, ap, sym, ◌⊎◌, inl, inr, arith}
+use Rattle.std.proofs.lemmas.Bool.{eq-eqb}
 use Rattle.std.specs.Prelude.{Option, Some, None, slice_index, slice_index_or, slice_set, flat_map}
 use Rattle.std.specs.List.{AllZip, Contains, range_with_len}
 use Rattle.abs_domain.specs.Lattice.{Below}
 use Rattle.abs_domain.proofs.Orders.{numbers_tell}
+use Rattle.abs_step.proofs.Knowing.{left_of, right_of}
 use Rattle.abs_step.proofs.Members.{SomeOf}
-use Rattle.value_sets.specs.ValueSets.{is_among, has, only, single}
+use Rattle.value_sets.specs.ValueSets.{are_among, is_among, has, only, single}
 
 -- ---- some element
 
@@ -44,6 +46,20 @@ first_or_among y ys x among = by (y == x) refl among
     by : (b : Bool) → (y == x) ≡ b → (b || is_among ys x) ≡ true → (y ≡ x) ⊎ (is_among ys x ≡ true)
     by true same among = inl ((numbers_tell y x).0 same)
     by false other among = inr among
+
+among_more : (y : ℕ) (upper lower : List ℕ) → are_among upper lower ≡ true → are_among (y ∷ upper) lower ≡ true
+among_more y upper [] all = refl
+among_more y upper (x ∷ xs) all =
+    by (y == x) (left_of (is_among upper x) (are_among upper xs) all) (among_more y upper xs (right_of (is_among upper x) (are_among upper xs) all))
+  where
+    by : (b : Bool) → is_among upper x ≡ true → are_among (y ∷ upper) xs ≡ true → ((b || is_among upper x) && are_among (y ∷ upper) xs) ≡ true
+    by true one rest = rest
+    by false one rest = rw (one) rest
+
+-- each number of a list is among it
+pub among_itself : (numbers : List ℕ) → are_among numbers numbers ≡ true
+among_itself [] = refl
+among_itself (x ∷ xs) = rw (eq-eqb x x refl) (among_more x xs xs (among_itself xs))
 
 pub some_among : {A : Type 0} → (P : A → Type 0) (f : ℕ → A) (numbers : List ℕ) (x : ℕ) → is_among numbers x ≡ true → P (f x) →
     SomeOf P (map f numbers)

@@ -125,6 +125,16 @@ pub fn are_all_among(numbers: &[u8]) -> bool
     (0..64).all(|number| is_among(numbers, number))
 }
 
+/// Each number of the lower list is in the upper one. Mostly they are the same list, often of all 64.
+fn are_numbers_among(upper: &[u8], lower: &[u8]) -> bool
+    ensures { result ≡ spelled_among upper.now lower.now }
+{
+    if upper == lower {
+        return true;
+    }
+    are_among(upper, lower)
+}
+
 /// A register is one of those written, or may be.
 fn is_among_written(written: &Written, case: &Abs, number: u8) -> bool
     ensures { result
@@ -181,7 +191,7 @@ impl<'a> Outcome<'a> {
         match pointed_register(if written { self.after } else { self.before }) {
             Some(number) => is_among(numbers, number),
             None if written => are_all_among(numbers),
-            None => are_among(numbers, self.entry.isar.as_slice()),
+            None => are_numbers_among(numbers, self.entry.isar.as_slice()),
         }
     }
 
